@@ -1,0 +1,33 @@
+use crate::list::List;
+
+/// What a cell of an object may hold.
+#[derive(Clone, Copy, Debug, PartialEq, Eq)]
+pub enum CellKind {
+    /// A whole number of 64 bits.
+    Whole,
+    /// A pointer word.
+    Pointer,
+    /// A mutex.
+    Mutex,
+    /// A condition variable.
+    Cond,
+    /// A barrier.
+    Barrier,
+}
+
+/// How an object's cells lie: their number, the size of one element, and the kind of each cell.
+#[derive(Debug, Drop)]
+pub struct Layout {
+    pub size: u32,
+    pub element: u32,
+    pub kinds: List<CellKind>,
+}
+
+/// A place of the source that makes objects: a variable or a `malloc`.
+#[derive(Debug, Drop)]
+pub struct Site {
+    pub name: List<u8>,
+    pub layout: Layout,
+    pub line: u32,
+    pub column: u32,
+}

@@ -1,0 +1,14 @@
+//! What every crate of Chimera stands on: lists that contracts see as lists, traps, pointer words, and
+//! the outside as traits. It stands on std alone.
+#![tactic(auto)]
+
+mod layout;
+mod list;
+mod trap;
+
+pub use layout::{CellKind, Layout, Site};
+pub use list::List;
+pub use trap::Trap;
+
+/// Bytes that contracts see as a list.
+pub type Bytes = List<u8>;

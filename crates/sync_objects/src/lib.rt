@@ -1,0 +1,12 @@
+//! Synchronisation objects, their operations, and the entries of a log. It stands on `rr_base`.
+#![tactic(auto)]
+
+mod entry;
+mod object;
+mod operation;
+mod setup;
+
+pub use entry::{Entry, Noted};
+pub use object::ObjId;
+pub use operation::{Op, OpName};
+pub use setup::Setup;

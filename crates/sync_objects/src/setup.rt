@@ -1,0 +1,64 @@
+ghost use Rattle.std.specs.Prelude.{◌≡◌, ◌≤◌, length};
+ghost use Rattle.sync_objects.specs.Setup.{SetupView, IsWithinLimits};
+
+use rr_base::Bytes;
+use std::marker::Model;
+
+/// What a run is set up with: its threads' slots, the cells of each slot's arena, the greatest number of events
+/// of one thread, and the input's bytes. Its numbers are within their limits: 1 to 16 slots, 1,024 to 131,072
+/// cells, 1 to 67,108,864 events, at most 1,048,576 bytes.
+#[derive(Debug, Drop)]
+pub struct Setup {
+    slots: u8,
+    cells: u32,
+    limit: u32,
+    input: Bytes,
+}
+
+impl Model for Setup {
+    ghost use Rattle.sync_objects.specs.Setup.{SetupView, IsWithinLimits};
+
+    ghost Value = { SetupView };
+
+    ghost view = { λ s. record { slots = s.slots; cells = s.cells; limit = s.limit; input = s.input } };
+
+    ghost invariant = { λ s. IsWithinLimits (record { slots = s.slots; cells = s.cells; limit = s.limit; input = s.input }) };
+}
+
+impl Setup {
+    pub fn new(slots: u8, cells: u32, limit: u32, input: Bytes) -> Setup
+        requires { IsWithinLimits (record { slots = slots; cells = cells; limit = limit; input = input }) }
+        ensures { result ≡ record { slots = slots; cells = cells; limit = limit; input = input } }
+    {
+        Setup {
+            slots,
+            cells,
+            limit,
+            input,
+        }
+    }
+
+    pub fn slots(&self) -> u8
+        ensures { result ≡ self.now.slots }
+    {
+        self.slots
+    }
+
+    pub fn cells(&self) -> u32
+        ensures { result ≡ self.now.cells }
+    {
+        self.cells
+    }
+
+    pub fn limit(&self) -> u32
+        ensures { result ≡ self.now.limit }
+    {
+        self.limit
+    }
+
+    pub fn input(&self) -> &Bytes
+        ensures { result.now ≡ self.now.input }
+    {
+        &self.input
+    }
+}
