@@ -4,6 +4,8 @@
 
 mod layout;
 mod list;
+mod list_iter;
+mod list_order;
 mod trap;
 
 pub use layout::{CellKind, Layout, Site};

@@ -1,5 +1,7 @@
+ghost use Rattle.std.specs.Prelude.{◌≡◌};
+ghost use Rattle.rr_base.specs.Traps.{trap_number};
+
 /// Why a thread traps: each case that C99 leaves undefined and that a run can meet, and each limit of a run.
-/// The discriminant is the number that texts show.
 #[derive(Clone, Copy, Debug, PartialEq, Eq)]
 pub enum Trap {
     /// Division by zero (C99 6.5.5).
@@ -36,4 +38,31 @@ pub enum Trap {
     Depth,
     /// The thread's list of entries is full.
     LogFull,
+}
+
+impl Trap {
+    /// The number by which texts name the trap, from 1 to 17.
+    pub fn number(self) -> u8
+        ensures { result ≡ trap_number self }
+    {
+        match self {
+            Trap::DivideByZero => 1,
+            Trap::Overflow => 2,
+            Trap::ShiftRange => 3,
+            Trap::BadDereference => 4,
+            Trap::OutOfObject => 5,
+            Trap::BadKind => 6,
+            Trap::BadSize => 7,
+            Trap::ArenaFull => 8,
+            Trap::MutexMisuse => 9,
+            Trap::BarrierMisuse => 10,
+            Trap::BadThread => 11,
+            Trap::Limit => 12,
+            Trap::CastRange => 13,
+            Trap::PointerToNumber => 14,
+            Trap::CompareObjects => 15,
+            Trap::Depth => 16,
+            Trap::LogFull => 17,
+        }
+    }
 }
