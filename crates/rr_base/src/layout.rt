@@ -31,3 +31,11 @@ pub struct Site {
     pub line: u32,
     pub column: u32,
 }
+
+/// A place of a source's memory as analyses see it: the site, and which cell of one element of the site's objects.
+/// Elements of more than 64 cells have the class 0 alone.
+#[derive(Clone, Copy, Debug, PartialEq, Eq, PartialOrd, Ord, Hash)]
+pub struct Place {
+    pub site: u16,
+    pub class: u8,
+}

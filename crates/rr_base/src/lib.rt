@@ -6,10 +6,12 @@ mod layout;
 mod list;
 mod list_iter;
 mod list_order;
+mod pointer;
 mod trap;
 
-pub use layout::{CellKind, Layout, Site};
+pub use layout::{CellKind, Layout, Place, Site};
 pub use list::List;
+pub use pointer::PtrWord;
 pub use trap::Trap;
 
 /// Bytes that contracts see as a list.
