@@ -1,1 +1,9 @@
+pub mod Advance
+pub mod Names
+pub mod Packing
 pub mod Setup
+pub mod Sound
+pub mod Start
+pub mod States
+pub mod Table
+pub mod Words

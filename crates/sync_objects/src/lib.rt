@@ -2,11 +2,13 @@
 #![tactic(auto)]
 
 mod entry;
+mod kind;
 mod object;
 mod operation;
 mod setup;
 
 pub use entry::{Entry, Noted};
+pub use kind::ObjKind;
 pub use object::ObjId;
 pub use operation::{Op, OpName};
 pub use setup::Setup;

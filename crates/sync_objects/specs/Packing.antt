@@ -1,0 +1,95 @@
+-- The number by which an object's word shows its state, and the state that each number shows.
+use Rattle.std.specs.Prelude.{ℕ, zero, suc, ◌+◌, ◌*◌, ◌/◌, ◌%◌}
+use Rattle.sync_objects.specs.declared.kind.ObjKind.{ObjKind}
+use Rattle.sync_objects.specs.declared.kind.ObjKind.TheVariants as kind
+use Rattle.sync_objects.specs.States.{LockState, Free, HeldBy, CondState, Epoch, BarrierState, Waits, SlotState, Idle, Closed, Begun, Ended, Joined, Shut, Started, ThreadsState, Counts, HaltState, Running, Halted, Trapped, InputState, Position, OutputState, Open, StateOf}
+
+abbrev pub packed_lock : LockState → ℕ
+packed_lock Free = 0
+packed_lock (HeldBy thread) = thread + 1
+
+abbrev pub packed_cond : CondState → ℕ
+packed_cond (Epoch epoch) = epoch
+
+abbrev pub packed_barrier : BarrierState → ℕ
+packed_barrier (Waits count arrived generation) = count + 32 * arrived + 1024 * generation
+
+abbrev pub packed_slot : SlotState → ℕ
+packed_slot Idle = 0
+packed_slot Closed = 1
+packed_slot Begun = 2
+packed_slot Ended = 3
+packed_slot Joined = 4
+packed_slot Shut = 5
+packed_slot (Started function) = function + 6
+
+abbrev pub packed_threads : ThreadsState → ℕ
+packed_threads (Counts drawn live) = drawn + 32 * live
+
+abbrev pub packed_halt : HaltState → ℕ
+packed_halt Running = 0
+packed_halt Halted = 1
+packed_halt Trapped = 2
+
+abbrev pub packed_input : InputState → ℕ
+packed_input (Position position) = position
+
+abbrev pub packed_output : OutputState → ℕ
+packed_output Open = 0
+
+-- the number of a state of this kind
+abbrev pub packed : (k : ObjKind) → StateOf k → ℕ
+packed kind.Mutex = packed_lock
+packed kind.Cond = packed_cond
+packed kind.Barrier = packed_barrier
+packed kind.Weak = packed_lock
+packed kind.Slot = packed_slot
+packed kind.Threads = packed_threads
+packed kind.Halt = packed_halt
+packed kind.Input = packed_input
+packed kind.Output = packed_output
+
+abbrev pub lock_of : ℕ → LockState
+lock_of zero = Free
+lock_of (suc thread) = HeldBy thread
+
+abbrev pub cond_of : ℕ → CondState
+cond_of n = Epoch n
+
+abbrev pub barrier_of : ℕ → BarrierState
+barrier_of n = Waits (n % 32) (n / 32 % 32) (n / 1024)
+
+abbrev pub slot_of : ℕ → SlotState
+slot_of zero = Idle
+slot_of (suc zero) = Closed
+slot_of (suc (suc zero)) = Begun
+slot_of (suc (suc (suc zero))) = Ended
+slot_of (suc (suc (suc (suc zero)))) = Joined
+slot_of (suc (suc (suc (suc (suc zero))))) = Shut
+slot_of (suc (suc (suc (suc (suc (suc function)))))) = Started function
+
+abbrev pub threads_of : ℕ → ThreadsState
+threads_of n = Counts (n % 32) (n / 32)
+
+abbrev pub halt_of : ℕ → HaltState
+halt_of zero = Running
+halt_of (suc zero) = Halted
+halt_of (suc (suc n)) = Trapped
+
+abbrev pub input_of : ℕ → InputState
+input_of n = Position n
+
+abbrev pub output_of : ℕ → OutputState
+output_of n = Open
+
+-- the state of this kind that a number shows
+abbrev pub unpacked : (k : ObjKind) → ℕ → StateOf k
+unpacked kind.Mutex = lock_of
+unpacked kind.Cond = cond_of
+unpacked kind.Barrier = barrier_of
+unpacked kind.Weak = lock_of
+unpacked kind.Slot = slot_of
+unpacked kind.Threads = threads_of
+unpacked kind.Halt = halt_of
+unpacked kind.Input = input_of
+unpacked kind.Output = output_of

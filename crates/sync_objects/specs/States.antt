@@ -1,0 +1,172 @@
+-- The states of synchronisation objects, and what the table of operations asks of them and does to them.
+use Rattle.std.specs.Prelude.{ℕ, ◌+◌, ◌-◌, ◌^◌, ◌==◌, ◌&&◌, not, nat_lt, nat_le, Bool, true, false, ℤ, pos}
+use Rattle.sync_objects.specs.declared.kind.ObjKind.{ObjKind}
+use Rattle.sync_objects.specs.declared.kind.ObjKind.TheVariants as kind
+
+-- a mutex, or a stripe of a weak lock
+pub data LockState : Type 0 where
+  Free : LockState
+  HeldBy : (thread : ℕ) → LockState
+
+abbrev pub is_free : LockState → Bool
+is_free Free = true
+is_free (HeldBy thread) = false
+
+abbrev pub is_held_by : ℕ → LockState → Bool
+is_held_by t Free = false
+is_held_by t (HeldBy thread) = thread == t
+
+-- a condition: how often it was signalled
+pub data CondState : Type 0 where
+  Epoch : (epoch : ℕ) → CondState
+
+abbrev pub epoch_differs : ℕ → CondState → Bool
+epoch_differs e (Epoch epoch) = not (epoch == e)
+
+abbrev pub signalled : CondState → CondState
+signalled (Epoch epoch) = Epoch (epoch + 1)
+
+abbrev pub the_epoch : CondState → ℤ
+the_epoch (Epoch epoch) = pos epoch
+
+-- a barrier: how many threads it waits for, how many of these have come, and how often all of them had come
+pub data BarrierState : Type 0 where
+  Waits : (count : ℕ) → (arrived : ℕ) → (generation : ℕ) → BarrierState
+
+-- 1 to 16 threads can meet at a barrier, and only while none is there is their number set
+abbrev pub may_count : ℕ → BarrierState → Bool
+may_count n (Waits count arrived generation) = nat_le 1 n && nat_le n 16 && (arrived == 0)
+
+abbrev pub counting : ℕ → BarrierState → BarrierState
+counting n (Waits count arrived generation) = Waits n arrived generation
+
+abbrev pub counts_none : BarrierState → Bool
+counts_none (Waits count arrived generation) = count == 0
+
+abbrev pub is_last_to_come : BarrierState → Bool
+is_last_to_come (Waits count arrived generation) = arrived + 1 == count
+
+-- the generation is the greatest that there is
+abbrev pub is_worn_out : BarrierState → Bool
+is_worn_out (Waits count arrived generation) = generation == 2 ^ 22 - 1
+
+abbrev pub all_came : BarrierState → BarrierState
+all_came (Waits count arrived generation) = Waits count 0 (generation + 1)
+
+abbrev pub one_more_came : BarrierState → BarrierState
+one_more_came (Waits count arrived generation) = Waits count (arrived + 1) generation
+
+abbrev pub generation_differs : ℕ → BarrierState → Bool
+generation_differs g (Waits count arrived generation) = not (generation == g)
+
+abbrev pub the_generation : BarrierState → ℤ
+the_generation (Waits count arrived generation) = pos generation
+
+-- a slot, which is the life of one thread: its function was started or the slot closed, the thread has begun, has
+-- ended, was joined. A shut slot was first closed and then started, so its thread never runs
+pub data SlotState : Type 0 where
+  Idle : SlotState
+  Closed : SlotState
+  Begun : SlotState
+  Ended : SlotState
+  Joined : SlotState
+  Shut : SlotState
+  Started : (function : ℕ) → SlotState
+
+abbrev pub is_idle : SlotState → Bool
+is_idle Idle = true
+is_idle _ = false
+
+abbrev pub is_closed : SlotState → Bool
+is_closed Closed = true
+is_closed _ = false
+
+abbrev pub is_begun : SlotState → Bool
+is_begun Begun = true
+is_begun _ = false
+
+abbrev pub is_ended : SlotState → Bool
+is_ended Ended = true
+is_ended _ = false
+
+abbrev pub is_joined : SlotState → Bool
+is_joined Joined = true
+is_joined _ = false
+
+abbrev pub is_started : SlotState → Bool
+is_started (Started function) = true
+is_started _ = false
+
+-- the number of the started function
+abbrev pub the_function : SlotState → ℤ
+the_function (Started function) = pos function
+the_function _ = pos 0
+
+-- how many threads were drawn so far, and how many of these are live
+pub data ThreadsState : Type 0 where
+  Counts : (drawn : ℕ) → (live : ℕ) → ThreadsState
+
+abbrev pub has_drawn_below : ℕ → ThreadsState → Bool
+has_drawn_below n (Counts drawn live) = nat_lt drawn n
+
+abbrev pub has_drawn : ℕ → ThreadsState → Bool
+has_drawn n (Counts drawn live) = drawn == n
+
+abbrev pub has_live : ThreadsState → Bool
+has_live (Counts drawn live) = nat_lt 0 live
+
+abbrev pub one_drawn : ThreadsState → ThreadsState
+one_drawn (Counts drawn live) = Counts (drawn + 1) (live + 1)
+
+abbrev pub one_left : ThreadsState → ThreadsState
+one_left (Counts drawn live) = Counts drawn (live - 1)
+
+abbrev pub the_drawn : ThreadsState → ℤ
+the_drawn (Counts drawn live) = pos drawn
+
+-- whether the whole program runs, or a thread has ended it, by a trap or without one
+pub data HaltState : Type 0 where
+  Running : HaltState
+  Halted : HaltState
+  Trapped : HaltState
+
+abbrev pub is_running : HaltState → Bool
+is_running Running = true
+is_running _ = false
+
+abbrev pub is_halted : HaltState → Bool
+is_halted Halted = true
+is_halted _ = false
+
+abbrev pub is_trapped : HaltState → Bool
+is_trapped Trapped = true
+is_trapped _ = false
+
+-- the input: how many of its bytes were read
+pub data InputState : Type 0 where
+  Position : (position : ℕ) → InputState
+
+abbrev pub has_left : ℕ → InputState → Bool
+has_left len (Position position) = nat_lt position len
+
+abbrev pub one_read : InputState → InputState
+one_read (Position position) = Position (position + 1)
+
+abbrev pub the_position : InputState → ℤ
+the_position (Position position) = pos position
+
+-- the output, which keeps nothing
+pub data OutputState : Type 0 where
+  Open : OutputState
+
+-- the states of the objects of one kind
+abbrev pub StateOf : ObjKind → Type 0
+StateOf kind.Mutex = LockState
+StateOf kind.Cond = CondState
+StateOf kind.Barrier = BarrierState
+StateOf kind.Weak = LockState
+StateOf kind.Slot = SlotState
+StateOf kind.Threads = ThreadsState
+StateOf kind.Halt = HaltState
+StateOf kind.Input = InputState
+StateOf kind.Output = OutputState
