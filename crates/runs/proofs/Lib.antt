@@ -1,0 +1,4 @@
+pub mod Lists
+pub mod Swap
+pub mod Apart
+pub mod Front
