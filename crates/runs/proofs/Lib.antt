@@ -1,0 +1,5 @@
+pub mod Lists
+pub mod SameEntries
+pub mod Swap
+pub mod Apart
+pub mod Front
