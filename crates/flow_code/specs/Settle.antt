@@ -1,0 +1,59 @@
+-- All quiet steps of a thread, what comes after them, and the state after that.
+use Rattle.std.specs.Prelude.{◌≡◌, ℕ, zero, suc, ◌+◌, ◌-◌, ◌<◌, ◌≤◌, ◌^◌, Bool, true, false, if◌then◌else◌, ℤ, pos, List, length, sum_by, Option, Some, slice_get, ◌⊎◌}
+use Rattle.sync_objects.specs.Setup.{SetupView}
+use Rattle.flow_code.specs.declared.act.Act.{Act}
+use Rattle.flow_code.specs.declared.act.Act.TheVariants as act
+use Rattle.flow_code.specs.declared.act.Instr.{Instr}
+use Rattle.flow_code.specs.declared.code.Code.{Code}
+use Rattle.flow_code.specs.declared.thread.Due.{Due}
+use Rattle.flow_code.specs.declared.thread.Due.TheVariants as due
+use Rattle.flow_code.specs.declared.thread.Action.{Action}
+use Rattle.flow_code.specs.Threads.{Frame, Thread, instrs_in}
+use Rattle.flow_code.specs.Next.{due_of, action_at, stepped, act_in}
+
+abbrev pub is_quiet : Due → Bool
+is_quiet due.Quiet = true
+is_quiet _ = false
+
+-- how many instructions the frame's function has from here on
+abbrev pub left_in : Code → Frame → ℕ
+left_in code f = length (instrs_in (slice_get code.functions f.function)) - f.instr
+
+-- how many quiet steps may come at most: none where what is due isn't one
+unfoldable pub weight : Code → SetupView → ℕ → Thread → ℕ
+weight code s t th = if is_quiet (due_of code s t th) then 1 + left_in code th.top + sum_by (left_in code) th.below else 0
+
+abbrev pub settle_on : (Thread → Thread) → Code → SetupView → ℕ → Thread → Bool → Thread
+settle_on next code s t th true = next (stepped code s t th (pos 0))
+settle_on next code s t th false = th
+
+-- the state after so many quiet steps, or after as many as come
+abbrev pub settle : ℕ → Code → SetupView → ℕ → Thread → Thread
+settle zero code s t th = th
+settle (suc n) code s t th = settle_on (settle n code s t) code s t th (is_quiet (due_of code s t th))
+
+-- the state after all quiet steps
+unfoldable pub settled : Code → SetupView → ℕ → Thread → Thread
+settled code s t th = settle (weight code s t th) code s t th
+
+-- what comes next, after all quiet steps
+abbrev pub next : Code → SetupView → ℕ → Thread → Action
+next code s t th = action_at code s t (settled code s t th)
+
+-- the state after it, with its answer
+abbrev pub after : Code → SetupView → ℕ → Thread → ℤ → Thread
+after code s t th answer = stepped code s t (settled code s t th) answer
+
+-- each jump goes on, or back to a Mark
+abbrev pub IsJump : List Instr → ℕ → ℕ → Type 0
+IsJump is at to = (at < to) ⊎ (act_in (slice_get is to) ≡ Some act.Mark)
+
+abbrev pub IsSoundAct : List Instr → ℕ → Option Act → Type 0
+IsSoundAct is at (Some (act.Jump to)) = IsJump is at to
+IsSoundAct is at (Some (act.Branch on then_at else_at)) = IsJump is at then_at × IsJump is at else_at
+IsSoundAct is at _ = Unit {0}
+
+-- what a thread needs of its code so that its quiet steps end and its cells have numbers; each valid code has it
+pub record IsRunnable (code : Code) : Type 0 where
+  pub jumps : (f k : ℕ) → IsSoundAct (instrs_in (slice_get code.functions f)) k (act_in (slice_get (instrs_in (slice_get code.functions f)) k))
+  pub few_globals : length code.globals ≤ 2 ^ 20
