@@ -1,6 +1,6 @@
 use crate::act::Instr;
 use crate::region::{Bound, Region};
-use rr_base::{Bytes, List, Site};
+use rr_base::{Bytes, CellKind, List, Site};
 
 /// A program as flow code. Function 0 is its first; site 1 is the first of `sites`.
 #[derive(Debug, Drop)]
@@ -9,6 +9,8 @@ pub struct Code {
     pub sites: List<Site>,
     /// The start words of the global cells; the base of an address counts from the first of them.
     pub globals: List<u64>,
+    /// The kind of each global cell.
+    pub global_kinds: List<CellKind>,
     /// The weak locks.
     pub locks: List<LockInfo>,
 }

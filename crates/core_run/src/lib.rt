@@ -1,0 +1,12 @@
+//! Runs of flow code: the machine whose threads run a code over shared words, the one interpreter of a thread, and
+//! the walk of a log. It stands on `flow_code` and `runs`. It promises that the interpreter makes the steps of its
+//! thread's definition, and that the walk of a list of entries is the solo run of these entries.
+#![tactic(auto)]
+
+mod access;
+mod outcome;
+
+pub use access::{Access, Formula};
+pub use flow_code::{Action, Phase};
+pub use outcome::{Ending, Walk};
+pub use sync_objects::{Entry, Noted, Setup};
