@@ -1,3 +1,4 @@
+pub mod Flows
 pub mod Machine
 pub mod Pieces
 pub mod Words

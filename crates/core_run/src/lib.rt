@@ -4,7 +4,9 @@
 #![tactic(auto)]
 
 mod access;
+mod frame;
 mod outcome;
+mod place;
 
 pub use access::{Access, Formula};
 pub use flow_code::{Action, Phase};
