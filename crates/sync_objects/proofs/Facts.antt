@@ -21,13 +21,13 @@ shown-word_of k number s small h = ap (unpacked k) (state_of-word_of number (pac
 
 -- on a sound word an allowed operation is a row of the table, between the states that the two words show
 pub moves : (o : Op) (t word after : ℕ) (answer : ℤ) → t < 16 → IsInRange o → number_of word < 2 ^ 32 - 1 → IsSoundWord (kind_of (name_of o)) word → advanced o t word ≡ Advances after answer →
-  first_row (rows o t) (shown (kind_of (name_of o)) word) ≡ Moves (shown (kind_of (name_of o)) after) answer
+    first_row (rows o t) (shown (kind_of (name_of o)) word) ≡ Moves (shown (kind_of (name_of o)) after) answer
 moves o t word after answer small range few sound e =
-  let k : ObjKind = kind_of (name_of o) in
-  let i = advanced_inverse o t word after answer e in
-  let h = subst (SoundMove k (number_of word + 1)) i.1 (row_is_sound o t (number_of word) (shown k word) small range sound.state) in
-  let s = ap (shown k) i.2 ∙ shown-word_of k (number_of word + 1) i.0 (omega arith) h in
-  i.1 ∙ ap (λ z. Moves z answer) (sym s)
+    let k : ObjKind = kind_of (name_of o) in
+    let i = advanced_inverse o t word after answer e in
+    let h = subst (SoundMove k (number_of word + 1)) i.1 (row_is_sound o t (number_of word) (shown k word) small range sound.state) in
+    let s = ap (shown k) i.2 ∙ shown-word_of k (number_of word + 1) i.0 (omega arith) h in
+    i.1 ∙ ap (λ z. Moves z answer) (sym s)
 
 -- mutexes and stripes
 
@@ -85,39 +85,39 @@ if_else b m n s a c e = tt
 -- a lock that answers 0 took the mutex
 pub lock_takes : (t word after : ℕ) → t < 16 → advanced op.Lock t word ≡ Advances after (pos 0) → Takes t word after
 lock_takes t word after small e =
-  let i = advanced_inverse op.Lock t word after (pos 0) e in
-  let r = lock_row t (shown kind.Mutex word) i.0 i.1 in
-  takes_of t word after i.0 small r.0 r.1 i.2
+    let i = advanced_inverse op.Lock t word after (pos 0) e in
+    let r = lock_row t (shown kind.Mutex word) i.0 i.1 in
+    takes_of t word after i.0 small r.0 r.1 i.2
 
 -- so did a trylock
 pub try_lock_takes : (t word after : ℕ) → t < 16 → advanced op.TryLock t word ≡ Advances after (pos 0) → Takes t word after
 try_lock_takes t word after small e =
-  let i = advanced_inverse op.TryLock t word after (pos 0) e in
-  let r = try_lock_row t (shown kind.Mutex word) i.0 i.1 in
-  takes_of t word after i.0 small r.0 r.1 i.2
+    let i = advanced_inverse op.TryLock t word after (pos 0) e in
+    let r = try_lock_row t (shown kind.Mutex word) i.0 i.1 in
+    takes_of t word after i.0 small r.0 r.1 i.2
 
 -- a take or retake takes its stripe
 pub take_takes : (t word after : ℕ) (answer : ℤ) → t < 16 → advanced op.Take t word ≡ Advances after answer → Takes t word after
 take_takes t word after answer small e =
-  let i = advanced_inverse op.Take t word after answer e in
-  let r = take_row t (shown kind.Mutex word) i.0 answer i.1 in
-  takes_of t word after i.0 small r.0 r.1 i.2
+    let i = advanced_inverse op.Take t word after answer e in
+    let r = take_row t (shown kind.Mutex word) i.0 answer i.1 in
+    takes_of t word after i.0 small r.0 r.1 i.2
 
 pub retake_takes : (t word after : ℕ) (answer : ℤ) → t < 16 → advanced op.Retake t word ≡ Advances after answer → Takes t word after
 retake_takes t word after answer small e =
-  let i = advanced_inverse op.Retake t word after answer e in
-  let r = take_row t (shown kind.Mutex word) i.0 answer i.1 in
-  takes_of t word after i.0 small r.0 r.1 i.2
+    let i = advanced_inverse op.Retake t word after answer e in
+    let r = take_row t (shown kind.Mutex word) i.0 answer i.1 in
+    takes_of t word after i.0 small r.0 r.1 i.2
 
 -- a give or revoke frees the stripe, which its thread held
 pub give_frees : (t word after : ℕ) (answer : ℤ) → advanced op.Give t word ≡ Advances after answer → Frees t word after
 give_frees t word after answer e =
-  let i = advanced_inverse op.Give t word after answer e in
-  let r = give_row t (shown kind.Mutex word) i.0 answer i.1 in
-  frees_of t word after i.0 r.0 r.1 i.2
+    let i = advanced_inverse op.Give t word after answer e in
+    let r = give_row t (shown kind.Mutex word) i.0 answer i.1 in
+    frees_of t word after i.0 r.0 r.1 i.2
 
 pub revoke_frees : (t word after : ℕ) (answer : ℤ) → advanced op.Revoke t word ≡ Advances after answer → Frees t word after
 revoke_frees t word after answer e =
-  let i = advanced_inverse op.Revoke t word after answer e in
-  let r = give_row t (shown kind.Mutex word) i.0 answer i.1 in
-  frees_of t word after i.0 r.0 r.1 i.2
+    let i = advanced_inverse op.Revoke t word after answer e in
+    let r = give_row t (shown kind.Mutex word) i.0 answer i.1 in
+    frees_of t word after i.0 r.0 r.1 i.2

@@ -1,3 +1,5 @@
 pub mod Facts
+pub mod Packed
 pub mod Packings
+pub mod Ranges
 pub mod Soundness

@@ -18,16 +18,16 @@ word_of-parts w = omega arith
 
 pub barrier_parts : (c a g : ℕ) → c < 32 → a < 32 → barrier_of (c + 32 * a + 1024 * g) ≡ Waits c a g
 barrier_parts c a g hc ha =
-  let e1 : (c + 32 * a + 1024 * g) % 32 ≡ c = omega arith in
-  let e2 : (c + 32 * a + 1024 * g) / 32 % 32 ≡ a = omega arith in
-  let e3 : (c + 32 * a + 1024 * g) / 1024 ≡ g = omega arith in
-  cc
+    let e1 : (c + 32 * a + 1024 * g) % 32 ≡ c = omega arith in
+    let e2 : (c + 32 * a + 1024 * g) / 32 % 32 ≡ a = omega arith in
+    let e3 : (c + 32 * a + 1024 * g) / 1024 ≡ g = omega arith in
+    cc
 
 pub threads_parts : (d l : ℕ) → d < 32 → threads_of (d + 32 * l) ≡ Counts d l
 threads_parts d l h =
-  let e1 : (d + 32 * l) % 32 ≡ d = omega arith in
-  let e2 : (d + 32 * l) / 32 ≡ l = omega arith in
-  cc
+    let e1 : (d + 32 * l) % 32 ≡ d = omega arith in
+    let e2 : (d + 32 * l) / 32 ≡ l = omega arith in
+    cc
 
 pub started_parts : (f : ℕ) → slot_of (f + 6) ≡ Started f
 started_parts f = let e : f + 6 ≡ suc (suc (suc (suc (suc (suc f))))) = omega arith in ap slot_of e

@@ -20,12 +20,12 @@ use Rattle.sync_objects.proofs.Packings.{number_of-word_of, state_of-word_of, un
 -- a word made of a sound state is sound
 pub word_is_sound : (k : ObjKind) (number : ℕ) (s : StateOf k) → number < 2 ^ 32 → IsSoundState k number s → IsSoundWord k (word_of number (packed k s))
 word_is_sound k number s small h =
-  let state = state_of-word_of number (packed k s) (packed-fits k number s small h) in
-  let back = unpacked-packed k number s h in
-  record {
-    shows = state ∙ ap (packed k) (sym (ap (unpacked k) state ∙ back));
-    state = subst (λ z. IsSoundState k (number_of (word_of number (packed k s))) z) (sym (ap (unpacked k) state ∙ back)) (subst (λ n. IsSoundState k n s) (sym (number_of-word_of number (packed k s))) h);
-  }
+    let state = state_of-word_of number (packed k s) (packed-fits k number s small h) in
+    let back = unpacked-packed k number s h in
+    record {
+      shows = state ∙ ap (packed k) (sym (ap (unpacked k) state ∙ back));
+      state = subst (λ z. IsSoundState k (number_of (word_of number (packed k s))) z) (sym (ap (unpacked k) state ∙ back)) (subst (λ n. IsSoundState k n s) (sym (number_of-word_of number (packed k s))) h);
+    }
 
 start_is_sound_state : (o : ObjId) → IsSoundState (object_kind o) 0 (start_state o)
 start_is_sound_state (object.Mutex cell) = tt
@@ -44,12 +44,12 @@ pub start_is_sound : (o : ObjId) → IsSoundWord (object_kind o) (start_word o)
 start_is_sound o = word_is_sound (object_kind o) 0 (start_state o) (omega arith) (start_is_sound_state o)
 
 after_move_inverse : (k : ObjKind) (word : ℕ) (m : Move (StateOf k)) (after : ℕ) (answer : ℤ) → after_move k word m ≡ Advances after answer →
-  (s : StateOf k) × (m ≡ Moves s answer) × (after ≡ word_of (number_of word + 1) (packed k s))
+    (s : StateOf k) × (m ≡ Moves s answer) × (after ≡ word_of (number_of word + 1) (packed k s))
 after_move_inverse k word NoRow after answer e = cc
 after_move_inverse k word (Moves s a) after answer e =
-  let same_word : word_of (number_of word + 1) (packed k s) ≡ after = cc in
-  let same_answer : a ≡ answer = cc in
-  (s, ap (Moves s) same_answer, sym same_word)
+    let same_word : word_of (number_of word + 1) (packed k s) ≡ after = cc in
+    let same_answer : a ≡ answer = cc in
+    (s, ap (Moves s) same_answer, sym same_word)
 
 -- what a move leaves is sound, if it moves
 abbrev pub SoundMove : (k : ObjKind) → ℕ → Move (StateOf k) → Type 0
@@ -74,7 +74,7 @@ row_is_sound op.CondEnter t number (Epoch e) small range h = omega arith
 row_is_sound (op.CondWake epoch) t number (Epoch e) small range h = either_row kind.Cond (number + 1) (not (e == epoch)) _ _ (λ _. omega arith) (λ _. tt)
 row_is_sound op.Signal t number (Epoch e) small range h = omega arith
 row_is_sound (op.BarrierInit n) t number (Waits c a g) small range h =
-  either_row kind.Barrier (number + 1) (may_count n (Waits c a g)) _ _ (λ e. grind (arith, nat_tests)) (λ _. (h.0, h.1, h.2, omega arith))
+    either_row kind.Barrier (number + 1) (may_count n (Waits c a g)) _ _ (λ e. grind (arith, nat_tests)) (λ _. (h.0, h.1, h.2, omega arith))
 row_is_sound op.Arrive t number (Waits c a g) small range h = grind (arith, nat_tests)
 row_is_sound (op.Pass generation) t number (Waits c a g) small range h = either_row kind.Barrier (number + 1) (not (g == generation)) _ _ (λ _. (h.0, h.1, h.2, omega arith)) (λ _. tt)
 row_is_sound op.Take t number Free small range h = small
@@ -106,20 +106,20 @@ row_is_sound op.Print t number Open small range h = tt
 
 -- an allowed operation leaves this word
 pub advanced_inverse : (o : Op) (t word after : ℕ) (answer : ℤ) → advanced o t word ≡ Advances after answer →
-  (s : StateOf (kind_of (name_of o))) × (first_row (rows o t) (shown (kind_of (name_of o)) word) ≡ Moves s answer) × (after ≡ word_of (number_of word + 1) (packed (kind_of (name_of o)) s))
+    (s : StateOf (kind_of (name_of o))) × (first_row (rows o t) (shown (kind_of (name_of o)) word) ≡ Moves s answer) × (after ≡ word_of (number_of word + 1) (packed (kind_of (name_of o)) s))
 unfolding advanced
 advanced_inverse o t word after answer e = after_move_inverse (kind_of (name_of o)) word (first_row (rows o t) (shown (kind_of (name_of o)) word)) after answer e
 
 -- an allowed operation raises the number by exactly one
 pub number_rises : (o : Op) (t word after : ℕ) (answer : ℤ) → advanced o t word ≡ Advances after answer → number_of after ≡ number_of word + 1
 number_rises o t word after answer e =
-  let i = advanced_inverse o t word after answer e in
-  ap number_of i.2 ∙ number_of-word_of (number_of word + 1) (packed (kind_of (name_of o)) i.0)
+    let i = advanced_inverse o t word after answer e in
+    ap number_of i.2 ∙ number_of-word_of (number_of word + 1) (packed (kind_of (name_of o)) i.0)
 
 -- an allowed operation keeps a word sound
 pub keeps_sound : (o : Op) (t word after : ℕ) (answer : ℤ) → t < 16 → IsInRange o → number_of word < 2 ^ 32 - 1 → IsSoundWord (kind_of (name_of o)) word → advanced o t word ≡ Advances after answer → IsSoundWord (kind_of (name_of o)) after
 keeps_sound o t word after answer small range few sound e =
-  let k : ObjKind = kind_of (name_of o) in
-  let i = advanced_inverse o t word after answer e in
-  let h = subst (SoundMove k (number_of word + 1)) i.1 (row_is_sound o t (number_of word) (shown k word) small range sound.state) in
-  subst (IsSoundWord k) (sym i.2) (word_is_sound k (number_of word + 1) i.0 (omega arith) h)
+    let k : ObjKind = kind_of (name_of o) in
+    let i = advanced_inverse o t word after answer e in
+    let h = subst (SoundMove k (number_of word + 1)) i.1 (row_is_sound o t (number_of word) (shown k word) small range sound.state) in
+    subst (IsSoundWord k) (sym i.2) (word_is_sound k (number_of word + 1) i.0 (omega arith) h)
