@@ -3,3 +3,4 @@ pub mod Packed
 pub mod Packings
 pub mod Ranges
 pub mod Soundness
+pub mod Starts

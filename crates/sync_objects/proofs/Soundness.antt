@@ -13,7 +13,7 @@ use Rattle.sync_objects.specs.Packing.{packed, unpacked, shown}
 use Rattle.sync_objects.specs.Advance.{Advance, NotAllowed, Advances, after_move, advanced}
 use Rattle.sync_objects.specs.Table.{Move, NoRow, Moves, first_row, rows}
 use Rattle.sync_objects.specs.Sound.{IsSoundState, IsSoundWord, IsInRange}
-use Rattle.sync_objects.specs.Start.{start_state, start_word}
+use Rattle.sync_objects.specs.Start.{start_state, packed_start, start_word}
 use Rattle.sync_objects.specs.Words.{number_of, state_of, word_of}
 use Rattle.sync_objects.proofs.Packings.{number_of-word_of, state_of-word_of, unpacked-packed, packed-fits}
 
@@ -41,6 +41,7 @@ start_is_sound_state object.Output = tt
 
 -- every start word is sound
 pub start_is_sound : (o : ObjId) → IsSoundWord (object_kind o) (start_word o)
+unfolding packed_start
 start_is_sound o = word_is_sound (object_kind o) 0 (start_state o) (omega arith) (start_is_sound_state o)
 
 after_move_inverse : (k : ObjKind) (word : ℕ) (m : Move (StateOf k)) (after : ℕ) (answer : ℤ) → after_move k word m ≡ Advances after answer →

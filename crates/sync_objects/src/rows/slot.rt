@@ -6,11 +6,11 @@ ghost use Rattle.sync_objects.specs.Moved.{moved, Gives};
 
 use crate::rows::moved::{DONE, MISUSE, Moved};
 
-const IDLE: u32 = 0;
+pub const IDLE: u32 = 0;
 
 const CLOSED: u32 = 1;
 
-const BEGUN: u32 = 2;
+pub const BEGUN: u32 = 2;
 
 const ENDED: u32 = 3;
 

@@ -9,6 +9,9 @@ use crate::rows::moved::{DONE, Moved};
 /// One thread that is live, in a state.
 const ONE_LIVE: u32 = 32;
 
+/// One thread is drawn, and it is live.
+pub const START: u32 = 33;
+
 pub fn draw(thread: u8, slots: u8, state: u32) -> Option<Moved>
     requires slots { slots ≤ 16 }
     requires live { state / 32 ≤ 16 }
