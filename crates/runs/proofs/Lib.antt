@@ -3,3 +3,5 @@ pub mod SameEntries
 pub mod Swap
 pub mod Apart
 pub mod Front
+pub mod Counts
+pub mod Merges
