@@ -5,3 +5,5 @@ pub mod Apart
 pub mod Front
 pub mod Counts
 pub mod Merges
+pub mod Numbers
+pub mod Converge
