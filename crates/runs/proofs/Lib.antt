@@ -7,3 +7,4 @@ pub mod Counts
 pub mod Merges
 pub mod Numbers
 pub mod Converge
+pub mod Lead

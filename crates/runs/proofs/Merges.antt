@@ -67,9 +67,9 @@ module _ {T : Type 0} (m : Machine T) (law : IsLawful m) where
       let all : AllIn (IsFirst e) (e ∷ M) = ((λ _. omega arith), first_of_all e M merges.ascending.0) in
       let first = AllIn-of_threads (IsFirst e) (trace m R s) (λ u. subst (AllIn (IsFirst e)) (merges.threads u) (AllIn-entries_of (IsFirst e) u (e ∷ M) all)) in
       let f = front m law R s s1 e (entries_of t M) h free o first in
-      let rest = merge_walks M f.then f.mid s1 f.goes (free_solo f.turns f.label e s f.mid f.solo free) over (record {
+      let rest = merge_walks M f.after f.mid s1 f.goes (free_solo f.turns f.label e s f.mid f.solo free) over (record {
         threads = λ u. ⊎_elim
-            (λ q. subst (λ z. entries_of z M ≡ entries_of z (trace m f.then f.mid)) (sym q) (sym f.own_rest))
+            (λ q. subst (λ z. entries_of z M ≡ entries_of z (trace m f.after f.mid)) (sym q) (sym f.own_rest))
             (λ ne. sym (own_out u e M (λ q. ne (sym q))) ∙ merges.threads u ∙ sym (f.others u ne))
             (cases_eq u t);
         ascending = merges.ascending.1;
