@@ -8,3 +8,6 @@ pub mod Merges
 pub mod Numbers
 pub mod Converge
 pub mod Lead
+pub mod Grows
+pub mod Removed
+pub mod Prefixes
