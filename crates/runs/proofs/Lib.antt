@@ -11,3 +11,5 @@ pub mod Lead
 pub mod Grows
 pub mod Removed
 pub mod Prefixes
+pub mod Kept
+pub mod Solo
