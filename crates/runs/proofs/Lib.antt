@@ -13,3 +13,4 @@ pub mod Removed
 pub mod Prefixes
 pub mod Kept
 pub mod Solo
+pub mod Locked
