@@ -14,3 +14,4 @@ pub mod Prefixes
 pub mod Kept
 pub mod Solo
 pub mod Locked
+pub mod Written
