@@ -15,3 +15,4 @@ pub mod Kept
 pub mod Solo
 pub mod Locked
 pub mod Written
+pub mod Numbered
