@@ -202,3 +202,6 @@ module _ {T : Type 0} (m : Machine T) (law : IsLawful m) where
               (cases_eq y t)) in
               subst (λ z. AreComparable z (path m x Q s)) (q.paths x isnt ∙ r.paths x isnt ∙ sym (path_other m law x l R s more.0 more.1 (λ z. isnt (sym z)))) c)
               (cases_eq x t)
+
+  pub comparable_paths : (R Q : List Label) (s r1 q1 : State T) → run m R s ≡ Some r1 → run m Q s ≡ Some q1 → Free m law s → BeginsLike m R Q s → StopsBefore m R Q s r1 → (x : ℕ) → AreComparable (path m x R s) (path m x Q s)
+  comparable_paths R Q s r1 q1 h k free begins stops x = prefixes (length R) R Q s r1 q1 (omega arith) h k free begins stops x
