@@ -4,12 +4,21 @@
 
 mod act;
 mod code;
+mod evaluate;
+mod pointers;
 mod region;
 mod thread;
 mod work;
+mod works;
 
 pub use act::{Act, Instr, LibraryCall, Piece};
 pub use code::{Code, Function, LockInfo, LoopInfo};
+pub use evaluate::{binary, negate, number, truth, word};
+pub use pointers::{
+    compared, directed, elements_between, known, moved, moved_by, number_from, pointer_to,
+    resolved, site_at,
+};
 pub use region::{Base, Bound, Region, Span};
 pub use thread::{Action, Due, Onward, Phase, Stripe};
 pub use work::{BinaryOp, Work};
+pub use works::{compute, is_pointer, register};

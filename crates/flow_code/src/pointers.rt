@@ -1,0 +1,159 @@
+// Pointer words in a code: the cells that they point to, how they are moved and how they compare.
+ghost use Rattle.std.specs.Prelude.{◌≡◌, ◌*ℤ◌, pos};
+ghost use Rattle.std.specs.Option.{option_copied};
+ghost use Rattle.flow_code.specs.Pointers.{known as known_of, resolved as resolved_of, site_at as site_of_number, is_kind as is_kind_of, kind_at as kind_at_of, kind_in as kind_in_of, moved as moved_of, moved_by as moved_by_of, directed as directed_of, in_one_object as in_one_object_of, compared as compared_of, elements_between as elements_between_of, pointer_to as pointer_to_of, number_from as number_from_of};
+
+use crate::evaluate;
+use rr_base::{CellKind, Layout, PtrWord, Site, Trap};
+
+/// The site of this number; the first has number 1.
+pub fn site_at(sites: &[Site], number: u16) -> Option<&Site>
+    ensures { option_copied result ≡ site_of_number sites.now number }
+{
+    if number == 0 {
+        return None;
+    }
+    sites.get(usize::from(number) - 1)
+}
+
+/// The word as the code reads it: one of a site that the code doesn't have is read as a word of site 0.
+pub fn known(sites: &[Site], word: u64) -> PtrWord
+    ensures { result ≡ known_of sites.now word }
+{
+    let pointer = PtrWord::from_word(word);
+    if usize::from(pointer.site()) <= sites.len() {
+        pointer
+    } else {
+        PtrWord::from_word(word % (1 << 54))
+    }
+}
+
+fn is_kind(found: Option<CellKind>, want: CellKind) -> bool
+    ensures { result ≡ is_kind_of found want }
+{
+    match found {
+        Some(kind) => kind == want,
+        None => false,
+    }
+}
+
+fn kind_at(layout: &Layout, offset: u16) -> Option<CellKind>
+    ensures { result ≡ kind_at_of layout.now offset }
+{
+    if layout.size == 0 {
+        return None;
+    }
+    layout
+        .kinds
+        .get((u32::from(offset) % layout.size) as usize)
+        .copied()
+}
+
+fn kind_in(site: Option<&Site>, offset: u16) -> Option<CellKind>
+    ensures { result ≡ kind_in_of (option_copied site.entry) offset }
+{
+    kind_at(&site?.layout, offset)
+}
+
+/// The cell to which the word points, for an access of this kind (C99 6.5.3.2). It is BadDereference or OutOfObject
+/// where the word points to no cell, else BadKind where the cell is of another kind.
+pub fn resolved(sites: &[Site], word: u64, want: CellKind) -> Result<u32, Trap>
+    ensures { result ≡ resolved_of sites.now word want }
+{
+    let cell = known(sites, word).cell()?;
+    let pointer = PtrWord::from_word(word);
+    if is_kind(
+        kind_in(site_at(sites, pointer.site()), pointer.offset()),
+        want,
+    ) {
+        Ok(cell)
+    } else {
+        Err(Trap::BadKind)
+    }
+}
+
+/// The pointer so many cells further on, within its object or right behind it (C99 6.5.6). It is BadDereference
+/// where the word points nowhere, else OutOfObject where the pointer would leave its object.
+pub fn moved(sites: &[Site], word: u64, cells: i64) -> Result<u64, Trap>
+    ensures { result ≡ moved_of sites.now word cells }
+{
+    let pointer = known(sites, word).moved(cells)?;
+    Ok(pointer.word())
+}
+
+/// A number of elements, forwards or back.
+pub fn directed(back: bool, elements: i64) -> i128
+    ensures { result ≡ directed_of back elements }
+{
+    if back {
+        -i128::from(elements)
+    } else {
+        i128::from(elements)
+    }
+}
+
+/// The pointer moved by so many elements of `element` cells, forwards or back (C99 6.5.6). It is OutOfObject where
+/// the cells' number doesn't fit 64 bits, else as `moved` is.
+pub fn moved_by(
+    sites: &[Site],
+    word: u64,
+    elements: i64,
+    element: u32,
+    back: bool,
+) -> Result<u64, Trap>
+    ensures { result ≡ moved_by_of sites.now word (directed_of back elements *ℤ pos element) }
+{
+    let cells = directed(back, elements)
+        .checked_mul(i128::from(element))
+        .ok_or(Trap::OutOfObject)?;
+    match i64::try_from(cells) {
+        Ok(cells) => moved(sites, word, cells),
+        Err(_) => Err(Trap::OutOfObject),
+    }
+}
+
+fn in_one_object(left: PtrWord, right: PtrWord) -> bool
+    ensures { result ≡ in_one_object_of left right }
+{
+    left.site() != 0 && left.site() == right.site() && left.base() == right.base()
+}
+
+/// What is asked of two pointers into one object (C99 6.5.8). It is CompareObjects exactly where they aren't.
+pub fn compared(sites: &[Site], left: u64, right: u64, answer: u64) -> Result<u64, Trap>
+    ensures { result ≡ compared_of sites.now left right answer }
+{
+    if in_one_object(known(sites, left), known(sites, right)) {
+        Ok(answer)
+    } else {
+        Err(Trap::CompareObjects)
+    }
+}
+
+/// How many elements of `element` cells lie from the second pointer to the first, truncated towards zero, as a
+/// word (C99 6.5.6); of elements of no cells, 0.
+pub fn elements_between(left: u64, right: u64, element: u32) -> u64
+    ensures { result ≡ elements_between_of left right element }
+{
+    if element == 0 {
+        return 0;
+    }
+    let cells = i64::from(PtrWord::from_word(left).offset())
+        - i64::from(PtrWord::from_word(right).offset());
+    evaluate::word(cells / i64::from(element))
+}
+
+/// The number as a pointer (C99 6.3.2.3). It is CastRange exactly outside of -2^53 to 2^53 - 1.
+pub fn pointer_to(number: i64) -> Result<u64, Trap>
+    ensures { result ≡ pointer_to_of number }
+{
+    let pointer = PtrWord::of_number(number)?;
+    Ok(pointer.word())
+}
+
+/// The pointer as a number, as a word (C99 6.3.2.3). It is PointerToNumber exactly where it points to an object.
+pub fn number_from(sites: &[Site], word: u64) -> Result<u64, Trap>
+    ensures { result ≡ number_from_of sites.now word }
+{
+    let number = known(sites, word).to_number()?;
+    Ok(evaluate::word(number))
+}

@@ -1,0 +1,113 @@
+// What an instruction that computes gives, from the registers of its frame.
+ghost use Rattle.std.specs.Prelude.{◌≡◌};
+ghost use Rattle.flow_code.specs.Works.{register as register_of, is_pointer as is_pointer_of, based as based_of, pointer_binary_of, either_binary_of, work_of};
+
+use crate::evaluate::{binary, negate, number, truth, word};
+use crate::pointers::{compared, elements_between, moved, moved_by, number_from, pointer_to};
+use crate::work::{BinaryOp, Work};
+use rr_base::{PtrWord, Site, Trap};
+
+/// The word in a register, and 0 in one that the frame doesn't have.
+pub fn register(registers: &[u64], r: u32) -> u64
+    ensures { result ≡ register_of registers.now r }
+{
+    registers.get(r as usize).copied().unwrap_or(0)
+}
+
+/// Whether a register holds a pointer; one that the function doesn't have holds none.
+pub fn is_pointer(pointers: &[bool], r: u32) -> bool
+    ensures { result ≡ is_pointer_of pointers.now r }
+{
+    pointers.get(r as usize).copied().unwrap_or(false)
+}
+
+fn based(slots: u8, address: PtrWord) -> u64
+    ensures { result ≡ based_of slots address }
+{
+    address
+        .word()
+        .wrapping_add(2 * u64::from(slots) * (1 << 32))
+}
+
+fn pointer_binary(sites: &[Site], op: BinaryOp, left: u64, right: u64) -> Result<u64, Trap>
+    ensures { result ≡ pointer_binary_of sites.now op left right }
+{
+    let (from, to) = (
+        PtrWord::from_word(left).offset(),
+        PtrWord::from_word(right).offset(),
+    );
+    match op {
+        BinaryOp::Less => compared(sites, left, right, truth(from < to)),
+        BinaryOp::LessEqual => compared(sites, left, right, truth(from <= to)),
+        BinaryOp::Greater => compared(sites, left, right, truth(from > to)),
+        BinaryOp::GreaterEqual => compared(sites, left, right, truth(from >= to)),
+        _ => binary(op, left, right),
+    }
+}
+
+fn either_binary(
+    are_pointers: bool,
+    sites: &[Site],
+    op: BinaryOp,
+    left: u64,
+    right: u64,
+) -> Result<u64, Trap>
+    ensures { result ≡ either_binary_of are_pointers sites.now op left right }
+{
+    if are_pointers {
+        pointer_binary(sites, op, left, right)
+    } else {
+        binary(op, left, right)
+    }
+}
+
+/// What a work gives in a code with these sites, of a function with these pointers, in a frame with these registers,
+/// where the setup has so many slots: its word, or its trap (C99 6.5.2.3 to 6.5.12).
+pub fn compute(
+    slots: u8,
+    sites: &[Site],
+    pointers: &[bool],
+    registers: &[u64],
+    work: &Work,
+) -> Result<u64, Trap>
+    ensures { result ≡ work_of slots sites.now pointers.now registers.now work.now }
+{
+    match *work {
+        Work::Constant(value) => Ok(word(value)),
+        Work::Address(address) => Ok(based(slots, address)),
+        Work::Copy(r) => Ok(register(registers, r)),
+        Work::Minus(r) => negate(number(register(registers, r))),
+        Work::Complement(r) => Ok(!register(registers, r)),
+        Work::Not(r) => Ok(truth(register(registers, r) == 0)),
+        Work::Binary { op, left, right } => either_binary(
+            is_pointer(pointers, left),
+            sites,
+            op,
+            register(registers, left),
+            register(registers, right),
+        ),
+        Work::Move {
+            pointer,
+            by,
+            element,
+            back,
+        } => moved_by(
+            sites,
+            register(registers, pointer),
+            number(register(registers, by)),
+            element,
+            back,
+        ),
+        Work::Member { pointer, by } => moved(sites, register(registers, pointer), i64::from(by)),
+        Work::Between {
+            left,
+            right,
+            element,
+        } => {
+            let (left, right) = (register(registers, left), register(registers, right));
+            compared(sites, left, right, elements_between(left, right, element))
+        }
+        Work::ToPointer(r) => pointer_to(number(register(registers, r))),
+        Work::ToNumber(r) => number_from(sites, register(registers, r)),
+    }
+}
