@@ -1,2 +1,4 @@
+pub mod FaultLaws
 pub mod Lists
+pub mod StreamLaws
 pub mod WordLaws

@@ -85,11 +85,10 @@ same_by_slice_get (x ∷ xs) [] h = let e = h 0 in cc
 same_by_slice_get (x ∷ xs) (y ∷ ys) h =
     let e : x ≡ y = same_Some x y (h 0) in let more : xs ≡ ys = same_by_slice_get xs ys (λ i. h (suc i)) in cc
 
--- a list that is cut and joined again
-pub take-length : {X : Type 0} (xs ys : List X) → take (length xs) (xs ++ ys) ≡ xs
-take-length [] ys = refl
-take-length (x ∷ xs) ys = ap (λ zs. x ∷ zs) (take-length xs ys)
-
-pub drop-length : {X : Type 0} (xs ys : List X) → drop (length xs) (xs ++ ys) ≡ ys
-drop-length [] ys = refl
-drop-length (x ∷ xs) ys = drop-length xs ys
+-- two front parts, one behind the other
+pub take-add : {X : Type 0} (m n : ℕ) (xs : List X) → take (m + n) xs ≡ take m xs ++ take n (drop m xs)
+take-add zero n xs = let e : 0 + n ≡ n = omega arith in ap (λ k. take k xs) e
+take-add (suc m) zero [] = let e : suc m + 0 ≡ suc m = omega arith in ap (λ k. take k []) e
+take-add (suc m) (suc n) [] = let e : suc m + suc n ≡ suc (m + suc n) = omega arith in ap (λ k. take k []) e
+take-add (suc m) n (x ∷ xs) =
+    let e : suc m + n ≡ suc (m + n) = omega arith in ap (λ k. take k (x ∷ xs)) e ∙ ap (λ zs. x ∷ zs) (take-add m n xs)

@@ -7,11 +7,17 @@ mod list;
 mod list_iter;
 mod list_order;
 mod pointer;
+mod shelf;
+mod sink;
+mod source;
 mod trap;
 
 pub use layout::{CellKind, Layout, Place, Site};
 pub use list::List;
 pub use pointer::PtrWord;
+pub use shelf::{Shelf, ShelfEnd};
+pub use sink::{Sink, SinkEnd};
+pub use source::{Failed, Source};
 pub use trap::Trap;
 
 /// Bytes that contracts see as a list.

@@ -40,12 +40,12 @@ module _ {T : Type 0} (m : Machine T) (law : IsLawful m) where
     pub turns : ℕ
     pub label : Label
     pub mid : State T
-    pub then : List Label
+    pub after : List Label
     pub solo : Solo turns label e s mid
     pub of_thread : label_thread label ≡ e.entry.thread
-    pub goes : run m then mid ≡ Some s1
-    pub own_rest : entries_of e.entry.thread (trace m then mid) ≡ rest
-    pub others : (t : ℕ) → t ≢ e.entry.thread → entries_of t (trace m then mid) ≡ entries_of t (trace m R s)
+    pub goes : run m after mid ≡ Some s1
+    pub own_rest : entries_of e.entry.thread (trace m after mid) ≡ rest
+    pub others : (t : ℕ) → t ≢ e.entry.thread → entries_of t (trace m after mid) ≡ entries_of t (trace m R s)
 
   -- one more own step, which adds nothing
   front_quiet : (u : Label) (R : List Label) (s s1 s2 : State T) (e : Noted) (rest : List Noted) → stepped m s u ≡ Some s2 → added m s u ≡ [] → u ≡ Go (label_thread u) → label_thread u ≡ e.entry.thread → Front R s2 s1 e rest → Front (u ∷ R) s s1 e rest
@@ -56,7 +56,7 @@ module _ {T : Type 0} (m : Machine T) (law : IsLawful m) where
         turns = suc f.turns;
         label = f.label;
         mid = f.mid;
-        then = f.then;
+        after = f.after;
         solo = (s2, subst (λ z. stepped m s z ≡ Some s2) g su, subst (λ z. added m s z ≡ []) g ad, f.solo);
         of_thread = f.of_thread;
         goes = f.goes;
@@ -74,7 +74,7 @@ module _ {T : Type 0} (m : Machine T) (law : IsLawful m) where
         turns = 0;
         label = u;
         mid = s2;
-        then = R;
+        after = R;
         solo = (su, ad ∙ ap (λ z. z ∷ []) same);
         of_thread = th;
         goes = goes;
@@ -86,18 +86,18 @@ module _ {T : Type 0} (m : Machine T) (law : IsLawful m) where
   front_other : (u : Label) (R : List Label) (s s1 s2 : State T) (e : Noted) (rest : List Noted) → stepped m s u ≡ Some s2 → label_thread u ≢ e.entry.thread → Free m law s → AllIn (IsFirst e) (added m s u) → Front R s2 s1 e rest → Front (u ∷ R) s s1 e rest
   front_other u R s s1 s2 e rest su ne free first f =
       let c = commute f.turns f.label e u s s2 f.mid su f.solo (λ q. ne (q ∙ f.of_thread)) free first in
-      let tr = trace_more m law u f.then c.0 f.mid c.2 in
+      let tr = trace_more m law u f.after c.0 f.mid c.2 in
       let tr0 = trace_more m law u R s s2 su in
       record {
         turns = f.turns;
         label = f.label;
         mid = c.0;
-        then = u ∷ f.then;
+        after = u ∷ f.after;
         solo = c.1;
         of_thread = f.of_thread;
-        goes = ap (run_on m (run m f.then)) c.2 ∙ f.goes;
-        own_rest = ap (entries_of e.entry.thread) tr ∙ entries_of-append e.entry.thread (added m c.0 u) (trace m f.then f.mid) ∙ ap (λ z. z ++ entries_of e.entry.thread (trace m f.then f.mid)) (ap (entries_of e.entry.thread) c.3 ∙ own_apart m law e.entry.thread s s2 u su ne) ∙ f.own_rest;
-        others = λ t nt. ap (entries_of t) tr ∙ entries_of-append t (added m c.0 u) (trace m f.then f.mid) ∙ ap (λ z. entries_of t z ++ entries_of t (trace m f.then f.mid)) c.3 ∙ ap (λ z. entries_of t (added m s u) ++ z) (f.others t nt) ∙ sym (entries_of-append t (added m s u) (trace m R s2)) ∙ ap (entries_of t) (sym tr0);
+        goes = ap (run_on m (run m f.after)) c.2 ∙ f.goes;
+        own_rest = ap (entries_of e.entry.thread) tr ∙ entries_of-append e.entry.thread (added m c.0 u) (trace m f.after f.mid) ∙ ap (λ z. z ++ entries_of e.entry.thread (trace m f.after f.mid)) (ap (entries_of e.entry.thread) c.3 ∙ own_apart m law e.entry.thread s s2 u su ne) ∙ f.own_rest;
+        others = λ t nt. ap (entries_of t) tr ∙ entries_of-append t (added m c.0 u) (trace m f.after f.mid) ∙ ap (λ z. entries_of t z ++ entries_of t (trace m f.after f.mid)) c.3 ∙ ap (λ z. entries_of t (added m s u) ++ z) (f.others t nt) ∙ sym (entries_of-append t (added m s u) (trace m R s2)) ∙ ap (entries_of t) (sym tr0);
       }
 
   -- the thread's steps up to its next entry can be made first, if no entry of that object comes before it

@@ -3,3 +3,16 @@ pub mod SameEntries
 pub mod Swap
 pub mod Apart
 pub mod Front
+pub mod Counts
+pub mod Merges
+pub mod Numbers
+pub mod Converge
+pub mod Lead
+pub mod Grows
+pub mod Removed
+pub mod Prefixes
+pub mod Kept
+pub mod Solo
+pub mod Locked
+pub mod Written
+pub mod Numbered

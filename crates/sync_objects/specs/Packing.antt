@@ -3,6 +3,7 @@ use Rattle.std.specs.Prelude.{ℕ, zero, suc, ◌+◌, ◌*◌, ◌/◌, ◌%◌
 use Rattle.sync_objects.specs.declared.kind.ObjKind.{ObjKind}
 use Rattle.sync_objects.specs.declared.kind.ObjKind.TheVariants as kind
 use Rattle.sync_objects.specs.States.{LockState, Free, HeldBy, CondState, Epoch, BarrierState, Waits, SlotState, Idle, Closed, Begun, Ended, Joined, Shut, Started, ThreadsState, Counts, HaltState, Running, Halted, Trapped, InputState, Position, OutputState, Open, StateOf}
+use Rattle.sync_objects.specs.Words.{state_of}
 
 abbrev pub packed_lock : LockState → ℕ
 packed_lock Free = 0
@@ -93,3 +94,7 @@ unpacked kind.Threads = threads_of
 unpacked kind.Halt = halt_of
 unpacked kind.Input = input_of
 unpacked kind.Output = output_of
+
+-- the state that a word shows, as an object of this kind
+abbrev pub shown : (k : ObjKind) → ℕ → StateOf k
+shown k word = unpacked k (state_of word)

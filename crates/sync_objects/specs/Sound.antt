@@ -5,7 +5,7 @@ use Rattle.sync_objects.specs.declared.kind.ObjKind.TheVariants as kind
 use Rattle.sync_objects.specs.declared.operation.Op.{Op}
 use Rattle.sync_objects.specs.declared.operation.Op.TheVariants as op
 use Rattle.sync_objects.specs.States.{LockState, Free, HeldBy, BarrierState, Waits, SlotState, Started, ThreadsState, Counts, CondState, Epoch, InputState, Position, StateOf}
-use Rattle.sync_objects.specs.Packing.{packed, unpacked}
+use Rattle.sync_objects.specs.Packing.{packed, shown}
 use Rattle.sync_objects.specs.Words.{number_of, state_of}
 
 abbrev pub IsSoundLock : LockState → Type 0
@@ -44,8 +44,8 @@ IsSoundState kind.Output number s = Unit {0}
 
 -- the word shows a state of this kind, and that state can be
 pub record IsSoundWord (k : ObjKind) (word : ℕ) : Type 0 where
-  pub shows : state_of word ≡ packed k (unpacked k (state_of word))
-  pub state : IsSoundState k (number_of word) (unpacked k (state_of word))
+  pub shows : state_of word ≡ packed k (shown k word)
+  pub state : IsSoundState k (number_of word) (shown k word)
 
 -- what the operation carries is in range: 1 to 16 slots, and a function's number below 2^20
 abbrev pub IsInRange : Op → Type 0

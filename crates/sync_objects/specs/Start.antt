@@ -20,6 +20,10 @@ start_state object.Halt = Running
 start_state object.Input = Position 0
 start_state object.Output = Open
 
+-- the number of that state
+unfoldable pub packed_start : ObjId → ℕ
+packed_start o = packed (object_kind o) (start_state o)
+
 -- the word of an object at the start, whose number is 0
 abbrev pub start_word : ObjId → ℕ
-start_word o = word_of 0 (packed (object_kind o) (start_state o))
+start_word o = word_of 0 (packed_start o)

@@ -5,10 +5,15 @@ mod entry;
 mod kind;
 mod object;
 mod operation;
+mod rows;
 mod setup;
+mod table;
+mod word;
 
 pub use entry::{Entry, Noted};
 pub use kind::ObjKind;
-pub use object::ObjId;
-pub use operation::{Op, OpName};
+pub use object::{start_word, ObjId};
+pub use operation::{fits, Op, OpName};
 pub use setup::Setup;
+pub use table::advance;
+pub use word::{number_of, state_of};

@@ -1,3 +1,12 @@
+ghost use Rattle.std.specs.Prelude.{◌≡◌};
+ghost use Rattle.sync_objects.specs.Names.{object_kind};
+ghost use Rattle.sync_objects.specs.Sound.{IsSoundWord};
+ghost use Rattle.sync_objects.specs.Start.{packed_start, start_word};
+
+use crate::kind::ObjKind;
+use crate::rows::{halt, lock, slot, threads};
+use crate::word::word_of;
+
 /// A synchronisation object. Mutexes, conditions and barriers are named by their cell.
 #[derive(Clone, Copy, Debug, PartialEq, Eq)]
 pub enum ObjId {
@@ -16,4 +25,46 @@ pub enum ObjId {
     Input,
     /// The output.
     Output,
+}
+
+impl ObjId {
+    /// The object's kind.
+    pub fn kind(self) -> ObjKind
+        ensures { result ≡ object_kind self }
+    {
+        match self {
+            ObjId::Mutex(_) => ObjKind::Mutex,
+            ObjId::Cond(_) => ObjKind::Cond,
+            ObjId::Barrier(_) => ObjKind::Barrier,
+            ObjId::Weak { .. } => ObjKind::Weak,
+            ObjId::Slot(_) => ObjKind::Slot,
+            ObjId::Threads => ObjKind::Threads,
+            ObjId::Halt => ObjKind::Halt,
+            ObjId::Input => ObjKind::Input,
+            ObjId::Output => ObjKind::Output,
+        }
+    }
+}
+
+/// The object's word before any operation: thread 0 has begun, and it is drawn and live.
+#[tactic(auto, using(crate::proofs::Soundness::start_is_sound))]
+pub fn start_word(obj: ObjId) -> u64
+    ensures word { result ≡ start_word obj }
+    ensures sound { IsSoundWord (object_kind obj) result }
+{
+    word_of(0, packed_start(obj))
+}
+
+#[tactic(auto, using(crate::proofs::Starts::starts))]
+fn packed_start(obj: ObjId) -> u32
+    ensures { result ≡ packed_start obj }
+{
+    match obj {
+        ObjId::Mutex(_) | ObjId::Weak { .. } => lock::FREE,
+        ObjId::Cond(_) | ObjId::Barrier(_) => 0,
+        ObjId::Slot(slot) => if slot == 0 { slot::BEGUN } else { slot::IDLE },
+        ObjId::Threads => threads::START,
+        ObjId::Halt => halt::RUNNING,
+        ObjId::Input | ObjId::Output => 0,
+    }
 }

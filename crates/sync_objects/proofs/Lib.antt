@@ -1,0 +1,6 @@
+pub mod Facts
+pub mod Packed
+pub mod Packings
+pub mod Ranges
+pub mod Soundness
+pub mod Starts

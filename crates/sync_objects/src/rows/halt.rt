@@ -1,0 +1,44 @@
+//! The halt word: whether the program runs.
+
+ghost use Rattle.std.specs.Prelude.{◌≡◌, ◌≤◌};
+ghost use Rattle.sync_objects.specs.declared.operation.Op.TheVariants as op;
+ghost use Rattle.sync_objects.specs.Moved.{moved, Gives};
+
+use crate::rows::moved::{DONE, Moved};
+
+pub const RUNNING: u32 = 0;
+
+const HALTED: u32 = 1;
+
+const TRAPPED: u32 = 2;
+
+pub fn halt(thread: u8, state: u32) -> Option<Moved>
+    ensures { Gives (moved op.HaltAll thread state) result }
+{
+    if state == RUNNING {
+        Some(Moved::new(HALTED, DONE))
+    } else {
+        None
+    }
+}
+
+pub fn trap(thread: u8, state: u32) -> Option<Moved>
+    ensures { Gives (moved op.TrapHere thread state) result }
+{
+    if state == RUNNING {
+        Some(Moved::new(TRAPPED, DONE))
+    } else {
+        None
+    }
+}
+
+pub fn stop(thread: u8, state: u32) -> Option<Moved>
+    requires { state ≤ 2 }
+    ensures { Gives (moved op.Stop thread state) result }
+{
+    if state == RUNNING {
+        None
+    } else {
+        Some(Moved::new(state, DONE))
+    }
+}

@@ -1,0 +1,63 @@
+ghost use Rattle.std.specs.Prelude.{◌≡◌, ◌-◌, ◌<◌, ◌^◌, MatchOption, IfSome};
+ghost use Rattle.sync_objects.specs.Advance.{advanced, NotAllowed, Advances};
+ghost use Rattle.sync_objects.specs.Moved.{moved, Gives};
+ghost use Rattle.sync_objects.specs.Names.{name_of, kind_of};
+ghost use Rattle.sync_objects.specs.Sound.{IsSoundWord, IsInRange};
+ghost use Rattle.sync_objects.specs.Words.{number_of, state_of};
+
+use crate::operation::Op;
+use crate::rows::moved::Moved;
+use crate::rows::{barrier, condition, halt, input, lock, slot, threads};
+use crate::word;
+
+/// What the operation by this thread makes of the word of its object, with its answer, or None exactly where the
+/// table doesn't allow it there. The word is one that an object of the operation's kind can have, and so is the
+/// new word.
+#[tactic(auto, using(crate::proofs::Packed::not_allowed, crate::proofs::Packed::advances, crate::proofs::Soundness::keeps_sound))]
+pub fn advance(op: Op, thread: u8, word: u64) -> Option<(u64, i64)>
+    requires thread { thread < 16 }
+    requires range { IsInRange op }
+    requires number { number_of word < 2 ^ 32 - 1 }
+    requires sound { IsSoundWord (kind_of (name_of op)) word }
+    ensures table { MatchOption result (advanced op thread word ≡ NotAllowed) (λ next. advanced op thread word ≡ Advances next.0 next.1) }
+    ensures sound { IfSome result (λ next. IsSoundWord (kind_of (name_of op)) next.0) }
+{
+    let moved = moved(op, thread, word)?;
+    let next = word::word_of(word::number_of(word) + 1, moved.state);
+    Some((next, moved.answer))
+}
+
+fn moved(op: Op, thread: u8, word: u64) -> Option<Moved>
+    requires range { IsInRange op }
+    requires number { number_of word < 2 ^ 32 - 1 }
+    requires sound { IsSoundWord (kind_of (name_of op)) word }
+    ensures { Gives (moved op thread (state_of word)) result }
+{
+    let state = word::state_of(word);
+    match op {
+        Op::Lock => lock::lock(thread, state),
+        Op::TryLock => Some(lock::try_lock(thread, state)),
+        Op::Unlock => Some(lock::unlock(thread, state)),
+        Op::MutexInit => Some(lock::init(thread, state)),
+        Op::CondEnter => Some(condition::enter(thread, state)),
+        Op::CondWake { epoch } => condition::wake(thread, epoch, state),
+        Op::Signal => Some(condition::signal(thread, state)),
+        Op::BarrierInit { count } => Some(barrier::init(thread, count, state)),
+        Op::Arrive => Some(barrier::arrive(thread, state)),
+        Op::Pass { generation } => barrier::pass(thread, generation, state),
+        Op::Take | Op::Retake => lock::take(thread, state),
+        Op::Give | Op::Revoke => lock::give(thread, state),
+        Op::Draw { slots } => threads::draw(thread, slots, state),
+        Op::Leave => threads::leave(thread, state),
+        Op::Start { function } => slot::start(thread, function, state),
+        Op::Begin => slot::begin(thread, state),
+        Op::End => slot::end(thread, state),
+        Op::Join => slot::join(thread, state),
+        Op::Close => slot::close(thread, state),
+        Op::HaltAll => halt::halt(thread, state),
+        Op::TrapHere => halt::trap(thread, state),
+        Op::Stop => halt::stop(thread, state),
+        Op::GetChar { len } => Some(input::get_char(thread, len, state)),
+        Op::Print => Some(input::print(thread, state)),
+    }
+}
