@@ -4,9 +4,12 @@
 #![tactic(auto)]
 
 mod access;
+mod due;
 mod frame;
 mod outcome;
 mod place;
+mod region;
+mod state;
 
 pub use access::{Access, Formula};
 pub use flow_code::{Action, Phase};

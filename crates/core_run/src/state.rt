@@ -1,0 +1,110 @@
+// A thread's own state.
+ghost use Rattle.std.specs.Prelude.{◌≡◌, ◌<◌, ◌≤◌, ◌^◌, ◌+◌, ◌-◌, ◌∷◌, [], ◌++◌, true, Some, None, length, pos};
+ghost use Rattle.std.specs.Vec.{vec_len, vec_capacity};
+ghost use Rattle.sync_objects.specs.Names.{name_of};
+ghost use Rattle.flow_code.specs.Next.{computed, allocated, end_onward, back_in, went_on, counted, in_frame, past as past_of, result_of, gave_up, stopped, shut, lost, repaid, holds as holds_stripe};
+ghost use Rattle.core_run.specs.Flows.{Kept, is_ready};
+
+use crate::frame::Frame;
+use crate::region::OpenRegion;
+use flow_code::{Act, Onward, Phase, Stripe};
+use rr_base::Trap;
+use std::alloc::{AllocError, Global};
+use std::marker::Model;
+use sync_objects::Op;
+
+/// A thread's state, with room for the next step once it was reserved.
+#[derive(Drop)]
+pub(crate) struct ThreadState {
+    pub(crate) count: u32,
+    pub(crate) arena: u32,
+    pub(crate) entries: u32,
+    pub(crate) revokes: u32,
+    pub(crate) printed: u32,
+    pub(crate) phase: Phase,
+    pub(crate) top: Frame,
+    pub(crate) below: Vec<Frame>,
+    pub(crate) spare: Vec<u64>,
+    pub(crate) stripes: Vec<Stripe>,
+    pub(crate) regions: Vec<OpenRegion>,
+}
+
+impl Model for ThreadState {
+    ghost use Rattle.std.specs.Prelude.{nat_lt};
+    ghost use Rattle.std.specs.Vec.{vec_len, vec_capacity};
+    ghost use Rattle.core_run.specs.Flows.{Kept};
+
+    ghost Value = { Kept };
+
+    ghost view = { λ s. record {
+        thread = record { count = s.count; arena = s.arena; entries = s.entries; revokes = s.revokes; printed = s.printed; phase = s.phase; top = s.top; below = s.below.items; stripes = s.stripes.items; regions = s.regions.items };
+        has_place = nat_lt (vec_len s.below) (vec_capacity s.below);
+        registers = vec_capacity s.spare
+    } };
+}
+
+impl ThreadState {
+    // Puts a result into a register, and goes on.
+    pub(crate) fn compute(&mut self, into: u32, value: Result<u64, Trap>)
+        requires { self.old.thread.top.instr + 1 < 2 ^ 64 }
+        ensures { self.new.thread ≡ computed self.old.thread into value }
+    {
+        if let Ok(value) = value {
+            self.top.set_register(into, value);
+            self.top.pass();
+        }
+    }
+
+    // Goes on behind the instruction.
+    pub(crate) fn pass(&mut self)
+        requires { self.old.thread.top.instr + 1 < 2 ^ 64 }
+        ensures { self.new.thread ≡ in_frame self.old.thread (past_of self.old.thread.top) }
+    {
+        self.top.pass();
+    }
+
+    // The next step of the end of a thread's first function.
+    pub(crate) fn end(&mut self, is_main: bool)
+        requires { self.old.thread.top.made + 1 < 2 ^ 8 }
+        ensures { self.new.thread ≡ end_onward is_main self.old.thread self.old.thread.top.made }
+    {
+        if is_main {
+            self.phase = Phase::Halted;
+            return;
+        }
+        match self.top.events() {
+            (0 | 1, _) => self.top.count_event(0),
+            _ => self.phase = Phase::Ended,
+        }
+    }
+
+    // What an answer to the event of a call leads to.
+    pub(crate) fn go_onward(&mut self, into: Option<u32>, onward: Onward)
+        requires made { (went_on self.old.thread into onward).top.made < 2 ^ 8 }
+        requires instr { self.old.thread.top.instr + 1 < 2 ^ 64 }
+        ensures { self.new.thread ≡ went_on self.old.thread into onward }
+    {
+        match onward {
+            Onward::Stays { kept } => self.top.count_event(kept),
+            Onward::Gives { value } => {
+                self.top.give(into, value);
+                self.top.pass();
+            }
+            Onward::Ends => self.phase = Phase::Ended,
+        }
+    }
+
+    // Counts an operation as an event, unless it is one on a stripe, and as an entry, unless it is an ending one.
+    pub(crate) fn note(&mut self, op: Op)
+        requires count { (counted op self.old.thread).count < 2 ^ 32 }
+        requires entries { (counted op self.old.thread).entries < 2 ^ 32 }
+        ensures { self.new.thread ≡ counted op self.old.thread }
+    {
+        if !op.name().is_weak() {
+            self.count += 1;
+        }
+        if !op.name().is_ending() {
+            self.entries += 1;
+        }
+    }
+}
