@@ -18,7 +18,7 @@ use Rattle.flow_code.specs.declared.thread.Action.{Action}
 use Rattle.flow_code.specs.declared.thread.Action.TheVariants as action
 use Rattle.flow_code.specs.Values.{number}
 use Rattle.flow_code.specs.Threads.{Frame, Thread, arena_start, is_main_in}
-use Rattle.flow_code.specs.Next.{stepped, action_at, most_entries, holds, gave_up, stopped, shut, has_ended, has_begun}
+use Rattle.flow_code.specs.Next.{stepped, action_at, most_entries, most_revokes, holds, gave_up, stopped, shut, has_ended, has_begun}
 use Rattle.flow_code.specs.Settle.{settled}
 use Rattle.core_run.specs.declared.access.Access.{Access}
 use Rattle.core_run.specs.Words.{cells_of, has_object, place_of, start_words}
@@ -32,10 +32,6 @@ pub record Told : Type 0 where
   pub entries : List Noted
   pub accesses : List Access
   pub pieces : List (List ℕ)
-
--- the most entries of a thread that are revokes
-abbrev pub most_revokes : ℕ
-most_revokes = 2 ^ 14
 
 -- after an access
 abbrev pub accessed : Told → Thread → Access → Told

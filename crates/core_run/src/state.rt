@@ -1,13 +1,16 @@
 // A thread's own state.
-ghost use Rattle.std.specs.Prelude.{◌≡◌, ◌<◌, ◌≤◌, ◌^◌, ◌+◌, ◌-◌, ◌∷◌, [], ◌++◌, true, Some, None, length, pos};
+ghost use Rattle.std.specs.Prelude.{◌≡◌, ◌<◌, ◌≤◌, ◌^◌, ◌+◌, ◌-◌, ◌∷◌, [], ◌++◌, true, Some, None, length, pos, slice_get};
 ghost use Rattle.std.specs.Vec.{vec_len, vec_capacity};
 ghost use Rattle.sync_objects.specs.Names.{name_of};
-ghost use Rattle.flow_code.specs.Next.{computed, allocated, end_onward, back_in, went_on, counted, in_frame, past as past_of, result_of, gave_up, stopped, shut, lost, repaid, holds as holds_stripe};
+ghost use Rattle.flow_code.specs.Next.{computed, allocated, end_onward, back_in, went_on, counted, in_frame, past as past_of, result_of, gave_up, stopped, shut, lost, repaid, same_stripe, act_in, holds as holds_stripe};
+ghost use Rattle.flow_code.specs.Threads.{Frame as FrameView};
+ghost use Rattle.std.specs.Option.{option_copied};
 ghost use Rattle.core_run.specs.Flows.{Kept, is_ready};
 
 use crate::frame::Frame;
 use crate::region::OpenRegion;
-use flow_code::{Act, Onward, Phase, Stripe};
+use crate::place::instr_at;
+use flow_code::{Act, Code, Instr, Onward, Phase, Stripe, pointer_at};
 use rr_base::Trap;
 use std::alloc::{AllocError, Global};
 use std::marker::Model;
@@ -105,6 +108,132 @@ impl ThreadState {
         }
         if !op.name().is_ending() {
             self.entries += 1;
+        }
+    }
+
+    // Gives the object of a `malloc` its cells and puts its pointer into a register.
+    pub(crate) fn allocate(&mut self, into: u32, site: u16, cells: u32)
+        requires arena { self.old.thread.arena + cells < 2 ^ 32 }
+        requires instr { self.old.thread.top.instr + 1 < 2 ^ 64 }
+        ensures { self.new.thread ≡ allocated self.old.thread into site cells }
+    {
+        self.top.set_register(into, pointer_at(site, self.arena, cells));
+        self.top.pass();
+        self.arena += cells;
+    }
+
+    // Goes back to the frame below, behind its call.
+    pub(crate) fn back(&mut self, code: &Code, value: u64)
+        requires { (f : FrameView) → slice_get self.old.thread.below (length self.old.thread.below - 1) ≡ Some f → f.instr + 1 < 2 ^ 64 }
+        ensures { self.new.thread ≡ back_in code.now self.old.thread value (slice_get self.old.thread.below (length self.old.thread.below - 1)) }
+    {
+        if let Some(mut caller) = self.below.pop() {
+            let (function, instr) = caller.place();
+            caller.give(result_register(instr_at(code, function, instr)), value);
+            caller.pass();
+            self.top = caller;
+        }
+    }
+
+    // Whether the thread holds the stripe.
+    pub(crate) fn holds(&self, lock: u16, stripe: u8) -> bool
+        ensures { result ≡ holds_stripe self.now.thread.stripes lock stripe }
+    {
+        holds(&self.stripes, lock, stripe)
+    }
+
+    // The stripe was revoked.
+    pub(crate) fn give_up(&mut self, lock: u16, stripe: u8)
+        requires entries { self.old.thread.entries + 1 < 2 ^ 32 }
+        requires revokes { self.old.thread.revokes + 1 < 2 ^ 32 }
+        ensures { self.new.thread ≡ gave_up self.old.thread lock stripe }
+    {
+        lose(&mut self.stripes, lock, stripe);
+        self.revokes += 1;
+        self.note(Op::Revoke);
+    }
+
+    // The first owed stripe is held again.
+    pub(crate) fn repay(&mut self)
+        ensures { self.new.thread ≡ record self.old.thread { stripes = repaid self.old.thread.stripes } }
+    {
+        repay(&mut self.stripes);
+    }
+
+    // The thread was stopped.
+    pub(crate) fn stop(&mut self)
+        requires { self.old.thread.count + 1 < 2 ^ 32 }
+        ensures { self.new.thread ≡ stopped self.old.thread }
+    {
+        self.phase = Phase::Stopped;
+        self.note(Op::Stop);
+    }
+
+    // The thread was closed before it began.
+    pub(crate) fn shut(&mut self)
+        requires { self.old.thread.count + 1 < 2 ^ 32 }
+        ensures { self.new.thread ≡ shut self.old.thread }
+    {
+        self.phase = Phase::Closed;
+        self.note(Op::Close);
+    }
+}
+
+// The register that is to get the value of a call.
+fn result_register(instr: Option<&Instr>) -> Option<u32>
+    ensures { result ≡ result_of (act_in (option_copied instr.entry)) }
+{
+    match instr {
+        Some(Instr { act: Act::Call { into, .. }, .. }) => *into,
+        _ => None,
+    }
+}
+
+fn is_of(item: Stripe, lock: u16, stripe: u8) -> bool
+    ensures { result ≡ same_stripe lock stripe item }
+{
+    item.lock == lock && item.stripe == stripe
+}
+
+fn holds(stripes: &[Stripe], lock: u16, stripe: u8) -> bool
+    ensures { result ≡ holds_stripe stripes.now lock stripe }
+{
+    let mut rest = stripes;
+    while let [first, behind @ ..] = rest {
+        if is_of(*first, lock, stripe) && !first.owed {
+            return true;
+        }
+        rest = behind;
+    }
+    false
+}
+
+fn lose(stripes: &mut [Stripe], lock: u16, stripe: u8)
+    ensures { stripes.new ≡ lost stripes.old lock stripe }
+{
+    match stripes {
+        [] => {}
+        [first, rest @ ..] => {
+            if is_of(*first, lock, stripe) {
+                first.owed = true;
+            } else {
+                lose(rest, lock, stripe);
+            }
+        }
+    }
+}
+
+fn repay(stripes: &mut [Stripe])
+    ensures { stripes.new ≡ repaid stripes.old }
+{
+    match stripes {
+        [] => {}
+        [first, rest @ ..] => {
+            if first.owed {
+                first.owed = false;
+            } else {
+                repay(rest);
+            }
         }
     }
 }

@@ -1,6 +1,7 @@
 pub mod Library
 pub mod Next
 pub mod Pointers
+pub mod Ranges
 pub mod Settle
 pub mod Threads
 pub mod Values

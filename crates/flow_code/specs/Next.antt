@@ -30,12 +30,15 @@ use Rattle.flow_code.specs.Works.{register, is_pointer, work_of}
 use Rattle.flow_code.specs.Library.{Caller, count_in, library_due, library_onward, piece_of}
 use Rattle.flow_code.specs.Threads.{Frame, Thread, arena_end, argument_cell, result_cell, instr_at, line_of, is_main, size_of, objects_in, fitted, first_frame}
 
--- the most frames of a thread, and the most entries that aren't ending ones
+-- the most frames of a thread, the most entries that aren't ending ones, and the most of these that are revokes
 abbrev pub most_frames : ℕ
 most_frames = 1000
 
 abbrev pub most_entries : ℕ
 most_entries = 2 ^ 20
+
+abbrev pub most_revokes : ℕ
+most_revokes = 2 ^ 14
 
 -- ---- frames
 
