@@ -1,8 +1,8 @@
 // A thread's own state.
-ghost use Rattle.std.specs.Prelude.{◌≡◌, ◌<◌, ◌≤◌, ◌^◌, ◌+◌, ◌-◌, ◌∷◌, [], ◌++◌, true, Some, None, length, pos, slice_get};
+ghost use Rattle.std.specs.Prelude.{◌≡◌, ◌<◌, ◌≤◌, ◌^◌, ◌+◌, ◌-◌, ◌∷◌, [], ◌++◌, true, Some, None, length, pos, position, slice_get};
 ghost use Rattle.std.specs.Vec.{vec_len, vec_capacity};
 ghost use Rattle.sync_objects.specs.Names.{name_of};
-ghost use Rattle.flow_code.specs.Next.{computed, allocated, end_onward, back_in, went_on, counted, in_frame, past as past_of, result_of, gave_up, stopped, shut, lost, repaid, same_stripe, act_in, holds as holds_stripe};
+ghost use Rattle.flow_code.specs.Next.{computed, allocated, end_onward, back_in, went_on, counted, in_frame, past as past_of, result_of, gave_up, stopped, shut, lost, repaid, with_owed, same_stripe, act_in, holds as holds_stripe};
 ghost use Rattle.flow_code.specs.Threads.{Frame as FrameView};
 ghost use Rattle.std.specs.Option.{option_copied};
 ghost use Rattle.core_run.specs.Flows.{Kept, is_ready};
@@ -144,11 +144,13 @@ impl ThreadState {
 
     // The stripe was revoked.
     pub(crate) fn give_up(&mut self, lock: u16, stripe: u8)
+        requires count { self.old.thread.count < 2 ^ 32 }
         requires entries { self.old.thread.entries + 1 < 2 ^ 32 }
         requires revokes { self.old.thread.revokes + 1 < 2 ^ 32 }
         ensures { self.new.thread ≡ gave_up self.old.thread lock stripe }
     {
-        lose(&mut self.stripes, lock, stripe);
+        let at = place_of(&self.stripes, lock, stripe);
+        set_owed(&mut self.stripes, at, true);
         self.revokes += 1;
         self.note(Op::Revoke);
     }
@@ -157,7 +159,8 @@ impl ThreadState {
     pub(crate) fn repay(&mut self)
         ensures { self.new.thread ≡ record self.old.thread { stripes = repaid self.old.thread.stripes } }
     {
-        repay(&mut self.stripes);
+        let at = first_owed_place(&self.stripes);
+        set_owed(&mut self.stripes, at, false);
     }
 
     // The thread was stopped.
@@ -166,7 +169,7 @@ impl ThreadState {
         ensures { self.new.thread ≡ stopped self.old.thread }
     {
         self.phase = Phase::Stopped;
-        self.note(Op::Stop);
+        self.count += 1;
     }
 
     // The thread was closed before it began.
@@ -175,7 +178,7 @@ impl ThreadState {
         ensures { self.new.thread ≡ shut self.old.thread }
     {
         self.phase = Phase::Closed;
-        self.note(Op::Close);
+        self.count += 1;
     }
 }
 
@@ -208,32 +211,28 @@ fn holds(stripes: &[Stripe], lock: u16, stripe: u8) -> bool
     false
 }
 
-fn lose(stripes: &mut [Stripe], lock: u16, stripe: u8)
-    ensures { stripes.new ≡ lost stripes.old lock stripe }
+fn place_of(stripes: &[Stripe], lock: u16, stripe: u8) -> Option<usize>
+    ensures { result ≡ position (same_stripe lock stripe) stripes.now }
 {
-    match stripes {
-        [] => {}
-        [first, rest @ ..] => {
-            if is_of(*first, lock, stripe) {
-                first.owed = true;
-            } else {
-                lose(rest, lock, stripe);
-            }
-        }
-    }
+    stripes.iter().position(|x| is_of(*x, lock, stripe))
 }
 
-fn repay(stripes: &mut [Stripe])
-    ensures { stripes.new ≡ repaid stripes.old }
+fn first_owed_place(stripes: &[Stripe]) -> Option<usize>
+    ensures { result ≡ position (λ x. x.owed) stripes.now }
 {
-    match stripes {
-        [] => {}
-        [first, rest @ ..] => {
-            if first.owed {
-                first.owed = false;
-            } else {
-                repay(rest);
-            }
-        }
+    stripes.iter().position(|x| x.owed)
+}
+
+// Puts the stripe at this place, if there is one, under the owed or the held ones.
+fn set_owed(stripes: &mut Vec<Stripe>, at: Option<usize>, owed: bool)
+    ensures { stripes.new.items ≡ with_owed owed stripes.old.items at }
+{
+    let Some(i) = at else {
+        return;
+    };
+    if i < stripes.len() {
+        let mut stripe = stripes[i];
+        stripe.owed = owed;
+        stripes[i] = stripe;
     }
 }

@@ -1,6 +1,6 @@
 -- What comes next in a thread, and the state after it: quiet steps, which touch nothing but the thread itself, then a load, a
 -- store, a mark or an operation.
-use Rattle.std.specs.Prelude.{ℕ, zero, suc, ◌+◌, ◌-◌, ◌%◌, ◌^◌, ◌==◌, nat_le, ◌&&◌, ◌||◌, Bool, true, false, not, if◌then◌else◌, ℤ, pos, negsuc, List, [], ◌∷◌, ◌++◌, length, map, take, Option, Some, None, slice_get, slice_set, Result, Ok, Err}
+use Rattle.std.specs.Prelude.{ℕ, zero, suc, ◌+◌, ◌-◌, ◌%◌, ◌^◌, ◌==◌, nat_le, ◌&&◌, ◌||◌, Bool, true, false, not, if◌then◌else◌, ℤ, pos, negsuc, List, [], ◌∷◌, ◌++◌, length, map, take, position, Option, Some, None, slice_get, slice_set, Result, Ok, Err}
 use Rattle.sync_objects.specs.Setup.{SetupView}
 use Rattle.sync_objects.specs.Names.{name_of, is_ending, is_weak}
 use Rattle.sync_objects.specs.declared.object.ObjId.TheVariants as object
@@ -306,10 +306,18 @@ counted o th = record th {
 abbrev pub one_more : Thread → Thread
 one_more th = record th { count = th.count + 1 }
 
+abbrev pub owed_at : Bool → List Stripe → ℕ → Option Stripe → List Stripe
+owed_at owed xs i None = xs
+owed_at owed xs i (Some x) = slice_set xs i (record x { owed = owed })
+
+-- the stripe at this place, if there is one, is owed from now on, or held again
+abbrev pub with_owed : Bool → List Stripe → Option ℕ → List Stripe
+with_owed owed xs None = xs
+with_owed owed xs (Some i) = owed_at owed xs i (slice_get xs i)
+
 -- the first owed stripe is held again
 abbrev pub repaid : List Stripe → List Stripe
-repaid [] = []
-repaid (x ∷ xs) = if x.owed then record x { owed = false } ∷ xs else x ∷ repaid xs
+repaid xs = with_owed false xs (position (λ x. x.owed) xs)
 
 -- the state after what is due, with its answer
 abbrev pub after_due : Code → SetupView → ℕ → Thread → Due → ℤ → Thread
@@ -334,8 +342,7 @@ holds (x ∷ xs) lock stripe = (same_stripe lock stripe x && not x.owed) || hold
 
 -- a held stripe is owed from now on
 abbrev pub lost : List Stripe → ℕ → ℕ → List Stripe
-lost [] lock stripe = []
-lost (x ∷ xs) lock stripe = if same_stripe lock stripe x then record x { owed = true } ∷ xs else x ∷ lost xs lock stripe
+lost xs lock stripe = with_owed true xs (position (same_stripe lock stripe) xs)
 
 -- the stripe was revoked
 abbrev pub gave_up : Thread → ℕ → ℕ → Thread
