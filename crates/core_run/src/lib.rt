@@ -5,7 +5,9 @@
 
 mod access;
 mod due;
+mod enter;
 mod frame;
+mod next;
 mod outcome;
 mod place;
 mod region;
