@@ -6,7 +6,6 @@ use Rattle.sync_objects.specs.Names.{name_of, is_ending, is_weak}
 use Rattle.sync_objects.specs.declared.object.ObjId.TheVariants as object
 use Rattle.sync_objects.specs.declared.operation.Op.{Op}
 use Rattle.sync_objects.specs.declared.operation.Op.TheVariants as op
-use Rattle.rr_base.specs.Words.{pack}
 use Rattle.rr_base.specs.declared.trap.Trap.{Trap}
 use Rattle.rr_base.specs.declared.trap.Trap.TheVariants as trap
 use Rattle.rr_base.specs.declared.layout.CellKind.{CellKind}
@@ -26,7 +25,7 @@ use Rattle.flow_code.specs.declared.thread.Action.TheVariants as action
 use Rattle.flow_code.specs.declared.thread.Onward.{Onward}
 use Rattle.flow_code.specs.declared.thread.Onward.TheVariants as onward
 use Rattle.flow_code.specs.Values.{number, word}
-use Rattle.flow_code.specs.Pointers.{resolved}
+use Rattle.flow_code.specs.Pointers.{resolved, pointer_at}
 use Rattle.flow_code.specs.Works.{register, is_pointer, work_of}
 use Rattle.flow_code.specs.Library.{Caller, count_in, library_due, library_onward, piece_of}
 use Rattle.flow_code.specs.Threads.{Frame, Thread, arena_end, argument_cell, result_cell, instr_at, line_of, is_main, size_of, objects_in, fitted, first_frame}
@@ -265,7 +264,7 @@ abbrev pub branch_to : ℕ → ℕ → ℕ → ℕ
 branch_to w then_at else_at = if w == 0 then else_at else then_at
 
 abbrev pub allocated : Thread → ℕ → ℕ → ℕ → Thread
-allocated th into site cells = record th { top = past (with_register th.top into (pack site th.arena cells 0)); arena = th.arena + cells }
+allocated th into site cells = record th { top = past (with_register th.top into (pointer_at site th.arena cells)); arena = th.arena + cells }
 
 abbrev pub act_after : Code → SetupView → ℕ → Thread → Option Act → ℤ → Thread
 act_after code s t th None answer = th

@@ -63,6 +63,10 @@ abbrev pub directed : Bool → ℤ → ℤ
 directed false n = n
 directed true n = pos 0 -ℤ n
 
+-- the pointer to the first cell of a new object; in a valid code its parts fit, and it is `pack` of them
+abbrev pub pointer_at : (site base cells : ℕ) → ℕ
+pointer_at site base cells = pointer.pack site base cells 0 % 2 ^ 64
+
 -- both words point into one object
 abbrev pub in_one_object : ℕ → ℕ → Bool
 in_one_object v w = not (site_of v == 0) && (site_of v == site_of w) && (base_of v == base_of w)

@@ -2,7 +2,6 @@
 use Rattle.std.specs.Prelude.{ℕ, zero, suc, ◌+◌, ◌*◌, nat_le, Bool, false, if◌then◌else◌, ℤ, pos, List, [], ◌∷◌, length, codes, nat_eq, Option, Some, None, slice_get, slice_set}
 use Rattle.std.specs.Cmp.Lexicographic.{pointwise}
 use Rattle.sync_objects.specs.Setup.{SetupView}
-use Rattle.rr_base.specs.Words.{pack}
 use Rattle.rr_base.specs.declared.layout.Site.{Site}
 use Rattle.flow_code.specs.declared.act.Act.{Act}
 use Rattle.flow_code.specs.declared.act.Act.TheVariants as act
@@ -12,7 +11,7 @@ use Rattle.flow_code.specs.declared.code.Function.{Function}
 use Rattle.flow_code.specs.declared.thread.Phase.{Phase}
 use Rattle.flow_code.specs.declared.thread.Phase.TheVariants as phase
 use Rattle.flow_code.specs.declared.thread.Stripe.{Stripe}
-use Rattle.flow_code.specs.Pointers.{site_at}
+use Rattle.flow_code.specs.Pointers.{site_at, pointer_at}
 
 -- a frame: its function and instruction, how many events of this instruction are made and the last answer that it
 -- keeps, and its registers
@@ -127,7 +126,7 @@ fitted sites end (object into site ∷ os) at = if nat_le (at + size_of sites si
 -- the registers with the pointers to these objects
 abbrev pub placed : List Site → List Object → ℕ → List ℕ → List ℕ
 placed sites [] at registers = registers
-placed sites (object into site ∷ os) at registers = placed sites os (at + size_of sites site) (slice_set registers into (pack site at (size_of sites site) 0))
+placed sites (object into site ∷ os) at registers = placed sites os (at + size_of sites site) (slice_set registers into (pointer_at site at (size_of sites site)))
 
 -- so many registers: the arguments from 0 on, and 0 in all others
 abbrev pub with_arguments : ℕ → List ℕ → List ℕ

@@ -4,7 +4,9 @@
 
 mod act;
 mod code;
+mod entering;
 mod evaluate;
+mod library;
 mod pointers;
 mod region;
 mod thread;
@@ -13,12 +15,14 @@ mod works;
 
 pub use act::{Act, Instr, LibraryCall, Piece};
 pub use code::{Code, Function, LockInfo, LoopInfo};
+pub use entering::{fill, fitted_in, objects_len, place, size_of};
 pub use evaluate::{binary, negate, number, truth, word};
+pub use library::argument;
 pub use pointers::{
-    compared, directed, elements_between, known, moved, moved_by, number_from, pointer_to,
-    resolved, site_at,
+    compared, directed, elements_between, known, moved, moved_by, number_from, pointer_at,
+    pointer_to, resolved, site_at,
 };
 pub use region::{Base, Bound, Region, Span};
 pub use thread::{Action, Due, Onward, Phase, Stripe};
 pub use work::{BinaryOp, Work};
-pub use works::{compute, is_pointer, register};
+pub use works::{compute, is_pointer, register, set_register};

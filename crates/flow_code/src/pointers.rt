@@ -1,7 +1,8 @@
 // Pointer words in a code: the cells that they point to, how they are moved and how they compare.
-ghost use Rattle.std.specs.Prelude.{◌≡◌, ◌*ℤ◌, pos};
+ghost use Rattle.std.specs.Prelude.{◌≡◌, ◌<◌, ◌^◌, ◌*ℤ◌, pos};
 ghost use Rattle.std.specs.Option.{option_copied};
-ghost use Rattle.flow_code.specs.Pointers.{known as known_of, resolved as resolved_of, site_at as site_of_number, is_kind as is_kind_of, kind_at as kind_at_of, kind_in as kind_in_of, moved as moved_of, moved_by as moved_by_of, directed as directed_of, in_one_object as in_one_object_of, compared as compared_of, elements_between as elements_between_of, pointer_to as pointer_to_of, number_from as number_from_of};
+ghost use Rattle.rr_base.specs.Words.{pack};
+ghost use Rattle.flow_code.specs.Pointers.{known as known_of, resolved as resolved_of, site_at as site_of_number, is_kind as is_kind_of, kind_at as kind_at_of, kind_in as kind_in_of, moved as moved_of, moved_by as moved_by_of, directed as directed_of, pointer_at as pointer_at_of, in_one_object as in_one_object_of, compared as compared_of, elements_between as elements_between_of, pointer_to as pointer_to_of, number_from as number_from_of};
 
 use crate::evaluate;
 use rr_base::{CellKind, Layout, PtrWord, Site, Trap};
@@ -110,6 +111,16 @@ pub fn moved_by(
         Ok(cells) => moved(sites, word, cells),
         Err(_) => Err(Trap::OutOfObject),
     }
+}
+
+/// The pointer to the first cell of a new object. Its parts are to fit, as those of a valid code do: a site below
+/// 2^10, a base below 2^22 and at most 65,535 cells; else the word has what is left of them.
+pub fn pointer_at(site: u16, base: u32, cells: u32) -> u64
+    ensures value { result ≡ pointer_at_of site base cells }
+    ensures parts { site < 2 ^ 10 → base < 2 ^ 22 → cells < 2 ^ 16 → result ≡ pack site base cells 0 }
+{
+    let word = (u128::from(site) << 54) + (u128::from(base) << 32) + (u128::from(cells) << 16);
+    (word % (1 << 64)) as u64
 }
 
 fn in_one_object(left: PtrWord, right: PtrWord) -> bool

@@ -1,5 +1,5 @@
 // What an instruction that computes gives, from the registers of its frame.
-ghost use Rattle.std.specs.Prelude.{◌≡◌};
+ghost use Rattle.std.specs.Prelude.{◌≡◌, slice_set};
 ghost use Rattle.flow_code.specs.Works.{register as register_of, is_pointer as is_pointer_of, based as based_of, pointer_binary_of, either_binary_of, work_of};
 
 use crate::evaluate::{binary, negate, number, truth, word};
@@ -12,6 +12,15 @@ pub fn register(registers: &[u64], r: u32) -> u64
     ensures { result ≡ register_of registers.now r }
 {
     registers.get(r as usize).copied().unwrap_or(0)
+}
+
+/// Writes a word into a register, where the frame has it.
+pub fn set_register(registers: &mut Vec<u64>, r: u32, word: u64)
+    ensures { registers.new.items ≡ slice_set registers.old.items r word }
+{
+    if (r as usize) < registers.len() {
+        registers[r as usize] = word;
+    }
 }
 
 /// Whether a register holds a pointer; one that the function doesn't have holds none.

@@ -1,0 +1,103 @@
+// Entering a function: the objects that it has from its entry on, and the registers of its frame.
+ghost use Rattle.std.specs.Prelude.{◌≡◌, ◌≤◌, length, MatchOption, Some, None};
+ghost use Rattle.std.specs.Option.{option_copied};
+ghost use Rattle.std.specs.Vec.{vec_capacity};
+ghost use Rattle.flow_code.specs.Threads.{size_in as size_in_of, size_of as size_of_site, object, object_of, objects_of, fitted, placed, with_arguments};
+ghost use Rattle.flow_code.specs.Library.{argument as argument_of};
+ghost use Rattle.flow_code.specs.Next.{words_of};
+
+use crate::act::{Act, Instr};
+use crate::library::argument;
+use crate::pointers::{pointer_at, site_at};
+use crate::works::{register, set_register};
+use rr_base::Site;
+
+/// The size in cells of the site's objects, and 0 where the code doesn't have the site.
+pub fn size_of(sites: &[Site], site: u16) -> u32
+    ensures { result ≡ size_of_site sites.now site }
+{
+    match site_at(sites, site) {
+        Some(site) => site.layout.size,
+        None => 0,
+    }
+}
+
+// The register and the site of the instruction's object, if it makes one at the entry.
+fn object_in(act: &Act) -> Option<(u32, u16)>
+    ensures { MatchOption result (object_of act.now ≡ None) (λ it. object_of act.now ≡ Some (object it.0 it.1)) }
+{
+    match act {
+        Act::Alloc {
+            into,
+            site,
+            size: None,
+        } => Some((*into, *site)),
+        _ => None,
+    }
+}
+
+/// How many objects the function of these instructions has from its entry on.
+pub fn objects_len(instrs: &[Instr]) -> usize
+    ensures { result ≡ length (objects_of instrs.now) }
+{
+    for (at, instr) in instrs.iter().enumerate() {
+        if object_in(&instr.act).is_none() {
+            return at;
+        }
+    }
+    instrs.len()
+}
+
+/// The arena's next free cell once the objects of these instructions have theirs from cell `at` on, and None where
+/// they don't fit before cell `end`.
+pub fn fitted_in(sites: &[Site], end: u32, instrs: &[Instr], at: u32) -> Option<u32>
+    ensures { result ≡ fitted sites.now end (objects_of instrs.now) at }
+{
+    let mut next = at;
+    for instr in instrs {
+        match object_in(&instr.act) {
+            Some((_, site)) => {
+                next = next.checked_add(size_of(sites, site))?;
+                if next > end {
+                    return None;
+                }
+            }
+            None => return Some(next),
+        }
+    }
+    Some(next)
+}
+
+/// Writes the pointers to the objects of these instructions, which have the cells from `at` on, into their registers.
+pub fn place(sites: &[Site], instrs: &[Instr], at: u32, registers: &mut Vec<u64>)
+    ensures { registers.new.items ≡ placed sites.now (objects_of instrs.now) at registers.old.items }
+{
+    let mut next = at;
+    for instr in instrs {
+        match object_in(&instr.act) {
+            Some((into, site)) => {
+                let size = size_of(sites, site);
+                set_register(registers, into, pointer_at(site, next, size));
+                next = next.wrapping_add(size);
+            }
+            None => return,
+        }
+    }
+}
+
+/// So many registers, in memory that is at hand: the words in the caller's `arguments` from register 0 on, and 0 in
+/// all others. A function entered with the words `ws` themselves gets them as the arguments 0, 1, .. of the registers
+/// `ws`.
+pub fn fill(arguments: &[u32], registers: &[u64], count: u32, mut into: Vec<u64>) -> Vec<u64>
+    requires { count ≤ vec_capacity into }
+    ensures { result.items ≡ with_arguments count (words_of registers.now arguments.now) }
+{
+    into.clear();
+    for k in 0..count {
+        match into.push(argument(registers, arguments, k as usize)) {
+            Ok(()) => {}
+            Err(_) => unreachable!(),
+        }
+    }
+    into
+}
