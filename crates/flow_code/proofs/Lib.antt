@@ -1,3 +1,4 @@
-pub mod Placing
-pub mod Filling
 pub mod Dues
+pub mod Filling
+pub mod Placing
+pub mod Printed

@@ -3,17 +3,20 @@
 #![tactic(auto)]
 
 mod act;
+mod caller;
 mod code;
 mod entering;
 mod evaluate;
 mod library;
 mod pointers;
+mod printing;
 mod region;
 mod thread;
 mod work;
 mod works;
 
 pub use act::{Act, Instr, LibraryCall, Piece};
+pub use caller::Caller;
 pub use code::{Code, Function, LockInfo, LoopInfo};
 pub use entering::{fill, fitted_in, objects_len, place, size_of};
 pub use evaluate::{binary, negate, number, truth, word};
