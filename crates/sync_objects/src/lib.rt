@@ -3,6 +3,7 @@
 
 mod entry;
 mod kind;
+mod laws;
 mod object;
 mod operation;
 mod rows;
@@ -12,6 +13,7 @@ mod word;
 
 pub use entry::{Entry, Noted};
 pub use kind::ObjKind;
+pub use laws::{law_advanced, law_held, law_shown};
 pub use object::{start_word, ObjId};
 pub use operation::{fits, Op, OpName};
 pub use setup::Setup;
