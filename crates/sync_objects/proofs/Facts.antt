@@ -1,6 +1,6 @@
 -- What operations on words do to the objects, in the words of states. What else a row says is in `RowsOf`, and `moves`
 -- brings any of it to words.
-use Rattle.std.proofs.Common.{◌≡◌, ◌≢◌, ℕ, zero, suc, ◌+◌, ◌-◌, ◌^◌, ◌<◌, ℤ, pos, ◌⊎◌, inl, inr, sym, ap, subst, ◌∙◌, refl, arith, add-one}
+use Rattle.std.proofs.Common.{◌≡◌, ◌≢◌, ℕ, zero, suc, ◌+◌, ◌-◌, ◌^◌, ◌<◌, ℤ, pos, inl, inr, sym, ap, subst, ◌∙◌, refl, arith, add-one}
 use Rattle.sync_objects.specs.declared.kind.ObjKind.{ObjKind}
 use Rattle.sync_objects.specs.declared.kind.ObjKind.TheVariants as kind
 use Rattle.sync_objects.specs.declared.operation.Op.{Op}
@@ -22,13 +22,13 @@ shown-word_of k number s small h = ap (unpacked k) (state_of-word_of number (pac
 
 -- on a sound word an allowed operation is a row of the table, between the states that the two words show
 pub moves : (o : Op) (t word after : ℕ) (answer : ℤ) → t < 16 → IsInRange o → number_of word < 2 ^ 32 - 1 → IsSoundWord (kind_of (name_of o)) word → advanced o t word ≡ Advances after answer →
-  first_row (rows o t) (shown (kind_of (name_of o)) word) ≡ Moves (shown (kind_of (name_of o)) after) answer
+    first_row (rows o t) (shown (kind_of (name_of o)) word) ≡ Moves (shown (kind_of (name_of o)) after) answer
 moves o t word after answer small range few sound e =
-  let k : ObjKind = kind_of (name_of o) in
-  let i = advanced_inverse o t word after answer e in
-  let h = subst (SoundMove k (number_of word + 1)) i.1 (row_is_sound o t (number_of word) (shown k word) small range sound.state) in
-  let s = ap (shown k) i.2 ∙ shown-word_of k (number_of word + 1) i.0 (omega arith) h in
-  i.1 ∙ ap (λ z. Moves z answer) (sym s)
+    let k : ObjKind = kind_of (name_of o) in
+    let i = advanced_inverse o t word after answer e in
+    let h = subst (SoundMove k (number_of word + 1)) i.1 (row_is_sound o t (number_of word) (shown k word) small range sound.state) in
+    let s = ap (shown k) i.2 ∙ shown-word_of k (number_of word + 1) i.0 (omega arith) h in
+    i.1 ∙ ap (λ z. Moves z answer) (sym s)
 
 -- who holds the mutex or the stripe of this word
 abbrev pub lock_in : ℕ → LockState
@@ -67,54 +67,54 @@ frees t word after s before e w = record {
 -- a lock or a trylock that answers 0 took the mutex
 pub lock_takes : (t word after : ℕ) → t < 16 → advanced op.Lock t word ≡ Advances after (pos 0) → Takes t word after
 lock_takes t word after small e =
-  let i = advanced_inverse op.Lock t word after (pos 0) e in
-  elim (lock_rows t (lock_in word) i.0 (pos 0) i.1) [
-    inl r ↦ takes t word after i.0 small r.0 r.1 i.2
-    | inr r ↦ cc
-  ]
+    let i = advanced_inverse op.Lock t word after (pos 0) e in
+    elim (lock_rows t (lock_in word) i.0 (pos 0) i.1) [
+      | inl r ↦ takes t word after i.0 small r.0 r.1 i.2
+      | inr r ↦ cc
+    ]
 
 pub try_lock_takes : (t word after : ℕ) → t < 16 → advanced op.TryLock t word ≡ Advances after (pos 0) → Takes t word after
 try_lock_takes t word after small e =
-  let i = advanced_inverse op.TryLock t word after (pos 0) e in
-  elim (try_lock_rows t (lock_in word) i.0 (pos 0) i.1) [
-    inl r ↦ takes t word after i.0 small r.0 r.1 i.2
-    | inr r ↦ cc
-  ]
+    let i = advanced_inverse op.TryLock t word after (pos 0) e in
+    elim (try_lock_rows t (lock_in word) i.0 (pos 0) i.1) [
+      | inl r ↦ takes t word after i.0 small r.0 r.1 i.2
+      | inr r ↦ cc
+    ]
 
 -- an unlock that answers 0 frees the mutex, which its thread held
 pub unlock_frees : (t word after : ℕ) → advanced op.Unlock t word ≡ Advances after (pos 0) → Frees t word after
 unlock_frees t word after e =
-  let i = advanced_inverse op.Unlock t word after (pos 0) e in
-  elim (unlock_rows t (lock_in word) i.0 (pos 0) i.1) [
-    inl r ↦ frees t word after i.0 r.0 r.1 i.2
-    | inr r ↦ cc
-  ]
+    let i = advanced_inverse op.Unlock t word after (pos 0) e in
+    elim (unlock_rows t (lock_in word) i.0 (pos 0) i.1) [
+      | inl r ↦ frees t word after i.0 r.0 r.1 i.2
+      | inr r ↦ cc
+    ]
 
 -- a take or retake takes its stripe
 pub take_takes : (t word after : ℕ) (answer : ℤ) → t < 16 → advanced op.Take t word ≡ Advances after answer → Takes t word after
 take_takes t word after answer small e =
-  let i = advanced_inverse op.Take t word after answer e in
-  let r = take_rows t (lock_in word) i.0 answer i.1 in
-  takes t word after i.0 small r.0 r.1 i.2
+    let i = advanced_inverse op.Take t word after answer e in
+    let r = take_rows t (lock_in word) i.0 answer i.1 in
+    takes t word after i.0 small r.0 r.1 i.2
 
 pub retake_takes : (t word after : ℕ) (answer : ℤ) → t < 16 → advanced op.Retake t word ≡ Advances after answer → Takes t word after
 retake_takes t word after answer small e =
-  let i = advanced_inverse op.Retake t word after answer e in
-  let r = take_rows t (lock_in word) i.0 answer i.1 in
-  takes t word after i.0 small r.0 r.1 i.2
+    let i = advanced_inverse op.Retake t word after answer e in
+    let r = take_rows t (lock_in word) i.0 answer i.1 in
+    takes t word after i.0 small r.0 r.1 i.2
 
 -- a give or revoke frees the stripe, which its thread held
 pub give_frees : (t word after : ℕ) (answer : ℤ) → advanced op.Give t word ≡ Advances after answer → Frees t word after
 give_frees t word after answer e =
-  let i = advanced_inverse op.Give t word after answer e in
-  let r = give_rows t (lock_in word) i.0 answer i.1 in
-  frees t word after i.0 r.0 r.1 i.2
+    let i = advanced_inverse op.Give t word after answer e in
+    let r = give_rows t (lock_in word) i.0 answer i.1 in
+    frees t word after i.0 r.0 r.1 i.2
 
 pub revoke_frees : (t word after : ℕ) (answer : ℤ) → advanced op.Revoke t word ≡ Advances after answer → Frees t word after
 revoke_frees t word after answer e =
-  let i = advanced_inverse op.Revoke t word after answer e in
-  let r = give_rows t (lock_in word) i.0 answer i.1 in
-  frees t word after i.0 r.0 r.1 i.2
+    let i = advanced_inverse op.Revoke t word after answer e in
+    let r = give_rows t (lock_in word) i.0 answer i.1 in
+    frees t word after i.0 r.0 r.1 i.2
 
 -- what stays held
 
@@ -124,52 +124,52 @@ lock_number (suc m) t e = let same : m ≡ t = cc in ap suc same ∙ sym (add-on
 
 same_lock : (word after t : ℕ) (s : LockState) → lock_in word ≡ HeldBy t → s ≡ lock_in word → after ≡ word_of (number_of word + 1) (packed_lock s) → lock_in after ≡ HeldBy t
 same_lock word after t s held e w =
-  let n = lock_number (state_of word) t held in
-  lock_after word after s (HeldBy t) (omega arith) (e ∙ held) w
+    let n = lock_number (state_of word) t held in
+    lock_after word after s (HeldBy t) (omega arith) (e ∙ held) w
 
 -- a mutex stays held until its holder unlocks it
 pub held_stays : (o : Op) (u t word after : ℕ) (answer : ℤ) → kind_of (name_of o) ≡ kind.Mutex → (u ≡ t → o ≢ op.Unlock) → lock_in word ≡ HeldBy t → advanced o u word ≡ Advances after answer → lock_in after ≡ HeldBy t
 held_stays op.Lock u t word after answer k ne held e =
-  let i = advanced_inverse op.Lock u word after answer e in
-  elim (lock_rows u (lock_in word) i.0 answer i.1) [
-    inl r ↦ cc
-    | inr r ↦ same_lock word after t i.0 held (r.1 ∙ sym r.0) i.2
-  ]
+    let i = advanced_inverse op.Lock u word after answer e in
+    elim (lock_rows u (lock_in word) i.0 answer i.1) [
+      | inl r ↦ cc
+      | inr r ↦ same_lock word after t i.0 held (r.1 ∙ sym r.0) i.2
+    ]
 held_stays op.TryLock u t word after answer k ne held e =
-  let i = advanced_inverse op.TryLock u word after answer e in
-  elim (try_lock_rows u (lock_in word) i.0 answer i.1) [
-    inl r ↦ cc
-    | inr r ↦ same_lock word after t i.0 held r.1 i.2
-  ]
+    let i = advanced_inverse op.TryLock u word after answer e in
+    elim (try_lock_rows u (lock_in word) i.0 answer i.1) [
+      | inl r ↦ cc
+      | inr r ↦ same_lock word after t i.0 held r.1 i.2
+    ]
 held_stays op.Unlock u t word after answer k ne held e =
-  let i = advanced_inverse op.Unlock u word after answer e in
-  elim (unlock_rows u (lock_in word) i.0 answer i.1) [
-    inl r ↦ let same : u ≡ t = cc in absurd (ne same refl)
-    | inr r ↦ same_lock word after t i.0 held r.1 i.2
-  ]
+    let i = advanced_inverse op.Unlock u word after answer e in
+    elim (unlock_rows u (lock_in word) i.0 answer i.1) [
+      | inl r ↦ let same : u ≡ t = cc in absurd (ne same refl)
+      | inr r ↦ same_lock word after t i.0 held r.1 i.2
+    ]
 held_stays op.MutexInit u t word after answer k ne held e =
-  let i = advanced_inverse op.MutexInit u word after answer e in
-  elim (mutex_init_rows u (lock_in word) i.0 answer i.1) [
-    inl r ↦ cc
-    | inr r ↦ same_lock word after t i.0 held r.1 i.2
-  ]
+    let i = advanced_inverse op.MutexInit u word after answer e in
+    elim (mutex_init_rows u (lock_in word) i.0 answer i.1) [
+      | inl r ↦ cc
+      | inr r ↦ same_lock word after t i.0 held r.1 i.2
+    ]
 held_stays _ u t word after answer k ne held e = cc
 
 none_moves : (o : Op) (u t word after : ℕ) (answer : ℤ) → kind_of (name_of o) ≡ kind.Weak → u ≢ t → lock_in word ≡ HeldBy t → advanced o u word ≡ Advances after answer → ⊥
 none_moves op.Take u t word after answer k ne held e =
-  let i = advanced_inverse op.Take u word after answer e in
-  let r = take_rows u (lock_in word) i.0 answer i.1 in cc
+    let i = advanced_inverse op.Take u word after answer e in
+    let r = take_rows u (lock_in word) i.0 answer i.1 in cc
 none_moves op.Retake u t word after answer k ne held e =
-  let i = advanced_inverse op.Retake u word after answer e in
-  let r = take_rows u (lock_in word) i.0 answer i.1 in cc
+    let i = advanced_inverse op.Retake u word after answer e in
+    let r = take_rows u (lock_in word) i.0 answer i.1 in cc
 none_moves op.Give u t word after answer k ne held e =
-  let i = advanced_inverse op.Give u word after answer e in
-  let r = give_rows u (lock_in word) i.0 answer i.1 in
-  let same : u ≡ t = cc in ne same
+    let i = advanced_inverse op.Give u word after answer e in
+    let r = give_rows u (lock_in word) i.0 answer i.1 in
+    let same : u ≡ t = cc in ne same
 none_moves op.Revoke u t word after answer k ne held e =
-  let i = advanced_inverse op.Revoke u word after answer e in
-  let r = give_rows u (lock_in word) i.0 answer i.1 in
-  let same : u ≡ t = cc in ne same
+    let i = advanced_inverse op.Revoke u word after answer e in
+    let r = give_rows u (lock_in word) i.0 answer i.1 in
+    let same : u ≡ t = cc in ne same
 none_moves _ u t word after answer k ne held e = cc
 
 refused : (m : Advance) → ((after : ℕ) (answer : ℤ) → m ≡ Advances after answer → ⊥) → m ≡ NotAllowed
