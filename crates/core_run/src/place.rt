@@ -1,7 +1,6 @@
 // Where a thread stands in its code.
 ghost use Rattle.std.specs.Prelude.{◌≡◌, ◌<◌, ◌^◌, ◌+◌, ◌*◌, ◌≤◌, length, slice_get, IfSome};
 ghost use Rattle.std.specs.Option.{option_copied};
-ghost use Rattle.sync_objects.specs.Setup.{IsWithinLimits};
 ghost use Rattle.flow_code.specs.Threads.{instr_in, arena_end as arena_end_of, line_of_function, line_in, is_main as is_main_of, registers_in, instrs_in};
 ghost use Rattle.flow_code.specs.Next.{pointers_in};
 
@@ -79,7 +78,6 @@ pub(crate) fn line_at(code: &Code, function: u32, instr: usize) -> u32
 // The first cell behind the arena of a thread.
 pub(crate) fn arena_end(code: &Code, setup: &Setup, thread: u8) -> u32
     requires globals { length code.now.globals ≤ 2 ^ 20 }
-    requires limits { IsWithinLimits setup.now }
     requires thread { thread < setup.now.slots }
     ensures value { result ≡ arena_end_of code.now setup.now thread }
     ensures within { result ≤ 2 ^ 22 }

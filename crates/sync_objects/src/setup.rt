@@ -39,19 +39,22 @@ impl Setup {
     }
 
     pub fn slots(&self) -> u8
-        ensures { result ≡ self.now.slots }
+        ensures value { result ≡ self.now.slots }
+        ensures within { IsWithinLimits self.now }
     {
         self.slots
     }
 
     pub fn cells(&self) -> u32
-        ensures { result ≡ self.now.cells }
+        ensures value { result ≡ self.now.cells }
+        ensures within { IsWithinLimits self.now }
     {
         self.cells
     }
 
     pub fn limit(&self) -> u32
-        ensures { result ≡ self.now.limit }
+        ensures value { result ≡ self.now.limit }
+        ensures within { IsWithinLimits self.now }
     {
         self.limit
     }
