@@ -4,3 +4,4 @@ pub mod Packings
 pub mod Ranges
 pub mod Soundness
 pub mod Starts
+pub mod RowsOf

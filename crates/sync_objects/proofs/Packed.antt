@@ -5,7 +5,7 @@ use Rattle.sync_objects.specs.declared.operation.Op.{Op}
 use Rattle.sync_objects.specs.Advance.{advanced, NotAllowed, Advances, after_move}
 use Rattle.sync_objects.specs.Moved.{moved, packed_move}
 use Rattle.sync_objects.specs.Names.{name_of, kind_of}
-use Rattle.sync_objects.specs.Packing.{packed, shown}
+use Rattle.sync_objects.specs.Packing.{shown}
 use Rattle.sync_objects.specs.States.{StateOf}
 use Rattle.sync_objects.specs.Table.{Move, NoRow, Moves, first_row, rows}
 use Rattle.sync_objects.specs.Words.{number_of, state_of, word_of}

@@ -1,10 +1,10 @@
 -- Words and packed states: each part of a word is read back.
-use Rattle.std.proofs.Common.{◌≡◌, ℕ, zero, suc, ◌+◌, ◌*◌, ◌/◌, ◌%◌, ◌^◌, ◌<◌, ◌≤◌, ◌⊎◌, inl, inr, refl, sym, ap, ◌∙◌, subst, arith, add-one}
+use Rattle.std.proofs.Common.{◌≡◌, ℕ, suc, ◌+◌, ◌*◌, ◌/◌, ◌%◌, ◌^◌, ◌<◌, refl, ap, arith, add-one}
 use Rattle.sync_objects.specs.declared.kind.ObjKind.{ObjKind}
 use Rattle.sync_objects.specs.declared.kind.ObjKind.TheVariants as kind
-use Rattle.sync_objects.specs.States.{LockState, Free, HeldBy, CondState, Epoch, BarrierState, Waits, SlotState, Idle, Closed, Begun, Ended, Joined, Shut, Started, ThreadsState, Counts, HaltState, Running, Halted, Trapped, InputState, Position, OutputState, Open, StateOf}
+use Rattle.sync_objects.specs.States.{Free, HeldBy, Epoch, Waits, Idle, Closed, Begun, Ended, Joined, Shut, Started, Counts, Running, Halted, Trapped, Position, Open, StateOf}
 use Rattle.sync_objects.specs.Packing.{packed, unpacked, slot_of, lock_of, barrier_of, threads_of}
-use Rattle.sync_objects.specs.Sound.{IsSoundState, IsSoundWord}
+use Rattle.sync_objects.specs.Sound.{IsSoundState}
 use Rattle.sync_objects.specs.Words.{number_of, state_of, word_of}
 
 pub number_of-word_of : (n s : ℕ) → number_of (word_of n s) ≡ n

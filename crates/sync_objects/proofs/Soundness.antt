@@ -1,5 +1,5 @@
 -- Every start word is sound, and every row of the table keeps a word sound.
-use Rattle.std.proofs.Common.{◌≡◌, ℕ, zero, suc, ◌+◌, ◌*◌, ◌-◌, ◌^◌, ◌<◌, ◌≤◌, ◌⊎◌, ◌==◌, ◌&&◌, ◌||◌, nat_lt, nat_le, not, Bool, true, false, if◌then◌else◌, ℤ, inl, inr, refl, sym, ap, ◌∙◌, subst, arith}
+use Rattle.std.proofs.Common.{◌≡◌, ℕ, zero, suc, ◌+◌, ◌-◌, ◌^◌, ◌<◌, ◌==◌, ◌||◌, nat_lt, not, Bool, true, false, if◌then◌else◌, ℤ, inl, refl, sym, ap, ◌∙◌, subst, arith}
 use Rattle.std.proofs.lemmas.Bool.Decides.{nat_tests}
 use Rattle.sync_objects.specs.declared.kind.ObjKind.{ObjKind}
 use Rattle.sync_objects.specs.declared.kind.ObjKind.TheVariants as kind
@@ -8,13 +8,13 @@ use Rattle.sync_objects.specs.declared.object.ObjId.TheVariants as object
 use Rattle.sync_objects.specs.declared.operation.Op.{Op}
 use Rattle.sync_objects.specs.declared.operation.Op.TheVariants as op
 use Rattle.sync_objects.specs.Names.{name_of, kind_of, object_kind}
-use Rattle.sync_objects.specs.States.{LockState, Free, HeldBy, is_free, CondState, Epoch, epoch_differs, BarrierState, Waits, may_count, counting, counts_none, is_last_to_come, is_worn_out, all_came, one_more_came, generation_differs, SlotState, is_idle, is_closed, is_begun, is_ended, is_joined, is_started, Idle, Closed, Begun, Ended, Joined, Shut, Started, ThreadsState, Counts, has_drawn_below, has_drawn, has_live, one_drawn, one_left, HaltState, is_running, is_halted, is_trapped, Running, Halted, Trapped, InputState, Position, has_left, one_read, OutputState, Open, StateOf}
+use Rattle.sync_objects.specs.States.{Free, HeldBy, Epoch, Waits, may_count, is_idle, is_closed, is_begun, is_ended, is_joined, is_started, Idle, Closed, Begun, Ended, Joined, Shut, Started, Counts, is_running, is_halted, is_trapped, Position, Open, StateOf}
 use Rattle.sync_objects.specs.Packing.{packed, unpacked, shown}
-use Rattle.sync_objects.specs.Advance.{Advance, NotAllowed, Advances, after_move, advanced}
+use Rattle.sync_objects.specs.Advance.{Advances, after_move, advanced}
 use Rattle.sync_objects.specs.Table.{Move, NoRow, Moves, first_row, rows}
 use Rattle.sync_objects.specs.Sound.{IsSoundState, IsSoundWord, IsInRange}
 use Rattle.sync_objects.specs.Start.{start_state, packed_start, start_word}
-use Rattle.sync_objects.specs.Words.{number_of, state_of, word_of}
+use Rattle.sync_objects.specs.Words.{number_of, word_of}
 use Rattle.sync_objects.proofs.Packings.{number_of-word_of, state_of-word_of, unpacked-packed, packed-fits}
 
 -- a word made of a sound state is sound
@@ -30,7 +30,7 @@ word_is_sound k number s small h =
 start_is_sound_state : (o : ObjId) → IsSoundState (object_kind o) 0 (start_state o)
 start_is_sound_state (object.Mutex cell) = tt
 start_is_sound_state (object.Cond cell) = omega arith
-start_is_sound_state (object.Barrier cell) = (omega arith, inl refl, omega arith, omega arith)
+start_is_sound_state (object.Barrier cell) = (omega arith, omega arith, omega arith, omega arith)
 start_is_sound_state (object.Weak lock stripe) = tt
 start_is_sound_state (object.Slot zero) = tt
 start_is_sound_state (object.Slot (suc k)) = tt

@@ -1,4 +1,5 @@
 pub mod Advance
+pub mod Laws
 pub mod Moved
 pub mod Names
 pub mod Packing

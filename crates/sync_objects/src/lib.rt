@@ -1,8 +1,11 @@
-//! Synchronisation objects, their operations, and the entries of a log. It stands on `rr_base`.
+//! The synchronisation objects of a run, what each operation does to its object's word, and the entries of a log
+//! with the setup of their run. It stands on `rr_base`. It promises that `advance` is the table of operations, that
+//! each allowed operation raises the number of its object's word by one, and that words stay sound.
 #![tactic(auto)]
 
 mod entry;
 mod kind;
+mod laws;
 mod object;
 mod operation;
 mod rows;
@@ -12,8 +15,9 @@ mod word;
 
 pub use entry::{Entry, Noted};
 pub use kind::ObjKind;
-pub use object::{start_word, ObjId};
-pub use operation::{fits, Op, OpName};
+pub use laws::{law_advanced, law_held, law_shown};
+pub use object::{ObjId, start_word};
+pub use operation::{Op, OpName, fits};
 pub use setup::Setup;
 pub use table::advance;
 pub use word::{number_of, state_of};

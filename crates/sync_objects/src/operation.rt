@@ -112,7 +112,8 @@ impl OpName {
             OpName::CondEnter | OpName::CondWake | OpName::Signal => ObjKind::Cond,
             OpName::BarrierInit | OpName::Arrive | OpName::Pass => ObjKind::Barrier,
             OpName::Take | OpName::Retake | OpName::Give | OpName::Revoke => ObjKind::Weak,
-            OpName::Start | OpName::Begin | OpName::End | OpName::Join | OpName::Close => ObjKind::Slot,
+            OpName::Start | OpName::Begin | OpName::End | OpName::Join | OpName::Close =>
+                ObjKind::Slot,
             OpName::Draw | OpName::Leave => ObjKind::Threads,
             OpName::HaltAll | OpName::TrapHere | OpName::Stop => ObjKind::Halt,
             OpName::GetChar => ObjKind::Input,
@@ -139,7 +140,10 @@ impl OpName {
     pub fn is_weak(self) -> bool
         ensures { result ≡ is_weak self }
     {
-        matches!(self, OpName::Take | OpName::Retake | OpName::Give | OpName::Revoke)
+        matches!(
+            self,
+            OpName::Take | OpName::Retake | OpName::Give | OpName::Revoke
+        )
     }
 }
 

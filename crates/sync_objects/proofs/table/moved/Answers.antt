@@ -1,5 +1,5 @@
 -- The packed states that the operations on a sound word meet.
-use Rattle.std.proofs.Common.{subst, ◌<◌, ◌≤◌, ◌+◌, ◌^◌, ◌/◌, ◌%◌, arith}
+use Rattle.std.proofs.Common.{arith}
 use Rattle.sync_objects.proofs.Ranges.{signal_fits, arrive_fits, draw_fits}
 use Rattle.sync_objects.proofs.table.moved.Goals as goal
 
