@@ -1,6 +1,6 @@
 -- Two accesses of two threads, each made while its thread holds the one lock, are ordered.
 use Rattle.std.proofs.Common.{◌≡◌, ◌≢◌, ℕ, zero, suc, ◌<◌, ◌≤◌, Bool, true, false, List, [], ◌∷◌, Option, Some, None, refl, sym, ap, ◌∙◌, subst, arith, ◌⊎◌, inl, inr, ⊎_elim, ℤ}
-use Rattle.std.specs.Prelude.{slice_get, slice_index}
+use Rattle.std.specs.Prelude.{slice_index, option_and_then}
 use Rattle.std.proofs.lemmas.Bool.{cases_eq}
 use Rattle.std.proofs.lemmas.Option.{same_Some}
 use Rattle.sync_objects.specs.declared.entry.Noted.{Noted}
@@ -9,8 +9,7 @@ use Rattle.sync_objects.specs.declared.operation.OpName.{OpName}
 use Rattle.runs.specs.Labels.{Label, label_thread}
 use Rattle.runs.specs.Steps.{Change, NotAllowed, Becomes, Leaves, Effect, Refused, Marks, Loads, Stores, Operates, Machine, State, outcome, stepped, number_at, Reaches}
 use Rattle.runs.specs.Laws.{IsLawfulEffect, IsLawful, NoAccess}
-use Rattle.runs.specs.Ordered.{Event, Marked, Loaded, Stored, Did, event_thread, event_access, operation_event, effect_event, event_of_thread, event_of, event_on, event_at, state_on, state_at, HandsOver, unlock_to_lock, unlock_to_trylock, give_to_take, give_to_retake, revoke_to_take, revoke_to_retake, PassesTo, Link, Ordered, last, IsRelease, by_unlock, by_give, by_revoke, IsAcquire, by_lock, by_trylock, by_take, by_retake, Releases, Acquires, IsHeldBy}
-use Rattle.runs.proofs.Lists.{AllIn}
+use Rattle.runs.specs.Ordered.{Event, Did, event_thread, event_access, operation_event, effect_event, event_of_thread, event_of, event_at, state_at, HandsOver, unlock_to_lock, unlock_to_trylock, give_to_take, give_to_retake, revoke_to_take, revoke_to_retake, PassesTo, Ordered, last, IsRelease, by_unlock, by_give, by_revoke, IsAcquire, by_lock, by_trylock, by_take, by_retake, IsHeldBy}
 use Rattle.runs.proofs.Swap.{steps_of}
 use Rattle.runs.proofs.Numbers.{rises, IsDrawn, draws}
 use Rattle.runs.proofs.Kept.{reaches_step}
@@ -63,12 +62,12 @@ module _ {T : Type 0} (m : Machine T) (law : IsLawful m) where
 module _ {T : Type 0} (m : Machine T) where
   -- one label on in a run
   pub event_more : (l : Label) (ls : List Label) (s s1 : State T) (k : ℕ) → stepped m s l ≡ Some s1 → event_at m (l ∷ ls) s (suc k) ≡ event_at m ls s1 k
-  event_more l ls s s1 k e = ap (event_on m (λ z. event_at m ls z k)) e
+  event_more l ls s s1 k e = ap (option_and_then (λ z. event_at m ls z k)) e
 
   pub state_inv : (l : Label) (ls : List Label) (s s2 : State T) (k : ℕ) → state_at m (l ∷ ls) s (suc k) ≡ Some s2 → (s1 : State T) × (stepped m s l ≡ Some s1) × (state_at m ls s1 k ≡ Some s2)
   state_inv l ls s s2 k h = go (stepped m s l) h
     where
-      go : (o : Option (State T)) → state_on m (λ z. state_at m ls z k) o ≡ Some s2 → (s1 : State T) × (o ≡ Some s1) × (state_at m ls s1 k ≡ Some s2)
+      go : (o : Option (State T)) → option_and_then (λ z. state_at m ls z k) o ≡ Some s2 → (s1 : State T) × (o ≡ Some s1) × (state_at m ls s1 k ≡ Some s2)
       go None e = cc
       go (Some s1) e = (s1, refl, e)
 
@@ -154,9 +153,17 @@ module _ {T : Type 0} (m : Machine T) (law : IsLawful m) (lock : ObjId) (holds :
           let y = got ls more.0 s2 j u (reaches_step m start s more.0 l r more.1) more.2 (let_go s more.0 l t u r more.1 was isnt) now in
           let n = ap (number_at m more.0.words) x.on_lock in
           record {
-            a = 0; b = suc y.b; after = omega arith; order = omega arith; before = omega (arith, y.before);
-            from = x.operation; from_answer = x.answer; to = y.to; answer = y.answer;
-            gives = x.happens; takes = event_more m l ls s more.0 y.b more.1 ∙ y.takes;
+            a = 0;
+            b = suc y.b;
+            after = omega arith;
+            order = omega arith;
+            before = omega (arith, y.before);
+            from = x.operation;
+            from_answer = x.answer;
+            to = y.to;
+            answer = y.answer;
+            gives = x.happens;
+            takes = event_more m l ls s more.0 y.b more.1 ∙ y.takes;
             passes = record { same_object = x.on_lock ∙ sym y.on_lock; earlier = omega (arith, d.after, y.above); hands = hands_over lock x.operation.entry.op y.to.entry.op y.answer x.is_release y.is_acquire };
           })
           (bool_cases (holds t more.0))

@@ -1,5 +1,5 @@
 -- What happens at each place of a run, and which places are ordered by operations that pass something on.
-use Rattle.std.specs.Prelude.{◌≡◌, ℕ, ◌<◌, zero, suc, ℤ, pos, Bool, true, false, List, [], ◌∷◌, Option, Some, None, slice_get, slice_index}
+use Rattle.std.specs.Prelude.{◌≡◌, ℕ, ◌<◌, zero, suc, ℤ, pos, Bool, true, false, List, [], ◌∷◌, Option, Some, None, slice_get, slice_index, option_and_then}
 use Rattle.sync_objects.specs.declared.entry.Noted.{Noted}
 use Rattle.sync_objects.specs.declared.object.ObjId.{ObjId}
 use Rattle.sync_objects.specs.declared.object.ObjId.TheVariants.{Mutex, Weak}
@@ -48,25 +48,17 @@ module _ {T : Type 0} (m : Machine T) where
   abbrev pub event_of : State T → Label → Option Event
   event_of s l = event_of_thread s.words l (slice_get s.threads (label_thread l))
 
-  abbrev pub event_on : (State T → Option Event) → Option (State T) → Option Event
-  event_on rest None = None
-  event_on rest (Some s) = rest s
-
   -- what happens at the place k of the run
   abbrev pub event_at : List Label → State T → ℕ → Option Event
   event_at [] s k = None
   event_at (l ∷ ls) s zero = event_of s l
-  event_at (l ∷ ls) s (suc k) = event_on (λ s1. event_at ls s1 k) (stepped m s l)
-
-  abbrev pub state_on : (State T → Option (State T)) → Option (State T) → Option (State T)
-  state_on rest None = None
-  state_on rest (Some s) = rest s
+  event_at (l ∷ ls) s (suc k) = option_and_then (λ s1. event_at ls s1 k) (stepped m s l)
 
   -- the state in which the label at the place k of the run is made
   abbrev pub state_at : List Label → State T → ℕ → Option (State T)
   state_at ls s zero = Some s
   state_at [] s (suc k) = None
-  state_at (l ∷ ls) s (suc k) = state_on (λ s1. state_at ls s1 k) (stepped m s l)
+  state_at (l ∷ ls) s (suc k) = option_and_then (λ s1. state_at ls s1 k) (stepped m s l)
 
 -- an operation of the first kind passes its object on to one of the second kind that has this answer
 pub data HandsOver : OpName → OpName → ℤ → Type 0 where
