@@ -60,6 +60,10 @@ module _ {T : Type 0} (m : Machine T) (law : IsLawful m) where
       rises m law l y.before s.words s1.words y.after (m.effect l y.before) (law.effects l y.before) on o known
 
 module _ {T : Type 0} (m : Machine T) where
+  -- what happens at a run's first label
+  pub event_first : (l : Label) (ls : List Label) (s s1 : State T) → stepped m s l ≡ Some s1 → event_at m (l ∷ ls) s 0 ≡ event_of m s l
+  event_first l ls s s1 e = ap (option_and_then (λ _. event_of m s l)) e
+
   -- one label on in a run
   pub event_more : (l : Label) (ls : List Label) (s s1 : State T) (k : ℕ) → stepped m s l ≡ Some s1 → event_at m (l ∷ ls) s (suc k) ≡ event_at m ls s1 k
   event_more l ls s s1 k e = ap (option_and_then (λ z. event_at m ls z k)) e
@@ -95,7 +99,7 @@ module _ {T : Type 0} (m : Machine T) (law : IsLawful m) (lock : ObjId) (holds :
           let x = held.acquired s more.0 l u r more.1 free here in
           let d = drawn_at m law s more.0 l u x.operation x.answer more.1 x.happens in
           let n = ap (number_at m s.words) x.on_lock in
-          record { b = 0; before = omega arith; to = x.operation; answer = x.answer; takes = x.happens; on_lock = x.on_lock; is_acquire = x.is_acquire; above = omega (arith, d.before) })
+          record { b = 0; before = omega arith; to = x.operation; answer = x.answer; takes = event_first m l ls s more.0 more.1 ∙ x.happens; on_lock = x.on_lock; is_acquire = x.is_acquire; above = omega (arith, d.before) })
           (λ (later : holds u more.0 ≡ false).
           let x = again more.0 (reaches_step m start s more.0 l r more.1) more.2 later now in
           record { b = suc x.b; before = omega (arith, x.before); to = x.to; answer = x.answer; takes = event_more m l ls s more.0 x.b more.1 ∙ x.takes; on_lock = x.on_lock; is_acquire = x.is_acquire; above = omega (arith, x.above, rises_at m law s more.0 l lock held.known more.1) })
@@ -162,7 +166,7 @@ module _ {T : Type 0} (m : Machine T) (law : IsLawful m) (lock : ObjId) (holds :
             from_answer = x.answer;
             to = y.to;
             answer = y.answer;
-            gives = x.happens;
+            gives = event_first m l ls s more.0 more.1 ∙ x.happens;
             takes = event_more m l ls s more.0 y.b more.1 ∙ y.takes;
             passes = record { same_object = x.on_lock ∙ sym y.on_lock; earlier = omega (arith, d.after, y.above); hands = hands_over lock x.operation.entry.op y.to.entry.op y.answer x.is_release y.is_acquire };
           })
@@ -181,7 +185,7 @@ module _ {T : Type 0} (m : Machine T) (law : IsLawful m) (lock : ObjId) (holds :
       go more =
           let t = event_thread x in
           let here : holds t s ≡ true = ap (holds t) s_is ∙ was in
-          let kept : holds t more.0 ≡ true = ⊎_elim (λ q. q) (λ q. let y = held.released s more.0 l t r more.1 here q in absurd (no_operation x t y.operation y.answer access (same_Some _ _ (sym e ∙ y.happens)))) (bool_cases (holds t more.0)) in
+          let kept : holds t more.0 ≡ true = ⊎_elim (λ q. q) (λ q. let y = held.released s more.0 l t r more.1 here q in absurd (no_operation x t y.operation y.answer access (same_Some _ _ (sym e ∙ event_first m l ls s more.0 more.1 ∙ y.happens)))) (bool_cases (holds t more.0)) in
           let p = passed ls more.0 s2 j t u (reaches_step m start s more.0 l r more.1) more.2 kept gone now in
           record { a = suc p.a; b = suc p.b; after = omega arith; order = omega (arith, p.order); before = omega (arith, p.before); from = p.from; from_answer = p.from_answer; to = p.to; answer = p.answer; gives = event_more m l ls s more.0 p.a more.1 ∙ p.gives; takes = event_more m l ls s more.0 p.b more.1 ∙ p.takes; passes = p.passes }
   passed_after (l ∷ ls) s s1 s2 (suc i) (suc j) x u r lt e access h k was gone now = go (state_inv m l ls s s2 j k) (state_inv m l ls s s1 i h) (λ z. passed_after ls z s1 s2 i j x u)

@@ -44,14 +44,14 @@ module _ {T : Type 0} (m : Machine T) where
   event_of_thread ws l None = None
   event_of_thread ws l (Some th) = effect_event (label_thread l) ws (m.effect l th)
 
-  -- what the label does in this state
+  -- what the label does in this state, if it is allowed there
   abbrev pub event_of : State T → Label → Option Event
   event_of s l = event_of_thread s.words l (slice_get s.threads (label_thread l))
 
   -- what happens at the place k of the run
   abbrev pub event_at : List Label → State T → ℕ → Option Event
   event_at [] s k = None
-  event_at (l ∷ ls) s zero = event_of s l
+  event_at (l ∷ ls) s zero = option_and_then (λ _. event_of s l) (stepped m s l)
   event_at (l ∷ ls) s (suc k) = option_and_then (λ s1. event_at ls s1 k) (stepped m s l)
 
   -- the state in which the label at the place k of the run is made

@@ -86,6 +86,7 @@ module _ {T : Type 0} (m : Machine T) where
   abbrev pub number_at : List ℕ → ObjId → ℕ
   number_at ws o = m.number (slice_index ws (m.place o))
 
+  -- the entry of an operation, and none of the rest
   abbrev pub effect_entry : List ℕ → Effect T → List Noted
   effect_entry ws Refused = []
   effect_entry ws (Marks th) = []
@@ -97,7 +98,7 @@ module _ {T : Type 0} (m : Machine T) where
   entry_of_thread ws l None = []
   entry_of_thread ws l (Some th) = effect_entry ws (m.effect l th)
 
-  -- the entry that the label adds, with its number, if it is an operation
+  -- the entry that the label adds where it is allowed, with its number, if it is an operation
   abbrev pub added : State T → Label → List Noted
   added s l = entry_of_thread s.words l (slice_get s.threads (label_thread l))
 
