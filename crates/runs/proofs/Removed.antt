@@ -21,14 +21,14 @@ module _ {T : Type 0} (m : Machine T) (law : IsLawful m) where
   differ_quiet ws e f h = tt
 
   -- a run without a first step of a thread that makes no other in it, and adds nothing
-  pub record Without (R : List Label) (s s1 : State T) (V : List Label) (s2 s3 : State T) (t : ℕ) : Type 0 where
+  pub record Without (V : List Label) (s s2 s3 : State T) (t : ℕ) : Type 0 where
     pub end : State T
     pub goes : run m V s ≡ Some end
     pub paths : (x : ℕ) → x ≢ t → path m x V s ≡ path m x V s2
     pub owns : (x : ℕ) → entries_of x (trace m V s) ≡ entries_of x (trace m V s2)
     pub others : (x : ℕ) → x ≢ t → slice_get end.threads x ≡ slice_get s3.threads x
 
-  pub push : (u : Label) (V : List Label) (s s2 s3 : State T) (t : ℕ) → label_thread u ≡ t → stepped m s u ≡ Some s2 → added m s u ≡ [] → run m V s2 ≡ Some s3 → NoneOf t V → Free m law s → Without V s s3 V s2 s3 t
+  pub push : (u : Label) (V : List Label) (s s2 s3 : State T) (t : ℕ) → label_thread u ≡ t → stepped m s u ≡ Some s2 → added m s u ≡ [] → run m V s2 ≡ Some s3 → NoneOf t V → Free m law s → Without V s s2 s3 t
   push u [] s s2 s3 t w su ad h none free = record {
     end = s;
     goes = refl;
@@ -38,7 +38,7 @@ module _ {T : Type 0} (m : Machine T) (law : IsLawful m) where
   }
   push u (v ∷ V) s s2 s3 t w su ad h none free = go (run_more m law v V s2 s3 h) (λ a b sb ad2 hb. push u V a b s3 t w sb ad2 hb none.1)
     where
-      go : (more : (b : State T) × (stepped m s2 v ≡ Some b) × (run m V b ≡ Some s3)) → ((a b : State T) → stepped m a u ≡ Some b → added m a u ≡ [] → run m V b ≡ Some s3 → Free m law a → Without V a s3 V b s3 t) → Without (v ∷ V) s s3 (v ∷ V) s2 s3 t
+      go : (more : (b : State T) × (stepped m s2 v ≡ Some b) × (run m V b ≡ Some s3)) → ((a b : State T) → stepped m a u ≡ Some b → added m a u ≡ [] → run m V b ≡ Some s3 → Free m law a → Without V a b s3 t) → Without (v ∷ V) s s2 s3 t
       go more again =
           let x = steps_of m s u s2 su in
           let y = steps_of m s2 v more.0 more.1 in

@@ -63,6 +63,19 @@ module _ {T : Type 0} (m : Machine T) where
       let o = only_inv e (added m a.0 (label_of e)) (stepped m a.0 (label_of e)) s1 a.2 in
       record { before = q.labels; own = q.own; nothing = q.nothing; between = a.0; leads = q.leads; last = label_of e; number = o.0; adds = o.1; ends = o.2 }
 
+  -- the walk by two lists is the second one's after the first one's
+  pub walk-append : (es fs : List Entry) (s : State T) → walk m (es ++ fs) s ≡ option_and_then (walk m fs) (walk m es s)
+  walk-append [] fs s = refl
+  walk-append (e ∷ es) fs s = go (part m e s) (λ s1. walk-append es fs s1)
+    where
+      go : (o : Option (State T)) → ((s1 : State T) → walk m (es ++ fs) s1 ≡ option_and_then (walk m fs) (walk m es s1)) → option_and_then (walk m (es ++ fs)) o ≡ option_and_then (walk m fs) (option_and_then (walk m es) o)
+      go None again = refl
+      go (Some s1) again = again s1
+
+  -- one own step that adds nothing, and the rest
+  pub alone_more : (n t : ℕ) (s s1 : State T) → stepped m s (Go t) ≡ Some s1 → added m s (Go t) ≡ [] → alone m (suc n) t s ≡ alone m n t s1
+  alone_more n t s s1 h none = ap (λ z. if_nothing z (option_and_then (alone m n t) (stepped m s (Go t)))) none ∙ ap (option_and_then (alone m n t)) h
+
   pub solo_of_walk : (es : List Entry) (s s1 : State T) → walk m es s ≡ Some s1 → IsSoloRun m es s s1
   solo_of_walk [] s s1 h = same_Some _ _ h
   solo_of_walk (e ∷ es) s s1 h =

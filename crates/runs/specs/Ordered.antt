@@ -127,10 +127,11 @@ module _ {T : Type 0} (m : Machine T) where
     pub on_lock : operation.entry.obj ≡ lock
     pub is_acquire : IsAcquire lock operation.entry.op answer
 
-  -- what it means that threads hold a lock, in all states that can be reached: no two hold it at once, who holds it no longer has
-  -- let it go, and who holds it newly has got it
-  pub record IsHeldBy (lock : ObjId) (holds : ℕ → State T → Bool) (start : State T) : Type 0 where
+  -- two ways in which threads hold a lock, one and the same for a mutex or a stripe, in all states that can be reached: no two
+  -- threads hold it at once in these two ways, who no longer holds it in the first way has let it go, and who newly holds it
+  -- in the second way has got it
+  pub record IsHeldBy (lock : ObjId) (first second : ℕ → State T → Bool) (start : State T) : Type 0 where
     pub known : m.has_object lock ≡ true
-    pub one : (s : State T) (t u : ℕ) → Reaches m start s → holds t s ≡ true → holds u s ≡ true → t ≡ u
-    pub released : (s s1 : State T) (l : Label) (t : ℕ) → Reaches m start s → stepped m s l ≡ Some s1 → holds t s ≡ true → holds t s1 ≡ false → Releases lock t s l
-    pub acquired : (s s1 : State T) (l : Label) (t : ℕ) → Reaches m start s → stepped m s l ≡ Some s1 → holds t s ≡ false → holds t s1 ≡ true → Acquires lock t s l
+    pub one : (s : State T) (t u : ℕ) → Reaches m start s → first t s ≡ true → second u s ≡ true → t ≡ u
+    pub released : (s s1 : State T) (l : Label) (t : ℕ) → Reaches m start s → stepped m s l ≡ Some s1 → first t s ≡ true → first t s1 ≡ false → Releases lock t s l
+    pub acquired : (s s1 : State T) (l : Label) (t : ℕ) → Reaches m start s → stepped m s l ≡ Some s1 → second t s ≡ false → second t s1 ≡ true → Acquires lock t s l

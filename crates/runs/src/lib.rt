@@ -81,12 +81,12 @@ pub fn law_prefixes<T>()
 {}
 
 /// An access and a later event of another thread, each made while its thread holds one lock, are ordered by
-/// operations that pass something on.
+/// operations that pass something on. The two may hold it in two ways that exclude each other.
 pub fn law_ordered_by_lock<T>()
     ensures { (machine : Machine T) (start before after : State T) (labels : List Label) (i j : ℕ) (first second : Event) →
-        (lock : ObjId) (holds : ℕ → State T → Bool) →
+        (lock : ObjId) (first_holds second_holds : ℕ → State T → Bool) →
         IsLawful machine →
-        IsHeldBy machine lock holds start →
+        IsHeldBy machine lock first_holds second_holds start →
         i < j →
         event_at machine labels start i ≡ Some first →
         event_at machine labels start j ≡ Some second →
@@ -94,7 +94,7 @@ pub fn law_ordered_by_lock<T>()
         event_thread first ≢ event_thread second →
         state_at machine labels start i ≡ Some before →
         state_at machine labels start j ≡ Some after →
-        holds (event_thread first) before ≡ true →
-        holds (event_thread second) after ≡ true →
+        first_holds (event_thread first) before ≡ true →
+        second_holds (event_thread second) after ≡ true →
         Ordered (event_at machine labels start) i j }
 {}
