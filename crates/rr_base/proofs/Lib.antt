@@ -1,4 +1,5 @@
 pub mod FaultLaws
+pub mod FileLaws
 pub mod Lists
 pub mod StreamLaws
 pub mod WordLaws

@@ -7,7 +7,7 @@ Files = List ℕ → Option (List ℕ)
 
 -- the files once one is put
 abbrev pub with_file : (name content : List ℕ) → Files → Files
-with_file name content files q = if bytes_eq q name then Some content else files q
+with_file name content files q = if bytes_eq name q then Some content else files q
 
 -- all names but this one hold what they held
 abbrev pub SameButFor : (name : List ℕ) → Files → Files → Type 0

@@ -6,6 +6,10 @@ mod layout;
 mod list;
 mod list_iter;
 mod list_order;
+mod mem_shelf;
+mod mem_sink;
+mod mem_source;
+mod plan;
 mod pointer;
 mod shelf;
 mod sink;
@@ -14,11 +18,17 @@ mod trap;
 
 pub use layout::{CellKind, Layout, Place, Site};
 pub use list::List;
+pub use mem_shelf::MemShelf;
+pub use mem_sink::{MemSink, SoundSink};
+pub use mem_source::{MemSource, SoundSource};
 pub use pointer::PtrWord;
 pub use shelf::{Shelf, ShelfEnd};
-pub use sink::{Sink, SinkEnd};
-pub use source::{Failed, Source};
+pub use sink::{Sink, SinkEnd, write_all};
+pub use source::{Failed, ReadEnd, Source, read_to_end};
 pub use trap::Trap;
 
 /// Bytes that contracts see as a list.
 pub type Bytes = List<u8>;
+
+#[cfg(test)]
+mod tests;

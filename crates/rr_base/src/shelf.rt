@@ -2,8 +2,9 @@ ghost use Rattle.std.specs.Prelude.{◌≡◌, ◌≤◌, ◌+◌, ℕ, Option, 
 ghost use Rattle.std.specs.Option.{option_map};
 ghost use Rattle.rr_base.specs.Faults.{ShelfFaults};
 ghost use Rattle.rr_base.specs.Files.{Files, with_file, LeavesOthers};
+ghost use Rattle.rr_base.specs.declared.shelf.ShelfEnd.TheVariants as shelf_end;
 
-use std::alloc::{AllocError, AllocFailed, Global};
+use std::alloc::{AllocError, Global};
 
 /// Why a shelf gave or took nothing.
 #[derive(Clone, Copy, Debug, PartialEq, Eq)]
@@ -11,6 +12,14 @@ pub enum ShelfEnd {
     /// A fault of the outside, which its count of faults shows too.
     Failed,
     OutOfMemory,
+}
+
+impl From<AllocError> for ShelfEnd {
+    ghost from_gives = { λ _ end. end ≡ shelf_end.OutOfMemory };
+
+    fn from(_error: AllocError) -> ShelfEnd {
+        ShelfEnd::OutOfMemory
+    }
 }
 
 /// Where named contents are kept.
