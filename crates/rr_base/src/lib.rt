@@ -29,3 +29,6 @@ pub use trap::Trap;
 
 /// Bytes that contracts see as a list.
 pub type Bytes = List<u8>;
+
+#[cfg(test)]
+mod tests;

@@ -1,9 +1,8 @@
 -- Steps of two threads that may change places in a state that isn't a race state, and what a step adds.
-use Rattle.std.proofs.Common.{◌≡◌, ◌≢◌, ℕ, zero, suc, ◌≤◌, Bool, List, [], ◌∷◌, ◌++◌, Option, Some, None, refl, sym, ap, ◌∙◌, subst, arith, ◌⊎◌, inl, inr, ⊎_elim, ℤ, pos}
-use Rattle.std.specs.Prelude.{slice_get, slice_set, slice_index}
+use Rattle.std.proofs.Common.{◌≡◌, ◌≢◌, ℕ, suc, ◌≤◌, List, [], ◌∷◌, ◌++◌, Option, Some, None, refl, sym, ap, ◌∙◌, subst, arith, ◌⊎◌, inl, inr, ⊎_elim, pos}
+use Rattle.std.specs.Prelude.{slice_get, slice_set, slice_index, option_and_then}
 use Rattle.std.proofs.lemmas.List.{get_or-set_other, get_or-set_same}
 use Rattle.std.proofs.lemmas.Option.{get_or_from_slice_get, slice_get_within}
-use Rattle.std.proofs.lemmas.Bool.{cases_eq}
 use Rattle.sync_objects.specs.declared.entry.Entry.{Entry}
 use Rattle.sync_objects.specs.declared.entry.Noted.{Noted}
 use Rattle.sync_objects.specs.declared.object.ObjId.{ObjId}
@@ -11,9 +10,9 @@ use Rattle.sync_objects.specs.declared.object.ObjId.TheVariants.{Weak, Mutex}
 use Rattle.sync_objects.specs.declared.operation.OpName.{OpName}
 use Rattle.sync_objects.specs.declared.operation.OpName.TheVariants.{Revoke as RevokeOp, Stop as StopOp, Close as CloseOp, Lock}
 use Rattle.runs.specs.Labels.{Label, Go, label_thread, label_of, operation_label, revoke_label}
-use Rattle.runs.specs.Steps.{Becomes, Leaves, Effect, Refused, Marks, Loads, Stores, Operates, Machine, State, outcome, stepped, added, effect_entry, number_at, run, run_on, trace, trace_on, entries_of}
+use Rattle.runs.specs.Steps.{Becomes, Leaves, Effect, Refused, Marks, Loads, Stores, Operates, Machine, State, outcome, stepped, added, effect_entry, number_at, run, trace, trace_on, entries_of}
 use Rattle.runs.specs.Laws.{Conflict, access_of, IsLawfulEffect, IsLawful, IsRaceState, IsRaceFree}
-use Rattle.runs.proofs.Lists.{slice_get-set_other, AllIn, AllIn-front, AllIn-back, IsFirst, own_in, own_out, entries_of-append}
+use Rattle.runs.proofs.Lists.{slice_get-set_other, AllIn, IsFirst, own_out}
 use Rattle.runs.proofs.Swap.{Apart, touch, Steps, steps_of, of_steps, swap_steps, adds_of, load_inv, change_inv}
 
 revoke_thread : (t : ℕ) (o : ObjId) → label_thread (revoke_label t o) ≡ t
@@ -171,7 +170,7 @@ module _ {T : Type 0} (m : Machine T) (law : IsLawful m) where
   pub run_more : (u : Label) (R : List Label) (s s1 : State T) → run m (u ∷ R) s ≡ Some s1 → (s2 : State T) × (stepped m s u ≡ Some s2) × (run m R s2 ≡ Some s1)
   run_more u R s s1 h = go (stepped m s u) h
     where
-      go : (o : Option (State T)) → run_on m (run m R) o ≡ Some s1 → (s2 : State T) × (o ≡ Some s2) × (run m R s2 ≡ Some s1)
+      go : (o : Option (State T)) → option_and_then (run m R) o ≡ Some s1 → (s2 : State T) × (o ≡ Some s2) × (run m R s2 ≡ Some s1)
       go None e = cc
       go (Some s2) e = (s2, refl, e)
 

@@ -1,10 +1,10 @@
 -- What a step does to its thread's count, and what the law says of the entry that it adds.
-use Rattle.std.proofs.Common.{◌≡◌, ℕ, suc, true, List, [], ◌∷◌, Some, refl, sym, ap, ◌∙◌, subst, ℤ, pos}
-use Rattle.std.specs.Prelude.{slice_get, slice_set}
+use Rattle.std.proofs.Common.{◌≡◌, ℕ, suc, true, List, [], ◌∷◌, Some, sym, ap, ◌∙◌, subst, pos}
+use Rattle.std.specs.Prelude.{slice_get}
 use Rattle.sync_objects.specs.declared.entry.Entry.{Entry}
 use Rattle.sync_objects.specs.declared.entry.Noted.{Noted}
 use Rattle.runs.specs.Labels.{Label, label_thread, label_of}
-use Rattle.runs.specs.Steps.{Becomes, Leaves, Effect, Refused, Marks, Loads, Stores, Operates, Machine, State, outcome, stepped, added, effect_entry, number_at, count_or_none, count_of}
+use Rattle.runs.specs.Steps.{Becomes, Leaves, Effect, Refused, Marks, Loads, Stores, Operates, Machine, State, outcome, stepped, added, effect_entry, number_at, count_or_zero, count_of}
 use Rattle.runs.specs.Laws.{IsLawfulEffect, IsLawful, GoesOn}
 use Rattle.runs.proofs.Lists.{slice_get-set_same}
 use Rattle.runs.proofs.Swap.{Steps, steps_of, adds_of, load_inv, change_inv}
@@ -26,7 +26,7 @@ module _ {T : Type 0} (m : Machine T) (law : IsLawful m) where
       let x = steps_of m s l s1 h in
       let q = quiet_after l x.before s.words x.words x.after (m.effect l x.before) (law.effects l x.before) x.leaves (sym (adds_of m s l s1 x) ∙ none) in
       let a : slice_get s1.threads (label_thread l) ≡ Some x.after = ap (λ (z : State T). slice_get z.threads (label_thread l)) x.to ∙ slice_get-set_same s.threads (label_thread l) x.after x.before x.stands in
-      ap (count_or_none m) a ∙ q.counted ∙ ap (λ z. suc (count_or_none m z)) (sym x.stands)
+      ap (count_or_zero m) a ∙ q.counted ∙ ap (λ z. suc (count_or_zero m z)) (sym x.stands)
 
   -- what the law says of the entry that a step adds
   pub record EntryLaw (l : Label) (th : T) (e : Entry) : Type 0 where

@@ -1,10 +1,11 @@
 -- A thread's steps up to its next entry can be made first.
-use Rattle.std.proofs.Common.{◌≡◌, ◌≢◌, ℕ, zero, suc, List, [], ◌∷◌, ◌++◌, Some, refl, sym, ap, ◌∙◌, subst, ⊎_elim}
+use Rattle.std.specs.Prelude.{option_and_then}
+use Rattle.std.proofs.Common.{◌≡◌, ◌≢◌, ℕ, zero, suc, List, [], ◌∷◌, ◌++◌, Some, sym, ap, ◌∙◌, subst, ⊎_elim}
 use Rattle.std.proofs.lemmas.Bool.{cases_eq}
 use Rattle.sync_objects.specs.declared.entry.Noted.{Noted}
 use Rattle.runs.specs.Labels.{Label, Go, label_thread}
-use Rattle.runs.specs.Steps.{Leaves, Machine, State, outcome, stepped, added, run, run_on, trace, entries_of}
-use Rattle.runs.specs.Laws.{IsLawful, IsRaceFree}
+use Rattle.runs.specs.Steps.{Leaves, Machine, State, outcome, stepped, added, run, trace, entries_of}
+use Rattle.runs.specs.Laws.{IsLawful}
 use Rattle.runs.proofs.Lists.{AllIn, AllIn-front, AllIn-back, IsFirst, own_in, own_out, entries_of-append}
 use Rattle.runs.proofs.Swap.{steps_of, adds_of}
 use Rattle.runs.proofs.Apart.{Free, free_next, swap_at, differ_none, differ_first, run_more, trace_more, adds_cases, own_apart}
@@ -95,7 +96,7 @@ module _ {T : Type 0} (m : Machine T) (law : IsLawful m) where
         after = u ∷ f.after;
         solo = c.1;
         of_thread = f.of_thread;
-        goes = ap (run_on m (run m f.after)) c.2 ∙ f.goes;
+        goes = ap (option_and_then (run m f.after)) c.2 ∙ f.goes;
         own_rest = ap (entries_of e.entry.thread) tr ∙ entries_of-append e.entry.thread (added m c.0 u) (trace m f.after f.mid) ∙ ap (λ z. z ++ entries_of e.entry.thread (trace m f.after f.mid)) (ap (entries_of e.entry.thread) c.3 ∙ own_apart m law e.entry.thread s s2 u su ne) ∙ f.own_rest;
         others = λ t nt. ap (entries_of t) tr ∙ entries_of-append t (added m c.0 u) (trace m f.after f.mid) ∙ ap (λ z. entries_of t z ++ entries_of t (trace m f.after f.mid)) c.3 ∙ ap (λ z. entries_of t (added m s u) ++ z) (f.others t nt) ∙ sym (entries_of-append t (added m s u) (trace m R s2)) ∙ ap (entries_of t) (sym tr0);
       }

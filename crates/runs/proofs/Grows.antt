@@ -1,17 +1,17 @@
 -- A thread's count never falls along a run.
-use Rattle.std.proofs.Common.{◌≡◌, ◌≢◌, ℕ, zero, suc, ◌≤◌, Bool, List, [], ◌∷◌, ◌++◌, length, Option, Some, refl, sym, ap, ◌∙◌, subst, arith, ◌⊎◌, inl, inr, ⊎_elim, ℤ, pos}
+use Rattle.std.proofs.Common.{◌≡◌, ℕ, ◌≤◌, List, [], ◌∷◌, Some, sym, ap, ◌∙◌, subst, arith, ⊎_elim, pos}
 use Rattle.std.specs.Prelude.{slice_get}
 use Rattle.std.proofs.lemmas.Bool.{cases_eq}
 use Rattle.std.proofs.lemmas.Option.{same_Some}
 use Rattle.sync_objects.specs.declared.entry.Noted.{Noted}
-use Rattle.runs.specs.Labels.{Label, Go, label_thread, label_of}
-use Rattle.runs.specs.Steps.{Becomes, Leaves, Effect, Refused, Marks, Loads, Stores, Operates, Machine, State, outcome, stepped, added, effect_entry, number_at, run, run_on, trace, entries_of, count_or_none, count_of}
+use Rattle.runs.specs.Labels.{Label, label_thread}
+use Rattle.runs.specs.Steps.{Becomes, Leaves, Effect, Refused, Marks, Loads, Stores, Operates, Machine, State, outcome, stepped, added, run, trace, entries_of, count_or_zero, count_of}
 use Rattle.runs.specs.Laws.{IsLawfulEffect, IsLawful}
-use Rattle.runs.proofs.Lists.{slice_get-set_same, AllIn, AllIn-append, AllIn-map, AllIn-entries_of, IsFirst, own_in, own_out, entries_of-append, entries_of-thread, nil_front, nil_back, nil_cons}
-use Rattle.runs.proofs.Swap.{steps_of, adds_of, load_inv, change_inv}
-use Rattle.runs.proofs.Apart.{Free, Differ, run_more, trace_more, free_next, adds_cases, own_apart, swap_at}
-use Rattle.runs.proofs.Counts.{entry_law_at, counted}
-use Rattle.runs.proofs.Lead.{NoneOf, kept, path_own, path_other, Lead, lead, MayLead}
+use Rattle.runs.proofs.Lists.{slice_get-set_same, AllIn, AllIn-append, AllIn-map, AllIn-entries_of, entries_of-thread}
+use Rattle.runs.proofs.Swap.{steps_of, load_inv, change_inv}
+use Rattle.runs.proofs.Apart.{run_more, trace_more, adds_cases}
+use Rattle.runs.proofs.Counts.{entry_law_at}
+use Rattle.runs.proofs.Lead.{kept}
 
 module _ {T : Type 0} (m : Machine T) (law : IsLawful m) where
   -- an effect's count never falls
@@ -32,10 +32,10 @@ module _ {T : Type 0} (m : Machine T) (law : IsLawful m) where
       (λ (w : label_thread l ≡ t).
       let x = steps_of m s l s1 h in
       let g = effect_grows l x.before s.words x.words x.after (m.effect l x.before) (law.effects l x.before) x.leaves in
-      let a : count_of m s t ≡ m.count x.before = ap (λ z. count_or_none m (slice_get s.threads z)) (sym w) ∙ ap (count_or_none m) x.stands in
-      let b : count_of m s1 t ≡ m.count x.after = ap (λ z. count_or_none m (slice_get s1.threads z)) (sym w) ∙ ap (count_or_none m) (ap (λ (z : State T). slice_get z.threads (label_thread l)) x.to ∙ slice_get-set_same s.threads (label_thread l) x.after x.before x.stands) in
+      let a : count_of m s t ≡ m.count x.before = ap (λ z. count_or_zero m (slice_get s.threads z)) (sym w) ∙ ap (count_or_zero m) x.stands in
+      let b : count_of m s1 t ≡ m.count x.after = ap (λ z. count_or_zero m (slice_get s1.threads z)) (sym w) ∙ ap (count_or_zero m) (ap (λ (z : State T). slice_get z.threads (label_thread l)) x.to ∙ slice_get-set_same s.threads (label_thread l) x.after x.before x.stands) in
       omega arith)
-      (λ (w : label_thread l ≡ t → ⊥). let k = ap (count_or_none m) (kept m law s s1 l t h w) in omega arith)
+      (λ (w : label_thread l ≡ t → ⊥). let k = ap (count_or_zero m) (kept m law s s1 l t h w) in omega arith)
       (cases_eq (label_thread l) t)
 
   pub run_grows : (R : List Label) (s s1 : State T) (t : ℕ) → run m R s ≡ Some s1 → count_of m s t ≤ count_of m s1 t
@@ -55,7 +55,7 @@ module _ {T : Type 0} (m : Machine T) (law : IsLawful m) where
       (λ p.
       let y = steps_of m s l s1 h in
       let k = entry_law_at m law s s1 l p.0 y p.1 in
-      let c : count_of m s p.0.entry.thread ≡ m.count y.before = ap (λ z. count_or_none m (slice_get s.threads z)) p.2 ∙ ap (count_or_none m) y.stands in
+      let c : count_of m s p.0.entry.thread ≡ m.count y.before = ap (λ z. count_or_zero m (slice_get s.threads z)) p.2 ∙ ap (count_or_zero m) y.stands in
       subst (AllIn (Counted s)) (sym p.1) (record { at = omega (arith, k.counted) }, tt))
       (adds_cases m law s s1 l h)
 

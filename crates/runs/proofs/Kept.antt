@@ -1,10 +1,11 @@
 -- What every label keeps holds in every state that is reached, and a thread's own list is what it added to the run.
+use Rattle.std.specs.Prelude.{option_and_then}
 use Rattle.std.proofs.Common.{◌≡◌, ℕ, List, [], ◌∷◌, ◌++◌, Option, Some, None, refl, sym, ap, ◌∙◌, subst, append_assoc}
 use Rattle.std.proofs.lemmas.List.{append-nil}
 use Rattle.std.proofs.lemmas.Option.{same_Some}
 use Rattle.sync_objects.specs.declared.entry.Noted.{Noted}
 use Rattle.runs.specs.Labels.{Label}
-use Rattle.runs.specs.Steps.{Machine, State, stepped, added, run, run_on, trace, trace_on, entries_of, Reaches}
+use Rattle.runs.specs.Steps.{Machine, State, stepped, added, run, trace, trace_on, entries_of, Reaches}
 use Rattle.runs.proofs.Lists.{entries_of-append}
 
 module _ {T : Type 0} (m : Machine T) where
@@ -13,7 +14,7 @@ module _ {T : Type 0} (m : Machine T) where
   kept_along P keeps [] s s1 h p = subst P (same_Some _ _ h) p
   kept_along P keeps (l ∷ ls) s s1 h p = go (stepped m s l) refl h (λ mid q e. kept_along P keeps ls mid s1 q (keeps s mid l p e))
     where
-      go : (o : Option (State T)) → stepped m s l ≡ o → run_on m (run m ls) o ≡ Some s1 → ((mid : State T) → run m ls mid ≡ Some s1 → stepped m s l ≡ Some mid → P s1) → P s1
+      go : (o : Option (State T)) → stepped m s l ≡ o → option_and_then (run m ls) o ≡ Some s1 → ((mid : State T) → run m ls mid ≡ Some s1 → stepped m s l ≡ Some mid → P s1) → P s1
       go None e q f = cc
       go (Some mid) e q f = f mid q e
 
@@ -22,7 +23,7 @@ module _ {T : Type 0} (m : Machine T) where
   lists_are list steps [] s s1 t h = ap (list t) (sym (same_Some _ _ h)) ∙ sym (append-nil (list t s))
   lists_are list steps (l ∷ ls) s s1 t h = go (stepped m s l) refl h (λ mid q. lists_are list steps ls mid s1 t q)
     where
-      go : (o : Option (State T)) → stepped m s l ≡ o → run_on m (run m ls) o ≡ Some s1 → ((mid : State T) → run m ls mid ≡ Some s1 → list t s1 ≡ list t mid ++ entries_of t (trace m ls mid)) → list t s1 ≡ list t s ++ entries_of t (added m s l ++ trace_on m (trace m ls) o)
+      go : (o : Option (State T)) → stepped m s l ≡ o → option_and_then (run m ls) o ≡ Some s1 → ((mid : State T) → run m ls mid ≡ Some s1 → list t s1 ≡ list t mid ++ entries_of t (trace m ls mid)) → list t s1 ≡ list t s ++ entries_of t (added m s l ++ trace_on m (trace m ls) o)
       go None e q f = cc
       go (Some mid) e q f = f mid q ∙ ap (λ z. z ++ entries_of t (trace m ls mid)) (steps s mid l t e) ∙ append_assoc (list t s) (entries_of t (added m s l)) (entries_of t (trace m ls mid)) ∙ ap (λ z. list t s ++ z) (sym (entries_of-append t (added m s l) (trace m ls mid)))
 
@@ -31,7 +32,7 @@ module _ {T : Type 0} (m : Machine T) where
   run_append [] ks s s1 s2 h k = ap (run m ks) (same_Some _ _ h) ∙ k
   run_append (l ∷ ls) ks s s1 s2 h k = go (stepped m s l) h (λ mid q. run_append ls ks mid s1 s2 q k)
     where
-      go : (o : Option (State T)) → run_on m (run m ls) o ≡ Some s1 → ((mid : State T) → run m ls mid ≡ Some s1 → run m (ls ++ ks) mid ≡ Some s2) → run_on m (run m (ls ++ ks)) o ≡ Some s2
+      go : (o : Option (State T)) → option_and_then (run m ls) o ≡ Some s1 → ((mid : State T) → run m ls mid ≡ Some s1 → run m (ls ++ ks) mid ≡ Some s2) → option_and_then (run m (ls ++ ks)) o ≡ Some s2
       go None e f = cc
       go (Some mid) e f = f mid e
 
@@ -40,4 +41,4 @@ module _ {T : Type 0} (m : Machine T) where
   reaches_more s s1 s2 r q = (r.0 ++ q.0, run_append r.0 q.0 s s1 s2 r.1 q.1)
 
   pub reaches_step : (s s1 s2 : State T) (l : Label) → Reaches m s s1 → stepped m s1 l ≡ Some s2 → Reaches m s s2
-  reaches_step s s1 s2 l r h = reaches_more s s1 s2 r (l ∷ [], ap (run_on m (run m [])) h)
+  reaches_step s s1 s2 l r h = reaches_more s s1 s2 r (l ∷ [], ap (option_and_then (run m [])) h)

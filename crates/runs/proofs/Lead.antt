@@ -1,12 +1,12 @@
 -- A thread's first step can be made first.
-use Rattle.std.proofs.Common.{◌≡◌, ◌≢◌, ℕ, Bool, List, [], ◌∷◌, ◌++◌, Some, refl, sym, ap, ◌∙◌, subst, ◌⊎◌, inl, inr, ⊎_elim, eq-eqb, ne_eqb}
-use Rattle.std.specs.Prelude.{slice_get, if◌then◌else◌}
+use Rattle.std.proofs.Common.{◌≡◌, ◌≢◌, ℕ, List, [], ◌∷◌, ◌++◌, Some, refl, sym, ap, ◌∙◌, subst, ◌⊎◌, inl, inr, ⊎_elim, eq-eqb, ne_eqb}
+use Rattle.std.specs.Prelude.{slice_get, if◌then◌else◌, option_and_then, option_to_list}
 use Rattle.std.proofs.lemmas.Bool.{cases_eq}
 use Rattle.sync_objects.specs.declared.entry.Noted.{Noted}
 use Rattle.runs.specs.Labels.{Label, label_thread}
-use Rattle.runs.specs.Steps.{Leaves, Machine, State, stepped, added, run, run_on, trace, entries_of, count_of, count_or_none}
+use Rattle.runs.specs.Steps.{Leaves, Machine, State, stepped, added, run, trace, entries_of, count_of, count_or_zero}
 use Rattle.runs.specs.Laws.{IsLawful}
-use Rattle.runs.specs.Paths.{now_of, path_on, path}
+use Rattle.runs.specs.Paths.{path_on, path}
 use Rattle.runs.proofs.Lists.{slice_get-set_other, AllIn, IsFirst, AllIn-front, AllIn-back, own_in, entries_of-append}
 use Rattle.runs.proofs.Swap.{Steps, steps_of, adds_of}
 use Rattle.runs.proofs.Apart.{Free, Differ, run_more, trace_more, free_next, adds_cases, own_apart, swap_at, differ_none, differ_first}
@@ -33,11 +33,11 @@ module _ {T : Type 0} (m : Machine T) (law : IsLawful m) where
       let y = steps_of m s u s1 e in
       sym (ap (λ (z : State T). slice_get z.threads x) y.to ∙ slice_get-set_other s.threads (label_thread u) x y.after (λ q. ne (sym q)))
 
-  pub path_own : (t : ℕ) (l : Label) (ls : List Label) (s s1 : State T) → stepped m s l ≡ Some s1 → label_thread l ≡ t → path m t (l ∷ ls) s ≡ now_of (slice_get s1.threads t) ++ path m t ls s1
-  path_own t l ls s s1 e w = ap (path_on m t l (path m t ls)) e ∙ ap (λ b. if b then (now_of (slice_get s1.threads t) ++ path m t ls s1) else (path m t ls s1)) (eq-eqb (label_thread l) t w)
+  pub path_own : (t : ℕ) (l : Label) (ls : List Label) (s s1 : State T) → stepped m s l ≡ Some s1 → label_thread l ≡ t → path m t (l ∷ ls) s ≡ option_to_list (slice_get s1.threads t) ++ path m t ls s1
+  path_own t l ls s s1 e w = ap (path_on m t l (path m t ls)) e ∙ ap (λ b. if b then (option_to_list (slice_get s1.threads t) ++ path m t ls s1) else (path m t ls s1)) (eq-eqb (label_thread l) t w)
 
   pub path_other : (t : ℕ) (l : Label) (ls : List Label) (s s1 : State T) → stepped m s l ≡ Some s1 → label_thread l ≢ t → path m t (l ∷ ls) s ≡ path m t ls s1
-  path_other t l ls s s1 e w = ap (path_on m t l (path m t ls)) e ∙ ap (λ b. if b then (now_of (slice_get s1.threads t) ++ path m t ls s1) else (path m t ls s1)) (ne_eqb (label_thread l) t w)
+  path_other t l ls s s1 e w = ap (path_on m t l (path m t ls)) e ∙ ap (λ b. if b then (option_to_list (slice_get s1.threads t) ++ path m t ls s1) else (path m t ls s1)) (ne_eqb (label_thread l) t w)
 
   pub record Lead (R : List Label) (s s1 : State T) (t : ℕ) : Type 0 where
     pub label : Label
@@ -75,7 +75,7 @@ module _ {T : Type 0} (m : Machine T) (law : IsLawful m) where
       let tr = trace_more m law u R s s2 su in
       let own_is : entries_of t (trace m (u ∷ R) s) ≡ e ∷ entries_of t (trace m f.after f.mid) =
       ap (entries_of t) tr ∙ entries_of-append t (added m s u) (trace m R s2) ∙ ap (λ z. z ++ entries_of t (trace m R s2)) (own_apart m law t s s2 u su ne) ∙ sym (f.owns t) ∙ ap (λ z. entries_of t (z ++ trace m f.after f.mid)) p.1 ∙ own_in t e (trace m f.after f.mid) (p.2 ∙ f.of_thread) in
-      let at : count_of m s t ≡ m.count y.before = ap (count_or_none m) (kept s s2 u t su ne ∙ ap (slice_get s2.threads) (sym f.of_thread) ∙ y.stands) in
+      let at : count_of m s t ≡ m.count y.before = ap (count_or_zero m) (kept s s2 u t su ne ∙ ap (slice_get s2.threads) (sym f.of_thread) ∙ y.stands) in
       let first = subst (AllIn (IsFirst e)) tr (may e _ own_is (k.counted ∙ sym at)) in
       let here = subst (AllIn (IsFirst e)) (adds_of m s u s2 x) (AllIn-front (IsFirst e) _ _ first) in
       let ws : s2.words ≡ x.words = ap (λ z. z.words) x.to in
@@ -101,17 +101,17 @@ module _ {T : Type 0} (m : Machine T) (law : IsLawful m) where
         mid = z.0;
         of_thread = f.of_thread;
         leads = z.1;
-        goes = ap (run_on m (run m f.after)) z.2 ∙ f.goes;
+        goes = ap (option_and_then (run m f.after)) z.2 ∙ f.goes;
         paths = λ a. ⊎_elim
             (λ (is : t ≡ a).
             let la : label_thread f.label ≡ a = f.of_thread ∙ is in
             let ua : label_thread u ≢ a = (λ q. ne (q ∙ sym is)) in
-            path_own a f.label (u ∷ f.after) s z.0 z.1 la ∙ ap (λ q. now_of (slice_get z.0.threads a) ++ q) (path_other a u f.after z.0 f.mid z.2 ua) ∙ ap (λ q. now_of q ++ path m a f.after f.mid) (kept z.0 f.mid u a z.2 ua)
+            path_own a f.label (u ∷ f.after) s z.0 z.1 la ∙ ap (λ q. option_to_list (slice_get z.0.threads a) ++ q) (path_other a u f.after z.0 f.mid z.2 ua) ∙ ap (λ q. option_to_list q ++ path m a f.after f.mid) (kept z.0 f.mid u a z.2 ua)
             ∙ sym (path_other a u R s s2 su ua ∙ sym (f.paths a) ∙ path_own a f.label f.after s2 f.mid f.leads la))
             (λ (isnt : t ≡ a → ⊥).
             let la : label_thread f.label ≢ a = (λ q. isnt (sym f.of_thread ∙ q)) in
             path_other a f.label (u ∷ f.after) s z.0 z.1 la ∙ ⊎_elim
-            (λ (ua : label_thread u ≡ a). path_own a u f.after z.0 f.mid z.2 ua ∙ ap (λ q. now_of q ++ path m a f.after f.mid) (sym (kept s2 f.mid f.label a f.leads la)) ∙ sym (path_own a u R s s2 su ua ∙ ap (λ q. now_of (slice_get s2.threads a) ++ q) (sym (f.paths a) ∙ path_other a f.label f.after s2 f.mid f.leads la)))
+            (λ (ua : label_thread u ≡ a). path_own a u f.after z.0 f.mid z.2 ua ∙ ap (λ q. option_to_list q ++ path m a f.after f.mid) (sym (kept s2 f.mid f.label a f.leads la)) ∙ sym (path_own a u R s s2 su ua ∙ ap (λ q. option_to_list (slice_get s2.threads a) ++ q) (sym (f.paths a) ∙ path_other a f.label f.after s2 f.mid f.leads la)))
             (λ (ua : label_thread u ≡ a → ⊥). path_other a u f.after z.0 f.mid z.2 ua ∙ sym (path_other a u R s s2 su ua ∙ sym (f.paths a) ∙ path_other a f.label f.after s2 f.mid f.leads la))
             (cases_eq (label_thread u) a))
             (cases_eq t a);
@@ -145,5 +145,5 @@ module _ {T : Type 0} (m : Machine T) (law : IsLawful m) where
           (again more.0 more.2 (free_next m law s more.0 u more.1 free) (λ e rest o c.
           AllIn-back (IsFirst e) (added m s u) (trace m R more.0) (subst (AllIn (IsFirst e)) tr (may e rest
           (ap (entries_of t) tr ∙ entries_of-append t (added m s u) (trace m R more.0) ∙ ap (λ z. z ++ entries_of t (trace m R more.0)) (own_apart m law t s more.0 u more.1 w) ∙ o)
-          (c ∙ ap (count_or_none m) (sym (kept s more.0 u t more.1 w))))))))
+          (c ∙ ap (count_or_zero m) (sym (kept s more.0 u t more.1 w))))))))
           (cases_eq (label_thread u) t)

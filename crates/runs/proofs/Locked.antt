@@ -1,7 +1,6 @@
 -- Two accesses of two threads, each made while its thread holds the one lock, are ordered.
 use Rattle.std.proofs.Common.{◌≡◌, ◌≢◌, ℕ, zero, suc, ◌<◌, ◌≤◌, Bool, true, false, List, [], ◌∷◌, Option, Some, None, refl, sym, ap, ◌∙◌, subst, arith, ◌⊎◌, inl, inr, ⊎_elim, ℤ}
-use Rattle.std.specs.Prelude.{slice_get, slice_index}
-use Rattle.std.proofs.lemmas.Bool.{cases_eq}
+use Rattle.std.specs.Prelude.{slice_index, option_and_then}
 use Rattle.std.proofs.lemmas.Option.{same_Some}
 use Rattle.sync_objects.specs.declared.entry.Noted.{Noted}
 use Rattle.sync_objects.specs.declared.object.ObjId.{ObjId}
@@ -9,8 +8,7 @@ use Rattle.sync_objects.specs.declared.operation.OpName.{OpName}
 use Rattle.runs.specs.Labels.{Label, label_thread}
 use Rattle.runs.specs.Steps.{Change, NotAllowed, Becomes, Leaves, Effect, Refused, Marks, Loads, Stores, Operates, Machine, State, outcome, stepped, number_at, Reaches}
 use Rattle.runs.specs.Laws.{IsLawfulEffect, IsLawful, NoAccess}
-use Rattle.runs.specs.Ordered.{Event, Marked, Loaded, Stored, Did, event_thread, event_access, operation_event, effect_event, event_of_thread, event_of, event_on, event_at, state_on, state_at, HandsOver, unlock_to_lock, unlock_to_trylock, give_to_take, give_to_retake, revoke_to_take, revoke_to_retake, PassesTo, Link, Ordered, last, IsRelease, by_unlock, by_give, by_revoke, IsAcquire, by_lock, by_trylock, by_take, by_retake, Releases, Acquires, IsHeldBy}
-use Rattle.runs.proofs.Lists.{AllIn}
+use Rattle.runs.specs.Ordered.{Event, Did, event_thread, event_access, operation_event, effect_event, event_of_thread, event_of, event_at, state_at, HandsOver, unlock_to_lock, unlock_to_trylock, give_to_take, give_to_retake, revoke_to_take, revoke_to_retake, PassesTo, Ordered, last, IsRelease, by_unlock, by_give, by_revoke, IsAcquire, by_lock, by_trylock, by_take, by_retake, IsHeldBy}
 use Rattle.runs.proofs.Swap.{steps_of}
 use Rattle.runs.proofs.Numbers.{rises, IsDrawn, draws}
 use Rattle.runs.proofs.Kept.{reaches_step}
@@ -61,18 +59,22 @@ module _ {T : Type 0} (m : Machine T) (law : IsLawful m) where
       rises m law l y.before s.words s1.words y.after (m.effect l y.before) (law.effects l y.before) on o known
 
 module _ {T : Type 0} (m : Machine T) where
+  -- what happens at a run's first label
+  pub event_first : (l : Label) (ls : List Label) (s s1 : State T) → stepped m s l ≡ Some s1 → event_at m (l ∷ ls) s 0 ≡ event_of m s l
+  event_first l ls s s1 e = ap (option_and_then (λ _. event_of m s l)) e
+
   -- one label on in a run
   pub event_more : (l : Label) (ls : List Label) (s s1 : State T) (k : ℕ) → stepped m s l ≡ Some s1 → event_at m (l ∷ ls) s (suc k) ≡ event_at m ls s1 k
-  event_more l ls s s1 k e = ap (event_on m (λ z. event_at m ls z k)) e
+  event_more l ls s s1 k e = ap (option_and_then (λ z. event_at m ls z k)) e
 
   pub state_inv : (l : Label) (ls : List Label) (s s2 : State T) (k : ℕ) → state_at m (l ∷ ls) s (suc k) ≡ Some s2 → (s1 : State T) × (stepped m s l ≡ Some s1) × (state_at m ls s1 k ≡ Some s2)
   state_inv l ls s s2 k h = go (stepped m s l) h
     where
-      go : (o : Option (State T)) → state_on m (λ z. state_at m ls z k) o ≡ Some s2 → (s1 : State T) × (o ≡ Some s1) × (state_at m ls s1 k ≡ Some s2)
+      go : (o : Option (State T)) → option_and_then (λ z. state_at m ls z k) o ≡ Some s2 → (s1 : State T) × (o ≡ Some s1) × (state_at m ls s1 k ≡ Some s2)
       go None e = cc
       go (Some s1) e = (s1, refl, e)
 
-module _ {T : Type 0} (m : Machine T) (law : IsLawful m) (lock : ObjId) (holds : ℕ → State T → Bool) (start : State T) (held : IsHeldBy m lock holds start) where
+module _ {T : Type 0} (m : Machine T) (law : IsLawful m) (lock : ObjId) (first second : ℕ → State T → Bool) (start : State T) (held : IsHeldBy m lock first second start) where
   -- the operation by which a thread gets the lock, before the place j
   pub record Got (ls : List Label) (s : State T) (j u : ℕ) : Type 0 where
     pub b : ℕ
@@ -84,23 +86,23 @@ module _ {T : Type 0} (m : Machine T) (law : IsLawful m) (lock : ObjId) (holds :
     pub is_acquire : IsAcquire lock to.entry.op answer
     pub above : number_at m s.words lock ≤ to.number
 
-  got : (ls : List Label) (s s2 : State T) (j u : ℕ) → Reaches m start s → state_at m ls s j ≡ Some s2 → holds u s ≡ false → holds u s2 ≡ true → Got ls s j u
-  got ls s s2 zero u r h free now = let e : s ≡ s2 = cc in cc (ap (holds u) e, free, now)
+  got : (ls : List Label) (s s2 : State T) (j u : ℕ) → Reaches m start s → state_at m ls s j ≡ Some s2 → second u s ≡ false → second u s2 ≡ true → Got ls s j u
+  got ls s s2 zero u r h free now = let e : s ≡ s2 = cc in cc (ap (second u) e, free, now)
   got [] s s2 (suc j) u r h free now = cc
   got (l ∷ ls) s s2 (suc j) u r h free now = go (state_inv m l ls s s2 j h) (λ s1. got ls s1 s2 j u)
     where
-      go : (more : (s1 : State T) × (stepped m s l ≡ Some s1) × (state_at m ls s1 j ≡ Some s2)) → ((s1 : State T) → Reaches m start s1 → state_at m ls s1 j ≡ Some s2 → holds u s1 ≡ false → holds u s2 ≡ true → Got ls s1 j u) → Got (l ∷ ls) s (suc j) u
+      go : (more : (s1 : State T) × (stepped m s l ≡ Some s1) × (state_at m ls s1 j ≡ Some s2)) → ((s1 : State T) → Reaches m start s1 → state_at m ls s1 j ≡ Some s2 → second u s1 ≡ false → second u s2 ≡ true → Got ls s1 j u) → Got (l ∷ ls) s (suc j) u
       go more again =
           ⊎_elim
-          (λ (here : holds u more.0 ≡ true).
+          (λ (here : second u more.0 ≡ true).
           let x = held.acquired s more.0 l u r more.1 free here in
           let d = drawn_at m law s more.0 l u x.operation x.answer more.1 x.happens in
           let n = ap (number_at m s.words) x.on_lock in
-          record { b = 0; before = omega arith; to = x.operation; answer = x.answer; takes = x.happens; on_lock = x.on_lock; is_acquire = x.is_acquire; above = omega (arith, d.before) })
-          (λ (later : holds u more.0 ≡ false).
+          record { b = 0; before = omega arith; to = x.operation; answer = x.answer; takes = event_first m l ls s more.0 more.1 ∙ x.happens; on_lock = x.on_lock; is_acquire = x.is_acquire; above = omega (arith, d.before) })
+          (λ (later : second u more.0 ≡ false).
           let x = again more.0 (reaches_step m start s more.0 l r more.1) more.2 later now in
           record { b = suc x.b; before = omega (arith, x.before); to = x.to; answer = x.answer; takes = event_more m l ls s more.0 x.b more.1 ∙ x.takes; on_lock = x.on_lock; is_acquire = x.is_acquire; above = omega (arith, x.above, rises_at m law s more.0 l lock held.known more.1) })
-          (bool_cases (holds u more.0))
+          (bool_cases (second u more.0))
 
   -- the lock goes from t to u between the places i and j
   pub record Passed (ls : List Label) (s : State T) (i j t u : ℕ) : Type 0 where
@@ -118,54 +120,58 @@ module _ {T : Type 0} (m : Machine T) (law : IsLawful m) (lock : ObjId) (holds :
     pub passes : PassesTo from to answer
 
   -- after t has let the lock go, u doesn't hold it at once
-  let_go : (s s1 : State T) (l : Label) (t u : ℕ) → Reaches m start s → stepped m s l ≡ Some s1 → holds t s ≡ true → holds t s1 ≡ false → holds u s1 ≡ false
-  let_go s s1 l t u r h was isnt = ⊎_elim (λ here. absurd (wrong here)) (λ e. e) (bool_cases (holds u s1))
+  let_go : (s s1 : State T) (l : Label) (t u : ℕ) → t ≢ u → Reaches m start s → stepped m s l ≡ Some s1 → first t s ≡ true → first t s1 ≡ false → second u s1 ≡ false
+  let_go s s1 l t u ne r h was isnt = ⊎_elim (λ here. absurd (wrong here)) (λ e. e) (bool_cases (second u s1))
     where
       same : (x y : Noted) (a b : ℤ) → Some (Did t x a) ≡ Some (Did u y b) → t ≡ u
       same x y a b e = cc
 
-      other : t ≢ u → holds u s ≡ false
-      other ne = ⊎_elim (λ e. absurd (ne (held.one s t u r was e))) (λ e. e) (bool_cases (holds u s))
+      other : second u s ≡ false
+      other = ⊎_elim (λ e. absurd (ne (held.one s t u r was e))) (λ e. e) (bool_cases (second u s))
 
-      wrong : holds u s1 ≡ true → ⊥
+      wrong : second u s1 ≡ true → ⊥
       wrong here =
-          ⊎_elim
-          (λ (e : t ≡ u). cc (ap (λ z. holds z s1) e, here, isnt))
-          (λ (ne : t ≡ u → ⊥).
           let x = held.released s s1 l t r h was isnt in
-          let y = held.acquired s s1 l u r h (other ne) here in
-          ne (same x.operation y.operation x.answer y.answer (sym x.happens ∙ y.happens)))
-          (cases_eq t u)
+          let y = held.acquired s s1 l u r h other here in
+          ne (same x.operation y.operation x.answer y.answer (sym x.happens ∙ y.happens))
 
-  passed : (ls : List Label) (s s2 : State T) (j t u : ℕ) → Reaches m start s → state_at m ls s j ≡ Some s2 → holds t s ≡ true → holds t s2 ≡ false → holds u s2 ≡ true → Passed ls s 0 j t u
-  passed ls s s2 zero t u r h was gone now = let e : s ≡ s2 = cc in cc (ap (holds t) e, was, gone)
-  passed [] s s2 (suc j) t u r h was gone now = cc
-  passed (l ∷ ls) s s2 (suc j) t u r h was gone now = go (state_inv m l ls s s2 j h) (λ s1. passed ls s1 s2 j t u)
+  passed : (ls : List Label) (s s2 : State T) (j t u : ℕ) → t ≢ u → Reaches m start s → state_at m ls s j ≡ Some s2 → first t s ≡ true → first t s2 ≡ false → second u s2 ≡ true → Passed ls s 0 j t u
+  passed ls s s2 zero t u ne r h was gone now = let e : s ≡ s2 = cc in cc (ap (first t) e, was, gone)
+  passed [] s s2 (suc j) t u ne r h was gone now = cc
+  passed (l ∷ ls) s s2 (suc j) t u ne r h was gone now = go (state_inv m l ls s s2 j h) (λ s1. passed ls s1 s2 j t u ne)
     where
-      go : (more : (s1 : State T) × (stepped m s l ≡ Some s1) × (state_at m ls s1 j ≡ Some s2)) → ((s1 : State T) → Reaches m start s1 → state_at m ls s1 j ≡ Some s2 → holds t s1 ≡ true → holds t s2 ≡ false → holds u s2 ≡ true → Passed ls s1 0 j t u) → Passed (l ∷ ls) s 0 (suc j) t u
+      go : (more : (s1 : State T) × (stepped m s l ≡ Some s1) × (state_at m ls s1 j ≡ Some s2)) → ((s1 : State T) → Reaches m start s1 → state_at m ls s1 j ≡ Some s2 → first t s1 ≡ true → first t s2 ≡ false → second u s2 ≡ true → Passed ls s1 0 j t u) → Passed (l ∷ ls) s 0 (suc j) t u
       go more again =
           ⊎_elim
-          (λ (still : holds t more.0 ≡ true).
+          (λ (still : first t more.0 ≡ true).
           let x = again more.0 (reaches_step m start s more.0 l r more.1) more.2 still gone now in
           record { a = suc x.a; b = suc x.b; after = omega arith; order = omega (arith, x.order); before = omega (arith, x.before); from = x.from; from_answer = x.from_answer; to = x.to; answer = x.answer; gives = event_more m l ls s more.0 x.a more.1 ∙ x.gives; takes = event_more m l ls s more.0 x.b more.1 ∙ x.takes; passes = x.passes })
-          (λ (isnt : holds t more.0 ≡ false).
+          (λ (isnt : first t more.0 ≡ false).
           let x = held.released s more.0 l t r more.1 was isnt in
           let d = drawn_at m law s more.0 l t x.operation x.answer more.1 x.happens in
-          let y = got ls more.0 s2 j u (reaches_step m start s more.0 l r more.1) more.2 (let_go s more.0 l t u r more.1 was isnt) now in
+          let y = got ls more.0 s2 j u (reaches_step m start s more.0 l r more.1) more.2 (let_go s more.0 l t u ne r more.1 was isnt) now in
           let n = ap (number_at m more.0.words) x.on_lock in
           record {
-            a = 0; b = suc y.b; after = omega arith; order = omega arith; before = omega (arith, y.before);
-            from = x.operation; from_answer = x.answer; to = y.to; answer = y.answer;
-            gives = x.happens; takes = event_more m l ls s more.0 y.b more.1 ∙ y.takes;
+            a = 0;
+            b = suc y.b;
+            after = omega arith;
+            order = omega arith;
+            before = omega (arith, y.before);
+            from = x.operation;
+            from_answer = x.answer;
+            to = y.to;
+            answer = y.answer;
+            gives = event_first m l ls s more.0 more.1 ∙ x.happens;
+            takes = event_more m l ls s more.0 y.b more.1 ∙ y.takes;
             passes = record { same_object = x.on_lock ∙ sym y.on_lock; earlier = omega (arith, d.after, y.above); hands = hands_over lock x.operation.entry.op y.to.entry.op y.answer x.is_release y.is_acquire };
           })
-          (bool_cases (holds t more.0))
+          (bool_cases (first t more.0))
 
   -- the same from any place on, after an access of t
-  passed_after : (ls : List Label) (s s1 s2 : State T) (i j : ℕ) (x : Event) (u : ℕ) → Reaches m start s → i < j → event_at m ls s i ≡ Some x → event_access x ≢ NoAccess → state_at m ls s i ≡ Some s1 → state_at m ls s j ≡ Some s2 → holds (event_thread x) s1 ≡ true → holds (event_thread x) s2 ≡ false → holds u s2 ≡ true → Passed ls s (suc i) j (event_thread x) u
-  passed_after ls s s1 s2 i zero x u r lt e access h k was gone now = absurd (omega arith)
-  passed_after [] s s1 s2 i (suc j) x u r lt e access h k was gone now = cc
-  passed_after (l ∷ ls) s s1 s2 zero (suc j) x u r lt e access h k was gone now = go (state_inv m l ls s s2 j k)
+  passed_after : (ls : List Label) (s s1 s2 : State T) (i j : ℕ) (x : Event) (u : ℕ) → event_thread x ≢ u → Reaches m start s → i < j → event_at m ls s i ≡ Some x → event_access x ≢ NoAccess → state_at m ls s i ≡ Some s1 → state_at m ls s j ≡ Some s2 → first (event_thread x) s1 ≡ true → first (event_thread x) s2 ≡ false → second u s2 ≡ true → Passed ls s (suc i) j (event_thread x) u
+  passed_after ls s s1 s2 i zero x u ne r lt e access h k was gone now = absurd (omega arith)
+  passed_after [] s s1 s2 i (suc j) x u ne r lt e access h k was gone now = cc
+  passed_after (l ∷ ls) s s1 s2 zero (suc j) x u ne r lt e access h k was gone now = go (state_inv m l ls s s2 j k)
     where
       s_is : s ≡ s1
       s_is = same_Some _ _ h
@@ -173,13 +179,13 @@ module _ {T : Type 0} (m : Machine T) (law : IsLawful m) (lock : ObjId) (holds :
       go : (more : (s1 : State T) × (stepped m s l ≡ Some s1) × (state_at m ls s1 j ≡ Some s2)) → Passed (l ∷ ls) s 1 (suc j) (event_thread x) u
       go more =
           let t = event_thread x in
-          let here : holds t s ≡ true = ap (holds t) s_is ∙ was in
-          let kept : holds t more.0 ≡ true = ⊎_elim (λ q. q) (λ q. let y = held.released s more.0 l t r more.1 here q in absurd (no_operation x t y.operation y.answer access (same_Some _ _ (sym e ∙ y.happens)))) (bool_cases (holds t more.0)) in
-          let p = passed ls more.0 s2 j t u (reaches_step m start s more.0 l r more.1) more.2 kept gone now in
+          let here : first t s ≡ true = ap (first t) s_is ∙ was in
+          let kept : first t more.0 ≡ true = ⊎_elim (λ q. q) (λ q. let y = held.released s more.0 l t r more.1 here q in absurd (no_operation x t y.operation y.answer access (same_Some _ _ (sym e ∙ event_first m l ls s more.0 more.1 ∙ y.happens)))) (bool_cases (first t more.0)) in
+          let p = passed ls more.0 s2 j t u ne (reaches_step m start s more.0 l r more.1) more.2 kept gone now in
           record { a = suc p.a; b = suc p.b; after = omega arith; order = omega (arith, p.order); before = omega (arith, p.before); from = p.from; from_answer = p.from_answer; to = p.to; answer = p.answer; gives = event_more m l ls s more.0 p.a more.1 ∙ p.gives; takes = event_more m l ls s more.0 p.b more.1 ∙ p.takes; passes = p.passes }
-  passed_after (l ∷ ls) s s1 s2 (suc i) (suc j) x u r lt e access h k was gone now = go (state_inv m l ls s s2 j k) (state_inv m l ls s s1 i h) (λ z. passed_after ls z s1 s2 i j x u)
+  passed_after (l ∷ ls) s s1 s2 (suc i) (suc j) x u ne r lt e access h k was gone now = go (state_inv m l ls s s2 j k) (state_inv m l ls s s1 i h) (λ z. passed_after ls z s1 s2 i j x u ne)
     where
-      go : (more : (z : State T) × (stepped m s l ≡ Some z) × (state_at m ls z j ≡ Some s2)) → (also : (z : State T) × (stepped m s l ≡ Some z) × (state_at m ls z i ≡ Some s1)) → ((z : State T) → Reaches m start z → i < j → event_at m ls z i ≡ Some x → event_access x ≢ NoAccess → state_at m ls z i ≡ Some s1 → state_at m ls z j ≡ Some s2 → holds (event_thread x) s1 ≡ true → holds (event_thread x) s2 ≡ false → holds u s2 ≡ true → Passed ls z (suc i) j (event_thread x) u) → Passed (l ∷ ls) s (suc (suc i)) (suc j) (event_thread x) u
+      go : (more : (z : State T) × (stepped m s l ≡ Some z) × (state_at m ls z j ≡ Some s2)) → (also : (z : State T) × (stepped m s l ≡ Some z) × (state_at m ls z i ≡ Some s1)) → ((z : State T) → Reaches m start z → i < j → event_at m ls z i ≡ Some x → event_access x ≢ NoAccess → state_at m ls z i ≡ Some s1 → state_at m ls z j ≡ Some s2 → first (event_thread x) s1 ≡ true → first (event_thread x) s2 ≡ false → second u s2 ≡ true → Passed ls z (suc i) j (event_thread x) u) → Passed (l ∷ ls) s (suc (suc i)) (suc j) (event_thread x) u
       go more also again =
           let z_is : also.0 ≡ more.0 = same_Some _ _ (sym also.1 ∙ more.1) in
           let p = again more.0 (reaches_step m start s more.0 l r more.1) (omega arith) (sym (event_more m l ls s more.0 i more.1) ∙ e) access (ap (λ z. state_at m ls z i) (sym z_is) ∙ also.2) more.2 was gone now in
@@ -193,11 +199,11 @@ module _ {T : Type 0} (m : Machine T) (law : IsLawful m) (lock : ObjId) (holds :
       go : (more : (z : State T) × (stepped m s l ≡ Some z) × (state_at m ls z i ≡ Some s1)) → ((z : State T) → Reaches m start z → state_at m ls z i ≡ Some s1 → Reaches m start s1) → Reaches m start s1
       go more again = again more.0 (reaches_step m start s more.0 l r more.1) more.2
 
-  pub ordered_by_lock : (ls : List Label) (i j : ℕ) (x y : Event) (s1 s2 : State T) → i < j → event_at m ls start i ≡ Some x → event_at m ls start j ≡ Some y → event_thread x ≢ event_thread y → event_access x ≢ NoAccess → state_at m ls start i ≡ Some s1 → state_at m ls start j ≡ Some s2 → holds (event_thread x) s1 ≡ true → holds (event_thread y) s2 ≡ true → Ordered (event_at m ls start) i j
+  pub ordered_by_lock : (ls : List Label) (i j : ℕ) (x y : Event) (s1 s2 : State T) → i < j → event_at m ls start i ≡ Some x → event_at m ls start j ≡ Some y → event_thread x ≢ event_thread y → event_access x ≢ NoAccess → state_at m ls start i ≡ Some s1 → state_at m ls start j ≡ Some s2 → first (event_thread x) s1 ≡ true → second (event_thread y) s2 ≡ true → Ordered (event_at m ls start) i j
   ordered_by_lock ls i j x y s1 s2 lt ex ey ne access hi hj was now =
       let r : Reaches m start start = ([], refl) in
-      let gone : holds (event_thread x) s2 ≡ false = ⊎_elim (λ q. absurd (ne (held.one s2 (event_thread x) (event_thread y) (state_reached ls start s2 j r hj) q now))) (λ q. q) (bool_cases (holds (event_thread x) s2)) in
-      let p = passed_after ls start s1 s2 i j x (event_thread y) r lt ex access hi hj was gone now in
+      let gone : first (event_thread x) s2 ≡ false = ⊎_elim (λ q. absurd (ne (held.one s2 (event_thread x) (event_thread y) (state_reached ls start s2 j r hj) q now))) (λ q. q) (bool_cases (first (event_thread x) s2)) in
+      let p = passed_after ls start s1 s2 i j x (event_thread y) ne r lt ex access hi hj was gone now in
       last p.b (Did (event_thread y) p.to p.answer) y
       (record { start = x; start_is = ex; a = p.a; after = omega (arith, p.after); first = p.from; first_answer = p.from_answer; first_is = p.gives; taker = event_thread y; second = p.to; answer = p.answer; second_is = p.takes; passes = p.passes })
       p.before p.takes ey refl

@@ -1,13 +1,13 @@
 -- Every merge of a run's lists walks to the run's end.
 use Rattle.std.proofs.Common.{◌≡◌, ℕ, zero, suc, ◌+◌, ◌-◌, List, [], ◌∷◌, map, Some, None, refl, sym, ap, ◌∙◌, subst, arith, ⊎_elim}
-use Rattle.std.specs.Prelude.{slice_get, slice_set, if◌then◌else◌}
+use Rattle.std.specs.Prelude.{slice_get, if◌then◌else◌, option_and_then}
 use Rattle.std.proofs.lemmas.Bool.{cases_eq}
 use Rattle.sync_objects.specs.declared.entry.Noted.{Noted}
 use Rattle.runs.specs.Labels.{Label, Go, label_thread}
-use Rattle.runs.specs.Steps.{Machine, State, stepped, added, run, trace, entries_of, count_or_none, count_of, AllEnded}
+use Rattle.runs.specs.Steps.{Machine, State, stepped, added, run, trace, entries_of, count_or_zero, count_of, AllEnded}
 use Rattle.runs.specs.Laws.{IsLawful, IsRaceFree}
 use Rattle.runs.specs.Merge.{ComesBefore, IsMerge}
-use Rattle.runs.specs.Walk.{and_then, if_nothing, if_only, alone, made, part, walk}
+use Rattle.runs.specs.Walk.{if_nothing, if_only, alone, made, part, walk}
 use Rattle.runs.proofs.Lists.{slice_get-set_same, AllIn, IsFirst, own_in, own_out, AllIn-entries_of, AllIn-of_threads, nil_of_threads, nil_front, nil_back}
 use Rattle.runs.proofs.SameEntries.{same_entry-refl}
 use Rattle.runs.proofs.Swap.{steps_of, adds_of}
@@ -41,7 +41,7 @@ module _ {T : Type 0} (m : Machine T) (law : IsLawful m) where
   alone_solo (suc n) l e s s1 so =
       let r = alone_solo n l e so.0 s1 so.3 in
       let c = counted m law (Go (label_thread l)) s so.0 so.1 so.2 in
-      (r.0, ap (λ z. if_nothing z (and_then (alone m n (label_thread l)) (stepped m s (Go (label_thread l))))) so.2 ∙ ap (and_then (alone m n (label_thread l))) so.1 ∙ r.1, r.2, r.3, omega (arith, r.4, c))
+      (r.0, ap (λ z. if_nothing z (option_and_then (alone m n (label_thread l)) (stepped m s (Go (label_thread l))))) so.2 ∙ ap (option_and_then (alone m n (label_thread l))) so.1 ∙ r.1, r.2, r.3, omega (arith, r.4, c))
 
   -- a stretch is a part of the walk
   pub part_of_solo : (n : ℕ) (l : Label) (e : Noted) (s s1 : State T) → Solo m law n l e s s1 → part m e.entry s ≡ Some s1
@@ -49,11 +49,11 @@ module _ {T : Type 0} (m : Machine T) (law : IsLawful m) where
       let a = alone_solo n l e s s1 so in
       let y = steps_of m a.0 l s1 a.2 in
       let k = entry_law_at m law a.0 s1 l e y a.3 in
-      let at : count_of m a.0 (label_thread l) ≡ m.count y.before = ap (count_or_none m) y.stands in
+      let at : count_of m a.0 (label_thread l) ≡ m.count y.before = ap (count_or_zero m) y.stands in
       let n_is : e.entry.count - count_of m s (label_thread l) ≡ n = omega (arith, a.4, at, k.counted) in
       let first : alone m (e.entry.count - count_of m s e.entry.thread) e.entry.thread s ≡ Some a.0 = ap (λ z. alone m (e.entry.count - count_of m s z) z s) k.of_thread ∙ ap (λ z. alone m z (label_thread l) s) n_is ∙ a.1 in
       let last : made m e.entry a.0 ≡ Some s1 = ap (λ z. if_only e.entry (added m a.0 z) (stepped m a.0 z)) k.labelled ∙ ap (λ z. if_only e.entry z (stepped m a.0 l)) a.3 ∙ ap (λ z. if z then stepped m a.0 l else None) (same_entry-refl e.entry) ∙ a.2 in
-      ap (and_then (made m e.entry)) first ∙ last
+      ap (option_and_then (made m e.entry)) first ∙ last
 
   pub free_solo : (n : ℕ) (l : Label) (e : Noted) (s s1 : State T) → Solo m law n l e s s1 → IsRaceFree m s → IsRaceFree m s1
   free_solo zero l e s s1 so free = free_next m law s s1 l so.0 free
@@ -74,4 +74,4 @@ module _ {T : Type 0} (m : Machine T) (law : IsLawful m) where
             (cases_eq u t);
         ascending = merges.ascending.1;
       }) in
-      ap (and_then (walk m (map (λ (x : Noted). x.entry) M))) (part_of_solo f.turns f.label e s f.mid f.solo) ∙ rest
+      ap (option_and_then (walk m (map (λ (x : Noted). x.entry) M))) (part_of_solo f.turns f.label e s f.mid f.solo) ∙ rest

@@ -1,15 +1,15 @@
 -- The entries of a run from its beginning are numbered one by one on each object, and are of the state's threads.
-use Rattle.std.proofs.Common.{◌≡◌, ◌≢◌, ℕ, suc, ◌+◌, ◌<◌, true, List, [], ◌∷◌, ◌++◌, length, Some, refl, sym, ap, ◌∙◌, subst, arith, append_assoc, ⊎_elim, ℤ, pos}
-use Rattle.std.specs.Prelude.{slice_get, slice_set, slice_index}
-use Rattle.std.proofs.lemmas.List.{get_or-set_other, get_or-set_same, length-set, append-nil}
-use Rattle.std.proofs.lemmas.Option.{get_or_from_slice_get, slice_get_within}
+use Rattle.std.proofs.Common.{◌≡◌, ◌≢◌, ℕ, ◌+◌, ◌<◌, true, List, [], ◌∷◌, ◌++◌, length, Some, sym, ap, ◌∙◌, subst, arith, append_assoc, ⊎_elim, pos}
+use Rattle.std.specs.Prelude.{slice_get, slice_index}
+use Rattle.std.proofs.lemmas.List.{get_or-set_other, length-set, append-nil}
+use Rattle.std.proofs.lemmas.Option.{slice_get_within}
 use Rattle.sync_objects.specs.declared.entry.Noted.{Noted}
 use Rattle.sync_objects.specs.declared.object.ObjId.{ObjId}
 use Rattle.runs.specs.Labels.{Label, label_thread}
 use Rattle.runs.specs.Steps.{Becomes, Leaves, Effect, Refused, Marks, Loads, Stores, Operates, Machine, State, outcome, stepped, added, effect_entry, number_at, run, trace, entries_of}
 use Rattle.runs.specs.Laws.{IsLawfulEffect, IsLawful}
 use Rattle.runs.specs.Merge.{IsMerge, lists_from, entries_at, written_merge}
-use Rattle.runs.proofs.Lists.{AllIn, AllIn-append, AllIn-map}
+use Rattle.runs.proofs.Lists.{AllIn, AllIn-append}
 use Rattle.runs.proofs.SameEntries.{object_cases}
 use Rattle.runs.proofs.Swap.{steps_of, adds_of, load_inv, change_inv}
 use Rattle.runs.proofs.Apart.{run_more, trace_more, adds_cases}

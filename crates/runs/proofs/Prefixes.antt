@@ -1,20 +1,20 @@
 -- Where one run has a part of another's entries, each thread's states in one are a prefix of those in the other.
-use Rattle.std.proofs.Common.{◌≡◌, ◌≢◌, ℕ, zero, suc, ◌≤◌, Bool, List, [], ◌∷◌, ◌++◌, length, Option, Some, refl, sym, ap, ◌∙◌, subst, arith, ◌⊎◌, inl, inr, ⊎_elim, ℤ, pos}
-use Rattle.std.specs.Prelude.{slice_get}
+use Rattle.std.proofs.Common.{◌≡◌, ℕ, zero, suc, ◌≤◌, List, [], ◌∷◌, ◌++◌, length, Some, refl, sym, ap, ◌∙◌, subst, arith, ◌⊎◌, inl, inr, ⊎_elim}
+use Rattle.std.specs.Prelude.{slice_get, option_to_list}
 use Rattle.std.proofs.lemmas.Bool.{cases_eq}
 use Rattle.std.proofs.lemmas.Option.{same_Some}
 use Rattle.sync_objects.specs.declared.entry.Noted.{Noted}
 use Rattle.runs.specs.Labels.{Label, Go, label_thread, label_of}
-use Rattle.runs.specs.Steps.{Becomes, Leaves, Effect, Refused, Marks, Loads, Stores, Operates, Machine, State, outcome, stepped, added, effect_entry, number_at, run, run_on, trace, entries_of, count_or_none, count_of}
-use Rattle.runs.specs.Laws.{IsLawfulEffect, IsLawful}
-use Rattle.runs.specs.Paths.{now_of, path, IsPrefixOf, AreComparable, BeginsLike, StopsBefore}
+use Rattle.runs.specs.Steps.{Leaves, Machine, State, outcome, stepped, added, number_at, run, trace, entries_of, count_or_zero, count_of}
+use Rattle.runs.specs.Laws.{IsLawful}
+use Rattle.runs.specs.Paths.{path, AreComparable, BeginsLike, StopsBefore}
 use Rattle.std.proofs.lemmas.List.{append_cancel_left, append_assoc}
-use Rattle.runs.proofs.Lists.{slice_get-set_same, AllIn, AllIn-append, AllIn-map, AllIn-entries_of, IsFirst, own_in, own_out, entries_of-append, entries_of-thread, nil_front, nil_back, nil_cons}
-use Rattle.runs.proofs.Swap.{steps_of, adds_of, load_inv, change_inv}
-use Rattle.runs.proofs.Apart.{Free, Differ, run_more, trace_more, free_next, adds_cases, own_apart, swap_at}
+use Rattle.runs.proofs.Lists.{AllIn, AllIn-map, IsFirst, own_in, entries_of-append, nil_front, nil_back, nil_cons}
+use Rattle.runs.proofs.Swap.{steps_of, adds_of}
+use Rattle.runs.proofs.Apart.{Free, run_more, trace_more, free_next, adds_cases, own_apart}
 use Rattle.runs.proofs.Counts.{entry_law_at, counted}
 use Rattle.runs.proofs.Numbers.{later, IsLater, draws, IsDrawn}
-use Rattle.runs.proofs.Lead.{NoneOf, kept, path_own, path_other, Lead, lead, MayLead}
+use Rattle.runs.proofs.Lead.{NoneOf, path_own, path_other, Lead, lead, MayLead}
 use Rattle.runs.proofs.Grows.{run_grows, first_count}
 use Rattle.runs.proofs.Removed.{push, remove}
 
@@ -46,7 +46,7 @@ module _ {T : Type 0} (m : Machine T) (law : IsLawful m) where
       let on : outcome m s.words (m.effect l y.before) ≡ Leaves s1.words y.after = y.leaves ∙ ap (λ z. Leaves z y.after) (sym ws) in
       let d = draws m law l y.before s.words s1.words y.after (m.effect l y.before) (law.effects l y.before) on in
       let d1 = subst (AllIn (IsDrawn m law s.words s1.words)) (sym (adds_of m s l s1 y) ∙ p.1) d in
-      inr (p.0, record { is = p.1; of_thread = p.2; counts = k.counted ∙ ap (count_or_none m) (sym y.stands); label = k.labelled; drawn = d1.0 }))
+      inr (p.0, record { is = p.1; of_thread = p.2; counts = k.counted ∙ ap (count_or_zero m) (sym y.stands); label = k.labelled; drawn = d1.0 }))
       (adds_cases m law s s1 l h)
 
   own_adds : (l : Label) (R : List Label) (s s1 : State T) (e : Noted) → AddsEntry s s1 l e → entries_of (label_thread l) (added m s l ++ trace m R s1) ≡ e ∷ entries_of (label_thread l) (trace m R s1)
@@ -130,7 +130,7 @@ module _ {T : Type 0} (m : Machine T) (law : IsLawful m) where
   path_step : (x : ℕ) (l : Label) (R Q : List Label) (s s1 : State T) → stepped m s l ≡ Some s1 → AreComparable (path m x R s1) (path m x Q s1) → AreComparable (path m x (l ∷ R) s) (path m x (l ∷ Q) s)
   path_step x l R Q s s1 h c =
       ⊎_elim
-      (λ (w : label_thread l ≡ x). subst (λ z. AreComparable z (path m x (l ∷ Q) s)) (sym (path_own m law x l R s s1 h w)) (subst (AreComparable (now_of (slice_get s1.threads x) ++ path m x R s1)) (sym (path_own m law x l Q s s1 h w)) (comparable_on (now_of (slice_get s1.threads x)) (path m x R s1) (path m x Q s1) c)))
+      (λ (w : label_thread l ≡ x). subst (λ z. AreComparable z (path m x (l ∷ Q) s)) (sym (path_own m law x l R s s1 h w)) (subst (AreComparable (option_to_list (slice_get s1.threads x) ++ path m x R s1)) (sym (path_own m law x l Q s s1 h w)) (comparable_on (option_to_list (slice_get s1.threads x)) (path m x R s1) (path m x Q s1) c)))
       (λ (w : label_thread l ≡ x → ⊥). subst (λ z. AreComparable z (path m x (l ∷ Q) s)) (sym (path_other m law x l R s s1 h w)) (subst (AreComparable (path m x R s1)) (sym (path_other m law x l Q s s1 h w)) c))
       (cases_eq (label_thread l) x)
 
@@ -198,7 +198,7 @@ module _ {T : Type 0} (m : Machine T) (law : IsLawful m) where
               (λ y. ((begins y).0, ap (λ z. z ++ (begins y).0) (own_is y) ∙ (begins y).1))
               (λ y e rest o. ⊎_elim
               (λ (yt : y ≡ t). absurd (nil_cons (entries_of y (trace m r.rest s)) e rest (o ∙ ap (λ z. entries_of z (trace m Q s)) yt ∙ np.1)))
-              (λ (yt : y ≡ t → ⊥). let w = ap (count_or_none m) (q.others y yt ∙ r.others y yt) in let b = stops y e rest (ap (λ z. z ++ e ∷ rest) (sym (own_is y)) ∙ o) in omega arith)
+              (λ (yt : y ≡ t → ⊥). let w = ap (count_or_zero m) (q.others y yt ∙ r.others y yt) in let b = stops y e rest (ap (λ z. z ++ e ∷ rest) (sym (own_is y)) ∙ o) in omega arith)
               (cases_eq y t)) in
               subst (λ z. AreComparable z (path m x Q s)) (q.paths x isnt ∙ r.paths x isnt ∙ sym (path_other m law x l R s more.0 more.1 (λ z. isnt (sym z)))) c)
               (cases_eq x t)

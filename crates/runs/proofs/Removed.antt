@@ -1,17 +1,16 @@
 -- The steps of a thread that adds no entry can be left out of a run.
-use Rattle.std.proofs.Common.{◌≡◌, ◌≢◌, ℕ, zero, suc, ◌≤◌, Bool, List, [], ◌∷◌, ◌++◌, length, Option, Some, refl, sym, ap, ◌∙◌, subst, arith, ◌⊎◌, inl, inr, ⊎_elim, ℤ, pos}
-use Rattle.std.specs.Prelude.{slice_get}
+use Rattle.std.proofs.Common.{◌≡◌, ◌≢◌, ℕ, ◌≤◌, List, [], ◌∷◌, ◌++◌, length, Some, refl, sym, ap, ◌∙◌, arith, ⊎_elim}
+use Rattle.std.specs.Prelude.{slice_get, option_and_then, option_to_list}
 use Rattle.std.proofs.lemmas.Bool.{cases_eq}
 use Rattle.std.proofs.lemmas.Option.{same_Some}
-use Rattle.sync_objects.specs.declared.entry.Noted.{Noted}
-use Rattle.runs.specs.Labels.{Label, Go, label_thread, label_of}
-use Rattle.runs.specs.Steps.{Becomes, Leaves, Effect, Refused, Marks, Loads, Stores, Operates, Machine, State, outcome, stepped, added, effect_entry, number_at, run, run_on, trace, entries_of, count_or_none, count_of}
-use Rattle.runs.specs.Laws.{IsLawfulEffect, IsLawful}
-use Rattle.runs.specs.Paths.{now_of, path, IsPrefixOf, AreComparable, BeginsLike, StopsBefore}
-use Rattle.runs.proofs.Lists.{slice_get-set_same, AllIn, AllIn-append, AllIn-map, AllIn-entries_of, IsFirst, own_in, own_out, entries_of-append, entries_of-thread, nil_front, nil_back, nil_cons}
-use Rattle.runs.proofs.Swap.{steps_of, adds_of, load_inv, change_inv}
-use Rattle.runs.proofs.Apart.{Free, Differ, run_more, trace_more, free_next, adds_cases, own_apart, swap_at}
-use Rattle.runs.proofs.Lead.{NoneOf, kept, path_own, path_other, Lead, lead, MayLead}
+use Rattle.runs.specs.Labels.{Label, label_thread}
+use Rattle.runs.specs.Steps.{Effect, Refused, Operates, Machine, State, stepped, added, effect_entry, run, trace, entries_of}
+use Rattle.runs.specs.Laws.{IsLawful}
+use Rattle.runs.specs.Paths.{path}
+use Rattle.runs.proofs.Lists.{own_in, entries_of-append, nil_front, nil_back}
+use Rattle.runs.proofs.Swap.{steps_of, adds_of}
+use Rattle.runs.proofs.Apart.{Free, Differ, run_more, trace_more, free_next, adds_cases, swap_at}
+use Rattle.runs.proofs.Lead.{NoneOf, kept, path_own, path_other}
 
 module _ {T : Type 0} (m : Machine T) (law : IsLawful m) where
   -- a step that adds nothing differs from every other
@@ -22,14 +21,14 @@ module _ {T : Type 0} (m : Machine T) (law : IsLawful m) where
   differ_quiet ws e f h = tt
 
   -- a run without a first step of a thread that makes no other in it, and adds nothing
-  pub record Without (R : List Label) (s s1 : State T) (V : List Label) (s2 s3 : State T) (t : ℕ) : Type 0 where
+  pub record Without (V : List Label) (s s2 s3 : State T) (t : ℕ) : Type 0 where
     pub end : State T
     pub goes : run m V s ≡ Some end
     pub paths : (x : ℕ) → x ≢ t → path m x V s ≡ path m x V s2
     pub owns : (x : ℕ) → entries_of x (trace m V s) ≡ entries_of x (trace m V s2)
     pub others : (x : ℕ) → x ≢ t → slice_get end.threads x ≡ slice_get s3.threads x
 
-  pub push : (u : Label) (V : List Label) (s s2 s3 : State T) (t : ℕ) → label_thread u ≡ t → stepped m s u ≡ Some s2 → added m s u ≡ [] → run m V s2 ≡ Some s3 → NoneOf t V → Free m law s → Without V s s3 V s2 s3 t
+  pub push : (u : Label) (V : List Label) (s s2 s3 : State T) (t : ℕ) → label_thread u ≡ t → stepped m s u ≡ Some s2 → added m s u ≡ [] → run m V s2 ≡ Some s3 → NoneOf t V → Free m law s → Without V s s2 s3 t
   push u [] s s2 s3 t w su ad h none free = record {
     end = s;
     goes = refl;
@@ -39,7 +38,7 @@ module _ {T : Type 0} (m : Machine T) (law : IsLawful m) where
   }
   push u (v ∷ V) s s2 s3 t w su ad h none free = go (run_more m law v V s2 s3 h) (λ a b sb ad2 hb. push u V a b s3 t w sb ad2 hb none.1)
     where
-      go : (more : (b : State T) × (stepped m s2 v ≡ Some b) × (run m V b ≡ Some s3)) → ((a b : State T) → stepped m a u ≡ Some b → added m a u ≡ [] → run m V b ≡ Some s3 → Free m law a → Without V a s3 V b s3 t) → Without (v ∷ V) s s3 (v ∷ V) s2 s3 t
+      go : (more : (b : State T) × (stepped m s2 v ≡ Some b) × (run m V b ≡ Some s3)) → ((a b : State T) → stepped m a u ≡ Some b → added m a u ≡ [] → run m V b ≡ Some s3 → Free m law a → Without V a b s3 t) → Without (v ∷ V) s s2 s3 t
       go more again =
           let x = steps_of m s u s2 su in
           let y = steps_of m s2 v more.0 more.1 in
@@ -48,11 +47,11 @@ module _ {T : Type 0} (m : Machine T) (law : IsLawful m) where
           let r = again z.0 more.0 z.2 (z.4 ∙ ad) more.2 (free_next m law s z.0 v z.1 free) in
           record {
             end = r.end;
-            goes = ap (run_on m (run m V)) z.1 ∙ r.goes;
+            goes = ap (option_and_then (run m V)) z.1 ∙ r.goes;
             paths = λ a ne.
                 ⊎_elim
                 (λ (q : label_thread v ≡ a).
-                path_own m law a v V s z.0 z.1 q ∙ ap (λ k. now_of (slice_get z.0.threads a) ++ k) (r.paths a ne) ∙ ap (λ k. now_of k ++ path m a V more.0) (kept m law z.0 more.0 u a z.2 (λ k. ne (sym k ∙ w))) ∙ sym (path_own m law a v V s2 more.0 more.1 q))
+                path_own m law a v V s z.0 z.1 q ∙ ap (λ k. option_to_list (slice_get z.0.threads a) ++ k) (r.paths a ne) ∙ ap (λ k. option_to_list k ++ path m a V more.0) (kept m law z.0 more.0 u a z.2 (λ k. ne (sym k ∙ w))) ∙ sym (path_own m law a v V s2 more.0 more.1 q))
                 (λ (q : label_thread v ≡ a → ⊥).
                 path_other m law a v V s z.0 z.1 q ∙ r.paths a ne ∙ sym (path_other m law a v V s2 more.0 more.1 q))
                 (cases_eq (label_thread v) a);
@@ -99,11 +98,11 @@ module _ {T : Type 0} (m : Machine T) (law : IsLawful m) where
           record {
             rest = u ∷ r.rest;
             end = r.end;
-            goes = ap (run_on m (run m r.rest)) more.1 ∙ r.goes;
+            goes = ap (option_and_then (run m r.rest)) more.1 ∙ r.goes;
             none = (w, r.none);
             short = omega (arith, r.short);
             paths = λ x ne. ⊎_elim
-                (λ (q : label_thread u ≡ x). path_own m law x u r.rest s more.0 more.1 q ∙ ap (λ k. now_of (slice_get more.0.threads x) ++ k) (r.paths x ne) ∙ sym (path_own m law x u R s more.0 more.1 q))
+                (λ (q : label_thread u ≡ x). path_own m law x u r.rest s more.0 more.1 q ∙ ap (λ k. option_to_list (slice_get more.0.threads x) ++ k) (r.paths x ne) ∙ sym (path_own m law x u R s more.0 more.1 q))
                 (λ (q : label_thread u ≡ x → ⊥). path_other m law x u r.rest s more.0 more.1 q ∙ r.paths x ne ∙ sym (path_other m law x u R s more.0 more.1 q))
                 (cases_eq (label_thread u) x);
             owns = λ x. ap (entries_of x) (trace_more m law u r.rest s more.0 more.1) ∙ entries_of-append x (added m s u) (trace m r.rest more.0) ∙ ap (λ k. entries_of x (added m s u) ++ k) (r.owns x) ∙ sym (entries_of-append x (added m s u) (trace m R more.0)) ∙ ap (entries_of x) (sym (trace_more m law u R s more.0 more.1));

@@ -1,5 +1,5 @@
 -- The tests of sameness answer true exactly where the two are equal.
-use Rattle.std.proofs.Common.{◌≡◌, ◌≢◌, ℕ, Bool, true, false, ◌&&◌, eqb, List, [], ◌∷◌, Some, refl, sym, ap, ◌∙◌, ◌⊎◌, inl, inr, ⊎_elim, eq-eqb}
+use Rattle.std.proofs.Common.{◌≡◌, ◌≢◌, Bool, true, false, ◌&&◌, eqb, List, [], ◌∷◌, Some, refl, sym, ap, ◌∙◌, ◌⊎◌, inl, inr, eq-eqb}
 use Rattle.std.specs.Prelude.{slice_get}
 use Rattle.std.proofs.lemmas.Option.{same_Some}
 use Rattle.std.proofs.lemmas.Bool.{eqb-true, and_parts, and_from}
@@ -108,3 +108,10 @@ same_entry-true a b h =
       op = same_operation-true a.op b.op operations.1 i;
       obj = same_object-true a.obj b.obj objects.1 i;
     }
+
+pub same_entry-ne : (a b : Entry) → a ≢ b → same_entry a b ≡ false
+same_entry-ne a b ne = go (same_entry a b) refl
+  where
+    go : (t : Bool) → same_entry a b ≡ t → same_entry a b ≡ false
+    go true h = absurd (ne (same_entry-true a b h))
+    go false h = h

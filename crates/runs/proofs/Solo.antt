@@ -1,17 +1,16 @@
 -- The walk is the one run that has a part for each entry.
-use Rattle.std.proofs.Common.{◌≡◌, ℕ, zero, suc, ◌+◌, ◌-◌, Bool, true, false, List, [], ◌∷◌, ◌++◌, Option, Some, None, refl, sym, ap, ◌∙◌, subst, arith, ⊎_elim}
-use Rattle.std.specs.Prelude.{if◌then◌else◌}
+use Rattle.std.proofs.Common.{◌≡◌, ℕ, zero, suc, ◌-◌, Bool, true, false, List, [], ◌∷◌, ◌++◌, Option, Some, None, refl, sym, ap, ◌∙◌, subst, ⊎_elim}
+use Rattle.std.specs.Prelude.{if◌then◌else◌, option_and_then}
 use Rattle.std.proofs.lemmas.Option.{same_Some}
 use Rattle.sync_objects.specs.declared.entry.Entry.{Entry}
 use Rattle.sync_objects.specs.declared.entry.Noted.{Noted}
 use Rattle.runs.specs.Labels.{Label, Go, label_thread, label_of}
 use Rattle.runs.specs.Same.{same_entry}
-use Rattle.runs.specs.Steps.{Machine, State, stepped, added, run, run_on, trace, trace_on, count_of}
+use Rattle.runs.specs.Steps.{Machine, State, stepped, added, run, trace, trace_on, count_of}
 use Rattle.runs.specs.Laws.{IsLawful}
-use Rattle.runs.specs.Walk.{and_then, if_nothing, if_only, AllOf, alone, made, part, walk, IsPart, IsSoloRun}
+use Rattle.runs.specs.Walk.{if_nothing, if_only, AllOf, alone, made, part, walk, IsPart, IsSoloRun}
 use Rattle.runs.proofs.Lists.{nil_front, nil_back}
 use Rattle.runs.proofs.SameEntries.{same_entry-true}
-use Rattle.runs.proofs.Swap.{steps_of}
 use Rattle.runs.proofs.Apart.{run_more, trace_more, adds_cases}
 use Rattle.runs.proofs.Front.{Solo}
 use Rattle.runs.proofs.Merges.{part_of_solo}
@@ -20,7 +19,7 @@ nothing_inv : {A : Type 0} (xs : List Noted) (o : Option A) (x : A) → if_nothi
 nothing_inv [] o x h = (refl, h)
 nothing_inv (y ∷ ys) o x h = cc
 
-then_inv : {A B : Type 0} (f : A → Option B) (o : Option A) (y : B) → and_then f o ≡ Some y → (x : A) × (o ≡ Some x) × (f x ≡ Some y)
+then_inv : {A B : Type 0} (f : A → Option B) (o : Option A) (y : B) → option_and_then f o ≡ Some y → (x : A) × (o ≡ Some x) × (f x ≡ Some y)
 then_inv f None y h = cc
 then_inv f (Some x) y h = (x, refl, h)
 
@@ -46,14 +45,14 @@ module _ {T : Type 0} (m : Machine T) where
   quiet_of_alone : (n t : ℕ) (s s1 : State T) → alone m n t s ≡ Some s1 → Quiet t s s1
   quiet_of_alone zero t s s1 h = record { labels = []; own = tt; nothing = refl; leads = h }
   quiet_of_alone (suc n) t s s1 h =
-      let a = nothing_inv (added m s (Go t)) (and_then (alone m n t) (stepped m s (Go t))) s1 h in
+      let a = nothing_inv (added m s (Go t)) (option_and_then (alone m n t) (stepped m s (Go t))) s1 h in
       let b = then_inv (alone m n t) (stepped m s (Go t)) s1 a.1 in
       let q = quiet_of_alone n t b.0 s1 b.2 in
       record {
         labels = Go t ∷ q.labels;
         own = (refl, q.own);
         nothing = ap (λ z. z ++ trace_on m (trace m q.labels) (stepped m s (Go t))) a.0 ∙ ap (trace_on m (trace m q.labels)) b.1 ∙ q.nothing;
-        leads = ap (run_on m (run m q.labels)) b.1 ∙ q.leads;
+        leads = ap (option_and_then (run m q.labels)) b.1 ∙ q.leads;
       }
 
   -- what the walk does for an entry is a part for it
@@ -63,6 +62,19 @@ module _ {T : Type 0} (m : Machine T) where
       let q = quiet_of_alone (e.count - count_of m s e.thread) e.thread s a.0 a.1 in
       let o = only_inv e (added m a.0 (label_of e)) (stepped m a.0 (label_of e)) s1 a.2 in
       record { before = q.labels; own = q.own; nothing = q.nothing; between = a.0; leads = q.leads; last = label_of e; number = o.0; adds = o.1; ends = o.2 }
+
+  -- the walk by two lists is the second one's after the first one's
+  pub walk-append : (es fs : List Entry) (s : State T) → walk m (es ++ fs) s ≡ option_and_then (walk m fs) (walk m es s)
+  walk-append [] fs s = refl
+  walk-append (e ∷ es) fs s = go (part m e s) (λ s1. walk-append es fs s1)
+    where
+      go : (o : Option (State T)) → ((s1 : State T) → walk m (es ++ fs) s1 ≡ option_and_then (walk m fs) (walk m es s1)) → option_and_then (walk m (es ++ fs)) o ≡ option_and_then (walk m fs) (option_and_then (walk m es) o)
+      go None again = refl
+      go (Some s1) again = again s1
+
+  -- one own step that adds nothing, and the rest
+  pub alone_more : (n t : ℕ) (s s1 : State T) → stepped m s (Go t) ≡ Some s1 → added m s (Go t) ≡ [] → alone m (suc n) t s ≡ alone m n t s1
+  alone_more n t s s1 h none = ap (λ z. if_nothing z (option_and_then (alone m n t) (stepped m s (Go t)))) none ∙ ap (option_and_then (alone m n t)) h
 
   pub solo_of_walk : (es : List Entry) (s s1 : State T) → walk m es s ≡ Some s1 → IsSoloRun m es s s1
   solo_of_walk [] s s1 h = same_Some _ _ h
@@ -97,4 +109,4 @@ module _ {T : Type 0} (m : Machine T) (law : IsLawful m) where
 
   pub walk_of_solo : (es : List Entry) (s s1 : State T) → IsSoloRun m es s s1 → walk m es s ≡ Some s1
   walk_of_solo [] s s1 h = ap Some h
-  walk_of_solo (e ∷ es) s s1 h = ap (and_then (walk m es)) (is_part e s h.0 h.1) ∙ walk_of_solo es h.0 s1 h.2
+  walk_of_solo (e ∷ es) s s1 h = ap (option_and_then (walk m es)) (is_part e s h.0 h.1) ∙ walk_of_solo es h.0 s1 h.2

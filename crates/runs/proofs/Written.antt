@@ -1,5 +1,5 @@
 -- The written merge of a run's lists takes all their entries, and is a merge.
-use Rattle.std.proofs.Common.{◌≡◌, ◌≢◌, ℕ, zero, suc, ◌+◌, ◌<◌, ◌≤◌, Bool, true, false, List, [], ◌∷◌, ◌++◌, length, Some, refl, sym, ap, ◌∙◌, subst, arith, ◌⊎◌, inl, inr, ⊎_elim, eq-eqb, ne_eqb, eqb, append_assoc}
+use Rattle.std.proofs.Common.{◌≡◌, ◌≢◌, ℕ, zero, suc, ◌+◌, ◌<◌, ◌≤◌, Bool, true, false, List, [], ◌∷◌, ◌++◌, length, refl, sym, ap, ◌∙◌, subst, arith, ⊎_elim, eq-eqb, ne_eqb, eqb}
 use Rattle.std.specs.Prelude.{if◌then◌else◌}
 use Rattle.std.proofs.lemmas.Bool.{cases_eq, eqb-true, eqb-false}
 use Rattle.sync_objects.specs.declared.entry.Noted.{Noted}
@@ -8,7 +8,7 @@ use Rattle.runs.specs.Same.{same_object}
 use Rattle.runs.specs.Steps.{entries_of}
 use Rattle.runs.specs.Merge.{ComesBefore, IsAscending, IsMerge, lists_from, entries_at, Taken, Stuck, Takes, behind_list, next_entry, merged_on, merged_behind, total_length, written_merge}
 use Rattle.runs.proofs.Lists.{AllIn, AllIn-map, AllIn-entries_of, entries_of-thread, own_in, own_out}
-use Rattle.runs.proofs.SameEntries.{same_object-refl, same_object-ne, object_cases}
+use Rattle.runs.proofs.SameEntries.{same_object-refl, same_object-ne}
 
 -- counting the entries of an object
 pub entries_at-append : (o : ObjId) (xs ys : List Noted) → entries_at o (xs ++ ys) ≡ entries_at o xs + entries_at o ys
@@ -47,12 +47,14 @@ numbered_above before (x ∷ xs) h =
 
 comes_before : (before : List Noted) (x : Noted) (xs : List Noted) → x.number ≡ entries_at x.entry.obj before → AllIn (IsAtLeast (before ++ x ∷ [])) xs → ComesBefore x xs
 comes_before before x [] n h = tt
-comes_before before x (y ∷ ys) n h =
-    ((λ e.
-    let a = entries_at-append y.entry.obj before (x ∷ []) in
-    let b = one_here x y.entry.obj (sym e) in
-    let c = ap (λ z. entries_at z before) e in
-    omega (arith, h.0.is)), comes_before before x ys n h.1)
+comes_before before x (y ∷ ys) n h = (
+  (λ e.
+      let a = entries_at-append y.entry.obj before (x ∷ []) in
+      let b = one_here x y.entry.obj (sym e) in
+      let c = ap (λ z. entries_at z before) e in
+      omega (arith, h.0.is)),
+  comes_before before x ys n h.1,
+)
 
 pub numbered_ascends : (before xs : List Noted) → IsNumbered before xs → IsAscending xs
 numbered_ascends before [] h = tt

@@ -1,5 +1,5 @@
 -- What happens at each place of a run, and which places are ordered by operations that pass something on.
-use Rattle.std.specs.Prelude.{◌≡◌, ℕ, ◌<◌, zero, suc, ℤ, pos, Bool, true, false, List, [], ◌∷◌, Option, Some, None, slice_get, slice_index}
+use Rattle.std.specs.Prelude.{◌≡◌, ℕ, ◌<◌, zero, suc, ℤ, pos, Bool, true, false, List, [], ◌∷◌, Option, Some, None, slice_get, slice_index, option_and_then}
 use Rattle.sync_objects.specs.declared.entry.Noted.{Noted}
 use Rattle.sync_objects.specs.declared.object.ObjId.{ObjId}
 use Rattle.sync_objects.specs.declared.object.ObjId.TheVariants.{Mutex, Weak}
@@ -44,29 +44,21 @@ module _ {T : Type 0} (m : Machine T) where
   event_of_thread ws l None = None
   event_of_thread ws l (Some th) = effect_event (label_thread l) ws (m.effect l th)
 
-  -- what the label does in this state
+  -- what the label does in this state, if it is allowed there
   abbrev pub event_of : State T → Label → Option Event
   event_of s l = event_of_thread s.words l (slice_get s.threads (label_thread l))
-
-  abbrev pub event_on : (State T → Option Event) → Option (State T) → Option Event
-  event_on rest None = None
-  event_on rest (Some s) = rest s
 
   -- what happens at the place k of the run
   abbrev pub event_at : List Label → State T → ℕ → Option Event
   event_at [] s k = None
-  event_at (l ∷ ls) s zero = event_of s l
-  event_at (l ∷ ls) s (suc k) = event_on (λ s1. event_at ls s1 k) (stepped m s l)
-
-  abbrev pub state_on : (State T → Option (State T)) → Option (State T) → Option (State T)
-  state_on rest None = None
-  state_on rest (Some s) = rest s
+  event_at (l ∷ ls) s zero = option_and_then (λ _. event_of s l) (stepped m s l)
+  event_at (l ∷ ls) s (suc k) = option_and_then (λ s1. event_at ls s1 k) (stepped m s l)
 
   -- the state in which the label at the place k of the run is made
   abbrev pub state_at : List Label → State T → ℕ → Option (State T)
   state_at ls s zero = Some s
   state_at [] s (suc k) = None
-  state_at (l ∷ ls) s (suc k) = state_on (λ s1. state_at ls s1 k) (stepped m s l)
+  state_at (l ∷ ls) s (suc k) = option_and_then (λ s1. state_at ls s1 k) (stepped m s l)
 
 -- an operation of the first kind passes its object on to one of the second kind that has this answer
 pub data HandsOver : OpName → OpName → ℤ → Type 0 where
@@ -135,10 +127,11 @@ module _ {T : Type 0} (m : Machine T) where
     pub on_lock : operation.entry.obj ≡ lock
     pub is_acquire : IsAcquire lock operation.entry.op answer
 
-  -- what it means that threads hold a lock, in all states that can be reached: no two hold it at once, who holds it no longer has
-  -- let it go, and who holds it newly has got it
-  pub record IsHeldBy (lock : ObjId) (holds : ℕ → State T → Bool) (start : State T) : Type 0 where
+  -- two ways in which threads hold a lock, one and the same for a mutex or a stripe, in all states that can be reached: no two
+  -- threads hold it at once in these two ways, who no longer holds it in the first way has let it go, and who newly holds it
+  -- in the second way has got it
+  pub record IsHeldBy (lock : ObjId) (first second : ℕ → State T → Bool) (start : State T) : Type 0 where
     pub known : m.has_object lock ≡ true
-    pub one : (s : State T) (t u : ℕ) → Reaches m start s → holds t s ≡ true → holds u s ≡ true → t ≡ u
-    pub released : (s s1 : State T) (l : Label) (t : ℕ) → Reaches m start s → stepped m s l ≡ Some s1 → holds t s ≡ true → holds t s1 ≡ false → Releases lock t s l
-    pub acquired : (s s1 : State T) (l : Label) (t : ℕ) → Reaches m start s → stepped m s l ≡ Some s1 → holds t s ≡ false → holds t s1 ≡ true → Acquires lock t s l
+    pub one : (s : State T) (t u : ℕ) → Reaches m start s → first t s ≡ true → second u s ≡ true → t ≡ u
+    pub released : (s s1 : State T) (l : Label) (t : ℕ) → Reaches m start s → stepped m s l ≡ Some s1 → first t s ≡ true → first t s1 ≡ false → Releases lock t s l
+    pub acquired : (s s1 : State T) (l : Label) (t : ℕ) → Reaches m start s → stepped m s l ≡ Some s1 → second t s ≡ false → second t s1 ≡ true → Acquires lock t s l

@@ -1,5 +1,5 @@
 -- The states that a thread comes to along a run, and prefixes.
-use Rattle.std.specs.Prelude.{◌≡◌, ℕ, ◌≤◌, ◌==◌, if◌then◌else◌, List, [], ◌∷◌, ◌++◌, Option, Some, None, slice_get, ◌⊎◌}
+use Rattle.std.specs.Prelude.{◌≡◌, ℕ, ◌≤◌, ◌==◌, if◌then◌else◌, List, [], ◌∷◌, ◌++◌, Option, Some, None, slice_get, ◌⊎◌, option_to_list}
 use Rattle.sync_objects.specs.declared.entry.Noted.{Noted}
 use Rattle.runs.specs.Labels.{Label, label_thread}
 use Rattle.runs.specs.Steps.{Machine, State, stepped, trace, count_of, entries_of}
@@ -11,14 +11,10 @@ IsPrefixOf {A} xs ys = (rest : List A) × (xs ++ rest ≡ ys)
 abbrev pub AreComparable : {A : Type 0} → List A → List A → Type 0
 AreComparable xs ys = IsPrefixOf xs ys ⊎ IsPrefixOf ys xs
 
-abbrev pub now_of : {T : Type 0} → Option T → List T
-now_of None = []
-now_of (Some th) = th ∷ []
-
 module _ {T : Type 0} (m : Machine T) where
   abbrev pub path_on : ℕ → Label → (State T → List T) → Option (State T) → List T
   path_on t l rest None = []
-  path_on t l rest (Some s) = if label_thread l == t then now_of (slice_get s.threads t) ++ rest s else rest s
+  path_on t l rest (Some s) = if label_thread l == t then option_to_list (slice_get s.threads t) ++ rest s else rest s
 
   -- the states of the thread after each of its steps in the run
   abbrev pub path : ℕ → List Label → State T → List T

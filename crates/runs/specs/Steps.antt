@@ -1,5 +1,5 @@
 -- Steps of many threads over shared words, and runs of them, for any thread language.
-use Rattle.std.specs.Prelude.{◌≡◌, ℕ, Bool, true, ℤ, pos, ◌==◌, if◌then◌else◌, List, [], ◌∷◌, ◌++◌, Option, Some, None, slice_get, slice_set, slice_index}
+use Rattle.std.specs.Prelude.{◌≡◌, ℕ, Bool, true, ℤ, pos, ◌==◌, if◌then◌else◌, List, [], ◌∷◌, ◌++◌, Option, Some, None, slice_get, slice_set, slice_index, option_and_then}
 use Rattle.sync_objects.specs.declared.entry.Entry.{Entry}
 use Rattle.sync_objects.specs.declared.entry.Noted.{Noted}
 use Rattle.sync_objects.specs.declared.object.ObjId.{ObjId}
@@ -86,6 +86,7 @@ module _ {T : Type 0} (m : Machine T) where
   abbrev pub number_at : List ℕ → ObjId → ℕ
   number_at ws o = m.number (slice_index ws (m.place o))
 
+  -- the entry of an operation, and none of the rest
   abbrev pub effect_entry : List ℕ → Effect T → List Noted
   effect_entry ws Refused = []
   effect_entry ws (Marks th) = []
@@ -97,18 +98,14 @@ module _ {T : Type 0} (m : Machine T) where
   entry_of_thread ws l None = []
   entry_of_thread ws l (Some th) = effect_entry ws (m.effect l th)
 
-  -- the entry that the label adds, with its number, if it is an operation
+  -- the entry that the label adds where it is allowed, with its number, if it is an operation
   abbrev pub added : State T → Label → List Noted
   added s l = entry_of_thread s.words l (slice_get s.threads (label_thread l))
-
-  abbrev pub run_on : (State T → Option (State T)) → Option (State T) → Option (State T)
-  run_on rest None = None
-  run_on rest (Some s) = rest s
 
   -- the last state of a run, which is a list of labels, each allowed in the state that those before it lead to
   abbrev pub run : List Label → State T → Option (State T)
   run [] s = Some s
-  run (l ∷ ls) s = run_on (run ls) (stepped s l)
+  run (l ∷ ls) s = option_and_then (run ls) (stepped s l)
 
   abbrev pub trace_on : (State T → List Noted) → Option (State T) → List Noted
   trace_on rest None = []
@@ -123,13 +120,13 @@ module _ {T : Type 0} (m : Machine T) where
   abbrev pub Reaches : State T → State T → Type 0
   Reaches s s1 = (ls : List Label) × (run ls s ≡ Some s1)
 
-  abbrev pub count_or_none : Option T → ℕ
-  count_or_none None = 0
-  count_or_none (Some th) = m.count th
+  abbrev pub count_or_zero : Option T → ℕ
+  count_or_zero None = 0
+  count_or_zero (Some th) = m.count th
 
   -- how many events the thread has behind it
   abbrev pub count_of : State T → ℕ → ℕ
-  count_of s t = count_or_none (slice_get s.threads t)
+  count_of s t = count_or_zero (slice_get s.threads t)
 
   -- all threads have ended
   abbrev pub AllEnded : State T → Type 0

@@ -1,14 +1,10 @@
 -- The walk by a list of entries, where one thread goes at a time, and the runs that it stands for.
-use Rattle.std.specs.Prelude.{◌≡◌, ℕ, zero, suc, ◌-◌, if◌then◌else◌, List, [], ◌∷◌, Option, Some, None}
+use Rattle.std.specs.Prelude.{◌≡◌, ℕ, zero, suc, ◌-◌, if◌then◌else◌, List, [], ◌∷◌, Option, Some, None, option_and_then}
 use Rattle.sync_objects.specs.declared.entry.Entry.{Entry}
 use Rattle.sync_objects.specs.declared.entry.Noted.{Noted}
 use Rattle.runs.specs.Labels.{Label, Go, label_thread, label_of}
 use Rattle.runs.specs.Same.{same_entry}
 use Rattle.runs.specs.Steps.{Machine, State, stepped, added, run, trace, count_of}
-
-abbrev pub and_then : {A B : Type 0} → (A → Option B) → Option A → Option B
-and_then rest None = None
-and_then rest (Some x) = rest x
 
 -- the answer, where nothing is added
 abbrev pub if_nothing : {A : Type 0} → List Noted → Option A → Option A
@@ -30,7 +26,7 @@ module _ {T : Type 0} (m : Machine T) where
   -- the state after so many own steps of the thread, each a load, a store or a mark
   abbrev pub alone : ℕ → ℕ → State T → Option (State T)
   alone zero t s = Some s
-  alone (suc n) t s = if_nothing (added m s (Go t)) (and_then (alone n t) (stepped m s (Go t)))
+  alone (suc n) t s = if_nothing (added m s (Go t)) (option_and_then (alone n t) (stepped m s (Go t)))
 
   -- the state after the one label that adds the entry
   abbrev pub made : Entry → State T → Option (State T)
@@ -38,12 +34,12 @@ module _ {T : Type 0} (m : Machine T) where
 
   -- the state after the part of one entry: its thread goes alone up to the entry's count, and the entry is made
   abbrev pub part : Entry → State T → Option (State T)
-  part e s = and_then (made e) (alone (e.count - count_of m s e.thread) e.thread s)
+  part e s = option_and_then (made e) (alone (e.count - count_of m s e.thread) e.thread s)
 
   -- the state after the parts of all entries, if each of them is allowed
   abbrev pub walk : List Entry → State T → Option (State T)
   walk [] s = Some s
-  walk (e ∷ es) s = and_then (walk es) (part e s)
+  walk (e ∷ es) s = option_and_then (walk es) (part e s)
 
   -- a run for one entry: loads, stores and marks of its thread, and then one label that adds the entry
   pub record IsPart (e : Entry) (s s1 : State T) : Type 0 where

@@ -18,8 +18,7 @@ ghost use Rattle.runs.specs.Walk.{IsSoloRun, walk};
 /// Two runs from one state whose threads have equal lists of entries, and all of whose threads have ended, end in
 /// one state.
 pub fn law_converge<T>()
-    ensures {
-        (machine : Machine T) (start end other_end : State T) (labels other : List Label) →
+    ensures { (machine : Machine T) (start end other_end : State T) (labels other : List Label) →
         IsLawful machine →
         IsRaceFree machine start →
         run machine labels start ≡ Some end →
@@ -27,79 +26,67 @@ pub fn law_converge<T>()
         AllEnded machine end →
         AllEnded machine other_end →
         ((t : ℕ) → entries_of t (trace machine labels start) ≡ entries_of t (trace machine other start)) →
-        end ≡ other_end
-    }
+        end ≡ other_end }
 {}
 
 /// The entries of a run in its own order are a merge of its lists.
 pub fn law_own_order<T>()
-    ensures {
-        (machine : Machine T) (start end : State T) (labels : List Label) →
+    ensures { (machine : Machine T) (start end : State T) (labels : List Label) →
         IsLawful machine →
         run machine labels start ≡ Some end →
-        IsMerge (λ t. entries_of t (trace machine labels start)) (trace machine labels start)
-    }
+        IsMerge (λ t. entries_of t (trace machine labels start)) (trace machine labels start) }
 {}
 
 /// Every merge of a run's lists walks to the run's end, if all threads have ended there.
 pub fn law_merges_walk<T>()
-    ensures {
-        (machine : Machine T) (start end : State T) (labels : List Label) (merged : List Noted) →
+    ensures { (machine : Machine T) (start end : State T) (labels : List Label) (merged : List Noted) →
         IsLawful machine →
         IsRaceFree machine start →
         run machine labels start ≡ Some end →
         AllEnded machine end →
         IsMerge (λ t. entries_of t (trace machine labels start)) merged →
-        walk machine (map (λ (x : Noted). x.entry) merged) start ≡ Some end
-    }
+        walk machine (map (λ (x : Noted). x.entry) merged) start ≡ Some end }
 {}
 
 /// The written merge of a run's lists is never stuck: where no object had an operation at the start, it takes all
 /// entries, and is a merge.
 pub fn law_written_merge<T>()
-    ensures {
-        (machine : Machine T) (start end : State T) (labels : List Label) →
+    ensures { (machine : Machine T) (start end : State T) (labels : List Label) →
         IsLawful machine →
         run machine labels start ≡ Some end →
         ((o : ObjId) → machine.has_object o ≡ true → number_at machine start.words o ≡ 0) →
         let entries = trace machine labels start in
-        IsMerge (λ t. entries_of t entries) (written_merge (lists_from 0 (length start.threads) entries))
-    }
+        IsMerge (λ t. entries_of t entries) (written_merge (lists_from 0 (length start.threads) entries)) }
 {}
 
 /// The walk of a list of entries answers a state exactly where a run leads to it that has one part for each entry:
 /// loads, stores and marks of the entry's thread, and then the one label that adds the entry.
 pub fn law_walk<T>()
-    ensures {
-        (machine : Machine T) (start end : State T) (entries : List Entry) →
+    ensures { (machine : Machine T) (start end : State T) (entries : List Entry) →
         IsLawful machine →
-        (walk machine entries start ≡ Some end) ↔ IsSoloRun machine entries start end
-    }
+        (walk machine entries start ≡ Some end) ↔ IsSoloRun machine entries start end }
 {}
 
 /// Where each thread's list in one run is a prefix of its list in another, and no thread is past the count of its next
 /// entry there, the states of each thread in one of the two runs are a prefix of those in the other.
 pub fn law_prefixes<T>()
-    ensures {
-        (machine : Machine T) (start end other_end : State T) (labels other : List Label) (t : ℕ) →
+    ensures { (machine : Machine T) (start end other_end : State T) (labels other : List Label) (t : ℕ) →
         IsLawful machine →
         IsRaceFree machine start →
         run machine labels start ≡ Some end →
         run machine other start ≡ Some other_end →
         BeginsLike machine labels other start →
         StopsBefore machine labels other start end →
-        AreComparable (path machine t labels start) (path machine t other start)
-    }
+        AreComparable (path machine t labels start) (path machine t other start) }
 {}
 
 /// An access and a later event of another thread, each made while its thread holds one lock, are ordered by
-/// operations that pass something on.
+/// operations that pass something on. The two may hold it in two ways that exclude each other.
 pub fn law_ordered_by_lock<T>()
-    ensures {
-        (machine : Machine T) (start before after : State T) (labels : List Label) (i j : ℕ) (first second : Event) →
-        (lock : ObjId) (holds : ℕ → State T → Bool) →
+    ensures { (machine : Machine T) (start before after : State T) (labels : List Label) (i j : ℕ) (first second : Event) →
+        (lock : ObjId) (first_holds second_holds : ℕ → State T → Bool) →
         IsLawful machine →
-        IsHeldBy machine lock holds start →
+        IsHeldBy machine lock first_holds second_holds start →
         i < j →
         event_at machine labels start i ≡ Some first →
         event_at machine labels start j ≡ Some second →
@@ -107,8 +94,7 @@ pub fn law_ordered_by_lock<T>()
         event_thread first ≢ event_thread second →
         state_at machine labels start i ≡ Some before →
         state_at machine labels start j ≡ Some after →
-        holds (event_thread first) before ≡ true →
-        holds (event_thread second) after ≡ true →
-        Ordered (event_at machine labels start) i j
-    }
+        first_holds (event_thread first) before ≡ true →
+        second_holds (event_thread second) after ≡ true →
+        Ordered (event_at machine labels start) i j }
 {}

@@ -30,7 +30,7 @@ word_is_sound k number s small h =
 start_is_sound_state : (o : ObjId) → IsSoundState (object_kind o) 0 (start_state o)
 start_is_sound_state (object.Mutex cell) = tt
 start_is_sound_state (object.Cond cell) = omega arith
-start_is_sound_state (object.Barrier cell) = (omega arith, inl refl, omega arith, omega arith)
+start_is_sound_state (object.Barrier cell) = (omega arith, omega arith, omega arith, omega arith)
 start_is_sound_state (object.Weak lock stripe) = tt
 start_is_sound_state (object.Slot zero) = tt
 start_is_sound_state (object.Slot (suc k)) = tt

@@ -1,5 +1,5 @@
 -- The words that an object of a kind can have, and the operations whose numbers are in range.
-use Rattle.std.specs.Prelude.{◌≡◌, ℕ, ◌<◌, ◌≤◌, ◌^◌, ◌⊎◌}
+use Rattle.std.specs.Prelude.{◌≡◌, ℕ, ◌<◌, ◌≤◌, ◌^◌, max}
 use Rattle.sync_objects.specs.declared.kind.ObjKind.{ObjKind}
 use Rattle.sync_objects.specs.declared.kind.ObjKind.TheVariants as kind
 use Rattle.sync_objects.specs.declared.operation.Op.{Op}
@@ -15,10 +15,10 @@ IsSoundLock (HeldBy thread) = thread < 16
 abbrev pub IsSoundCond : ℕ → CondState → Type 0
 IsSoundCond number (Epoch epoch) = epoch ≤ number
 
--- all that came are fewer than the barrier waits for, and each generation took an operation
+-- none have come, or fewer than the barrier waits for, and each generation took an operation
 abbrev pub IsSoundBarrier : ℕ → BarrierState → Type 0
 IsSoundBarrier number (Waits count arrived generation) =
-    (count ≤ 16) × ((arrived ≡ 0) ⊎ (arrived < count)) × (generation < 2 ^ 22) × (generation ≤ number)
+    (count ≤ 16) × (arrived < max count 1) × (generation < 2 ^ 22) × (generation ≤ number)
 
 abbrev pub IsSoundSlot : SlotState → Type 0
 IsSoundSlot (Started function) = function < 2 ^ 20

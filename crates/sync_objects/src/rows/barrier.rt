@@ -1,7 +1,7 @@
 //! Barriers: the count stands in the low 5 bits of a state, how many have arrived in the 5 bits above, and the
 //! generation in the 22 bits above these.
 
-ghost use Rattle.std.specs.Prelude.{◌≡◌, ◌+◌, ◌*◌, ◌/◌, ◌%◌, ◌<◌, ◌^◌};
+ghost use Rattle.std.specs.Prelude.{◌≡◌, ℕ, ◌+◌, ◌*◌, ◌/◌, ◌%◌, ◌<◌, ◌^◌};
 ghost use Rattle.sync_objects.specs.declared.operation.Op.TheVariants as op;
 ghost use Rattle.sync_objects.specs.Moved.{moved, Gives};
 ghost use Rattle.sync_objects.specs.Table.{Moves};
@@ -37,8 +37,8 @@ fn packed(parts: Parts) -> u32
     parts.count | (parts.arrived << 5) | (parts.generation << 10)
 }
 
-pub fn init(thread: u8, count: u8, state: u32) -> Moved
-    ensures { moved (op.BarrierInit count) thread state ≡ Moves result.state result.answer }
+pub fn init(count: u8, state: u32) -> Moved
+    ensures { (thread : ℕ) → moved (op.BarrierInit count) thread state ≡ Moves result.state result.answer }
 {
     let parts = parts_of(state);
     if 1 <= count && count <= 16 && parts.arrived == 0 {
@@ -49,9 +49,9 @@ pub fn init(thread: u8, count: u8, state: u32) -> Moved
     }
 }
 
-pub fn arrive(thread: u8, state: u32) -> Moved
+pub fn arrive(state: u32) -> Moved
     requires { state / 32 % 32 < 16 }
-    ensures { moved op.Arrive thread state ≡ Moves result.state result.answer }
+    ensures { (thread : ℕ) → moved op.Arrive thread state ≡ Moves result.state result.answer }
 {
     let parts = parts_of(state);
     let arrived = parts.arrived + 1;
@@ -72,8 +72,8 @@ pub fn arrive(thread: u8, state: u32) -> Moved
     }
 }
 
-pub fn pass(thread: u8, generation: u32, state: u32) -> Option<Moved>
-    ensures { Gives (moved (op.Pass generation) thread state) result }
+pub fn pass(generation: u32, state: u32) -> Option<Moved>
+    ensures { (thread : ℕ) → Gives (moved (op.Pass generation) thread state) result }
 {
     if parts_of(state).generation == generation {
         None

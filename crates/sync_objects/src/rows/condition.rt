@@ -1,20 +1,20 @@
 //! Conditions: the state is the epoch.
 
-ghost use Rattle.std.specs.Prelude.{◌≡◌, ◌+◌, ◌<◌, ◌^◌};
+ghost use Rattle.std.specs.Prelude.{◌≡◌, ℕ, ◌+◌, ◌<◌, ◌^◌};
 ghost use Rattle.sync_objects.specs.declared.operation.Op.TheVariants as op;
 ghost use Rattle.sync_objects.specs.Moved.{moved, Gives};
 ghost use Rattle.sync_objects.specs.Table.{Moves};
 
 use crate::rows::moved::{DONE, Moved};
 
-pub fn enter(thread: u8, state: u32) -> Moved
-    ensures { moved op.CondEnter thread state ≡ Moves result.state result.answer }
+pub fn enter(state: u32) -> Moved
+    ensures { (thread : ℕ) → moved op.CondEnter thread state ≡ Moves result.state result.answer }
 {
     Moved::new(state, state as i64)
 }
 
-pub fn wake(thread: u8, epoch: u32, state: u32) -> Option<Moved>
-    ensures { Gives (moved (op.CondWake epoch) thread state) result }
+pub fn wake(epoch: u32, state: u32) -> Option<Moved>
+    ensures { (thread : ℕ) → Gives (moved (op.CondWake epoch) thread state) result }
 {
     if state == epoch {
         None
@@ -23,9 +23,9 @@ pub fn wake(thread: u8, epoch: u32, state: u32) -> Option<Moved>
     }
 }
 
-pub fn signal(thread: u8, state: u32) -> Moved
+pub fn signal(state: u32) -> Moved
     requires { state + 1 < 2 ^ 32 }
-    ensures { moved op.Signal thread state ≡ Moves result.state result.answer }
+    ensures { (thread : ℕ) → moved op.Signal thread state ≡ Moves result.state result.answer }
 {
     Moved::new(state + 1, DONE)
 }

@@ -1,6 +1,6 @@
 //! The halt word: whether the program runs.
 
-ghost use Rattle.std.specs.Prelude.{◌≡◌, ◌≤◌};
+ghost use Rattle.std.specs.Prelude.{◌≡◌, ℕ, ◌≤◌};
 ghost use Rattle.sync_objects.specs.declared.operation.Op.TheVariants as op;
 ghost use Rattle.sync_objects.specs.Moved.{moved, Gives};
 
@@ -12,8 +12,8 @@ const HALTED: u32 = 1;
 
 const TRAPPED: u32 = 2;
 
-pub fn halt(thread: u8, state: u32) -> Option<Moved>
-    ensures { Gives (moved op.HaltAll thread state) result }
+pub fn halt(state: u32) -> Option<Moved>
+    ensures { (thread : ℕ) → Gives (moved op.HaltAll thread state) result }
 {
     if state == RUNNING {
         Some(Moved::new(HALTED, DONE))
@@ -22,8 +22,8 @@ pub fn halt(thread: u8, state: u32) -> Option<Moved>
     }
 }
 
-pub fn trap(thread: u8, state: u32) -> Option<Moved>
-    ensures { Gives (moved op.TrapHere thread state) result }
+pub fn trap(state: u32) -> Option<Moved>
+    ensures { (thread : ℕ) → Gives (moved op.TrapHere thread state) result }
 {
     if state == RUNNING {
         Some(Moved::new(TRAPPED, DONE))
@@ -32,9 +32,9 @@ pub fn trap(thread: u8, state: u32) -> Option<Moved>
     }
 }
 
-pub fn stop(thread: u8, state: u32) -> Option<Moved>
+pub fn stop(state: u32) -> Option<Moved>
     requires { state ≤ 2 }
-    ensures { Gives (moved op.Stop thread state) result }
+    ensures { (thread : ℕ) → Gives (moved op.Stop thread state) result }
 {
     if state == RUNNING {
         None

@@ -1,6 +1,6 @@
 //! Mutexes, and stripes of weak locks: 0 is free, and one more than a thread is held by it.
 
-ghost use Rattle.std.specs.Prelude.{◌≡◌, ◌+◌};
+ghost use Rattle.std.specs.Prelude.{◌≡◌, ℕ, ◌+◌};
 ghost use Rattle.sync_objects.specs.declared.operation.Op.TheVariants as op;
 ghost use Rattle.sync_objects.specs.Moved.{moved, Gives};
 ghost use Rattle.sync_objects.specs.Table.{Moves};
@@ -48,8 +48,8 @@ pub fn unlock(thread: u8, state: u32) -> Moved
     }
 }
 
-pub fn init(thread: u8, state: u32) -> Moved
-    ensures { moved op.MutexInit thread state ≡ Moves result.state result.answer }
+pub fn init(state: u32) -> Moved
+    ensures { (thread : ℕ) → moved op.MutexInit thread state ≡ Moves result.state result.answer }
 {
     Moved::new(state, if state == FREE { DONE } else { MISUSE })
 }

@@ -1,6 +1,6 @@
 //! Slots: from `FIRST_STARTED` on a state tells the number of the started function.
 
-ghost use Rattle.std.specs.Prelude.{◌≡◌, ◌+◌, ◌<◌, ◌^◌};
+ghost use Rattle.std.specs.Prelude.{◌≡◌, ℕ, ◌+◌, ◌<◌, ◌^◌};
 ghost use Rattle.sync_objects.specs.declared.operation.Op.TheVariants as op;
 ghost use Rattle.sync_objects.specs.Moved.{moved, Gives};
 
@@ -20,9 +20,9 @@ const SHUT: u32 = 5;
 
 const FIRST_STARTED: u32 = 6;
 
-pub fn start(thread: u8, function: u32, state: u32) -> Option<Moved>
+pub fn start(function: u32, state: u32) -> Option<Moved>
     requires { function < 2 ^ 20 }
-    ensures { Gives (moved (op.Start function) thread state) result }
+    ensures { (thread : ℕ) → Gives (moved (op.Start function) thread state) result }
 {
     match state {
         IDLE => Some(Moved::new(FIRST_STARTED + function, DONE)),
@@ -31,8 +31,8 @@ pub fn start(thread: u8, function: u32, state: u32) -> Option<Moved>
     }
 }
 
-pub fn begin(thread: u8, state: u32) -> Option<Moved>
-    ensures { Gives (moved op.Begin thread state) result }
+pub fn begin(state: u32) -> Option<Moved>
+    ensures { (thread : ℕ) → Gives (moved op.Begin thread state) result }
 {
     if state < FIRST_STARTED {
         None
@@ -41,8 +41,8 @@ pub fn begin(thread: u8, state: u32) -> Option<Moved>
     }
 }
 
-pub fn end(thread: u8, state: u32) -> Option<Moved>
-    ensures { Gives (moved op.End thread state) result }
+pub fn end(state: u32) -> Option<Moved>
+    ensures { (thread : ℕ) → Gives (moved op.End thread state) result }
 {
     if state == BEGUN {
         Some(Moved::new(ENDED, DONE))
@@ -51,8 +51,8 @@ pub fn end(thread: u8, state: u32) -> Option<Moved>
     }
 }
 
-pub fn join(thread: u8, state: u32) -> Option<Moved>
-    ensures { Gives (moved op.Join thread state) result }
+pub fn join(state: u32) -> Option<Moved>
+    ensures { (thread : ℕ) → Gives (moved op.Join thread state) result }
 {
     match state {
         ENDED => Some(Moved::new(JOINED, DONE)),
@@ -61,8 +61,8 @@ pub fn join(thread: u8, state: u32) -> Option<Moved>
     }
 }
 
-pub fn close(thread: u8, state: u32) -> Option<Moved>
-    ensures { Gives (moved op.Close thread state) result }
+pub fn close(state: u32) -> Option<Moved>
+    ensures { (thread : ℕ) → Gives (moved op.Close thread state) result }
 {
     if state == IDLE {
         Some(Moved::new(CLOSED, DONE))

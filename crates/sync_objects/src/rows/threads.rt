@@ -1,6 +1,6 @@
 //! The threads that were drawn, in the low 5 bits of the state, and those that are live, above them.
 
-ghost use Rattle.std.specs.Prelude.{◌≡◌, ◌+◌, ◌<◌, ◌^◌, ◌%◌, ◌/◌, ◌≤◌};
+ghost use Rattle.std.specs.Prelude.{◌≡◌, ℕ, ◌+◌, ◌<◌, ◌^◌, ◌%◌, ◌/◌, ◌≤◌};
 ghost use Rattle.sync_objects.specs.declared.operation.Op.TheVariants as op;
 ghost use Rattle.sync_objects.specs.Moved.{moved, Gives};
 
@@ -12,10 +12,10 @@ const ONE_LIVE: u32 = 32;
 /// One thread is drawn, and it is live.
 pub const START: u32 = 33;
 
-pub fn draw(thread: u8, slots: u8, state: u32) -> Option<Moved>
+pub fn draw(slots: u8, state: u32) -> Option<Moved>
     requires slots { slots ≤ 16 }
     requires live { state / 32 ≤ 16 }
-    ensures { Gives (moved (op.Draw slots) thread state) result }
+    ensures { (thread : ℕ) → Gives (moved (op.Draw slots) thread state) result }
 {
     let slots = slots as u32;
     let drawn = state & 0x1f;
@@ -28,8 +28,8 @@ pub fn draw(thread: u8, slots: u8, state: u32) -> Option<Moved>
     }
 }
 
-pub fn leave(thread: u8, state: u32) -> Option<Moved>
-    ensures { Gives (moved op.Leave thread state) result }
+pub fn leave(state: u32) -> Option<Moved>
+    ensures { (thread : ℕ) → Gives (moved op.Leave thread state) result }
 {
     if state < ONE_LIVE {
         None

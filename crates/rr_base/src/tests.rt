@@ -1,0 +1,183 @@
+use super::*;
+use std::alloc::Global;
+use std::test::Fail;
+
+fn bytes_of(alloc: Global, text: &str) -> Result<Bytes, Fail> {
+    Ok(List::from_slice(alloc, text.as_bytes())?)
+}
+
+#[test]
+fn pointer_words(rt: HostRuntime) -> Result<(), Fail> {
+    let word = PtrWord::pack(1, 34, 8, 7);
+    let parts = (word.site(), word.base(), word.length(), word.offset());
+    assert_eq!(rt; parts, (1, 34, 8, 7));
+    assert_eq!(rt; word.word(), 0x0040_0022_0008_0007);
+    assert_eq!(rt; PtrWord::from_word(0x0040_0022_0008_0007), word);
+    assert_eq!(rt; word.cell(), Ok(41));
+    assert_eq!(rt; word.place(5), Place { site: 1, class: 2 });
+    assert_eq!(rt; word.place(65), Place { site: 1, class: 0 });
+
+    let behind = PtrWord::pack(1, 34, 8, 8);
+    assert_eq!(rt; word.moved(1), Ok(behind));
+    assert_eq!(rt; behind.cell(), Err(Trap::OutOfObject));
+    assert_eq!(rt; behind.moved(1), Err(Trap::OutOfObject));
+    assert_eq!(rt; behind.moved(-9), Err(Trap::OutOfObject));
+    assert_eq!(rt; behind.moved(i64::MAX), Err(Trap::OutOfObject));
+    assert_eq!(rt; PtrWord::null().moved(0), Err(Trap::BadDereference));
+    assert_eq!(rt; PtrWord::null().cell(), Err(Trap::BadDereference));
+
+    // A number, and the word that holds it: 54 bits, two's complement.
+    let rows = [
+        (0, 0),
+        (5, 5),
+        (-1, 0x003f_ffff_ffff_ffff),
+        (9007199254740991, 0x001f_ffff_ffff_ffff),
+        (-9007199254740992, 0x0020_0000_0000_0000),
+    ];
+    for (number, held) in rows {
+        assert_eq!(rt;
+            PtrWord::of_number(number),
+            Ok(PtrWord::from_word(held)),
+            "at {number}"
+        );
+        assert_eq!(rt;
+            PtrWord::from_word(held).to_number(),
+            Ok(number),
+            "at {number}"
+        );
+    }
+    assert_eq!(rt; PtrWord::of_number(9007199254740992), Err(Trap::CastRange));
+    assert_eq!(rt; PtrWord::of_number(-9007199254740993), Err(Trap::CastRange));
+    assert_eq!(rt; word.to_number(), Err(Trap::PointerToNumber));
+    assert_eq!(rt;
+        (Trap::DivideByZero.number(), Trap::LogFull.number()),
+        (1, 17)
+    );
+    Ok(())
+}
+
+#[test]
+fn lists(rt: HostRuntime) -> Result<(), Fail> {
+    let alloc = rt.alloc();
+    let mut list = List::with_capacity(alloc, 4)?;
+    list.reserve(9)?;
+    list.push(1u8)?;
+    list.insert(0, 7)?;
+    list.append(List::from_vec([4u8, 5].to_vec(alloc)?))?;
+    list.extend_from_slice(&[6])?;
+    assert_eq!(rt; list.as_slice(), [7, 1, 4, 5, 6].as_slice());
+    assert_eq!(rt;
+        (list.first(), list.last(), list.get(5)),
+        (Some(&7), Some(&6), None)
+    );
+    let copy = list.copied(alloc)?;
+    let clone = list.clone()?;
+    assert_eq!(rt; copy, clone);
+    assert!(rt; copy < List::from_slice(alloc, &[7, 2])?);
+    assert_eq!(rt; list.iter().rev().count(), 5);
+    list.truncate(4);
+    assert_eq!(rt; list.len(), 4);
+    list.set(0, 8);
+    list.remove_front(1);
+    assert_eq!(rt; list.remove(1), 4);
+    assert_eq!(rt; list.pop(), Some(5));
+    assert_eq!(rt; list.as_slice(), [1].as_slice());
+    let mut sum = 0;
+    for item in &copy {
+        sum ^= *item;
+    }
+    for item in clone {
+        sum ^= item;
+    }
+    assert_eq!(rt; sum, 0);
+    list.clear();
+    assert!(rt; list.is_empty());
+    Ok(())
+}
+
+#[test]
+fn sources_and_sinks(rt: HostRuntime) -> Result<(), Fail> {
+    let alloc = rt.alloc();
+    // The call that is to fail, how much may be read and written in one call, and what then comes.
+    let reads = [
+        (9, 7, Ok(7)),
+        (9, 6, Err(ReadEnd::TooLarge)),
+        (0, 7, Err(ReadEnd::Failed)),
+        (1, 7, Err(ReadEnd::Failed)),
+    ];
+    for (fails, most, want) in reads {
+        let mut source = MemSource::new(
+            bytes_of(alloc, "chimera")?,
+            List::from_slice(alloc, &[fails])?,
+        );
+        let got = read_to_end(alloc, &mut source, most);
+        assert_eq!(rt; got.map(|bytes| bytes.len()), want, "at {fails}");
+    }
+    let mut source = SoundSource::sound(bytes_of(alloc, "chimera")?);
+    let mut into = [0; 3];
+    assert_eq!(rt; source.read(&mut into), Ok(3));
+    assert_eq!(rt; into, [99, 104, 105]);
+    assert_eq!(rt; source.bytes().as_slice(), "mera".as_bytes());
+    assert_eq!(rt;
+        read_to_end(alloc, &mut source, 4)?,
+        bytes_of(alloc, "mera")?
+    );
+    assert!(rt; source.bytes().is_empty());
+
+    let writes = [
+        (9, 3, Ok(()), "> goat"),
+        (9, 1, Ok(()), "> goat"),
+        (0, 3, Err(SinkEnd::Failed), "> "),
+        (1, 3, Err(SinkEnd::Failed), "> goa"),
+    ];
+    for (fails, most, want, held) in writes {
+        let mut sink = MemSink::new(
+            bytes_of(alloc, "> ")?,
+            List::from_slice(alloc, &[fails])?,
+            most,
+        );
+        assert_eq!(rt;
+            write_all(alloc, &mut sink, "goat".as_bytes()),
+            want,
+            "at {fails}"
+        );
+        assert_eq!(rt; sink.bytes().as_slice(), held.as_bytes(), "at {fails}");
+    }
+    let mut sink = SoundSink::sound(bytes_of(alloc, "")?, 2);
+    assert_eq!(rt; sink.write(alloc, "lion".as_bytes()), Ok(2));
+    assert_eq!(rt; sink.bytes().as_slice(), "li".as_bytes());
+    Ok(())
+}
+
+#[test]
+fn shelves(rt: HostRuntime) -> Result<(), Fail> {
+    let alloc = rt.alloc();
+    let mut files = List::new(alloc);
+    for (name, content) in [("a", "old"), ("b", ""), ("a", "snake")] {
+        files.push((bytes_of(alloc, name)?, bytes_of(alloc, content)?))?;
+    }
+    let mut shelf = MemShelf::new(files, List::from_slice(alloc, &[4, 5])?);
+    let gets = [
+        ("a", 2, Ok(3)),
+        ("a", 4, Ok(5)),
+        ("b", 9, Ok(0)),
+        ("c", 9, Err(ShelfEnd::Failed)),
+        ("a", 9, Err(ShelfEnd::Failed)),
+    ];
+    for (name, most, want) in gets {
+        let got = shelf.get(alloc, name, most);
+        assert_eq!(rt; got.map(|bytes| bytes.len()), want, "at {name} {most}");
+    }
+    assert_eq!(rt;
+        shelf.put(alloc, "c", "lion".as_bytes()),
+        Err(ShelfEnd::Failed)
+    );
+    assert_eq!(rt; shelf.content("c"), None);
+    for (name, content) in [("c", "lion"), ("a", "goat")] {
+        shelf.put(alloc, name, content.as_bytes())?;
+        let held = shelf.content(name).ok_or("held")?;
+        assert_eq!(rt; held.as_slice(), content.as_bytes());
+    }
+    assert_eq!(rt; shelf.get(alloc, "a", 0)?.as_slice(), "g".as_bytes());
+    Ok(())
+}
