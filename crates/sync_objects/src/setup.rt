@@ -61,4 +61,11 @@ impl Setup {
     {
         &self.input
     }
+
+    /// How many bytes the input has.
+    pub fn input_len(&self) -> u32
+        ensures { result ≡ length self.now.input }
+    {
+        self.input.len() as u32
+    }
 }
