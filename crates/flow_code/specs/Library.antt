@@ -1,6 +1,6 @@
 -- Calls of the library (POSIX.1-2017 threads; C99 7.19 and 7.20.3): the events of each, one after another, and its value. A call
 -- is given the words of its arguments, how many of its events are made, and the last answer that it keeps.
-use Rattle.std.specs.Prelude.{ℕ, zero, suc, ◌+◌, ◌%◌, ◌^◌, ◌==◌, nat_lt, nat_le, ◌&&◌, Bool, false, not, if◌then◌else◌, ℤ, pos, negsuc, List, [], ◌∷◌, ◌++◌, length, Option, Some, None, slice_get, slice_index_or, Result, Ok, Err}
+use Rattle.std.specs.Prelude.{ℕ, zero, suc, ◌+◌, ◌%◌, ◌^◌, ◌==◌, nat_lt, nat_le, ◌&&◌, Bool, true, false, not, if◌then◌else◌, ℤ, pos, negsuc, List, [], ◌∷◌, ◌++◌, length, Option, Some, None, slice_get, slice_index_or, Result, Ok, Err}
 use Rattle.std.specs.Fmt.{signed_decimal}
 use Rattle.sync_objects.specs.Setup.{SetupView}
 use Rattle.sync_objects.specs.declared.object.ObjId.TheVariants as object
@@ -73,6 +73,19 @@ printed_piece (piece.Number ∷ ps) [] = printed_piece ps []
 printed_piece (piece.Number ∷ ps) (w ∷ ws) = signed_decimal (number w) ++ printed_piece ps ws
 printed_piece (piece.Letter ∷ ps) [] = printed_piece ps []
 printed_piece (piece.Letter ∷ ps) (w ∷ ws) = w % 256 ∷ printed_piece ps ws
+
+-- the same piece by piece: what one prints where the next argument is this one or missing, and whether it takes it
+abbrev pub text_of : Piece → Option ℕ → List ℕ
+text_of (piece.Byte b) next = b ∷ []
+text_of piece.Number None = []
+text_of piece.Number (Some w) = signed_decimal (number w)
+text_of piece.Letter None = []
+text_of piece.Letter (Some w) = w % 256 ∷ []
+
+abbrev pub takes_argument : Piece → Bool
+takes_argument (piece.Byte b) = false
+takes_argument piece.Number = true
+takes_argument piece.Letter = true
 
 -- the most bytes that a thread prints
 abbrev pub most_printed : ℕ
@@ -232,6 +245,6 @@ library_onward w call.CondWait words made kept answer = wait_onward made kept an
 library_onward w call.BarrierInit words made kept answer = checked_onward answer
 library_onward w call.BarrierWait words made kept answer = barrier_wait_onward made answer
 library_onward w call.GetChar words made kept answer = onward.Gives (character w.setup.input answer)
-library_onward w (call.Print format) words made kept answer = onward.Gives (length (printed_piece format words))
+library_onward w (call.Print format) words made kept answer = onward.Gives (length (printed_piece format words) % 2 ^ 64)
 library_onward w call.PutChar words made kept answer = onward.Gives (argument words 0)
 library_onward w _ words made kept answer = onward.Gives 0
