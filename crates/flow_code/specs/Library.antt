@@ -245,6 +245,6 @@ library_onward w call.CondWait words made kept answer = wait_onward made kept an
 library_onward w call.BarrierInit words made kept answer = checked_onward answer
 library_onward w call.BarrierWait words made kept answer = barrier_wait_onward made answer
 library_onward w call.GetChar words made kept answer = onward.Gives (character w.setup.input answer)
-library_onward w (call.Print format) words made kept answer = onward.Gives (length (printed_piece format words))
+library_onward w (call.Print format) words made kept answer = onward.Gives (length (printed_piece format words) % 2 ^ 64)
 library_onward w call.PutChar words made kept answer = onward.Gives (argument words 0)
 library_onward w _ words made kept answer = onward.Gives 0

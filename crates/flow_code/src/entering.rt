@@ -1,5 +1,6 @@
 // Entering a function: the objects that it has from its entry on, and the registers of its frame.
-ghost use Rattle.std.specs.Prelude.{◌≡◌, ◌≤◌, length, MatchOption, Some, None};
+ghost use Rattle.std.specs.Prelude.{◌≡◌, ◌≤◌, length, codes, nat_eq, MatchOption, Some, None};
+ghost use Rattle.std.specs.Cmp.Lexicographic.{pointwise};
 ghost use Rattle.std.specs.Option.{option_copied};
 ghost use Rattle.std.specs.Vec.{vec_capacity};
 ghost use Rattle.flow_code.specs.Threads.{size_in as size_in_of, size_of as size_of_site, object, object_of, objects_of, fitted, placed, with_arguments};
@@ -11,6 +12,13 @@ use crate::library::argument;
 use crate::pointers::{pointer_at, site_at};
 use crate::works::{register, set_register};
 use rr_base::Site;
+
+/// Whether a function of this name is the program's `main` (C99 5.1.2.2.1).
+pub fn is_main(name: &[u8]) -> bool
+    ensures { result ≡ pointwise nat_eq name.now (codes "main") }
+{
+    name == b"main".as_slice()
+}
 
 /// The size in cells of the site's objects, and 0 where the code doesn't have the site.
 pub fn size_of(sites: &[Site], site: u16) -> u32

@@ -8,6 +8,7 @@ mod code;
 mod entering;
 mod evaluate;
 mod library;
+mod onward;
 mod pointers;
 mod printing;
 mod region;
@@ -18,13 +19,17 @@ mod works;
 pub use act::{Act, Instr, LibraryCall, Piece};
 pub use caller::Caller;
 pub use code::{Code, Function, LockInfo, LoopInfo};
-pub use entering::{fill, fitted_in, objects_len, place, size_of};
+pub use entering::{fill, fitted_in, is_main, objects_len, place, size_of};
 pub use evaluate::{binary, negate, number, truth, word};
-pub use library::argument;
+pub use library::{
+    argument, argument_cell, count_in, is_misuse, is_serial, library_due, result_cell, slot_in,
+};
+pub use onward::library_onward;
 pub use pointers::{
     compared, directed, elements_between, known, moved, moved_by, number_from, pointer_at,
     pointer_to, resolved, site_at,
 };
+pub use printing::{piece, piece_len};
 pub use region::{Base, Bound, Region, Span};
 pub use thread::{Action, Due, Onward, Phase, Stripe};
 pub use work::{BinaryOp, Work};

@@ -85,13 +85,26 @@ pub fn result_cell(thread: u8) -> u32
     2 * u32::from(thread) + 1
 }
 
-fn cell_of(caller: &Caller, registers: &[u64], arguments: &[u32], k: usize, kind: CellKind) -> Result<u32, Trap>
+fn cell_of(
+    caller: &Caller,
+    registers: &[u64],
+    arguments: &[u32],
+    k: usize,
+    kind: CellKind,
+) -> Result<u32, Trap>
     ensures { result ≡ cell_of_words caller.now (words_of registers.now arguments.now) k kind }
 {
     resolved(caller.sites(), argument(registers, arguments, k), kind)
 }
 
-fn create_due(caller: &Caller, function: u32, registers: &[u64], arguments: &[u32], made: u8, kept: i64) -> Due
+fn create_due(
+    caller: &Caller,
+    function: u32,
+    registers: &[u64],
+    arguments: &[u32],
+    made: u8,
+    kept: i64,
+) -> Due
     ensures { result ≡ create_due_of caller.now function (words_of registers.now arguments.now) made kept }
 {
     match made {
@@ -125,7 +138,9 @@ fn create_due(caller: &Caller, function: u32, registers: &[u64], arguments: &[u3
 fn is_joinable(caller: &Caller, thread: i64) -> bool
     ensures { result ≡ is_joinable_of caller.now thread }
 {
-    1 <= thread && thread < i64::from(caller.setup().slots()) && thread != i64::from(caller.thread())
+    1 <= thread
+        && thread < i64::from(caller.setup().slots())
+        && thread != i64::from(caller.thread())
 }
 
 fn join_thread_due(caller: &Caller, thread: i64) -> Due
@@ -280,7 +295,13 @@ fn barrier_init_due(caller: &Caller, registers: &[u64], arguments: &[u32], made:
     }
 }
 
-fn barrier_wait_due(caller: &Caller, registers: &[u64], arguments: &[u32], made: u8, kept: i64) -> Due
+fn barrier_wait_due(
+    caller: &Caller,
+    registers: &[u64],
+    arguments: &[u32],
+    made: u8,
+    kept: i64,
+) -> Due
     ensures { result ≡ barrier_wait_due_of caller.now (words_of registers.now arguments.now) made kept }
 {
     if made > 0 && is_misuse(kept) {
@@ -324,11 +345,20 @@ fn print_due(caller: &Caller, bytes: u128) -> Due
 }
 
 /// What comes next in a call of the library, of whose events `made` are made, with the last answer that it keeps.
-pub fn library_due(caller: &Caller, call: &LibraryCall, registers: &[u64], arguments: &[u32], made: u8, kept: i64) -> Due
+pub fn library_due(
+    caller: &Caller,
+    call: &LibraryCall,
+    registers: &[u64],
+    arguments: &[u32],
+    made: u8,
+    kept: i64,
+) -> Due
     ensures { result ≡ library_due_of caller.now call.now (words_of registers.now arguments.now) made kept }
 {
     match call {
-        LibraryCall::Create { function } => create_due(caller, *function, registers, arguments, made, kept),
+        LibraryCall::Create { function } => create_due(
+            caller, *function, registers, arguments, made, kept,
+        ),
         LibraryCall::Join => join_due(caller, registers, arguments, made, kept),
         LibraryCall::Exit => exit_due(caller, argument(registers, arguments, 0), made),
         LibraryCall::SelfNumber | LibraryCall::SameThread | LibraryCall::Free => Due::Quiet,
@@ -337,7 +367,12 @@ pub fn library_due(caller: &Caller, call: &LibraryCall, registers: &[u64], argum
         LibraryCall::MutexUnlock => mutex_due(caller, Op::Unlock, registers, arguments, made),
         LibraryCall::MutexTryLock => mutex_due(caller, Op::TryLock, registers, arguments, made),
         LibraryCall::MutexDestroy => asks_for(caller, registers, arguments, CellKind::Mutex),
-        LibraryCall::CondInit | LibraryCall::CondDestroy => asks_for(caller, registers, arguments, CellKind::Cond),
+        LibraryCall::CondInit | LibraryCall::CondDestroy => asks_for(
+            caller,
+            registers,
+            arguments,
+            CellKind::Cond,
+        ),
         LibraryCall::CondWait => wait_due(caller, registers, arguments, made, kept),
         LibraryCall::CondSignal => signal_due(caller, registers, arguments),
         LibraryCall::BarrierInit => barrier_init_due(caller, registers, arguments, made),
@@ -345,11 +380,14 @@ pub fn library_due(caller: &Caller, call: &LibraryCall, registers: &[u64], argum
         LibraryCall::BarrierDestroy => asks_for(caller, registers, arguments, CellKind::Barrier),
         LibraryCall::GetChar => Due::Operate {
             op: Op::GetChar {
-                len: caller.setup().input().len() as u32,
+                len: caller.setup().input_len(),
             },
             obj: ObjId::Input,
         },
-        LibraryCall::Print { format: _ } => print_due(caller, piece_len(call, registers, arguments)),
+        LibraryCall::Print { format: _ } => print_due(
+            caller,
+            piece_len(call, registers, arguments),
+        ),
         LibraryCall::PutChar => print_due(caller, 1),
     }
 }

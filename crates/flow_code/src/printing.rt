@@ -60,7 +60,9 @@ fn push_text(out: &mut Bytes, piece: Piece, word: Option<u64>) -> Result<(), All
     match (piece, word) {
         (Piece::Byte(byte), _) => out.push(byte),
         (_, None) => Ok(()),
-        (Piece::Number, Some(word)) => out.extend_from_slice(Buffer::new().format(number(word)).as_bytes()),
+        (Piece::Number, Some(word)) => out.extend_from_slice(
+            Buffer::new().format(number(word)).as_bytes(),
+        ),
         (Piece::Letter, Some(word)) => out.push((word % 256) as u8),
     }
 }
@@ -89,7 +91,12 @@ pub fn piece_len(call: &LibraryCall, registers: &[u64], arguments: &[u32]) -> u1
     }
 }
 
-fn push_printed(out: &mut Bytes, format: &[Piece], registers: &[u64], arguments: &[u32]) -> Result<(), AllocError>
+fn push_printed(
+    out: &mut Bytes,
+    format: &[Piece],
+    registers: &[u64],
+    arguments: &[u32],
+) -> Result<(), AllocError>
     ensures { OnOk result (out.new ≡ out.old ++ printed_piece format.now (words_of registers.now arguments.now)) }
 {
     let mut next = 0;
@@ -101,12 +108,22 @@ fn push_printed(out: &mut Bytes, format: &[Piece], registers: &[u64], arguments:
 }
 
 /// The bytes that the call prints.
-pub fn piece(alloc: Global, call: &LibraryCall, registers: &[u64], arguments: &[u32]) -> Result<Bytes, AllocError>
+pub fn piece(
+    alloc: Global,
+    call: &LibraryCall,
+    registers: &[u64],
+    arguments: &[u32],
+) -> Result<Bytes, AllocError>
     ensures { IfOk result (λ bytes. bytes ≡ piece_of call.now (words_of registers.now arguments.now)) }
 {
     let mut bytes = Bytes::new(alloc);
     match call {
-        LibraryCall::Print { format } => push_printed(&mut bytes, format.as_slice(), registers, arguments)?,
+        LibraryCall::Print { format } => push_printed(
+            &mut bytes,
+            format.as_slice(),
+            registers,
+            arguments,
+        )?,
         LibraryCall::PutChar => bytes.push((argument(registers, arguments, 0) % 256) as u8)?,
         _ => {}
     }

@@ -1,0 +1,140 @@
+// What the answers to the events of calls lead to.
+ghost use Rattle.std.specs.Prelude.{◌≡◌};
+ghost use Rattle.flow_code.specs.Library.{create_onward as create_onward_of, join_onward as join_onward_of, exit_onward as exit_onward_of, checked_onward as checked_onward_of, wait_onward as wait_onward_of, barrier_wait_onward as barrier_wait_onward_of, character as character_of, library_onward as library_onward_of};
+ghost use Rattle.flow_code.specs.Next.{words_of};
+
+use crate::act::LibraryCall;
+use crate::caller::Caller;
+use crate::evaluate::{truth, word};
+use crate::library::{argument, is_misuse, is_serial};
+use crate::printing::piece_len;
+use crate::thread::Onward;
+
+/// EAGAIN (POSIX errno.h): no thread is left to create.
+const NO_THREAD_LEFT: u64 = 11;
+
+fn create_onward(made: u8, kept: i64, answer: i64) -> Onward
+    ensures { result ≡ create_onward_of made kept answer }
+{
+    match made {
+        0 if answer == 0 => Onward::Gives {
+            value: NO_THREAD_LEFT,
+        },
+        0 => Onward::Stays { kept: answer },
+        1 | 2 => Onward::Stays { kept },
+        _ => Onward::Gives { value: 0 },
+    }
+}
+
+fn join_onward(asked: bool, made: u8, answer: i64) -> Onward
+    ensures { result ≡ join_onward_of asked made answer }
+{
+    match made {
+        0 if asked || is_misuse(answer) => Onward::Stays { kept: answer },
+        1 => Onward::Stays { kept: answer },
+        _ => Onward::Gives { value: 0 },
+    }
+}
+
+fn exit_onward(made: u8, kept: i64) -> Onward
+    ensures { result ≡ exit_onward_of made kept }
+{
+    match made {
+        0 | 1 => Onward::Stays { kept },
+        _ => Onward::Ends,
+    }
+}
+
+fn checked_onward(answer: i64) -> Onward
+    ensures { result ≡ checked_onward_of answer }
+{
+    if is_misuse(answer) {
+        Onward::Stays { kept: answer }
+    } else {
+        Onward::Gives { value: 0 }
+    }
+}
+
+fn wait_onward(made: u8, kept: i64, answer: i64) -> Onward
+    ensures { result ≡ wait_onward_of made kept answer }
+{
+    match made {
+        0 => Onward::Stays { kept: answer },
+        1 if is_misuse(answer) => Onward::Stays { kept: answer },
+        1 | 2 => Onward::Stays { kept },
+        _ => Onward::Gives { value: 0 },
+    }
+}
+
+fn barrier_wait_onward(made: u8, answer: i64) -> Onward
+    ensures { result ≡ barrier_wait_onward_of made answer }
+{
+    if made > 0 {
+        Onward::Gives { value: 0 }
+    } else if is_serial(answer) {
+        Onward::Gives {
+            value: word(answer),
+        }
+    } else {
+        Onward::Stays { kept: answer }
+    }
+}
+
+/// The byte at this place of the input, or EOF as a word (C99 7.19.7.6).
+fn character(input: &[u8], place: i64) -> u64
+    ensures { result ≡ character_of input.now place }
+{
+    let byte = match usize::try_from(place) {
+        Ok(place) => input.get(place),
+        Err(_) => None,
+    };
+    match byte {
+        Some(byte) => u64::from(*byte),
+        None => word(-1),
+    }
+}
+
+/// What the answer to an event of a call leads to, of whose events `made` were made before, with the last answer
+/// that it keeps.
+pub fn library_onward(
+    caller: &Caller,
+    call: &LibraryCall,
+    registers: &[u64],
+    arguments: &[u32],
+    made: u8,
+    kept: i64,
+    answer: i64,
+) -> Onward
+    ensures { result ≡ library_onward_of caller.now call.now (words_of registers.now arguments.now) made kept answer }
+{
+    match call {
+        LibraryCall::Create { function: _ } => create_onward(made, kept, answer),
+        LibraryCall::Join => join_onward(argument(registers, arguments, 1) != 0, made, answer),
+        LibraryCall::Exit => exit_onward(made, kept),
+        LibraryCall::SelfNumber => Onward::Gives {
+            value: u64::from(caller.thread()),
+        },
+        LibraryCall::SameThread => Onward::Gives {
+            value: truth(argument(registers, arguments, 0) == argument(registers, arguments, 1)),
+        },
+        LibraryCall::MutexInit
+        | LibraryCall::MutexLock
+        | LibraryCall::MutexUnlock
+        | LibraryCall::BarrierInit => checked_onward(answer),
+        LibraryCall::MutexTryLock => Onward::Gives {
+            value: word(answer),
+        },
+        LibraryCall::CondWait => wait_onward(made, kept, answer),
+        LibraryCall::BarrierWait => barrier_wait_onward(made, answer),
+        LibraryCall::GetChar => Onward::Gives {
+            value: character(caller.setup().input().as_slice(), answer),
+        },
+        LibraryCall::Print { format: _ } => Onward::Gives {
+            value: (piece_len(call, registers, arguments) % (1 << 64)) as u64,
+        },
+        LibraryCall::PutChar => Onward::Gives {
+            value: argument(registers, arguments, 0),
+        },
+        _ => Onward::Gives { value: 0 },
+    }
+}
