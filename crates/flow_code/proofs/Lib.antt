@@ -1,3 +1,4 @@
 pub mod Calls
 pub mod Dues
+pub mod Goings
 pub mod Shapes
