@@ -2,4 +2,5 @@ pub mod Calls
 pub mod Dues
 pub mod Goings
 pub mod Quietly
+pub mod Settle
 pub mod Shapes
