@@ -61,7 +61,7 @@ module _ (code : Code) (s : SetupView) (t : ℕ) (th : Thread) where
 
   -- what is due by the code alone, where the thread becomes q
   abbrev pub ThreadGoes : Thread → Due → Type 0
-  ThreadGoes q due.Nothing = Unit {0}
+  ThreadGoes q due.Nothing = (has_ended th.phase ≡ true) ⊎ ((th.phase ≡ phase.Running) × (act_at code th.top ≡ None))
   ThreadGoes q due.Quiet = StaysQuiet q
   ThreadGoes q (due.Load c) = Runs q
   ThreadGoes q (due.Store c w) = Runs q
@@ -186,7 +186,7 @@ module _ (code : Code) (s : SetupView) (t : ℕ) (th : Thread) where
           (thread_ends (inl e) refl (λ k. in_phase code s t (record th { printed = th.printed + length (piece_of c given_words) }) phase.Ended (printed_more code s t th (th.printed + length (piece_of c given_words)) (let q = h.prints_nothing in let r = k.few_printed in omega arith) k)))
 
     library_goes : (d : Due) → th.phase ≡ phase.Running → act_at code th.top ≡ Some (act.Library c arguments into) → CallGoes (caller code s t th) c given_words th.top.made th.top.kept answer d → ThreadGoes (after_call leads_to) d
-    library_goes due.Nothing run at h = tt
+    library_goes due.Nothing run at h = absurd h
     library_goes due.Quiet run at h = subst (λ z. StaysQuiet (after_call z)) (sym (h.gives answer)) (call_quiet into _ h.value (let q = h.prints_nothing in omega arith))
     library_goes (due.Load x) run at h = call_runs into _ th.top.made leads_to run refl h.prints h.goes_on
     library_goes (due.Store x v) run at h = call_runs into _ th.top.made leads_to run refl h.prints h.goes_on
@@ -196,7 +196,7 @@ module _ (code : Code) (s : SetupView) (t : ℕ) (th : Thread) where
 
   -- an instruction
   act_goes : (o : Option Act) (answer : ℤ) → th.phase ≡ phase.Running → act_at code th.top ≡ o → ThreadGoes (act_after code s t th o answer) (act_due code s t th o)
-  act_goes None answer run at = tt
+  act_goes None answer run at = inr (run, at)
   act_goes (Some (act.Compute into work)) answer run at = compute_goes into (work_of s.slots code.sites (pointers_of code th.top) th.top.registers work)
   act_goes (Some (act.Alloc into site None)) answer run at = in_frame_quiet (past th.top) refl
   act_goes (Some (act.Alloc into site (Some size))) answer run at = malloc_goes into site (size_of code.sites site) (number (register th.top.registers size))
@@ -227,11 +227,11 @@ goes_in code s t th phase.Fresh answer e =
 goes_in code s t th (phase.Begun f) answer e = begun_goes code s t th f answer
 goes_in code s t th (phase.Loaded f w) answer e = enter_goes code s t th 0 f [] (w ∷ []) refl (λ h. empty_below code s t th)
 goes_in code s t th phase.Running answer e = act_goes code s t th (act_at code th.top) answer e refl
-goes_in code s t th phase.Ended answer e = tt
-goes_in code s t th phase.Halted answer e = tt
-goes_in code s t th (phase.Trapped kind line) answer e = tt
-goes_in code s t th phase.Stopped answer e = tt
-goes_in code s t th phase.Closed answer e = tt
+goes_in code s t th phase.Ended answer e = inl (ap has_ended e)
+goes_in code s t th phase.Halted answer e = inl (ap has_ended e)
+goes_in code s t th (phase.Trapped kind line) answer e = inl (ap has_ended e)
+goes_in code s t th phase.Stopped answer e = inl (ap has_ended e)
+goes_in code s t th phase.Closed answer e = inl (ap has_ended e)
 
 pub thread_goes : (code : Code) (s : SetupView) (t : ℕ) (th : Thread) (d : Due) (answer : ℤ) → phase_due code s t th th.phase ≡ d → ThreadGoes code s t th (phase_after code s t th th.phase answer) d
 thread_goes code s t th d answer e = subst (ThreadGoes code s t th (phase_after code s t th th.phase answer)) e (goes_in code s t th th.phase answer refl)

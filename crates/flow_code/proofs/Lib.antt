@@ -1,4 +1,5 @@
 pub mod Calls
+pub mod Counts
 pub mod Dues
 pub mod Goings
 pub mod Quietly

@@ -141,3 +141,41 @@ settle_keeps code s t P keeps (suc n) th p = go (settle_keeps code s t P keeps n
 pub settled_keeps : (code : Code) (s : SetupView) (t : ℕ) (P : Thread → Type 0) → ((th : Thread) → due_of code s t th ≡ due.Quiet → P th → P (stepped code s t th (pos 0))) → (th : Thread) → P th → P (settled code s t th)
 unfolding settled
 settled_keeps code s t P keeps th p = settle_keeps code s t P keeps (weight code s t th) th p
+
+-- the same by what comes next
+
+action_is_quiet : (d : Due) → action_of d ≡ action.Quiet → d ≡ due.Quiet
+action_is_quiet due.Nothing e = cc
+action_is_quiet due.Quiet e = refl
+action_is_quiet (due.Load c) e = cc
+action_is_quiet (due.Store c w) e = cc
+action_is_quiet due.Mark e = cc
+action_is_quiet (due.Operate o obj) e = cc
+action_is_quiet (due.Trap kind) e = cc
+
+pub action_is : (code : Code) (s : SetupView) (t : ℕ) (th : Thread) → action_at code s t th ≡ action_of (due_of code s t th)
+unfolding action_at
+action_is code s t th = refl
+
+pub quiet_due_at : (code : Code) (s : SetupView) (t : ℕ) (th : Thread) → action_at code s t th ≡ action.Quiet → due_of code s t th ≡ due.Quiet
+quiet_due_at code s t th e = action_is_quiet (due_of code s t th) (sym (action_is code s t th) ∙ e)
+
+pub quiet_action_at : (code : Code) (s : SetupView) (t : ℕ) (th : Thread) → due_of code s t th ≡ due.Quiet → action_at code s t th ≡ action.Quiet
+quiet_action_at code s t th e = action_is code s t th ∙ ap action_of e
+
+-- the steps that are left are those of the thread before a quiet step
+pub settled_taken : (code : Code) (s : SetupView) (t : ℕ) (th q : Thread) (answer : ℤ) → IsRunnable code → q ≡ stepped code s t th answer → action_at code s t th ≡ action.Quiet → settled code s t q ≡ settled code s t th
+settled_taken code s t th q answer runnable e h = ap (settled code s t) e ∙ settled_step code s t runnable th answer (quiet_due_at code s t th h)
+
+pub settled_end : (code : Code) (s : SetupView) (t : ℕ) (th : Thread) → (action_at code s t th ≡ action.Quiet → ⊥) → settled code s t th ≡ th
+settled_end code s t th h = settled_none code s t th (λ e. h (quiet_action_at code s t th e))
+
+pub weight_taken : (code : Code) (s : SetupView) (t : ℕ) (th q : Thread) (answer : ℤ) → IsRunnable code → q ≡ stepped code s t th answer → action_at code s t th ≡ action.Quiet → weight code s t q < weight code s t th
+weight_taken code s t th q answer runnable e h =
+    let falls = weight_falls code s t runnable th answer (quiet_due_at code s t th h) in
+    let same = ap (weight code s t) e in
+    omega arith
+
+-- after all quiet steps the next one isn't quiet
+pub settled_action : (code : Code) (s : SetupView) (t : ℕ) (th : Thread) → IsRunnable code → action_at code s t (settled code s t th) ≡ action.Quiet → ⊥
+settled_action code s t th runnable e = settled_quiet code s t runnable th (quiet_due_at code s t (settled code s t th) e)
