@@ -1,4 +1,10 @@
+pub mod Calls
+pub mod Counts
 pub mod Dues
 pub mod Filling
 pub mod Placing
 pub mod Printed
+pub mod Goings
+pub mod Quietly
+pub mod Settle
+pub mod Shapes
