@@ -2,6 +2,8 @@
 -- step more.
 use Rattle.std.specs.Prelude.{ℕ, nat_le, ◌&&◌, Bool, true, false, Option, Some, None, slice_get}
 use Rattle.sync_objects.specs.Setup.{SetupView}
+use Rattle.sync_objects.specs.declared.operation.Op.{Op}
+use Rattle.sync_objects.specs.declared.operation.Op.TheVariants as op
 use Rattle.flow_code.specs.declared.act.Act.{Act}
 use Rattle.flow_code.specs.declared.act.Act.TheVariants as act
 use Rattle.flow_code.specs.declared.code.Code.{Code}
@@ -40,3 +42,7 @@ pub record Running : Type 0 where
   pub setup : SetupView
   pub number : ℕ
   pub kept : Kept
+
+abbrev pub is_retake : Op → Bool
+is_retake op.Retake = true
+is_retake _ = false

@@ -12,6 +12,7 @@ mod outcome;
 mod place;
 mod region;
 mod state;
+mod step;
 
 pub use access::{Access, Formula};
 pub use flow_code::{Action, Phase};

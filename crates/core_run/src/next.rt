@@ -13,7 +13,7 @@ ghost use Rattle.std.specs.Prelude.{Some, None};
 use crate::due::{first_owed, limited, listed, owing};
 use crate::place::{arena_end, function_at, instr_at, instrs_at, pointers_at};
 use crate::state::ThreadState;
-use flow_code::{Act, Code, Due, Phase, compute, fitted_in, is_pointer, number, register, resolved, size_of};
+use flow_code::{Act, Caller, Code, Due, LibraryCall, Phase, compute, fitted_in, is_pointer, library_due, number, register, resolved, size_of};
 use rr_base::{CellKind, Trap};
 use sync_objects::{ObjId, Op, Setup};
 
@@ -129,5 +129,129 @@ pub(crate) fn value_of(registers: &[u64], value: Option<u32>) -> u64
     match value {
         Some(r) => register(registers, r),
         None => 0,
+    }
+}
+
+impl ThreadState {
+    // The Mark with which a function is entered above so many frames, or the trap that stands in its place.
+    fn enter_due(&self, code: &Code, setup: &Setup, thread: u8, frames: usize, function: u32) -> Due
+        requires globals { length code.now.globals ≤ 2 ^ 20 }
+        requires thread { thread < setup.now.slots }
+        ensures { result ≡ enter_due_of code.now setup.now thread self.now.thread frames function }
+    {
+        if setup.limit() <= self.count {
+            return Due::Trap(Trap::Limit);
+        }
+        if MOST_FRAMES <= frames {
+            return Due::Trap(Trap::Depth);
+        }
+        let end = arena_end(code, setup, thread);
+        match fitted_in(code.sites.as_slice(), end, instrs_at(code, function), self.arena) {
+            Some(_) => Due::Mark,
+            None => Due::Trap(Trap::ArenaFull),
+        }
+    }
+
+    fn return_due(&self, code: &Code, thread: u8, value: u64) -> Due
+        ensures { result ≡ return_due_of code.now thread self.now.thread value }
+    {
+        if !self.below.is_empty() {
+            return Due::Quiet;
+        }
+        let (function, _) = self.top.place();
+        let (made, _) = self.top.events();
+        end_due(is_main_function(code, function), thread, made, value)
+    }
+
+    fn call_due(&self, code: &Code, setup: &Setup, thread: u8, call: &LibraryCall, arguments: &[u32]) -> Due
+        ensures { result ≡ act_due_of code.now setup.now thread self.now.thread (Some (act.Library call.now arguments.now None)) }
+    {
+        let caller = Caller::new(code.sites.as_slice(), setup, thread, self.printed);
+        let (made, kept) = self.top.events();
+        library_due(&caller, call, self.top.registers(), arguments, made, kept)
+    }
+
+    fn access_due(&self, code: &Code, through: u32, other: u32) -> Result<u32, Trap>
+        ensures { result ≡ resolved_of code.now.sites (register_of self.now.thread.top.registers through) (access_kind_of (is_pointer_of (pointers_of code.now self.now.thread.top) other)) }
+    {
+        let (function, _) = self.top.place();
+        let kind = access_kind(is_pointer(pointers_at(code, function), other));
+        resolved(code.sites.as_slice(), register(self.top.registers(), through), kind)
+    }
+
+    fn act_due(&self, code: &Code, setup: &Setup, thread: u8, act: &Act) -> Due
+        requires globals { length code.now.globals ≤ 2 ^ 20 }
+        requires thread { thread < setup.now.slots }
+        ensures { result ≡ act_due_of code.now setup.now thread self.now.thread (Some act.now) }
+    {
+        let (function, _) = self.top.place();
+        let registers = self.top.registers();
+        let sites = code.sites.as_slice();
+        match act {
+            Act::Compute { into: _, work } => {
+                quiet_unless(compute(setup.slots(), sites, pointers_at(code, function), registers, work))
+            }
+            Act::Alloc { into: _, site, size } => match size {
+                None => Due::Quiet,
+                Some(r) => {
+                    let end = arena_end(code, setup, thread);
+                    malloc_due(size_of(sites, *site), self.arena, end, number(register(registers, *r)))
+                }
+            },
+            Act::LoadCell { into, through } => load_due(self.access_due(code, *through, *into)),
+            Act::StoreCell { through, from } => {
+                store_due(self.access_due(code, *through, *from), register(registers, *from))
+            }
+            Act::Mark => Due::Mark,
+            Act::Call { function, arguments: _, into: _ } => {
+                self.enter_due(code, setup, thread, self.below.len() + 1, *function)
+            }
+            Act::Library { call, arguments, into: _ } => {
+                self.call_due(code, setup, thread, call, arguments.as_slice())
+            }
+            Act::Return { value } => self.return_due(code, thread, value_of(registers, *value)),
+            Act::Jump { to: _ } | Act::Branch { .. } | Act::Take(_) | Act::Give(_) => Due::Quiet,
+        }
+    }
+
+    fn phase_due(&self, code: &Code, setup: &Setup, thread: u8) -> Due
+        requires globals { length code.now.globals ≤ 2 ^ 20 }
+        requires thread { thread < setup.now.slots }
+        ensures { result ≡ phase_due_of code.now setup.now thread self.now.thread self.now.thread.phase }
+    {
+        match self.phase {
+            Phase::Fresh => Due::Operate {
+                op: Op::Begin,
+                obj: ObjId::Slot(thread),
+            },
+            Phase::Begun(function) => {
+                if thread == 0 {
+                    self.enter_due(code, setup, thread, 0, function)
+                } else {
+                    Due::Load {
+                        cell: 2 * u32::from(thread),
+                    }
+                }
+            }
+            Phase::Loaded { function, argument: _ } => self.enter_due(code, setup, thread, 0, function),
+            Phase::Running => {
+                let (function, instr) = self.top.place();
+                match instr_at(code, function, instr) {
+                    Some(instr) => self.act_due(code, setup, thread, &instr.act),
+                    None => Due::Nothing,
+                }
+            }
+            Phase::Ended | Phase::Halted | Phase::Trapped { .. } | Phase::Stopped | Phase::Closed => Due::Nothing,
+        }
+    }
+
+    // What is due: by the code, then by the limit of events, by owed stripes, and by the limit of entries.
+    pub(crate) fn due(&self, code: &Code, setup: &Setup, thread: u8) -> Due
+        requires globals { length code.now.globals ≤ 2 ^ 20 }
+        requires thread { thread < setup.now.slots }
+        ensures { result ≡ due_of code.now setup.now thread self.now.thread }
+    {
+        let due = limited(setup.limit() <= self.count, self.phase_due(code, setup, thread));
+        listed(MOST_ENTRIES <= self.entries, owing(first_owed(&self.stripes), due))
     }
 }
