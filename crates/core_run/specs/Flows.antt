@@ -1,6 +1,6 @@
 -- A running thread as the interpreter shows it: its code, its setup, its number, its state, and whether it has room for a
 -- step more.
-use Rattle.std.specs.Prelude.{ℕ, nat_le, ◌&&◌, Bool, true, false, Option, Some, None, slice_get}
+use Rattle.std.specs.Prelude.{ℕ, ◌<◌, ◌^◌, nat_le, ◌&&◌, Bool, true, false, Option, Some, None, slice_get}
 use Rattle.sync_objects.specs.Setup.{SetupView}
 use Rattle.sync_objects.specs.declared.operation.Op.{Op}
 use Rattle.sync_objects.specs.declared.operation.Op.TheVariants as op
@@ -46,3 +46,11 @@ pub record Running : Type 0 where
 abbrev pub is_retake : Op → Bool
 is_retake op.Retake = true
 is_retake _ = false
+
+-- the numbers of a thread's state fit the types in which the code keeps them
+pub record Fits (th : Thread) : Type 0 where
+  pub count : th.count < 2 ^ 32
+  pub entries : th.entries < 2 ^ 32
+  pub made : th.top.made < 2 ^ 8
+  pub arena : th.arena < 2 ^ 32
+  pub printed : th.printed < 2 ^ 32

@@ -1,6 +1,5 @@
 // What is due in a thread.
-ghost use Rattle.std.specs.Prelude.{◌≡◌, ◌<◌, ◌≤◌, ◌^◌, ◌+◌, length, slice_get, nat_eq, codes};
-ghost use Rattle.std.specs.Cmp.Lexicographic.{pointwise};
+ghost use Rattle.std.specs.Prelude.{◌≡◌, ◌<◌, ◌≤◌, ◌^◌, ◌+◌, length, slice_get};
 ghost use Rattle.std.specs.Option.{option_copied};
 ghost use Rattle.sync_objects.specs.Setup.{IsWithinLimits};
 ghost use Rattle.flow_code.specs.Threads.{arena_end as arena_end_of, is_main as is_main_of, is_main_in};
@@ -13,7 +12,7 @@ ghost use Rattle.std.specs.Prelude.{Some, None};
 use crate::due::{first_owed, limited, listed, owing};
 use crate::place::{arena_end, function_at, instr_at, instrs_at, pointers_at};
 use crate::state::ThreadState;
-use flow_code::{Act, Caller, Code, Due, LibraryCall, Phase, compute, fitted_in, is_pointer, library_due, number, register, resolved, size_of};
+use flow_code::{Act, Caller, Code, Due, LibraryCall, Phase, compute, fitted_in, is_main, is_pointer, library_due, number, register, resolved, size_of};
 use rr_base::{CellKind, Trap};
 use sync_objects::{ObjId, Op, Setup};
 
@@ -104,12 +103,6 @@ fn end_due(is_main: bool, thread: u8, made: u8, value: u64) -> Due
             obj: ObjId::Threads,
         },
     }
-}
-
-fn is_main(name: &[u8]) -> bool
-    ensures { result ≡ pointwise nat_eq name.now (codes "main") }
-{
-    name == b"main".as_slice()
 }
 
 // Whether the function is the program's `main`.

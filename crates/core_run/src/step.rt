@@ -1,15 +1,20 @@
 // One step of a thread, with its answer.
 ghost use Rattle.std.specs.Prelude.{◌≡◌, ◌<◌, ◌≤◌, ◌^◌, ◌+◌, ◌-◌, length, slice_get, true, Some};
 ghost use Rattle.flow_code.specs.Threads.{registers_in, Frame as FrameView, line_of as line_of_phase};
-ghost use Rattle.flow_code.specs.Next.{returned as returned_of, act_after, phase_after, after_due as after_due_of, branch_to as branch_to_of};
-ghost use Rattle.core_run.specs.Flows.{needs_of_phase, needs_of_act, is_retake as is_retake_of};
+ghost use Rattle.flow_code.specs.Next.{returned as returned_of, act_after, phase_after, after_due as after_due_of, branch_to as branch_to_of, computed, pointers_of, allocated, cells_in as cells_in_of, in_frame, past as past_of, with_register, jumped, counted, repaid};
+ghost use Rattle.sync_objects.specs.declared.operation.Op.TheVariants as op;
+ghost use Rattle.flow_code.specs.declared.thread.Phase.TheVariants as phase;
+ghost use Rattle.flow_code.specs.Works.{work_of, register as register_of};
+ghost use Rattle.flow_code.specs.Values.{number as number_of, word as word_of};
+ghost use Rattle.core_run.specs.Flows.{needs, needs_of_act, is_retake as is_retake_of, Fits};
 ghost use Rattle.flow_code.specs.Next.{act_at};
 ghost use Rattle.flow_code.specs.declared.act.Act.TheVariants as act;
 
 use crate::next::{cells_in, is_main_function, value_of};
 use crate::place::{instr_at, line_at, line_at_function, pointers_at};
 use crate::state::ThreadState;
-use flow_code::{Act, Caller, Code, Due, LibraryCall, Phase, compute, count_in, library_onward, number, piece_len, register, word};
+use flow_code::{Act, Caller, Code, Due, LibraryCall, Phase, compute, count_in, library_onward, Work, number, piece_len, register, word};
+use rr_base::Trap;
 use std::alloc::Global;
 use sync_objects::{Op, Setup};
 
@@ -50,5 +55,176 @@ impl ThreadState {
         let onward = library_onward(&caller, call, self.top.registers(), arguments, made, kept, answer);
         self.printed += piece_len(call, self.top.registers(), arguments) as u32;
         self.go_onward(into, onward);
+    }
+
+    fn take_work(&mut self, code: &Code, setup: &Setup, into: u32, work: &Work)
+        requires { self.old.thread.top.instr + 1 < 2 ^ 64 }
+        ensures { self.new.thread ≡ computed self.old.thread into (work_of setup.now.slots code.now.sites (pointers_of code.now self.old.thread.top) self.old.thread.top.registers work.now) }
+    {
+        let (function, _) = self.top.place();
+        let pointers = pointers_at(code, function);
+        let value = compute(setup.slots(), code.sites.as_slice(), pointers, self.top.registers(), work);
+        self.compute(into, value);
+    }
+
+    fn take_alloc(&mut self, into: u32, site: u16, size: u32)
+        requires instr { self.old.thread.top.instr + 1 < 2 ^ 64 }
+        requires arena { (allocated self.old.thread into site (cells_in_of (number_of (register_of self.old.thread.top.registers size)))).arena < 2 ^ 32 }
+        ensures { self.new.thread ≡ allocated self.old.thread into site (cells_in_of (number_of (register_of self.old.thread.top.registers size))) }
+    {
+        let cells = cells_in(number(register(self.top.registers(), size)));
+        self.allocate(into, site, cells as u32);
+    }
+
+    fn take_load(&mut self, into: u32, answer: i64)
+        requires { self.old.thread.top.instr + 1 < 2 ^ 64 }
+        ensures { self.new.thread ≡ in_frame self.old.thread (past_of (with_register self.old.thread.top into (word_of answer))) }
+    {
+        self.top.set_register(into, word(answer));
+        self.top.pass();
+    }
+
+    fn take_branch(&mut self, on: u32, then_at: u32, else_at: u32)
+        ensures { self.new.thread ≡ in_frame self.old.thread (jumped self.old.thread.top (branch_to_of (register_of self.old.thread.top.registers on) then_at else_at)) }
+    {
+        let value = register(self.top.registers(), on);
+        self.top.jump(branch_to(value, then_at, else_at));
+    }
+
+    fn take_act(&mut self, alloc: Global, code: &Code, setup: &Setup, thread: u8, act: &Act, answer: i64)
+        requires globals { length code.now.globals ≤ 2 ^ 20 }
+        requires thread { thread < setup.now.slots }
+        requires place { self.old.has_place ≡ true }
+        requires room { needs_of_act code.now (Some act.now) ≤ self.old.registers }
+        requires instr { self.old.thread.top.instr + 1 < 2 ^ 64 }
+        requires before { self.old.thread.top.made + 1 < 2 ^ 8 }
+        requires caller { (f : FrameView) → slice_get self.old.thread.below (length self.old.thread.below - 1) ≡ Some f → f.instr + 1 < 2 ^ 64 }
+        requires made { (act_after code.now setup.now thread self.old.thread (Some act.now) answer).top.made < 2 ^ 8 }
+        requires arena { (act_after code.now setup.now thread self.old.thread (Some act.now) answer).arena < 2 ^ 32 }
+        requires printed { (act_after code.now setup.now thread self.old.thread (Some act.now) answer).printed < 2 ^ 32 }
+        ensures { self.new.thread ≡ act_after code.now setup.now thread self.old.thread (Some act.now) answer }
+    {
+        match act {
+            Act::Call { function, arguments, into: _ } => {
+                self.call(alloc, code, setup, thread, *function, arguments.as_slice());
+            }
+            Act::Library { call, arguments, into } => {
+                self.take_call(code, setup, thread, call, arguments.as_slice(), *into, answer);
+            }
+            Act::Return { value } => {
+                let value = value_of(self.top.registers(), *value);
+                self.take_return(code, value);
+            }
+            Act::Compute { into, work } => self.take_work(code, setup, *into, work),
+            Act::Alloc { into: _, site: _, size: None } => self.pass(),
+            Act::Alloc { into, site, size: Some(size) } => self.take_alloc(*into, *site, *size),
+            Act::LoadCell { into, through: _ } => self.take_load(*into, answer),
+            Act::StoreCell { .. } | Act::Mark | Act::Take(_) | Act::Give(_) => self.pass(),
+            Act::Jump { to } => self.top.jump(*to),
+            Act::Branch { on, then_at, else_at } => self.take_branch(*on, *then_at, *else_at),
+        }
+    }
+
+    // What becomes of the thread by what is due by its code alone.
+    fn go(&mut self, alloc: Global, code: &Code, setup: &Setup, thread: u8, answer: i64)
+        requires globals { length code.now.globals ≤ 2 ^ 20 }
+        requires thread { thread < setup.now.slots }
+        requires place { self.old.has_place ≡ true }
+        requires room { needs code.now self.old.thread ≤ self.old.registers }
+        requires before { self.old.thread.top.made + 1 < 2 ^ 8 }
+        requires caller { (f : FrameView) → slice_get self.old.thread.below (length self.old.thread.below - 1) ≡ Some f → f.instr + 1 < 2 ^ 64 }
+        requires made { (phase_after code.now setup.now thread self.old.thread self.old.thread.phase answer).top.made < 2 ^ 8 }
+        requires arena { (phase_after code.now setup.now thread self.old.thread self.old.thread.phase answer).arena < 2 ^ 32 }
+        requires printed { (phase_after code.now setup.now thread self.old.thread self.old.thread.phase answer).printed < 2 ^ 32 }
+        ensures { self.new.thread ≡ phase_after code.now setup.now thread self.old.thread self.old.thread.phase answer }
+    {
+        match self.phase {
+            Phase::Fresh => self.phase = Phase::Begun(count_in(answer)),
+            Phase::Begun(function) => {
+                if thread == 0 {
+                    self.enter_first(alloc, code, setup, thread, function, &[], &[]);
+                } else {
+                    self.phase = Phase::Loaded {
+                        function,
+                        argument: word(answer),
+                    };
+                }
+            }
+            Phase::Loaded { function, argument } => {
+                self.enter_first(alloc, code, setup, thread, function, &[0], &[argument]);
+            }
+            Phase::Running => {
+                let (function, instr) = self.top.place();
+                if let Some(instr) = instr_at(code, function, instr) {
+                    self.take_act(alloc, code, setup, thread, &instr.act, answer);
+                }
+            }
+            Phase::Ended | Phase::Halted | Phase::Trapped { .. } | Phase::Stopped | Phase::Closed => {}
+        }
+    }
+
+    // The line at which the thread stands.
+    fn line(&self, code: &Code) -> u32
+        ensures { result ≡ line_of_phase code.now self.now.thread.phase self.now.thread.top }
+    {
+        match self.phase {
+            Phase::Begun(function) | Phase::Loaded { function, .. } => line_at_function(code, function),
+            _ => {
+                let (function, instr) = self.top.place();
+                line_at(code, function, instr)
+            }
+        }
+    }
+
+    // Takes an owed stripe again.
+    fn take_stripe(&mut self, op: Op)
+        requires count { (counted op self.old.thread).count < 2 ^ 32 }
+        requires entries { (counted op self.old.thread).entries < 2 ^ 32 }
+        ensures { self.new.thread ≡ counted op (record self.old.thread { stripes = repaid self.old.thread.stripes }) }
+    {
+        self.repay();
+        self.note(op);
+    }
+
+    // The thread traps, at the line at which it stands.
+    fn take_trap(&mut self, code: &Code, kind: Trap)
+        requires { self.old.thread.count + 1 < 2 ^ 32 }
+        ensures { self.new.thread ≡ counted op.TrapHere (record self.old.thread { phase = phase.Trapped kind (line_of_phase code.now self.old.thread.phase self.old.thread.top) }) }
+    {
+        self.phase = Phase::Trapped {
+            kind,
+            line: self.line(code),
+        };
+        self.count += 1;
+    }
+
+    /// What becomes of the thread by what is due, with its answer.
+    pub(crate) fn step(&mut self, alloc: Global, code: &Code, setup: &Setup, thread: u8, due: Due, answer: i64)
+        requires globals { length code.now.globals ≤ 2 ^ 20 }
+        requires thread { thread < setup.now.slots }
+        requires place { self.old.has_place ≡ true }
+        requires room { needs code.now self.old.thread ≤ self.old.registers }
+        requires before { self.old.thread.top.made + 1 < 2 ^ 8 }
+        requires caller { (f : FrameView) → slice_get self.old.thread.below (length self.old.thread.below - 1) ≡ Some f → f.instr + 1 < 2 ^ 64 }
+        requires fits { Fits (after_due_of code.now setup.now thread self.old.thread due answer) }
+        ensures { self.new.thread ≡ after_due_of code.now setup.now thread self.old.thread due answer }
+    {
+        match due {
+            Due::Nothing => {}
+            Due::Quiet => self.go(alloc, code, setup, thread, answer),
+            Due::Load { .. } | Due::Store { .. } | Due::Mark => {
+                self.go(alloc, code, setup, thread, answer);
+                self.count += 1;
+            }
+            Due::Operate { op, obj: _ } => {
+                if is_retake(op) {
+                    self.take_stripe(op);
+                } else {
+                    self.go(alloc, code, setup, thread, answer);
+                    self.note(op);
+                }
+            }
+            Due::Trap(kind) => self.take_trap(code, kind),
+        }
     }
 }
