@@ -1,7 +1,7 @@
 -- Calls of the library: what is due in each, and what the answer to it leads to.
-use Rattle.std.proofs.Common.{◌≡◌, ◌≢◌, ℕ, zero, suc, ◌+◌, ◌^◌, ◌<◌, ◌≤◌, ◌⊎◌, inl, inr, ⊎_elim, ◌&&◌, ◌==◌, not, Bool, true, false, if◌then◌else◌, List, [], ◌∷◌, length, Option, Some, None, Result, Ok, Err, refl, sym, ap, subst, ◌∙◌, nat_le, ℤ, pos, negsuc, arith}
-use Rattle.std.proofs.lemmas.Bool.{true≢false, leb-true}
-use Rattle.sync_objects.specs.Setup.{SetupView, IsWithinLimits}
+use Rattle.std.proofs.Common.{◌≡◌, ℕ, zero, suc, ◌+◌, ◌^◌, ◌<◌, ◌≤◌, ◌==◌, not, Bool, true, false, if◌then◌else◌, List, length, Result, Ok, Err, refl, sym, subst, nat_le, ℤ, pos, negsuc, arith}
+use Rattle.std.proofs.lemmas.Bool.{leb-true}
+use Rattle.sync_objects.specs.Setup.{IsWithinLimits}
 use Rattle.sync_objects.specs.Names.{name_of, is_ending, is_weak, Fits}
 use Rattle.sync_objects.specs.Sound.{IsInRange}
 use Rattle.sync_objects.specs.declared.object.ObjId.{ObjId}
@@ -21,7 +21,7 @@ use Rattle.flow_code.specs.declared.thread.Due.TheVariants as due
 use Rattle.flow_code.specs.declared.thread.Onward.{Onward}
 use Rattle.flow_code.specs.declared.thread.Onward.TheVariants as onward
 use Rattle.flow_code.specs.Values.{number}
-use Rattle.flow_code.specs.Library.{Caller, argument, slot_in, count_in, is_misuse, is_serial, at_cell, cell_of, printed_piece, piece_of, most_printed, print_due, create_due, is_joinable, join_thread_due, join_due, exit_due, mutex_due, wait_due_at, wait_due, barrier_count, barrier_init_due, barrier_wait_due, asks_for, library_due, create_onward, join_onward, exit_onward, checked_onward, wait_onward, barrier_wait_onward, library_onward}
+use Rattle.flow_code.specs.Library.{Caller, argument, slot_in, count_in, is_misuse, is_serial, at_cell, cell_of, printed_piece, piece_of, most_printed, print_due, create_due, is_joinable, join_thread_due, join_due, exit_due, mutex_due, wait_due_at, wait_due, barrier_count, barrier_init_due, barrier_wait_due, asks_for, library_due, create_onward, join_onward, checked_onward, wait_onward, barrier_wait_onward, library_onward}
 
 -- what holds of both parts of a choice, or at each cell and of a trap, holds of what is due
 

@@ -1,11 +1,10 @@
 -- What is due in a thread by its code alone, with what becomes of the thread.
-use Rattle.std.proofs.Common.{◌≡◌, ◌≢◌, ℕ, zero, suc, ◌+◌, ◌-◌, ◌^◌, ◌<◌, ◌≤◌, ◌⊎◌, inl, inr, ⊎_elim, ◌==◌, Bool, true, false, if◌then◌else◌, List, [], ◌∷◌, ◌++◌, length, take, Option, Some, None, Result, Ok, Err, refl, sym, ap, subst, ◌∙◌, nat_le, ℤ, pos, arith, length-append}
+use Rattle.std.proofs.Common.{◌≡◌, ℕ, zero, suc, ◌+◌, ◌-◌, ◌≤◌, ◌⊎◌, inl, inr, ◌==◌, Bool, true, false, if◌then◌else◌, List, [], ◌∷◌, ◌++◌, length, Option, Some, None, Result, Ok, Err, refl, sym, ap, subst, ◌∙◌, nat_le, ℤ, pos, arith, length-append}
 use Rattle.std.specs.Prelude.{slice_get}
 use Rattle.std.proofs.lemmas.Bool.{leb-true, leb-false}
 use Rattle.sync_objects.specs.Setup.{SetupView, IsWithinLimits}
 use Rattle.sync_objects.specs.Names.{name_of, is_ending}
 use Rattle.sync_objects.specs.Sound.{IsInRange}
-use Rattle.sync_objects.specs.declared.object.ObjId.{ObjId}
 use Rattle.sync_objects.specs.declared.object.ObjId.TheVariants as object
 use Rattle.sync_objects.specs.declared.operation.Op.{Op}
 use Rattle.sync_objects.specs.declared.operation.Op.TheVariants as op
@@ -25,9 +24,9 @@ use Rattle.flow_code.specs.Values.{number, word}
 use Rattle.flow_code.specs.Pointers.{resolved}
 use Rattle.flow_code.specs.Works.{register, is_pointer, work_of}
 use Rattle.flow_code.specs.Library.{Caller, piece_of, library_due, library_onward, most_printed, count_in}
-use Rattle.flow_code.specs.Threads.{Frame, Thread, arena_end, argument_cell, size_of, is_main, objects_in, fitted}
+use Rattle.flow_code.specs.Threads.{Frame, Thread, arena_end, size_of, is_main, objects_in, fitted}
 use Rattle.flow_code.specs.Next.{most_frames, past, jumped, with_register, words_of, value_of, act_at, pointers_of, access_kind, quiet_unless, load_due, store_due, is_size, cells_in, malloc_due, mark_if, enter_due, end_due, return_due, caller, act_due, begun_due, phase_due, in_frame, computed, entered, one_made, end_onward, returned, back_in, went_on, branch_to, allocated, act_after, begun_after, phase_after, counted, has_ended}
-use Rattle.flow_code.proofs.Calls.{IsSmallCall, IsAsked, GoesOn, IsWithoutEvents, Continues, EndsSlot, LeavesAll, CallOperates, goes, ends_slot, leaves_all, CallGoes, call_goes}
+use Rattle.flow_code.proofs.Calls.{IsSmallCall, IsAsked, GoesOn, CallOperates, goes, ends_slot, leaves_all, CallGoes, call_goes}
 use Rattle.flow_code.proofs.Shapes.{IsShaped, StandsIn, stands_in, each_more, framed, printed_more, in_phase, goes_shaped, entered_shaped, back_shaped}
 
 -- what holds of both parts of a choice holds of it

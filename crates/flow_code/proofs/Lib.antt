@@ -6,5 +6,6 @@ pub mod Placing
 pub mod Printed
 pub mod Goings
 pub mod Quietly
+pub mod Ranges
 pub mod Settle
 pub mod Shapes
