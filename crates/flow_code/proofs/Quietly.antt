@@ -130,7 +130,7 @@ instr_in_is : (o : Option Function) (at : ℕ) → instr_in o at ≡ slice_get (
 instr_in_is None at = refl
 instr_in_is (Some f) at = refl
 
-sound_here : (code : Code) → IsRunnable code → (f : Frame) (o : Option Act) → act_at code f ≡ o → IsSoundAct (instrs_in (slice_get code.functions f.function)) f.instr o
+pub sound_here : (code : Code) → IsRunnable code → (f : Frame) (o : Option Act) → act_at code f ≡ o → IsSoundAct (instrs_in (slice_get code.functions f.function)) f.instr o
 sound_here code run f o e =
     subst (IsSoundAct (instrs_in (slice_get code.functions f.function)) f.instr) (sym (ap act_in (instr_in_is (slice_get code.functions f.function) f.instr)) ∙ e) (run.jumps f.function f.instr)
 
