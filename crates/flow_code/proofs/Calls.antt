@@ -1,7 +1,7 @@
 -- Calls of the library: what is due in each, and what the answer to it leads to.
-use Rattle.std.proofs.Common.{◌≡◌, ◌≢◌, ℕ, zero, suc, ◌+◌, ◌^◌, ◌<◌, ◌≤◌, ◌⊎◌, inl, inr, ⊎_elim, ◌&&◌, ◌==◌, not, Bool, true, false, if◌then◌else◌, List, [], ◌∷◌, length, Option, Some, None, Result, Ok, Err, refl, sym, ap, subst, ◌∙◌, nat_le, ℤ, pos, negsuc, arith}
-use Rattle.std.proofs.lemmas.Bool.{true≢false, leb-true}
-use Rattle.sync_objects.specs.Setup.{SetupView, IsWithinLimits}
+use Rattle.std.proofs.Common.{◌≡◌, ℕ, zero, suc, ◌+◌, ◌≤◌, ◌==◌, not, Bool, true, false, if◌then◌else◌, List, length, Result, Ok, Err, refl, sym, subst, nat_le, ℤ, pos, negsuc, arith}
+use Rattle.std.proofs.lemmas.Bool.{leb-true}
+use Rattle.sync_objects.specs.Setup.{IsWithinLimits}
 use Rattle.sync_objects.specs.Names.{name_of, is_ending, is_weak, Fits}
 use Rattle.sync_objects.specs.Sound.{IsInRange}
 use Rattle.sync_objects.specs.declared.object.ObjId.{ObjId}
@@ -21,7 +21,8 @@ use Rattle.flow_code.specs.declared.thread.Due.TheVariants as due
 use Rattle.flow_code.specs.declared.thread.Onward.{Onward}
 use Rattle.flow_code.specs.declared.thread.Onward.TheVariants as onward
 use Rattle.flow_code.specs.Values.{number}
-use Rattle.flow_code.specs.Library.{Caller, argument, slot_in, count_in, is_misuse, is_serial, at_cell, cell_of, printed_piece, piece_of, most_printed, print_due, create_due, is_joinable, join_thread_due, join_due, exit_due, mutex_due, wait_due_at, wait_due, barrier_count, barrier_init_due, barrier_wait_due, asks_for, library_due, create_onward, join_onward, exit_onward, checked_onward, wait_onward, barrier_wait_onward, library_onward}
+use Rattle.flow_code.specs.Settle.{IsSoundCall}
+use Rattle.flow_code.specs.Library.{Caller, argument, slot_in, count_in, is_misuse, is_serial, at_cell, cell_of, printed_piece, piece_of, most_printed, print_due, create_due, is_joinable, join_thread_due, join_due, exit_due, mutex_due, wait_due_at, wait_due, barrier_count, barrier_init_due, barrier_wait_due, asks_for, library_due, create_onward, join_onward, checked_onward, wait_onward, barrier_wait_onward, library_onward}
 
 -- what holds of both parts of a choice, or at each cell and of a trap, holds of what is due
 
@@ -32,11 +33,6 @@ if_each P false x y f g = g
 at_each : (P : Due → Type 0) (r : Result ℕ Trap) (comes : ℕ → Due) → ((c : ℕ) → P (comes c)) → ((kind : Trap) → P (due.Trap kind)) → P (at_cell r comes)
 at_each P (Ok c) comes f g = f c
 at_each P (Err t) comes f g = g t
-
--- a function that a thread can be started with
-abbrev pub IsSmallCall : LibraryCall → Type 0
-IsSmallCall (call.Create function) = function < 2 ^ 20
-IsSmallCall _ = Unit {0}
 
 -- the operations that are made of a thread by others
 abbrev pub is_from_outside : OpName → Bool
@@ -95,7 +91,7 @@ module _ (w : Caller) (c : LibraryCall) (words : List ℕ) (made : ℕ) (kept : 
   CallGoes answer (due.Load cell) = Continues answer
   CallGoes answer (due.Store cell v) = Continues answer
   CallGoes answer due.Mark = ⊥
-  CallGoes answer (due.Operate o obj) = IsAsked o obj × (IsWithinLimits w.setup → IsSmallCall c → IsInRange o) × CallOperates answer o
+  CallGoes answer (due.Operate o obj) = IsAsked o obj × (IsWithinLimits w.setup → IsSoundCall c → IsInRange o) × CallOperates answer o
   CallGoes answer (due.Trap kind) = Unit {0}
 
 asked : (o : Op) (obj : ObjId) → Fits (name_of o) obj → is_from_outside (name_of o) ≡ false → is_weak (name_of o) ≡ false → IsAsked o obj
@@ -167,7 +163,7 @@ checked_goes_on : (answer : ℤ) → GoesOn 0 (checked_onward answer)
 checked_goes_on answer = if_each (GoesOn 0) (is_misuse answer) (onward.Stays answer) (onward.Gives 0) (λ e. omega arith) tt
 
 -- a call with one operation on a mutex
-mutex_goes : (w : Caller) (c : LibraryCall) (o : Op) (words : List ℕ) (made : ℕ) (kept answer : ℤ) → ((cell : ℕ) → IsAsked o (object.Mutex cell)) → (IsWithinLimits w.setup → IsSmallCall c → IsInRange o) → is_ending (name_of o) ≡ false → (made ≡ 0 → Continues w c words made kept answer) →
+mutex_goes : (w : Caller) (c : LibraryCall) (o : Op) (words : List ℕ) (made : ℕ) (kept answer : ℤ) → ((cell : ℕ) → IsAsked o (object.Mutex cell)) → (IsWithinLimits w.setup → IsSoundCall c → IsInRange o) → is_ending (name_of o) ≡ false → (made ≡ 0 → Continues w c words made kept answer) →
     CallGoes w c words made kept answer (mutex_due w o words made)
 mutex_goes w c o words zero kept answer a r n h =
     at_each (CallGoes w c words zero kept answer) (cell_of w words 0 kind.Mutex) (λ cell. due.Operate o (object.Mutex cell)) (λ cell. (a cell, r, goes n (h refl))) (λ k. tt)

@@ -1,11 +1,10 @@
 -- What each step does to the counts of a thread, and whether it has ended.
-use Rattle.std.proofs.Common.{◌≡◌, ◌≢◌, ℕ, zero, suc, ◌+◌, ◌-◌, ◌<◌, ◌≤◌, ◌⊎◌, inl, inr, ⊎_elim, ◌==◌, Bool, true, false, if◌then◌else◌, List, [], ◌∷◌, length, Option, Some, None, Result, Ok, Err, refl, sym, ap, subst, ◌∙◌, ℤ, pos, arith}
+use Rattle.std.proofs.Common.{◌≡◌, ℕ, zero, suc, ◌+◌, ◌-◌, ◌≤◌, ◌⊎◌, inl, inr, ⊎_elim, ◌==◌, Bool, true, false, if◌then◌else◌, length, Option, Some, None, Result, Ok, Err, refl, sym, ap, subst, ◌∙◌, ℤ, pos, arith}
 use Rattle.std.specs.Prelude.{slice_get}
 use Rattle.std.proofs.lemmas.Bool.{true≢false}
 use Rattle.sync_objects.specs.Setup.{SetupView}
-use Rattle.sync_objects.specs.Names.{name_of, is_ending, is_weak}
+use Rattle.sync_objects.specs.Names.{name_of, is_weak}
 use Rattle.sync_objects.specs.declared.object.ObjId.{ObjId}
-use Rattle.sync_objects.specs.declared.object.ObjId.TheVariants as object
 use Rattle.sync_objects.specs.declared.operation.Op.{Op}
 use Rattle.sync_objects.specs.declared.operation.Op.TheVariants as op
 use Rattle.rr_base.specs.declared.trap.Trap.{Trap}
@@ -14,21 +13,19 @@ use Rattle.flow_code.specs.declared.act.Act.TheVariants as act
 use Rattle.flow_code.specs.declared.code.Code.{Code}
 use Rattle.flow_code.specs.declared.thread.Phase.{Phase}
 use Rattle.flow_code.specs.declared.thread.Phase.TheVariants as phase
-use Rattle.flow_code.specs.declared.thread.Stripe.{Stripe}
 use Rattle.flow_code.specs.declared.thread.Due.{Due}
 use Rattle.flow_code.specs.declared.thread.Due.TheVariants as due
 use Rattle.flow_code.specs.declared.thread.Action.{Action}
 use Rattle.flow_code.specs.declared.thread.Action.TheVariants as action
 use Rattle.flow_code.specs.declared.thread.Onward.{Onward}
 use Rattle.flow_code.specs.declared.thread.Onward.TheVariants as onward
-use Rattle.flow_code.specs.Works.{register, work_of}
+use Rattle.flow_code.specs.Works.{work_of}
 use Rattle.flow_code.specs.Library.{piece_of, library_onward}
-use Rattle.flow_code.specs.Threads.{Frame, Thread, OpenRegion, is_main, line_of}
-use Rattle.flow_code.specs.Next.{words_of, value_of, act_at, pointers_of, caller, act_due, phase_due, due_of, computed, went_on, returned, end_onward, back_in, act_after, begun_after, phase_after, counted, repaid, one_more, after_due, has_ended, action_of, action_at, stepped}
+use Rattle.flow_code.specs.Threads.{Frame, Thread, is_main}
+use Rattle.flow_code.specs.Next.{words_of, value_of, act_at, pointers_of, caller, phase_due, due_of, computed, went_on, returned, end_onward, back_in, act_after, begun_after, phase_after, counted, repaid, one_more, after_due, has_ended, action_of, action_at, stepped}
 use Rattle.flow_code.specs.Settle.{settled}
 use Rattle.flow_code.proofs.Dues.{quiet_by_code, nothing_by_code, nothing_due, IsAccess, access_by_code}
-use Rattle.flow_code.proofs.Goings.{Runs, StaysQuiet, ThreadGoes, thread_goes}
-use Rattle.flow_code.proofs.Quietly.{is_quiet_step}
+use Rattle.flow_code.proofs.Goings.{Runs, ThreadGoes, thread_goes}
 use Rattle.flow_code.proofs.Settle.{settled_keeps, action_is}
 
 -- the counts, the stripes and the open regions are the same
@@ -136,7 +133,7 @@ pub record Counts (th q : Thread) : Type 0 where
   pub count : q.count ≡ suc th.count
   pub lives : has_ended q.phase ≡ false
 
-runs_of : (code : Code) (s : SetupView) (t : ℕ) (th q : Thread) (d : Due) → IsAccess d → ThreadGoes code s t th q d → Runs code s t th q
+pub runs_of : (code : Code) (s : SetupView) (t : ℕ) (th q : Thread) (d : Due) → IsAccess d → ThreadGoes code s t th q d → Runs code s t th q
 runs_of code s t th q (due.Load c) a h = h
 runs_of code s t th q (due.Store c w) a h = h
 runs_of code s t th q due.Mark a h = h
@@ -162,7 +159,7 @@ access_counts code s t th d answer a e =
     subst (Counts th) (sym (stepped_is code s t th d answer e ∙ access_after code s t th d answer a)) (record { count = omega (arith, k.count); lives = r.lives })
 
 -- an operation that takes an owed stripe again, and any other one
-after_operate : (code : Code) (s : SetupView) (t : ℕ) (th : Thread) (o : Op) (obj : ObjId) (answer : ℤ) →
+pub after_operate : (code : Code) (s : SetupView) (t : ℕ) (th : Thread) (o : Op) (obj : ObjId) (answer : ℤ) →
     (o ≡ op.Retake) × (after_due code s t th (due.Operate o obj) answer ≡ counted op.Retake (record th { stripes = repaid th.stripes })) ⊎ (after_due code s t th (due.Operate o obj) answer ≡ counted o (phase_after code s t th th.phase answer))
 after_operate code s t th op.Retake obj answer = inl (refl, refl)
 after_operate code s t th o obj answer = inr refl

@@ -1,11 +1,10 @@
 -- What is due in a thread by its code alone, with what becomes of the thread.
-use Rattle.std.proofs.Common.{◌≡◌, ◌≢◌, ℕ, zero, suc, ◌+◌, ◌-◌, ◌^◌, ◌<◌, ◌≤◌, ◌⊎◌, inl, inr, ⊎_elim, ◌==◌, Bool, true, false, if◌then◌else◌, List, [], ◌∷◌, ◌++◌, length, take, Option, Some, None, Result, Ok, Err, refl, sym, ap, subst, ◌∙◌, nat_le, ℤ, pos, arith, length-append}
+use Rattle.std.proofs.Common.{◌≡◌, ℕ, zero, suc, ◌+◌, ◌-◌, ◌≤◌, ◌⊎◌, inl, inr, ◌==◌, Bool, true, false, if◌then◌else◌, List, [], ◌∷◌, ◌++◌, length, Option, Some, None, Result, Ok, Err, refl, sym, ap, subst, ◌∙◌, nat_le, ℤ, pos, arith, length-append}
 use Rattle.std.specs.Prelude.{slice_get}
 use Rattle.std.proofs.lemmas.Bool.{leb-true, leb-false}
 use Rattle.sync_objects.specs.Setup.{SetupView, IsWithinLimits}
 use Rattle.sync_objects.specs.Names.{name_of, is_ending}
 use Rattle.sync_objects.specs.Sound.{IsInRange}
-use Rattle.sync_objects.specs.declared.object.ObjId.{ObjId}
 use Rattle.sync_objects.specs.declared.object.ObjId.TheVariants as object
 use Rattle.sync_objects.specs.declared.operation.Op.{Op}
 use Rattle.sync_objects.specs.declared.operation.Op.TheVariants as op
@@ -25,9 +24,10 @@ use Rattle.flow_code.specs.Values.{number, word}
 use Rattle.flow_code.specs.Pointers.{resolved}
 use Rattle.flow_code.specs.Works.{register, is_pointer, work_of}
 use Rattle.flow_code.specs.Library.{Caller, piece_of, library_due, library_onward, most_printed, count_in}
-use Rattle.flow_code.specs.Threads.{Frame, Thread, arena_end, argument_cell, size_of, is_main, objects_in, fitted}
+use Rattle.flow_code.specs.Threads.{Frame, Thread, arena_end, size_of, is_main, objects_in, fitted}
 use Rattle.flow_code.specs.Next.{most_frames, past, jumped, with_register, words_of, value_of, act_at, pointers_of, access_kind, quiet_unless, load_due, store_due, is_size, cells_in, malloc_due, mark_if, enter_due, end_due, return_due, caller, act_due, begun_due, phase_due, in_frame, computed, entered, one_made, end_onward, returned, back_in, went_on, branch_to, allocated, act_after, begun_after, phase_after, counted, has_ended}
-use Rattle.flow_code.proofs.Calls.{IsSmallCall, IsAsked, GoesOn, IsWithoutEvents, Continues, EndsSlot, LeavesAll, CallOperates, goes, ends_slot, leaves_all, CallGoes, call_goes}
+use Rattle.flow_code.specs.Settle.{IsSoundCall}
+use Rattle.flow_code.proofs.Calls.{IsAsked, GoesOn, CallOperates, goes, ends_slot, leaves_all, CallGoes, call_goes}
 use Rattle.flow_code.proofs.Shapes.{IsShaped, StandsIn, stands_in, each_more, framed, printed_more, in_phase, goes_shaped, entered_shaped, back_shaped}
 
 -- what holds of both parts of a choice holds of it
@@ -35,10 +35,10 @@ either_each : {A : Type 0} (P : A → Type 0) (b : Bool) (x y : A) → (b ≡ tr
 either_each P true x y f g = f refl
 either_each P false x y f g = g refl
 
--- the instruction starts no thread with a function that is too great
-abbrev pub IsSmallAct : Option Act → Type 0
-IsSmallAct (Some (act.Library call arguments into)) = IsSmallCall call
-IsSmallAct _ = Unit {0}
+-- the call that the instruction is, if it is one, is sound
+abbrev pub IsSoundCallAt : Option Act → Type 0
+IsSoundCallAt (Some (act.Library call arguments into)) = IsSoundCall call
+IsSoundCallAt _ = Unit {0}
 
 module _ (code : Code) (s : SetupView) (t : ℕ) (th : Thread) where
   -- the thread runs on
@@ -66,7 +66,7 @@ module _ (code : Code) (s : SetupView) (t : ℕ) (th : Thread) where
   ThreadGoes q (due.Load c) = Runs q
   ThreadGoes q (due.Store c w) = Runs q
   ThreadGoes q due.Mark = Runs q
-  ThreadGoes q (due.Operate o obj) = IsAsked o obj × (IsWithinLimits s → IsSmallAct (act_at code th.top) → IsInRange o) × ThreadOperates o q
+  ThreadGoes q (due.Operate o obj) = IsAsked o obj × (IsWithinLimits s → IsSoundCallAt (act_at code th.top) → IsInRange o) × ThreadOperates o q
   ThreadGoes q (due.Trap kind) = Unit {0}
 
   in_frame_quiet : (f : Frame) → f.made ≡ 0 → StaysQuiet (in_frame th f)
@@ -191,7 +191,7 @@ module _ (code : Code) (s : SetupView) (t : ℕ) (th : Thread) where
     library_goes (due.Load x) run at h = call_runs into _ th.top.made leads_to run refl h.prints h.goes_on
     library_goes (due.Store x v) run at h = call_runs into _ th.top.made leads_to run refl h.prints h.goes_on
     library_goes due.Mark run at h = absurd h
-    library_goes (due.Operate o obj) run at h = (h.0, (λ l small. h.1 l (subst IsSmallAct at small)), call_operates o run at h.2)
+    library_goes (due.Operate o obj) run at h = (h.0, (λ l small. h.1 l (subst IsSoundCallAt at small)), call_operates o run at h.2)
     library_goes (due.Trap kind) run at h = tt
 
   -- an instruction

@@ -1,3 +1,4 @@
+pub mod Asked
 pub mod Calls
 pub mod Counts
 pub mod Dues
@@ -6,5 +7,6 @@ pub mod Placing
 pub mod Printed
 pub mod Goings
 pub mod Quietly
+pub mod Ranges
 pub mod Settle
 pub mod Shapes

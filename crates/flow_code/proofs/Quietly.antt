@@ -1,9 +1,8 @@
 -- Quiet steps: they don't depend on an answer, and they go on in the code, come to a mark, or come back to a caller.
-use Rattle.std.proofs.Common.{◌≡◌, ◌≢◌, ℕ, zero, suc, ◌+◌, ◌-◌, ◌<◌, ◌≤◌, ◌⊎◌, inl, inr, ⊎_elim, ◌==◌, Bool, true, false, if◌then◌else◌, List, [], ◌∷◌, ◌++◌, length, take, Option, Some, None, Result, Ok, Err, refl, sym, ap, subst, ◌∙◌, nat_le, ℤ, pos, arith}
+use Rattle.std.proofs.Common.{◌≡◌, ℕ, zero, suc, ◌+◌, ◌-◌, ◌<◌, inl, inr, ◌==◌, Bool, true, false, if◌then◌else◌, List, length, take, Option, Some, None, Result, Ok, Err, refl, sym, ap, subst, ◌∙◌, nat_le, ℤ, pos, arith}
 use Rattle.std.specs.Prelude.{slice_get}
 use Rattle.std.proofs.lemmas.Bool.{eqb-false}
 use Rattle.sync_objects.specs.Setup.{SetupView}
-use Rattle.sync_objects.specs.declared.operation.Op.TheVariants as op
 use Rattle.rr_base.specs.declared.trap.Trap.{Trap}
 use Rattle.rr_base.specs.declared.trap.Trap.TheVariants as trap
 use Rattle.rr_base.proofs.Lists.{slice_get_outside}
@@ -12,18 +11,16 @@ use Rattle.flow_code.specs.declared.act.Act.TheVariants as act
 use Rattle.flow_code.specs.declared.act.LibraryCall.{LibraryCall}
 use Rattle.flow_code.specs.declared.code.Code.{Code}
 use Rattle.flow_code.specs.declared.code.Function.{Function}
-use Rattle.flow_code.specs.declared.act.Instr.{Instr}
 use Rattle.flow_code.specs.declared.thread.Phase.{Phase}
 use Rattle.flow_code.specs.declared.thread.Phase.TheVariants as phase
 use Rattle.flow_code.specs.declared.thread.Due.{Due}
 use Rattle.flow_code.specs.declared.thread.Due.TheVariants as due
-use Rattle.flow_code.specs.declared.thread.Onward.{Onward}
 use Rattle.flow_code.specs.declared.thread.Onward.TheVariants as onward
 use Rattle.flow_code.specs.Pointers.{resolved}
 use Rattle.flow_code.specs.Works.{register, is_pointer, work_of}
-use Rattle.flow_code.specs.Library.{piece_of, library_due, library_onward}
+use Rattle.flow_code.specs.Library.{piece_of, library_due}
 use Rattle.flow_code.specs.Threads.{Frame, Thread, arena_end, is_main, objects_in, fitted, instr_in, instrs_in}
-use Rattle.flow_code.specs.Next.{most_frames, given, result_of, words_of, value_of, act_in, act_at, pointers_of, access_kind, quiet_unless, load_due, store_due, mark_if, enter_due, end_due, return_due, caller, act_due, begun_due, phase_due, due_of, computed, went_on, jumped, branch_to, returned, end_onward, back_in, act_after, phase_after, after_due, stepped}
+use Rattle.flow_code.specs.Next.{most_frames, given, result_of, words_of, value_of, act_in, act_at, pointers_of, access_kind, quiet_unless, load_due, store_due, mark_if, enter_due, end_due, return_due, caller, act_due, begun_due, phase_due, due_of, computed, went_on, jumped, returned, end_onward, back_in, act_after, phase_after, after_due, stepped}
 use Rattle.flow_code.specs.Settle.{IsJump, IsSoundAct, IsRunnable}
 use Rattle.flow_code.proofs.Calls.{IsWithoutEvents, CallGoes, call_goes}
 use Rattle.flow_code.proofs.Dues.{quiet_by_code}
@@ -133,7 +130,7 @@ instr_in_is : (o : Option Function) (at : ℕ) → instr_in o at ≡ slice_get (
 instr_in_is None at = refl
 instr_in_is (Some f) at = refl
 
-sound_here : (code : Code) → IsRunnable code → (f : Frame) (o : Option Act) → act_at code f ≡ o → IsSoundAct (instrs_in (slice_get code.functions f.function)) f.instr o
+pub sound_here : (code : Code) → IsRunnable code → (f : Frame) (o : Option Act) → act_at code f ≡ o → IsSoundAct (instrs_in (slice_get code.functions f.function)) f.instr o
 sound_here code run f o e =
     subst (IsSoundAct (instrs_in (slice_get code.functions f.function)) f.instr) (sym (ap act_in (instr_in_is (slice_get code.functions f.function) f.instr)) ∙ e) (run.jumps f.function f.instr)
 

@@ -1,18 +1,15 @@
 -- Quiet steps end, and what comes after them doesn't depend on how many of them are made.
-use Rattle.std.proofs.Common.{◌≡◌, ◌≢◌, ℕ, zero, suc, ◌+◌, ◌-◌, ◌<◌, ◌≤◌, ◌⊎◌, inl, inr, ⊎_elim, Bool, true, false, if◌then◌else◌, List, [], ◌∷◌, length, take, Option, Some, None, refl, sym, ap, subst, ◌∙◌, ℤ, pos, arith}
+use Rattle.std.proofs.Common.{◌≡◌, ℕ, zero, suc, ◌+◌, ◌-◌, ◌<◌, ◌≤◌, ◌⊎◌, inl, inr, ⊎_elim, false, if◌then◌else◌, List, [], ◌∷◌, length, take, Some, refl, sym, ap, subst, ◌∙◌, ℤ, pos, arith}
 use Rattle.std.specs.Prelude.{slice_get, sum_by, fold}
 use Rattle.std.proofs.lemmas.Bool.{true≢false}
 use Rattle.sync_objects.specs.Setup.{SetupView}
-use Rattle.flow_code.specs.declared.act.Act.TheVariants as act
 use Rattle.flow_code.specs.declared.code.Code.{Code}
 use Rattle.flow_code.specs.declared.thread.Due.{Due}
 use Rattle.flow_code.specs.declared.thread.Due.TheVariants as due
-use Rattle.flow_code.specs.declared.thread.Action.{Action}
 use Rattle.flow_code.specs.declared.thread.Action.TheVariants as action
 use Rattle.flow_code.specs.Threads.{Frame, Thread, instrs_in}
-use Rattle.flow_code.specs.Next.{act_at, due_of, action_of, action_at, stepped}
+use Rattle.flow_code.specs.Next.{due_of, action_of, action_at, stepped}
 use Rattle.flow_code.specs.Settle.{is_quiet, left_in, weight, settle_on, settle, settled, IsRunnable}
-use Rattle.flow_code.proofs.Shapes.{StandsIn}
 use Rattle.flow_code.proofs.Quietly.{Moves, on, to_mark, back, quiet_moves, quiet_stands, quiet_answer, mark_is_due}
 
 -- sums over all frames but the last one

@@ -1,7 +1,7 @@
 -- The numbers of a thread but for its counts, as the code alone changes them.
-use Rattle.std.proofs.Common.{◌≡◌, ◌≢◌, ℕ, zero, suc, ◌+◌, ◌-◌, ◌^◌, ◌<◌, ◌≤◌, ◌⊎◌, inl, inr, ⊎_elim, Bool, true, false, if◌then◌else◌, List, [], ◌∷◌, ◌++◌, length, take, Option, Some, None, refl, sym, ap, subst, ◌∙◌, nat_le, ℤ, pos, arith, length-take}
+use Rattle.std.proofs.Common.{◌≡◌, ℕ, zero, suc, ◌+◌, ◌-◌, ◌<◌, ◌≤◌, Bool, true, false, if◌then◌else◌, List, [], ◌∷◌, ◌++◌, length, take, Option, Some, None, refl, subst, nat_le, arith, length-take}
 use Rattle.std.specs.Prelude.{slice_get}
-use Rattle.std.proofs.lemmas.Bool.{leb-true, leb-false}
+use Rattle.std.proofs.lemmas.Bool.{leb-true}
 use Rattle.std.proofs.lemmas.Option.{slice_get_within}
 use Rattle.sync_objects.specs.Setup.{SetupView}
 use Rattle.rr_base.specs.declared.layout.Site.{Site}
@@ -10,12 +10,11 @@ use Rattle.flow_code.specs.declared.act.Instr.{Instr}
 use Rattle.flow_code.specs.declared.code.Code.{Code}
 use Rattle.flow_code.specs.declared.code.Function.{Function}
 use Rattle.flow_code.specs.declared.thread.Phase.{Phase}
-use Rattle.flow_code.specs.declared.thread.Phase.TheVariants as phase
 use Rattle.flow_code.specs.declared.thread.Onward.{Onward}
 use Rattle.flow_code.specs.declared.thread.Onward.TheVariants as onward
 use Rattle.flow_code.specs.Library.{most_printed}
 use Rattle.flow_code.specs.Threads.{Frame, Thread, Object, object, arena_end, size_of, objects_in, fitted, instr_in, instr_at, instrs_in}
-use Rattle.flow_code.specs.Next.{most_frames, past, given, act_in, act_at, in_frame, or_else, entered, one_made, went_on, back_in, result_of}
+use Rattle.flow_code.specs.Next.{most_frames, past, given, act_in, act_at, in_frame, or_else, entered, one_made, went_on, back_in}
 use Rattle.flow_code.specs.Ranges.{most_made}
 use Rattle.flow_code.proofs.Calls.{GoesOn}
 

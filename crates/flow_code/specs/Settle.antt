@@ -4,6 +4,8 @@ use Rattle.sync_objects.specs.Setup.{SetupView}
 use Rattle.flow_code.specs.declared.act.Act.{Act}
 use Rattle.flow_code.specs.declared.act.Act.TheVariants as act
 use Rattle.flow_code.specs.declared.act.Instr.{Instr}
+use Rattle.flow_code.specs.declared.act.LibraryCall.{LibraryCall}
+use Rattle.flow_code.specs.declared.act.LibraryCall.TheVariants as call
 use Rattle.flow_code.specs.declared.code.Code.{Code}
 use Rattle.flow_code.specs.declared.thread.Due.{Due}
 use Rattle.flow_code.specs.declared.thread.Due.TheVariants as due
@@ -48,12 +50,19 @@ after code s t th answer = stepped code s t (settled code s t th) answer
 abbrev pub IsJump : List Instr → ℕ → ℕ → Type 0
 IsJump is at to = (at < to) ⊎ (act_in (slice_get is to) ≡ Some act.Mark)
 
+-- a function with which a thread is started has a number that its slot's word can hold
+abbrev pub IsSoundCall : LibraryCall → Type 0
+IsSoundCall (call.Create function) = function < 2 ^ 20
+IsSoundCall _ = Unit {0}
+
 abbrev pub IsSoundAct : List Instr → ℕ → Option Act → Type 0
 IsSoundAct is at (Some (act.Jump to)) = IsJump is at to
 IsSoundAct is at (Some (act.Branch on then_at else_at)) = IsJump is at then_at × IsJump is at else_at
+IsSoundAct is at (Some (act.Library call arguments into)) = IsSoundCall call
 IsSoundAct is at _ = Unit {0}
 
--- what a thread needs of its code so that its quiet steps end and its cells have numbers; each valid code has it
+-- what a thread needs of its code so that its quiet steps end, and its cells and the functions that it starts have numbers;
+-- each valid code has it
 pub record IsRunnable (code : Code) : Type 0 where
   pub jumps : (f k : ℕ) → IsSoundAct (instrs_in (slice_get code.functions f)) k (act_in (slice_get (instrs_in (slice_get code.functions f)) k))
   pub few_globals : length code.globals ≤ 2 ^ 20
