@@ -1,7 +1,9 @@
 -- A running thread as the interpreter shows it: its code, its setup, its number, its state, and whether it has room for a
 -- step more.
 use Rattle.std.specs.Prelude.{ℕ, ◌<◌, ◌^◌, nat_le, ◌&&◌, Bool, true, false, Option, Some, None, slice_get}
-use Rattle.sync_objects.specs.Setup.{SetupView}
+use Rattle.sync_objects.specs.Setup.{SetupView, IsWithinLimits}
+use Rattle.flow_code.specs.Ranges.{InRange}
+use Rattle.flow_code.specs.Settle.{IsRunnable}
 use Rattle.sync_objects.specs.declared.operation.Op.{Op}
 use Rattle.sync_objects.specs.declared.operation.Op.TheVariants as op
 use Rattle.flow_code.specs.declared.act.Act.{Act}
@@ -54,3 +56,10 @@ pub record Fits (th : Thread) : Type 0 where
   pub made : th.top.made < 2 ^ 8
   pub arena : th.arena < 2 ^ 32
   pub printed : th.printed < 2 ^ 32
+
+-- a running thread of a code that can be run, with its numbers in range
+pub record IsSoundFlow (code : Code) (s : SetupView) (t : ℕ) (th : Thread) : Type 0 where
+  pub runnable : IsRunnable code
+  pub limits : IsWithinLimits s
+  pub number : t < s.slots
+  pub range : InRange code s t th

@@ -3,13 +3,13 @@ ghost use Rattle.std.specs.Prelude.{◌≡◌, ◌<◌, ◌≤◌, ◌^◌, ◌+
 ghost use Rattle.std.specs.Vec.{vec_len, vec_capacity};
 ghost use Rattle.sync_objects.specs.Names.{name_of};
 ghost use Rattle.flow_code.specs.Next.{computed, allocated, end_onward, back_in, went_on, counted, in_frame, past as past_of, result_of, gave_up, stopped, shut, lost, repaid, with_owed, same_stripe, act_in, holds as holds_stripe};
-ghost use Rattle.flow_code.specs.Threads.{Frame as FrameView};
+ghost use Rattle.flow_code.specs.Threads.{Frame as FrameView, instrs_in};
 ghost use Rattle.std.specs.Option.{option_copied};
 ghost use Rattle.core_run.specs.Flows.{Kept, is_ready};
 
 use crate::frame::Frame;
 use crate::region::OpenRegion;
-use crate::place::instr_at;
+use crate::place::{instr_at, instrs_at};
 use flow_code::{Act, Code, Instr, Onward, Phase, Stripe, pointer_at};
 use rr_base::Trap;
 use std::alloc::{AllocError, Global};
@@ -124,11 +124,12 @@ impl ThreadState {
 
     // Goes back to the frame below, behind its call.
     pub(crate) fn back(&mut self, code: &Code, value: u64)
-        requires { (f : FrameView) → slice_get self.old.thread.below (length self.old.thread.below - 1) ≡ Some f → f.instr + 1 < 2 ^ 64 }
+        requires { (f : FrameView) → slice_get self.old.thread.below (length self.old.thread.below - 1) ≡ Some f → f.instr < length (instrs_in (slice_get code.now.functions f.function)) }
         ensures { self.new.thread ≡ back_in code.now self.old.thread value (slice_get self.old.thread.below (length self.old.thread.below - 1)) }
     {
         if let Some(mut caller) = self.below.pop() {
             let (function, instr) = caller.place();
+            let _instrs = instrs_at(code, function).len();
             caller.give(result_register(instr_at(code, function, instr)), value);
             caller.pass();
             self.top = caller;

@@ -1,6 +1,6 @@
 // One step of a thread, with its answer.
 ghost use Rattle.std.specs.Prelude.{◌≡◌, ◌<◌, ◌≤◌, ◌^◌, ◌+◌, ◌-◌, length, slice_get, true, Some};
-ghost use Rattle.flow_code.specs.Threads.{registers_in, Frame as FrameView, line_of as line_of_phase};
+ghost use Rattle.flow_code.specs.Threads.{registers_in, Frame as FrameView, line_of as line_of_phase, instrs_in};
 ghost use Rattle.flow_code.specs.Next.{returned as returned_of, act_after, phase_after, after_due as after_due_of, branch_to as branch_to_of, computed, pointers_of, allocated, cells_in as cells_in_of, in_frame, past as past_of, with_register, jumped, counted, repaid};
 ghost use Rattle.sync_objects.specs.declared.operation.Op.TheVariants as op;
 ghost use Rattle.flow_code.specs.declared.thread.Phase.TheVariants as phase;
@@ -33,7 +33,7 @@ fn is_retake(op: Op) -> bool
 impl ThreadState {
     fn take_return(&mut self, code: &Code, value: u64)
         requires made { self.old.thread.top.made + 1 < 2 ^ 8 }
-        requires caller { (f : FrameView) → slice_get self.old.thread.below (length self.old.thread.below - 1) ≡ Some f → f.instr + 1 < 2 ^ 64 }
+        requires caller { (f : FrameView) → slice_get self.old.thread.below (length self.old.thread.below - 1) ≡ Some f → f.instr < length (instrs_in (slice_get code.now.functions f.function)) }
         ensures { self.new.thread ≡ returned_of code.now self.old.thread value }
     {
         if self.below.is_empty() {
@@ -98,7 +98,7 @@ impl ThreadState {
         requires room { needs_of_act code.now (Some act.now) ≤ self.old.registers }
         requires instr { self.old.thread.top.instr + 1 < 2 ^ 64 }
         requires before { self.old.thread.top.made + 1 < 2 ^ 8 }
-        requires caller { (f : FrameView) → slice_get self.old.thread.below (length self.old.thread.below - 1) ≡ Some f → f.instr + 1 < 2 ^ 64 }
+        requires caller { (f : FrameView) → slice_get self.old.thread.below (length self.old.thread.below - 1) ≡ Some f → f.instr < length (instrs_in (slice_get code.now.functions f.function)) }
         requires made { (act_after code.now setup.now thread self.old.thread (Some act.now) answer).top.made < 2 ^ 8 }
         requires arena { (act_after code.now setup.now thread self.old.thread (Some act.now) answer).arena < 2 ^ 32 }
         requires printed { (act_after code.now setup.now thread self.old.thread (Some act.now) answer).printed < 2 ^ 32 }
@@ -132,7 +132,7 @@ impl ThreadState {
         requires place { self.old.has_place ≡ true }
         requires room { needs code.now self.old.thread ≤ self.old.registers }
         requires before { self.old.thread.top.made + 1 < 2 ^ 8 }
-        requires caller { (f : FrameView) → slice_get self.old.thread.below (length self.old.thread.below - 1) ≡ Some f → f.instr + 1 < 2 ^ 64 }
+        requires caller { (f : FrameView) → slice_get self.old.thread.below (length self.old.thread.below - 1) ≡ Some f → f.instr < length (instrs_in (slice_get code.now.functions f.function)) }
         requires made { (phase_after code.now setup.now thread self.old.thread self.old.thread.phase answer).top.made < 2 ^ 8 }
         requires arena { (phase_after code.now setup.now thread self.old.thread self.old.thread.phase answer).arena < 2 ^ 32 }
         requires printed { (phase_after code.now setup.now thread self.old.thread self.old.thread.phase answer).printed < 2 ^ 32 }
@@ -205,7 +205,7 @@ impl ThreadState {
         requires place { self.old.has_place ≡ true }
         requires room { needs code.now self.old.thread ≤ self.old.registers }
         requires before { self.old.thread.top.made + 1 < 2 ^ 8 }
-        requires caller { (f : FrameView) → slice_get self.old.thread.below (length self.old.thread.below - 1) ≡ Some f → f.instr + 1 < 2 ^ 64 }
+        requires caller { (f : FrameView) → slice_get self.old.thread.below (length self.old.thread.below - 1) ≡ Some f → f.instr < length (instrs_in (slice_get code.now.functions f.function)) }
         requires fits { Fits (after_due_of code.now setup.now thread self.old.thread due answer) }
         ensures { self.new.thread ≡ after_due_of code.now setup.now thread self.old.thread due answer }
     {
