@@ -1,1 +1,2 @@
+pub mod FlowFacts
 pub mod Retakes

@@ -6,6 +6,7 @@
 mod access;
 mod due;
 mod enter;
+mod flow;
 mod frame;
 mod next;
 mod outcome;
@@ -15,6 +16,7 @@ mod state;
 mod step;
 
 pub use access::{Access, Formula};
+pub use flow::Flow;
 pub use flow_code::{Action, Phase};
 pub use outcome::{Ending, Walk};
 pub use sync_objects::{Entry, Noted, Setup};
