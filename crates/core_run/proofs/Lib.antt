@@ -1,2 +1,4 @@
 pub mod FlowFacts
+pub mod Lawful
+pub mod Places
 pub mod Retakes

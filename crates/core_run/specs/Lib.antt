@@ -1,3 +1,4 @@
+pub mod Endings
 pub mod Flows
 pub mod Machine
 pub mod Pieces

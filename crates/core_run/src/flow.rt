@@ -4,10 +4,13 @@ ghost use Rattle.flow_code.specs.Next.{action_at, stepped, gave_up, stopped, shu
 ghost use Rattle.flow_code.specs.Settle.{IsRunnable, weight, settled};
 ghost use Rattle.core_run.specs.Flows.{is_ready, needs};
 ghost use Rattle.core_run.specs.Machine.{start_thread};
+ghost use Rattle.core_run.specs.Endings.{ending_of, trap_of};
 
 use crate::due::action_of;
+use crate::outcome::Ending;
 use crate::state::ThreadState;
-use flow_code::{Action, Code};
+use flow_code::{Action, Code, Phase};
+use rr_base::Trap;
 use std::alloc::{AllocError, Global};
 use std::marker::Model;
 use sync_objects::Setup;
@@ -48,8 +51,87 @@ impl<'a> Flow<'a> {
         ensures setup { self.new.setup ≡ self.old.setup }
         ensures number { self.new.number ≡ self.old.number }
         ensures thread { self.new.kept.thread ≡ stepped self.old.code self.old.setup self.old.number self.old.kept.thread answer }
+        ensures falls { action_at self.old.code self.old.setup self.old.number self.old.kept.thread ≡ Action.Quiet → weight self.new.code self.new.setup self.new.number self.new.kept.thread < weight self.old.code self.old.setup self.old.number self.old.kept.thread }
+        ensures same { action_at self.old.code self.old.setup self.old.number self.old.kept.thread ≡ Action.Quiet → settled self.new.code self.new.setup self.new.number self.new.kept.thread ≡ settled self.old.code self.old.setup self.old.number self.old.kept.thread }
     {
         let due = self.state.due(self.code, self.setup, self.thread);
         self.state.step(self.alloc, self.code, self.setup, self.thread, due, answer);
+    }
+
+    /// Makes room for one more step.
+    pub fn reserve(&mut self) -> Result<(), AllocError>
+        ensures code { self.new.code ≡ self.old.code }
+        ensures setup { self.new.setup ≡ self.old.setup }
+        ensures number { self.new.number ≡ self.old.number }
+        ensures same { self.new.kept.thread ≡ self.old.kept.thread }
+        ensures ready { OnOk result (is_ready self.new.code self.new.kept ≡ true) }
+    {
+        self.state.reserve(self.code)
+    }
+
+    /// Whether the thread holds the stripe.
+    pub fn holds(&self, lock: u16, stripe: u8) -> bool
+        ensures { result ≡ holds_stripe self.now.kept.thread.stripes lock stripe }
+    {
+        self.state.holds(lock, stripe)
+    }
+
+    /// How many events the thread has made.
+    pub fn count(&self) -> u32
+        ensures { result ≡ self.now.kept.thread.count }
+    {
+        self.state.count
+    }
+
+    /// How many entries it has that aren't ending ones.
+    pub fn entries(&self) -> u32
+        ensures { result ≡ self.now.kept.thread.entries }
+    {
+        self.state.entries
+    }
+
+    /// How many of its entries are revokes.
+    pub fn revokes(&self) -> u32
+        ensures { result ≡ self.now.kept.thread.revokes }
+    {
+        self.state.revokes
+    }
+
+    /// How far the thread is in its life.
+    pub fn phase(&self) -> Phase
+        ensures { result ≡ self.now.kept.thread.phase }
+    {
+        self.state.phase
+    }
+
+    /// Whether the thread has begun. Thread 0 has begun at the start.
+    pub fn has_begun(&self) -> bool
+        ensures { result ≡ has_begun self.now.kept.thread.phase }
+    {
+        !matches!(self.state.phase, Phase::Fresh | Phase::Closed)
+    }
+
+    /// How the thread has ended; None exactly where it hasn't.
+    pub fn ending(&self) -> Option<Ending>
+        ensures { result ≡ ending_of self.now.kept.thread.phase }
+    {
+        match self.state.phase {
+            Phase::Fresh | Phase::Begun(_) | Phase::Loaded { .. } | Phase::Running => None,
+            Phase::Ended => Some(Ending::Ended),
+            Phase::Halted => Some(Ending::Halted),
+            Phase::Trapped { .. } => Some(Ending::Trapped),
+            Phase::Stopped => Some(Ending::Stopped),
+            Phase::Closed => Some(Ending::Closed),
+        }
+    }
+
+    /// The kind and the line of the thread's trap; None exactly where it hasn't trapped.
+    pub fn trap(&self) -> Option<(Trap, u32)>
+        ensures { result ≡ trap_of self.now.kept.thread.phase }
+    {
+        match self.state.phase {
+            Phase::Trapped { kind, line } => Some((kind, line)),
+            _ => None,
+        }
     }
 }

@@ -5,11 +5,13 @@ ghost use Rattle.sync_objects.specs.Names.{name_of};
 ghost use Rattle.flow_code.specs.Next.{computed, allocated, end_onward, back_in, went_on, counted, in_frame, past as past_of, result_of, gave_up, stopped, shut, lost, repaid, with_owed, same_stripe, act_in, holds as holds_stripe};
 ghost use Rattle.flow_code.specs.Threads.{Frame as FrameView, instrs_in};
 ghost use Rattle.std.specs.Option.{option_copied};
-ghost use Rattle.core_run.specs.Flows.{Kept, is_ready};
+ghost use Rattle.core_run.specs.Flows.{Kept, is_ready, needs};
+ghost use Rattle.core_run.specs.Machine.{no_frame};
+ghost use Rattle.std.specs.Prelude.{OnOk};
 
 use crate::frame::Frame;
 use crate::region::OpenRegion;
-use crate::place::{instr_at, instrs_at};
+use crate::place::{instr_at, instrs_at, registers_at};
 use flow_code::{Act, Code, Instr, Onward, Phase, Stripe, pointer_at};
 use rr_base::Trap;
 use std::alloc::{AllocError, Global};
@@ -47,6 +49,59 @@ impl Model for ThreadState {
 }
 
 impl ThreadState {
+    /// A thread at its start, in this phase and with its arena from this cell on.
+    pub(crate) fn start(alloc: Global, phase: Phase, arena: u32) -> ThreadState
+        ensures { result.thread ≡ record { count = 0; arena = arena; entries = 0; revokes = 0; printed = 0; phase = phase; top = no_frame; below = []; stripes = []; regions = [] } }
+    {
+        ThreadState {
+            count: 0,
+            arena,
+            entries: 0,
+            revokes: 0,
+            printed: 0,
+            phase,
+            top: Frame {
+                function: 0,
+                instr: 0,
+                made: 0,
+                kept: 0,
+                registers: Vec::new(alloc),
+            },
+            below: Vec::new(alloc),
+            spare: Vec::new(alloc),
+            stripes: Vec::new(alloc),
+            regions: Vec::new(alloc),
+        }
+    }
+
+    // How many registers the next step needs.
+    fn needed(&self, code: &Code) -> u32
+        ensures { result ≡ needs code.now self.now.thread }
+    {
+        match self.phase {
+            Phase::Begun(function) | Phase::Loaded { function, .. } => registers_at(code, function),
+            Phase::Running => {
+                let (function, instr) = self.top.place();
+                match instr_at(code, function, instr) {
+                    Some(Instr { act: Act::Call { function, .. }, .. }) => registers_at(code, *function),
+                    _ => 0,
+                }
+            }
+            _ => 0,
+        }
+    }
+
+    /// Makes room for one more step.
+    pub(crate) fn reserve(&mut self, code: &Code) -> Result<(), AllocError>
+        ensures same { self.new.thread ≡ self.old.thread }
+        ensures ready { OnOk result (is_ready code.now self.new ≡ true) }
+    {
+        self.below.reserve(1)?;
+        let needed = self.needed(code);
+        self.spare.clear();
+        self.spare.reserve(needed as usize)
+    }
+
     // Puts a result into a register, and goes on.
     pub(crate) fn compute(&mut self, into: u32, value: Result<u64, Trap>)
         requires { self.old.thread.top.instr + 1 < 2 ^ 64 }

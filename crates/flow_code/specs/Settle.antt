@@ -66,3 +66,4 @@ IsSoundAct is at _ = Unit {0}
 pub record IsRunnable (code : Code) : Type 0 where
   pub jumps : (f k : ℕ) → IsSoundAct (instrs_in (slice_get code.functions f)) k (act_in (slice_get (instrs_in (slice_get code.functions f)) k))
   pub few_globals : length code.globals ≤ 2 ^ 20
+  pub few_functions : length code.functions ≤ 2 ^ 20
