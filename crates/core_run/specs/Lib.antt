@@ -2,4 +2,5 @@ pub mod Endings
 pub mod Flows
 pub mod Machine
 pub mod Pieces
+pub mod Walks
 pub mod Words
