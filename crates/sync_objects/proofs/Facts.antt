@@ -8,8 +8,8 @@ use Rattle.sync_objects.specs.declared.operation.Op.TheVariants as op
 use Rattle.sync_objects.specs.Names.{name_of, kind_of}
 use Rattle.sync_objects.specs.States.{LockState, Free, HeldBy, StateOf}
 use Rattle.sync_objects.specs.Packing.{packed, unpacked, shown, packed_lock, lock_of}
-use Rattle.sync_objects.specs.Advance.{Advance, NotAllowed, Advances, advanced}
-use Rattle.sync_objects.specs.Table.{Moves, first_row, rows}
+use Rattle.sync_objects.specs.Advance.{Advance, NotAllowed, Advances, after_move, advanced}
+use Rattle.sync_objects.specs.Table.{NoRow, Moves, first_row, rows}
 use Rattle.sync_objects.specs.Sound.{IsSoundState, IsSoundWord, IsInRange}
 use Rattle.sync_objects.specs.Words.{number_of, state_of, word_of}
 use Rattle.sync_objects.proofs.Packings.{number_of-word_of, state_of-word_of, unpacked-packed, packed-fits, held_parts}
@@ -29,6 +29,15 @@ moves o t word after answer small range few sound e =
     let h = subst (SoundMove k (number_of word + 1)) i.1 (row_is_sound o t (number_of word) (shown k word) small range sound.state) in
     let s = ap (shown k) i.2 ∙ shown-word_of k (number_of word + 1) i.0 (omega arith) h in
     i.1 ∙ ap (λ z. Moves z answer) (sym s)
+
+-- a row that fits the state which the word shows makes the operation allowed, and where none does it isn't
+pub allowed : (o : Op) (t word : ℕ) (s : StateOf (kind_of (name_of o))) (answer : ℤ) → first_row (rows o t) (shown (kind_of (name_of o)) word) ≡ Moves s answer → advanced o t word ≡ Advances (word_of (number_of word + 1) (packed (kind_of (name_of o)) s)) answer
+unfolding advanced
+allowed o t word s answer e = ap (after_move (kind_of (name_of o)) word) e
+
+pub not_allowed_by : (o : Op) (t word : ℕ) → first_row (rows o t) (shown (kind_of (name_of o)) word) ≡ NoRow → advanced o t word ≡ NotAllowed
+unfolding advanced
+not_allowed_by o t word e = ap (after_move (kind_of (name_of o)) word) e
 
 -- who holds the mutex or the stripe of this word
 abbrev pub lock_in : ℕ → LockState

@@ -8,6 +8,7 @@ use Rattle.sync_objects.specs.Names.{name_of, kind_of}
 use Rattle.sync_objects.specs.Packing.{shown}
 use Rattle.sync_objects.specs.States.{StateOf}
 use Rattle.sync_objects.specs.Table.{Move, NoRow, Moves, first_row, rows}
+use Rattle.sync_objects.proofs.Soundness.{keeps_sound}
 use Rattle.sync_objects.specs.Words.{number_of, state_of, word_of}
 
 stays : (k : ObjKind) (word : ℕ) (m : Move (StateOf k)) → packed_move k m ≡ NoRow → after_move k word m ≡ NotAllowed
@@ -27,3 +28,5 @@ not_allowed o t word e = stays (kind_of (name_of o)) word (first_row (rows o t) 
 pub advances : (o : Op) (t word state : ℕ) (answer : ℤ) → moved o t (state_of word) ≡ Moves state answer → advanced o t word ≡ Advances (word_of (number_of word + 1) state) answer
 unfolding advanced moved
 advances o t word state answer e = goes (kind_of (name_of o)) word (first_row (rows o t) (shown (kind_of (name_of o)) word)) state answer e
+
+pub ruleset advancing = (not_allowed, advances, keeps_sound)

@@ -1,5 +1,5 @@
 -- Every start word is sound, and every row of the table keeps a word sound.
-use Rattle.std.proofs.Common.{◌≡◌, ℕ, zero, suc, ◌+◌, ◌-◌, ◌^◌, ◌<◌, ◌==◌, ◌||◌, nat_lt, not, Bool, true, false, if◌then◌else◌, ℤ, inl, refl, sym, ap, ◌∙◌, subst, arith}
+use Rattle.std.proofs.Common.{◌≡◌, ℕ, zero, suc, ◌+◌, ◌-◌, ◌^◌, ◌<◌, ◌==◌, ◌||◌, nat_lt, not, Bool, true, false, if◌then◌else◌, ℤ, refl, sym, ap, ◌∙◌, subst, arith}
 use Rattle.std.proofs.lemmas.Bool.Decides.{nat_tests}
 use Rattle.sync_objects.specs.declared.kind.ObjKind.{ObjKind}
 use Rattle.sync_objects.specs.declared.kind.ObjKind.TheVariants as kind

@@ -4,34 +4,57 @@ ghost use Rattle.sync_objects.specs.Names.{name_of, kind_of, Fits, is_ending, is
 use crate::kind::ObjKind;
 use crate::object::ObjId;
 
-/// An operation on a synchronisation object, with what it carries.
+/// An operation on a synchronisation object, with what it carries. What each of them does is in the table of
+/// `advance`; POSIX calls of more than one step, as `pthread_cond_wait`, are made of several.
 #[derive(Clone, Copy, Debug, PartialEq, Eq)]
 pub enum Op {
     Lock,
     TryLock,
     Unlock,
     MutexInit,
+    /// A thread begins to wait on a condition.
     CondEnter,
+    /// A thread that began to wait in this epoch goes on.
     CondWake { epoch: u32 },
+    /// All threads that wait on a condition are woken.
     Signal,
+    /// A barrier waits for so many threads.
     BarrierInit { count: u8 },
+    /// A thread comes to a barrier.
     Arrive,
+    /// A thread that came in this generation goes on.
     Pass { generation: u32 },
+    /// A thread takes a stripe of a weak lock.
     Take,
+    /// A thread takes a stripe again that was taken from it.
     Retake,
+    /// A thread gives a stripe back.
     Give,
+    /// A stripe is taken from the thread that holds it.
     Revoke,
+    /// A thread draws the number of the next thread, in a run of so many slots: 1 to 16.
     Draw { slots: u8 },
+    /// A slot's thread may begin with the function of this number, which is below 2^20.
     Start { function: u32 },
+    /// A thread begins.
     Begin,
+    /// The function of a thread has ended.
     End,
+    /// A thread waits for another one's end.
     Join,
+    /// A slot whose thread hasn't begun is taken out of the run.
     Close,
+    /// A thread that has ended is live no more.
     Leave,
+    /// `main` has returned.
     HaltAll,
+    /// A thread has trapped.
     TrapHere,
+    /// A thread ends since the program has.
     Stop,
+    /// One byte is read of an input of so many bytes.
     GetChar { len: u32 },
+    /// Bytes are printed.
     Print,
 }
 

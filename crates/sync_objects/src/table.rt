@@ -13,7 +13,7 @@ use crate::word;
 /// What the operation by this thread makes of the word of its object, with its answer, or None exactly where the
 /// table doesn't allow it there. The word is one that an object of the operation's kind can have, and so is the
 /// new word.
-#[tactic(auto, using(crate::proofs::Packed::not_allowed, crate::proofs::Packed::advances, crate::proofs::Soundness::keeps_sound))]
+#[tactic(auto, using(crate::proofs::Packed::advancing))]
 pub fn advance(op: Op, thread: u8, word: u64) -> Option<(u64, i64)>
     requires thread { thread < 16 }
     requires range { IsInRange op }

@@ -37,6 +37,7 @@ fn packed(parts: Parts) -> u32
     parts.count | (parts.arrived << 5) | (parts.generation << 10)
 }
 
+/// `pthread_barrier_init` for 1 to 16 threads. A misuse where some have come, or for another count.
 pub fn init(count: u8, state: u32) -> Moved
     ensures { (thread : ℕ) → moved (op.BarrierInit count) thread state ≡ Moves result.state result.answer }
 {
@@ -49,6 +50,7 @@ pub fn init(count: u8, state: u32) -> Moved
     }
 }
 
+/// The start of `pthread_barrier_wait`: the last thread to come is told so, each other one gets the generation.
 pub fn arrive(state: u32) -> Moved
     requires { state / 32 % 32 < 16 }
     ensures { (thread : ℕ) → moved op.Arrive thread state ≡ Moves result.state result.answer }
@@ -72,6 +74,7 @@ pub fn arrive(state: u32) -> Moved
     }
 }
 
+/// The end of `pthread_barrier_wait`: waits until the generation has passed.
 pub fn pass(generation: u32, state: u32) -> Option<Moved>
     ensures { (thread : ℕ) → Gives (moved (op.Pass generation) thread state) result }
 {

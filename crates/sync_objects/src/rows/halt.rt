@@ -12,6 +12,7 @@ const HALTED: u32 = 1;
 
 const TRAPPED: u32 = 2;
 
+/// The end of the program by `main`'s return.
 pub fn halt(state: u32) -> Option<Moved>
     ensures { (thread : ℕ) → Gives (moved op.HaltAll thread state) result }
 {
@@ -22,6 +23,7 @@ pub fn halt(state: u32) -> Option<Moved>
     }
 }
 
+/// The end of the program by a trap.
 pub fn trap(state: u32) -> Option<Moved>
     ensures { (thread : ℕ) → Gives (moved op.TrapHere thread state) result }
 {
@@ -32,6 +34,7 @@ pub fn trap(state: u32) -> Option<Moved>
     }
 }
 
+/// A thread stops, since the program has ended.
 pub fn stop(state: u32) -> Option<Moved>
     requires { state ≤ 2 }
     ensures { (thread : ℕ) → Gives (moved op.Stop thread state) result }

@@ -7,6 +7,7 @@ ghost use Rattle.sync_objects.specs.Table.{Moves};
 
 use crate::rows::moved::{DONE, Moved};
 
+/// `getchar`: the position of the next byte among the `len` of the input, or `len` at its end.
 pub fn get_char(len: u32, state: u32) -> Moved
     ensures { (thread : ℕ) → moved (op.GetChar len) thread state ≡ Moves result.state result.answer }
 {
@@ -14,6 +15,7 @@ pub fn get_char(len: u32, state: u32) -> Moved
     Moved::new(next, state as i64)
 }
 
+/// `printf` and its kin, whose bytes the thread keeps.
 pub fn print(state: u32) -> Moved
     requires { state ≡ 0 }
     ensures { (thread : ℕ) → moved op.Print thread state ≡ Moves result.state result.answer }

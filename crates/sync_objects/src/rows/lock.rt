@@ -15,6 +15,7 @@ fn held_by(thread: u8) -> u32
     thread as u32 + 1
 }
 
+/// `pthread_mutex_lock`: waits for a free mutex. A thread that holds it already misuses it.
 pub fn lock(thread: u8, state: u32) -> Option<Moved>
     ensures { Gives (moved op.Lock thread state) result }
 {
@@ -28,6 +29,7 @@ pub fn lock(thread: u8, state: u32) -> Option<Moved>
     }
 }
 
+/// `pthread_mutex_trylock`, which never waits.
 pub fn try_lock(thread: u8, state: u32) -> Moved
     ensures { moved op.TryLock thread state ≡ Moves result.state result.answer }
 {
@@ -38,6 +40,7 @@ pub fn try_lock(thread: u8, state: u32) -> Moved
     }
 }
 
+/// `pthread_mutex_unlock`. A thread that doesn't hold the mutex misuses it.
 pub fn unlock(thread: u8, state: u32) -> Moved
     ensures { moved op.Unlock thread state ≡ Moves result.state result.answer }
 {
@@ -48,6 +51,7 @@ pub fn unlock(thread: u8, state: u32) -> Moved
     }
 }
 
+/// `pthread_mutex_init`, which is a misuse of a held mutex.
 pub fn init(state: u32) -> Moved
     ensures { (thread : ℕ) → moved op.MutexInit thread state ≡ Moves result.state result.answer }
 {

@@ -20,6 +20,7 @@ const SHUT: u32 = 5;
 
 const FIRST_STARTED: u32 = 6;
 
+/// `pthread_create`: the slot's thread may begin with this function, unless the slot is closed.
 pub fn start(function: u32, state: u32) -> Option<Moved>
     requires { function < 2 ^ 20 }
     ensures { (thread : ℕ) → Gives (moved (op.Start function) thread state) result }
@@ -31,6 +32,7 @@ pub fn start(function: u32, state: u32) -> Option<Moved>
     }
 }
 
+/// The thread's first operation, which is answered the function.
 pub fn begin(state: u32) -> Option<Moved>
     ensures { (thread : ℕ) → Gives (moved op.Begin thread state) result }
 {
@@ -41,6 +43,7 @@ pub fn begin(state: u32) -> Option<Moved>
     }
 }
 
+/// The end of the thread's function.
 pub fn end(state: u32) -> Option<Moved>
     ensures { (thread : ℕ) → Gives (moved op.End thread state) result }
 {
@@ -51,6 +54,7 @@ pub fn end(state: u32) -> Option<Moved>
     }
 }
 
+/// `pthread_join`: waits for the thread's end. A misuse where no thread was started, or it was joined.
 pub fn join(state: u32) -> Option<Moved>
     ensures { (thread : ℕ) → Gives (moved op.Join thread state) result }
 {
@@ -61,6 +65,7 @@ pub fn join(state: u32) -> Option<Moved>
     }
 }
 
+/// An idle slot takes no thread any more.
 pub fn close(state: u32) -> Option<Moved>
     ensures { (thread : ℕ) → Gives (moved op.Close thread state) result }
 {

@@ -12,6 +12,7 @@ const ONE_LIVE: u32 = 32;
 /// One thread is drawn, and it is live.
 pub const START: u32 = 33;
 
+/// `pthread_create` draws the number of the next thread, or 0 where all `slots` are drawn.
 pub fn draw(slots: u8, state: u32) -> Option<Moved>
     requires slots { slots ≤ 16 }
     requires live { state / 32 ≤ 16 }
@@ -28,6 +29,7 @@ pub fn draw(slots: u8, state: u32) -> Option<Moved>
     }
 }
 
+/// A thread that has ended is live no more.
 pub fn leave(state: u32) -> Option<Moved>
     ensures { (thread : ℕ) → Gives (moved op.Leave thread state) result }
 {
