@@ -1,0 +1,9 @@
+pub mod Bytes
+pub mod Tables
+pub mod Numbers
+pub mod Quotes
+pub mod Blanks
+pub mod Classes
+pub mod Names
+pub mod Directives
+pub mod Tokens
