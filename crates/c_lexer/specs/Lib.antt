@@ -3,6 +3,7 @@ pub mod Tables
 pub mod Numbers
 pub mod Quotes
 pub mod Blanks
+pub mod Entries
 pub mod Classes
 pub mod Names
 pub mod Directives

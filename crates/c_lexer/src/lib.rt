@@ -4,9 +4,11 @@
 mod fault;
 mod piece;
 mod scan;
+mod spelling;
 mod token;
 
 pub use fault::LexFault;
 pub use piece::{Body, Literal, Piece, Place, Unit};
+pub use spelling::{is_library_name, punct_at, word_of, is_blank_word, is_refused, header_len};
 pub use scan::{Class, byte, is_blank, begins_name, is_quotable, run_len, comment_len};
 pub use token::{Kind, Punct, Token, Word};
