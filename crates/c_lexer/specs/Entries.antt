@@ -1,6 +1,11 @@
--- What the calls on tables ask and give besides.
-use Rattle.std.specs.Prelude.{ℕ, ◌≤◌, Bool, true, ◌&&◌, nat_lt, List, [], ◌∷◌, length, Option, Some, None}
+-- What the calls on tables and numbers ask and give besides.
+use Rattle.std.specs.Prelude.{ℕ, ◌≤◌, ◌<◌, ◌+◌, ◌^◌, ◌≡◌, Bool, true, ◌&&◌, nat_lt, List, [], ◌∷◌, length, Option, Some, None}
 use Rattle.c_lexer.specs.Bytes.{Text}
+use Rattle.c_lexer.specs.declared.piece.Literal.{Literal}
+use Rattle.c_lexer.specs.declared.piece.Unit.{Unit as Part}
+use Rattle.c_lexer.specs.declared.piece.Unit.TheVariants as part
+use Rattle.c_lexer.specs.declared.piece.Body.{Body}
+use Rattle.c_lexer.specs.declared.piece.Body.TheVariants as body
 use Rattle.c_lexer.specs.declared.token.Punct.{Punct}
 
 -- no spelling is empty
@@ -12,3 +17,31 @@ have_bytes (e ∷ es) = nat_lt 0 (length e.0) && have_bytes es
 abbrev pub IsUpTo : Option ℕ → ℕ → Type 0
 IsUpTo None len = Unit {0}
 IsUpTo (Some n) len = n ≤ len
+
+abbrev pub IsNarrow : Option ℕ → Type 0
+IsNarrow None = Unit {0}
+IsNarrow (Some v) = v < 2 ^ 63
+
+-- a number of at most so many bytes, whose value the greatest type holds
+abbrev pub IsShort : Literal → ℕ → Type 0
+IsShort literal len = (literal.len ≤ len) × IsNarrow literal.value
+
+-- a unit lies within so many bytes
+abbrev pub IsPartWithin : Part → ℕ → Type 0
+IsPartWithin (part.Byte v n) len = (1 ≤ n) × (n ≤ len)
+IsPartWithin part.Close len = 1 ≤ len
+IsPartWithin part.BadEscape len = Unit {0}
+IsPartWithin part.Open len = Unit {0}
+
+-- an escape has a byte behind its `\`
+abbrev pub IsEscapeOf : ℕ → Part → Type 0
+IsEscapeOf b (part.Byte v n) = (0 < b) × (n ≡ 2)
+IsEscapeOf b part.Close = ⊥
+IsEscapeOf b part.BadEscape = Unit {0}
+IsEscapeOf b part.Open = Unit {0}
+
+-- what stands behind an opening quote lies within so many bytes, with the closing one
+abbrev pub IsBodyWithin : Body → ℕ → Type 0
+IsBodyWithin (body.Closed bytes n) len = n + 1 ≤ len
+IsBodyWithin (body.BadEscape at) len = at ≤ len
+IsBodyWithin body.Open len = Unit {0}

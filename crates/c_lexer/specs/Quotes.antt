@@ -66,9 +66,9 @@ body_from (suc left) at (b ∷ bs) = body_from left (at + 1) bs
 body_from zero at (b ∷ bs) = body_by (unit_at 34 (b ∷ bs)) at (λ n. body_from (n - 1) (at + 1) bs)
 
 abbrev pub text_by : Body → Piece
-text_by (body.Closed bytes len) = piece.Token (kind.Text bytes) (len + 1)
-text_by (body.BadEscape at) = piece.Fault fault.BadEscape at
+text_by (body.Closed bytes len) = piece.Token (kind.Text bytes) (len + 2)
+text_by (body.BadEscape at) = piece.Fault fault.BadEscape (at + 1)
 text_by body.Open = piece.Fault fault.OpenText 0
 
 unfoldable pub text_at : Text → Piece
-text_at text = text_by (body_from 0 1 (drop 1 text))
+text_at text = text_by (body_from 0 0 (drop 1 text))
