@@ -6,7 +6,8 @@ use Rattle.c_lexer.specs.Bytes.{Text, is_gap, is_in_line, begins_name, continues
 use Rattle.c_lexer.specs.Tables.{headers}
 use Rattle.c_lexer.specs.Numbers.{literal_at}
 use Rattle.c_lexer.specs.Blanks.{comment_end}
-use Rattle.c_lexer.specs.Names.{Defined, is_free}
+use Rattle.c_lexer.specs.Defined.{Defined}
+use Rattle.c_lexer.specs.Names.{is_free}
 use Rattle.c_lexer.specs.declared.fault.Fault.TheVariants.{BadDirective, WideNumber}
 use Rattle.c_lexer.specs.declared.piece.Literal.{Literal}
 use Rattle.c_lexer.specs.declared.piece.Piece.{Piece}

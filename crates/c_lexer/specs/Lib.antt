@@ -6,5 +6,6 @@ pub mod Blanks
 pub mod Entries
 pub mod Classes
 pub mod Names
+pub mod Defined
 pub mod Directives
 pub mod Tokens

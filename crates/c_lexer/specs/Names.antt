@@ -1,8 +1,9 @@
--- Names and words (C99 6.4.1, 6.4.2), and what `#define` has made of names.
+-- Names and words (C99 6.4.1, 6.4.2).
 use Rattle.std.specs.Prelude.{ℕ, Bool, not, ◌&&◌, ◌||◌, if◌then◌else◌, List, [], ◌∷◌, take, Option, Some, None, is_some, ℤ}
 use Rattle.std.specs.List.{prefix_len}
 use Rattle.std.specs.Str.{bytes_eq}
 use Rattle.c_lexer.specs.Bytes.{Text, continues_name}
+use Rattle.c_lexer.specs.Defined.{Defined}
 use Rattle.c_lexer.specs.Tables.{words, blank_words, refused_words, is_among, is_library_name}
 use Rattle.c_lexer.specs.declared.piece.Piece.{Piece}
 use Rattle.c_lexer.specs.declared.piece.Piece.TheVariants as piece
@@ -10,14 +11,10 @@ use Rattle.c_lexer.specs.declared.token.Kind.{Kind}
 use Rattle.c_lexer.specs.declared.token.Kind.TheVariants as kind
 use Rattle.c_lexer.specs.declared.token.Word.{Word}
 
--- the names that have a value, in the order of their directives
-abbrev pub Defined : Type 0
-Defined = List (Text × ℤ)
-
 -- what stands beside this spelling in a table
 abbrev pub entry_of : {A : Type 0} → List (Text × A) → Text → Option A
 entry_of [] name = None
-entry_of (e ∷ es) name = if bytes_eq e.0 name then Some e.1 else entry_of es name
+entry_of (e ∷ es) name = if bytes_eq name e.0 then Some e.1 else entry_of es name
 
 unfoldable pub word_of : Text → Option Word
 word_of = entry_of words

@@ -7,7 +7,8 @@ use Rattle.c_lexer.specs.Tables.{puncts}
 use Rattle.c_lexer.specs.Numbers.{number_at}
 use Rattle.c_lexer.specs.Quotes.{letter_at, text_at}
 use Rattle.c_lexer.specs.Blanks.{comment_at}
-use Rattle.c_lexer.specs.Names.{Defined, name_at}
+use Rattle.c_lexer.specs.Defined.{Defined}
+use Rattle.c_lexer.specs.Names.{name_at}
 use Rattle.c_lexer.specs.Directives.{directive_at}
 use Rattle.c_lexer.specs.declared.fault.Fault.{Fault}
 use Rattle.c_lexer.specs.declared.fault.Fault.TheVariants as fault

@@ -2,6 +2,7 @@
 #![tactic(auto)]
 
 mod fault;
+mod names;
 mod number;
 mod piece;
 mod quoted;
@@ -13,6 +14,7 @@ pub use fault::LexFault;
 pub use piece::{Body, Literal, Piece, Place, Unit};
 pub use spelling::{is_library_name, punct_at, word_of, is_blank_word, is_refused, header_len};
 pub use number::{literal_at, number_at};
+pub use names::Names;
 pub use quoted::{letter_at, text_at};
 pub use scan::{Class, byte, is_blank, begins_name, is_quotable, run_len, comment_len};
 pub use token::{Kind, Punct, Token, Word};

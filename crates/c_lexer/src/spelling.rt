@@ -163,7 +163,7 @@ fn word_in(mut table: &[(&[u8], Word)], name: &[u8]) -> Option<Word>
     ensures { result ≡ entry_of (map (λ e. (e.0.now, e.1)) table.entry.now) name.now }
 {
     while let [entry, rest @ ..] = table {
-        if entry.0 == name {
+        if name == entry.0 {
             return Some(entry.1);
         }
         table = rest;
