@@ -10,6 +10,7 @@ use Rattle.c_lexer.specs.Defined.{Defined}
 use Rattle.c_lexer.specs.Names.{is_free}
 use Rattle.c_lexer.specs.declared.fault.Fault.TheVariants.{BadDirective, WideNumber}
 use Rattle.c_lexer.specs.declared.piece.Literal.{Literal}
+use Rattle.c_lexer.specs.declared.piece.Parts.{Parts}
 use Rattle.c_lexer.specs.declared.piece.Piece.{Piece}
 use Rattle.c_lexer.specs.declared.piece.Piece.TheVariants as piece
 
@@ -51,23 +52,35 @@ include_at line =
     if nat_lt 8 header && include_by (header_len headers (drop header line)) (drop header line) then piece.Blank (length line)
     else piece.Fault BadDirective 0
 
--- the value of a definition, whose digits stand behind so many bytes of a line of this length
-abbrev pub define_by : Option ℕ → Bool → ℕ → ℕ → ℕ → ℕ → Piece
-define_by None minus digits from to len = piece.Fault WideNumber digits
-define_by (Some v) minus digits from to len = piece.Define from to (if minus then neg_ℤ (pos v) else pos v) len
-
--- a line that begins with `#define`: a gap, a name, a gap, a sign or none, and a number
-unfoldable pub define_at : Defined → Text → Piece
-define_at defined line =
+-- where the parts of a definition stand on its line: a gap, a name, a gap, a sign or none, and digits
+unfoldable pub parts_of : Text → Parts
+parts_of line =
     let from = 7 + gap_len (drop 7 line) in
     let to = from + prefix_len continues_name (drop from line) in
     let sign = to + gap_len (drop to line) in
     let minus = slice_index line sign == 45 in
-    let digits = if minus then sign + 1 else sign in
-    let literal = literal_at (drop digits line) in
-    if nat_lt 7 from && begins_name (slice_index line from) && nat_lt to sign && is_ascii_digit (slice_index line digits)
-        && is_tail (drop (digits + literal.len) line) && is_free defined (slice_range line from to)
-    then define_by literal.value minus digits from to (length line)
+    record { from = from; to = to; sign = sign; minus = minus; digits = if minus then sign + 1 else sign }
+
+-- none of the parts is missing
+unfoldable pub are_there : Parts → Text → Bool
+are_there parts line =
+    nat_lt 7 parts.from && begins_name (slice_index line parts.from) && nat_lt parts.to parts.sign && is_ascii_digit (slice_index line parts.digits)
+
+abbrev pub value_by : Option ℕ → Parts → ℕ → Piece
+value_by None parts len = piece.Fault WideNumber parts.digits
+value_by (Some v) parts len = piece.Define parts.from parts.to (if parts.minus then neg_ℤ (pos v) else pos v) len
+
+-- a definition by its number
+unfoldable pub valued : Literal → Parts → Text → Piece
+valued literal parts line =
+    if is_tail (drop (parts.digits + literal.len) line) then value_by literal.value parts (length line)
+    else piece.Fault BadDirective 0
+
+-- a line that begins with `#define`
+unfoldable pub define_at : Defined → Text → Piece
+define_at defined line =
+    let parts = parts_of line in
+    if are_there parts line && is_free defined (slice_range line parts.from parts.to) then valued (literal_at (drop parts.digits line)) parts line
     else piece.Fault BadDirective 0
 
 -- a text that begins with `#`, where a directive may stand

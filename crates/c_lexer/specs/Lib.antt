@@ -1,11 +1,11 @@
-pub mod Bytes
-pub mod Tables
-pub mod Numbers
-pub mod Quotes
 pub mod Blanks
-pub mod Entries
+pub mod Bytes
 pub mod Classes
-pub mod Names
 pub mod Defined
 pub mod Directives
+pub mod Names
+pub mod Numbers
+pub mod Pieces
+pub mod Quotes
+pub mod Tables
 pub mod Tokens

@@ -32,9 +32,9 @@ punct_in (e ∷ es) text = if starts_with nat_eq text e.0 then piece.Token (kind
 unfoldable pub punct_at : Text → Piece
 punct_at = punct_in puncts
 
--- what a text that isn't empty begins with, where these names have values, and no token stands before it on its line or one does
-unfoldable pub piece_at : Bool → Defined → Text → Piece
-piece_at first defined text =
+-- what a text that isn't empty begins with, where these names have values, but for directives
+unfoldable pub plain_at : Defined → Text → Piece
+plain_at defined text =
     let b = slice_index text 0 in
     if is_blank b then piece.Blank 1
     else (if starts_with nat_eq text (codes "//") then piece.Blank (prefix_len is_in_line text)
@@ -43,8 +43,11 @@ piece_at first defined text =
     else (if is_ascii_digit b then number_at text
     else (if b == 39 then letter_at text
     else (if b == 34 then text_at text
-    else (if b == 35 && first then directive_at defined text
-    else punct_at text)))))))
+    else punct_at text))))))
+
+-- the same with directives, each of which begins with the first byte on its line that isn't blank
+unfoldable pub piece_at : Bool → Defined → Text → Piece
+piece_at first defined text = if slice_index text 0 == 35 && first then directive_at defined text else plain_at defined text
 
 -- ---- where it stands
 
@@ -106,12 +109,3 @@ start = record { place = record { at = 0; line = 1; column = 1 }; token_line = 0
 
 unfoldable pub tokens_of : Text → Found
 tokens_of text = tokens_from 0 start text
-
--- ---- what the calls give
-
--- a piece lies within a text of this length, and isn't empty
-abbrev pub IsWithin : Piece → ℕ → Type 0
-IsWithin (piece.Blank n) len = (1 ≤ n) × (n ≤ len)
-IsWithin (piece.Token k n) len = (1 ≤ n) × (n ≤ len)
-IsWithin (piece.Define from to value n) len = (1 ≤ n) × (n ≤ len) × (from ≤ to) × (to ≤ len)
-IsWithin (piece.Fault f n) len = n ≤ len

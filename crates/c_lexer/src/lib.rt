@@ -1,6 +1,7 @@
 //! The tokens of a C source (C99 6.4) in this project's profile. It stands on `rr_base`.
 #![tactic(auto)]
 
+mod directive;
 mod fault;
 mod names;
 mod number;
@@ -10,8 +11,9 @@ mod scan;
 mod spelling;
 mod token;
 
+pub use directive::directive_at;
 pub use fault::LexFault;
-pub use piece::{Body, Literal, Piece, Place, Unit};
+pub use piece::{Body, Literal, Parts, Piece, Place, Unit};
 pub use spelling::{is_library_name, punct_at, word_of, is_blank_word, is_refused, header_len};
 pub use number::{literal_at, number_at};
 pub use names::Names;

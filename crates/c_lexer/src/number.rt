@@ -2,9 +2,9 @@
 
 ghost use Rattle.std.specs.Prelude.{◌≡◌, ◌<◌, ◌≤◌, ◌+◌, ◌^◌, length, slice_index, IsTrue};
 ghost use Rattle.std.specs.Char.{is_ascii_digit};
-ghost use Rattle.c_lexer.specs.Entries.{IsShort};
+ghost use Rattle.c_lexer.specs.Pieces.{IsShort};
 ghost use Rattle.c_lexer.specs.Numbers as spec;
-ghost use Rattle.c_lexer.specs.Tokens.{IsWithin};
+ghost use Rattle.c_lexer.specs.Pieces.{IsPlainWithin};
 
 use crate::fault::Fault;
 use crate::piece::{Literal, Piece};
@@ -86,7 +86,7 @@ pub fn literal_at(text: &[u8]) -> Literal
 pub fn number_at(text: &[u8]) -> Piece
     requires { IsTrue (is_ascii_digit (slice_index text.now 0)) }
     ensures value { result ≡ spec.number_at text.now }
-    ensures within { IsWithin result (length text.now) }
+    ensures within { IsPlainWithin result (length text.now) }
 {
     let Literal { value, len } = literal_at(text);
     match value {

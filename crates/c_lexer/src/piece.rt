@@ -40,6 +40,17 @@ pub enum Body {
     Open,
 }
 
+/// Where the parts of a `#define` stand on its line: its name's bytes are those `from` to `to`, and its digits
+/// begin at `digits`, right behind `sign` if a `-` stands there.
+#[derive(Clone, Copy, Debug, PartialEq, Eq)]
+pub struct Parts {
+    pub from: usize,
+    pub to: usize,
+    pub sign: usize,
+    pub minus: bool,
+    pub digits: usize,
+}
+
 /// What a source that isn't empty begins with.
 #[derive(Debug, Drop)]
 pub enum Piece {

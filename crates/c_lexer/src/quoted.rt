@@ -2,8 +2,8 @@
 
 ghost use Rattle.std.specs.Prelude.{◌≡◌, ◌<◌, ◌≤◌, ◌+◌, length, slice_index, IfOk};
 ghost use Rattle.c_lexer.specs.Quotes as spec;
-ghost use Rattle.c_lexer.specs.Entries.{IsEscapeOf, IsPartWithin, IsBodyWithin};
-ghost use Rattle.c_lexer.specs.Tokens.{IsWithin};
+ghost use Rattle.c_lexer.specs.Pieces.{IsEscapeOf, IsPartWithin, IsBodyWithin};
+ghost use Rattle.c_lexer.specs.Pieces.{IsPlainWithin};
 
 use crate::fault::Fault;
 use crate::piece::{Body, Piece, Unit};
@@ -64,7 +64,7 @@ fn unit_at(quote: u8, text: &[u8]) -> Unit
 pub fn letter_at(text: &[u8]) -> Piece
     requires { 1 ≤ length text.now }
     ensures value { result ≡ spec.letter_at text.now }
-    ensures within { IsWithin result (length text.now) }
+    ensures within { IsPlainWithin result (length text.now) }
 {
     match unit_at(b'\'', &text[1..]) {
         Unit::Byte(value, len) if byte(text, 1 + len) == b'\'' => {
@@ -101,7 +101,7 @@ fn body(alloc: Global, text: &[u8]) -> Result<Body, AllocError>
 pub fn text_at(alloc: Global, text: &[u8]) -> Result<Piece, AllocError>
     requires { 1 ≤ length text.now }
     ensures value { IfOk result (λ p. p ≡ spec.text_at text.now) }
-    ensures within { IfOk result (λ p. IsWithin p (length text.now)) }
+    ensures within { IfOk result (λ p. IsPlainWithin p (length text.now)) }
 {
     Ok(match body(alloc, &text[1..])? {
         Body::Closed(bytes, len) => Piece::Token(Kind::Text(bytes), len + 2),

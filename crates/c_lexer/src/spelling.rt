@@ -2,8 +2,8 @@
 
 ghost use Rattle.std.specs.Prelude.{◌≡◌, ◌<◌, ◌≤◌, length, map, IsTrue};
 ghost use Rattle.c_lexer.specs.Names.{entry_of};
-ghost use Rattle.c_lexer.specs.Tokens.{IsWithin};
-ghost use Rattle.c_lexer.specs.Entries as spec;
+ghost use Rattle.c_lexer.specs.Pieces.{IsPlainWithin};
+ghost use Rattle.c_lexer.specs.Pieces as spec;
 ghost use Rattle.c_lexer.specs.Directives as directive;
 ghost use Rattle.c_lexer.specs.Names as names;
 ghost use Rattle.c_lexer.specs.Tables as tables;
@@ -174,7 +174,7 @@ fn word_in(mut table: &[(&[u8], Word)], name: &[u8]) -> Option<Word>
 fn punct_in(mut table: &[(&[u8], Punct)], text: &[u8]) -> Piece
     requires { IsTrue (spec.have_bytes (map (λ e. (e.0.now, e.1)) table.now)) }
     ensures value { result ≡ tokens.punct_in (map (λ e. (e.0.now, e.1)) table.entry.now) text.now }
-    ensures within { IsWithin result (length text.now) }
+    ensures within { IsPlainWithin result (length text.now) }
 {
     while let [entry, rest @ ..] = table {
         if text.starts_with(entry.0) {
@@ -202,7 +202,7 @@ fn header_in(mut headers: &[&[u8]], text: &[u8]) -> Option<usize>
 #[tactic(auto, unfolding(crate::specs::Tokens::punct_at))]
 pub fn punct_at(text: &[u8]) -> Piece
     ensures value { result ≡ tokens.punct_at text.now }
-    ensures within { IsWithin result (length text.now) }
+    ensures within { IsPlainWithin result (length text.now) }
 {
     punct_in(&PUNCTS, text)
 }

@@ -1,7 +1,7 @@
 use Rattle.std.proofs.Common.{◌≡◌, length, map}
 use Rattle.std.specs.Prelude.{IsTrue}
 use Rattle.c_lexer.specs.Tokens.{punct_in}
-use Rattle.c_lexer.specs.Entries.{have_bytes}
+use Rattle.c_lexer.specs.Pieces.{have_bytes}
 use Rattle.c_lexer.proofs.spelling.punct_in.Given as goal
 
 abbrev pub invariant-loop-table : goal.invariant-loop-table
