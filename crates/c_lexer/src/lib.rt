@@ -1,6 +1,7 @@
 //! The tokens of a C source (C99 6.4) in this project's profile. It stands on `rr_base`.
 #![tactic(auto)]
 
+mod cut;
 mod directive;
 mod fault;
 mod names;
@@ -11,6 +12,7 @@ mod scan;
 mod spelling;
 mod token;
 
+pub use cut::piece_at;
 pub use directive::directive_at;
 pub use fault::LexFault;
 pub use piece::{Body, Literal, Parts, Piece, Place, Unit};
