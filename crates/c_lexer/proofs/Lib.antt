@@ -1,4 +1,5 @@
 pub mod Bodies
 pub mod Definitions
 pub mod Numerals
+pub mod Steps
 pub mod Values

@@ -7,5 +7,6 @@ pub mod Names
 pub mod Numbers
 pub mod Pieces
 pub mod Quotes
+pub mod Spans
 pub mod Tables
 pub mod Tokens

@@ -1,5 +1,6 @@
 -- How far pieces and their parts reach, and what else their calls ask and give.
-use Rattle.std.specs.Prelude.{ℕ, ◌≤◌, ◌<◌, ◌+◌, ◌^◌, ◌≡◌, Bool, true, ◌&&◌, nat_lt, List, [], ◌∷◌, length, slice_range, Option, Some, None}
+use Rattle.std.specs.Prelude.{ℕ, ◌≤◌, ◌<◌, ◌+◌, ◌^◌, ◌≡◌, Bool, true, ◌&&◌, nat_lt, List, [], ◌∷◌, length, slice_range, Option, Some, None, FitsSigned}
+use Rattle.std.specs.Int.{w64}
 use Rattle.c_lexer.specs.Bytes.{Text}
 use Rattle.c_lexer.specs.Defined.{Defined}
 use Rattle.c_lexer.specs.Names.{entry_of}
@@ -66,7 +67,7 @@ IsPlainWithin (piece.Fault f n) len = n ≤ len
 abbrev pub IsWithin : Piece → ℕ → Type 0
 IsWithin (piece.Blank n) len = (1 ≤ n) × (n ≤ len)
 IsWithin (piece.Token k n) len = (1 ≤ n) × (n ≤ len)
-IsWithin (piece.Define from to value n) len = (1 ≤ n) × (n ≤ len) × (from ≤ to) × (to ≤ n)
+IsWithin (piece.Define from to value n) len = (1 ≤ n) × (n ≤ len) × (from ≤ to) × (to ≤ n) × FitsSigned w64 value
 IsWithin (piece.Fault f n) len = n ≤ len
 
 -- what a `#define` at the front of this text gives a value is a name that has none

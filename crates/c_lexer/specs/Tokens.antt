@@ -109,3 +109,13 @@ start = record { place = record { at = 0; line = 1; column = 1 }; token_line = 0
 
 unfoldable pub tokens_of : Text → Found
 tokens_of text = tokens_from 0 start text
+
+-- an answer tells the first fault, but where memory is wanting
+abbrev pub IsFaultOf : LexFault → Found → Type 0
+IsFaultOf lex.OutOfMemory found = Unit {0}
+IsFaultOf (lex.BadByte line column) found = found ≡ Err (lex.BadByte line column)
+IsFaultOf (lex.OpenComment line column) found = found ≡ Err (lex.OpenComment line column)
+IsFaultOf (lex.OpenText line column) found = found ≡ Err (lex.OpenText line column)
+IsFaultOf (lex.BadEscape line column) found = found ≡ Err (lex.BadEscape line column)
+IsFaultOf (lex.WideNumber line column) found = found ≡ Err (lex.WideNumber line column)
+IsFaultOf (lex.BadDirective line column) found = found ≡ Err (lex.BadDirective line column)
