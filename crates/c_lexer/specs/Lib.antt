@@ -3,6 +3,7 @@ pub mod Bytes
 pub mod Classes
 pub mod Defined
 pub mod Directives
+pub mod Laws
 pub mod Names
 pub mod Numbers
 pub mod Pieces

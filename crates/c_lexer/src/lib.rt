@@ -6,6 +6,7 @@
 mod cut;
 mod directive;
 mod fault;
+mod law;
 mod lex;
 mod names;
 mod number;
@@ -18,6 +19,7 @@ mod tests;
 mod token;
 
 pub use fault::LexFault;
+pub use law::{law_longest_is_cut, law_places_are_true, law_spelled_are_found};
 pub use lex::tokens;
 pub use spelling::is_library_name;
 pub use token::{Kind, Punct, Token, Word};
