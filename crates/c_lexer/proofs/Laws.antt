@@ -10,7 +10,8 @@ use Rattle.c_lexer.specs.Names.{name_at, is_blank_word, word_of, kind_of}
 use Rattle.c_lexer.specs.Laws.{IsTokenOf, LongestIsCut, spellings, spelled, AreFound, SpelledAreFound, IsPlaceOf, line_of, column_of, ArePlaced, PlacesAreTrue}
 use Rattle.c_lexer.proofs.Steps.{on, token_step, blank_step}
 use Rattle.c_lexer.specs.Tables.{puncts, words}
-use Rattle.c_lexer.specs.Tokens.{Found, Reading, start, piece_at, plain_at, punct_at, punct_in, tokens_of, tokens_from, with_token, met, next, after, passed, fault_at}
+use Rattle.c_lexer.specs.Faults.{fault_at}
+use Rattle.c_lexer.specs.Tokens.{Found, Reading, start, piece_at, plain_at, punct_at, punct_in, tokens_of, tokens_from, with_token, met, next, after, passed}
 use Rattle.c_lexer.specs.declared.fault.Fault.{Fault}
 use Rattle.c_lexer.specs.declared.piece.Piece.{Piece}
 use Rattle.c_lexer.specs.declared.piece.Piece.TheVariants as piece

@@ -6,7 +6,8 @@ use Rattle.std.proofs.Math.Seq.{take-append_seam}
 use Rattle.std.proofs.lemmas.List.Sums.{sum_by-append}
 use Rattle.c_lexer.specs.Bytes.{Text, is_in_line}
 use Rattle.c_lexer.specs.Laws.{IsPlaceOf, line_of, column_of, ArePlaced, PlacesAreTrue}
-use Rattle.c_lexer.specs.Tokens.{Found, Reading, start, piece_at, tokens_of, tokens_from, with_token, met, next, after, passed, fault_at}
+use Rattle.c_lexer.specs.Faults.{fault_at}
+use Rattle.c_lexer.specs.Tokens.{Found, Reading, start, piece_at, tokens_of, tokens_from, with_token, met, next, after, passed}
 use Rattle.c_lexer.specs.declared.fault.Fault.{Fault}
 use Rattle.c_lexer.specs.declared.piece.Piece.{Piece}
 use Rattle.c_lexer.specs.declared.piece.Piece.TheVariants as piece

@@ -5,7 +5,7 @@ use Rattle.std.specs.List.{prefix_len, starts_with}
 use Rattle.c_lexer.specs.Bytes.{Text, is_gap, is_in_line, begins_name, continues_name}
 use Rattle.c_lexer.specs.Tables.{headers}
 use Rattle.c_lexer.specs.Numbers.{literal_at}
-use Rattle.c_lexer.specs.Blanks.{comment_end}
+use Rattle.c_lexer.specs.Comments.{comment_end}
 use Rattle.c_lexer.specs.Defined.{Defined}
 use Rattle.c_lexer.specs.Names.{is_free}
 use Rattle.c_lexer.specs.declared.fault.Fault.TheVariants.{BadDirective, WideNumber}

@@ -3,7 +3,8 @@ use Rattle.std.specs.Prelude.{◌≡◌, ◌≤◌, ℕ, ◌+◌, Bool, ◌==◌
 use Rattle.std.specs.List.{starts_with, suffix_len, AllByRecursion}
 use Rattle.c_lexer.specs.Bytes.{Text, is_in_line}
 use Rattle.c_lexer.specs.Tables.{puncts, words}
-use Rattle.c_lexer.specs.Tokens.{Found, punct_at, tokens_of, fault_at}
+use Rattle.c_lexer.specs.Faults.{fault_at}
+use Rattle.c_lexer.specs.Tokens.{Found, punct_at, tokens_of}
 use Rattle.c_lexer.specs.declared.fault.Fault.{Fault}
 use Rattle.c_lexer.specs.declared.piece.Piece.{Piece}
 use Rattle.c_lexer.specs.declared.piece.Piece.TheVariants as piece

@@ -1,8 +1,9 @@
-pub mod Blanks
 pub mod Bytes
 pub mod Classes
+pub mod Comments
 pub mod Defined
 pub mod Directives
+pub mod Faults
 pub mod Laws
 pub mod Names
 pub mod Numbers

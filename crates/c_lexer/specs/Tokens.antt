@@ -6,8 +6,9 @@ use Rattle.c_lexer.specs.Bytes.{Text, is_blank, begins_name, is_in_line}
 use Rattle.c_lexer.specs.Tables.{puncts}
 use Rattle.c_lexer.specs.Numbers.{number_at}
 use Rattle.c_lexer.specs.Quotes.{letter_at, text_at}
-use Rattle.c_lexer.specs.Blanks.{comment_at}
+use Rattle.c_lexer.specs.Comments.{comment_at}
 use Rattle.c_lexer.specs.Defined.{Defined}
+use Rattle.c_lexer.specs.Faults.{fault_at}
 use Rattle.c_lexer.specs.Names.{name_at}
 use Rattle.c_lexer.specs.Directives.{directive_at}
 use Rattle.c_lexer.specs.declared.fault.Fault.{Fault}
@@ -60,19 +61,15 @@ abbrev pub after : Text → Place → Place
 after [] place = place
 after (b ∷ bs) place = after bs (next b place)
 
-abbrev pub fault_at : Fault → Place → LexFault
-fault_at fault.BadByte place = lex.BadByte place.line place.column
-fault_at fault.OpenComment place = lex.OpenComment place.line place.column
-fault_at fault.OpenText place = lex.OpenText place.line place.column
-fault_at fault.BadEscape place = lex.BadEscape place.line place.column
-fault_at fault.WideNumber place = lex.WideNumber place.line place.column
-fault_at fault.BadDirective place = lex.BadDirective place.line place.column
-
 -- ---- the tokens of a text
 
 -- the tokens, or the first fault
 abbrev pub Found : Type 0
 Found = Result (List Token) LexFault
+
+-- a token of so many bytes
+abbrev pub token_at : Kind → ℕ → Place → Token
+token_at kind len place = record { kind = kind; line = place.line; column = place.column; start = place.at; end = place.at + len }
 
 abbrev pub with_token : Token → Found → Found
 with_token t (Ok ts) = Ok (t ∷ ts)
@@ -92,8 +89,7 @@ passed b r = record r { place = next b r.place }
 abbrev pub met : Piece → Text → Reading → (ℕ → Reading → Found) → Found
 met (piece.Blank n) text r more = more n r
 met (piece.Token k n) text r more =
-    with_token (record { kind = k; line = r.place.line; column = r.place.column; start = r.place.at; end = r.place.at + n })
-    (more n (record r { token_line = r.place.line }))
+    with_token (token_at k n r.place) (more n (record r { token_line = r.place.line }))
 met (piece.Define from to value n) text r more = more n (record r { defined = r.defined ++ (slice_range text from to, value) ∷ [] })
 met (piece.Fault f n) text r more = Err (fault_at f (after (take n text) r.place))
 

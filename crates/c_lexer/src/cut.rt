@@ -1,7 +1,7 @@
 //! Cuts the piece from the front of a source.
 
 ghost use Rattle.std.specs.Prelude.{◌≡◌, ◌≤◌, ◌<◌, length, slice_index, IfOk, IsTrue};
-ghost use Rattle.c_lexer.specs.Blanks.{comment_at};
+ghost use Rattle.c_lexer.specs.Comments.{comment_at};
 ghost use Rattle.c_lexer.specs.Bytes.{begins_name};
 ghost use Rattle.c_lexer.specs.Names as naming;
 ghost use Rattle.c_lexer.specs.Pieces.{GivesNew, IsPlainWithin, IsWithin};
@@ -19,7 +19,7 @@ use crate::token::Kind;
 use rr_base::List;
 use std::alloc::{AllocError, Global};
 
-#[tactic(auto, unfolding(crate::specs::Blanks::comment_at))]
+#[tactic(auto, unfolding(crate::specs::Comments::comment_at))]
 fn comment_at(text: &[u8]) -> Piece
     requires { 2 ≤ length text.now }
     ensures value { result ≡ comment_at text.now }
@@ -91,12 +91,7 @@ fn plain_at(alloc: Global, names: &Names, text: &[u8]) -> Result<Piece, AllocErr
 
 /// The piece that a source begins with which isn't empty. `first` tells that no token stands before it on its line.
 #[tactic(auto, unfolding(crate::specs::Tokens::piece_at))]
-pub fn piece_at(
-    alloc: Global,
-    first: bool,
-    names: &Names,
-    text: &[u8],
-) -> Result<Piece, AllocError>
+pub fn piece_at(alloc: Global, first: bool, names: &Names, text: &[u8]) -> Result<Piece, AllocError>
     requires { 0 < length text.now }
     ensures value { IfOk result (λ p. p ≡ spec.piece_at first names.now text.now) }
     ensures within { IfOk result (λ p. IsWithin p (length text.now)) }

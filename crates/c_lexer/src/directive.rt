@@ -114,7 +114,11 @@ fn valued(literal: Literal, parts: Parts, line: &[u8]) -> Piece
         Some(value) => Piece::Define {
             from: parts.from,
             to: parts.to,
-            value: if parts.minus { -(value as i64) } else { value as i64 },
+            value: if parts.minus {
+                -(value as i64)
+            } else {
+                value as i64
+            },
             len: line.len(),
         },
     }

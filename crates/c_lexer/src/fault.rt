@@ -33,6 +33,25 @@ pub enum LexFault {
     OutOfMemory,
 }
 
+impl LexFault {
+    ghost use Rattle.c_lexer.specs.Faults.{number_of};
+
+    /// The number by which messages tell the fault, from 1; none where memory is wanting.
+    pub fn number(&self) -> Option<u8>
+        ensures { result ≡ number_of self.now }
+    {
+        match self {
+            LexFault::BadByte { .. } => Some(1),
+            LexFault::OpenComment { .. } => Some(2),
+            LexFault::OpenText { .. } => Some(3),
+            LexFault::BadEscape { .. } => Some(4),
+            LexFault::WideNumber { .. } => Some(5),
+            LexFault::BadDirective { .. } => Some(6),
+            LexFault::OutOfMemory => None,
+        }
+    }
+}
+
 impl From<AllocError> for LexFault {
     ghost use Rattle.c_lexer.specs.declared.fault.LexFault.TheVariants.{OutOfMemory};
 

@@ -1,4 +1,5 @@
 ghost use Rattle.std.specs.Prelude.{◌≡◌, ◌<◌, ◌≤◌, ◌+◌, ◌-◌, ◌^◌, length, Ok, All, IfOk, IfErr};
+ghost use Rattle.c_lexer.specs.Faults as faults;
 ghost use Rattle.c_lexer.specs.Spans.{AreInOrder, IsPlaced};
 ghost use Rattle.c_lexer.specs.Tokens as spec;
 
@@ -6,12 +7,12 @@ use crate::cut::piece_at;
 use crate::fault::{Fault, LexFault};
 use crate::names::Names;
 use crate::piece::{Piece, Place};
-use crate::token::Token;
+use crate::token::{Kind, Token};
 use rr_base::List;
 use std::alloc::Global;
 
 fn fault_at(fault: Fault, place: Place) -> LexFault
-    ensures { result ≡ spec.fault_at fault place }
+    ensures { result ≡ faults.fault_at fault place }
 {
     let Place { line, column, .. } = place;
     match fault {
@@ -21,6 +22,20 @@ fn fault_at(fault: Fault, place: Place) -> LexFault
         Fault::BadEscape => LexFault::BadEscape { line, column },
         Fault::WideNumber => LexFault::WideNumber { line, column },
         Fault::BadDirective => LexFault::BadDirective { line, column },
+    }
+}
+
+fn token_at(kind: Kind, len: usize, place: Place) -> Token
+    requires { place.at + len < 2 ^ 32 }
+    ensures { result ≡ spec.token_at kind len place }
+{
+    let Place { at, line, column } = place;
+    Token {
+        kind,
+        line,
+        column,
+        start: at,
+        end: at + len as u32,
     }
 }
 
@@ -73,15 +88,8 @@ pub fn tokens(alloc: Global, text: &[u8]) -> Result<List<Token>, LexFault>
                 rest = &rest[len..];
             }
             Piece::Token(kind, len) => {
-                let Place { at, line, column } = place;
-                found.push(Token {
-                    kind,
-                    line,
-                    column,
-                    start: at,
-                    end: at + len as u32,
-                })?;
-                token_line = line;
+                found.push(token_at(kind, len, place))?;
+                token_line = place.line;
                 place = pass(&rest[..len], place);
                 rest = &rest[len..];
             }

@@ -4,7 +4,7 @@ ghost use Rattle.std.specs.Prelude.{◌≡◌, ◌<◌, ◌≤◌, ◌+◌, leng
 ghost use Rattle.std.specs.Char.{digit_value};
 ghost use Rattle.std.specs.List.{prefix_len};
 ghost use Rattle.c_lexer.specs.Bytes as spec;
-ghost use Rattle.c_lexer.specs.Blanks.{comment_end};
+ghost use Rattle.c_lexer.specs.Comments.{comment_end};
 ghost use Rattle.c_lexer.specs.Classes.{belongs};
 
 /// What the bytes of a run have in common.

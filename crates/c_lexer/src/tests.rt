@@ -28,8 +28,14 @@ static ROWS: [(&[u8], &str); 97] = [
     (b"// x\r y\nb", "Name b 2:1 8-9;"),
     (b"const int volatile x", "Int 1:7 6-9;Name x 1:20 19-20;"),
     // Names and words.
-    (b"constant int_ _a9", "Name constant 1:1 0-8;Name int_ 1:10 9-13;Name _a9 1:15 14-17;"),
-    (b"char restrict", "Refused char 1:1 0-4;Refused restrict 1:6 5-13;"),
+    (
+        b"constant int_ _a9",
+        "Name constant 1:1 0-8;Name int_ 1:10 9-13;Name _a9 1:15 14-17;",
+    ),
+    (
+        b"char restrict",
+        "Refused char 1:1 0-4;Refused restrict 1:6 5-13;",
+    ),
     (b"NULL sizeof", "Null 1:1 0-4;Sizeof 1:6 5-11;"),
     (b"pthread_rwlock_t", "Refused pthread_rwlock_t 1:1 0-16;"),
     (b"printf", "Name printf 1:1 0-6;"),
@@ -38,7 +44,10 @@ static ROWS: [(&[u8], &str); 97] = [
     (b"- >", "Minus 1:1 0-1;Greater 1:3 2-3;"),
     (b"<<=", "ShiftLeftAssign 1:1 0-3;"),
     (b"<<<=", "ShiftLeft 1:1 0-2;LessEqual 1:3 2-4;"),
-    (b"a+++b", "Name a 1:1 0-1;PlusPlus 1:2 1-3;Plus 1:4 3-4;Name b 1:5 4-5;"),
+    (
+        b"a+++b",
+        "Name a 1:1 0-1;PlusPlus 1:2 1-3;Plus 1:4 3-4;Name b 1:5 4-5;",
+    ),
     (b"$", "BadByte 1:1"),
     (b"a \x80", "BadByte 1:3"),
     (b"\xFF", "BadByte 1:1"),
@@ -53,9 +62,18 @@ static ROWS: [(&[u8], &str); 97] = [
     (b"0xg", "BadByte 1:2"),
     (b"0X1fLL", "Number 31 1:1 0-6;"),
     (b"1.5", "Number 1 1:1 0-1;Dot 1:2 1-2;Number 5 1:3 2-3;"),
-    (b"9223372036854775807", "Number 9223372036854775807 1:1 0-19;"),
-    (b"0x7FFFFFFFFFFFFFFF", "Number 9223372036854775807 1:1 0-18;"),
-    (b"0777777777777777777777", "Number 9223372036854775807 1:1 0-22;"),
+    (
+        b"9223372036854775807",
+        "Number 9223372036854775807 1:1 0-19;",
+    ),
+    (
+        b"0x7FFFFFFFFFFFFFFF",
+        "Number 9223372036854775807 1:1 0-18;",
+    ),
+    (
+        b"0777777777777777777777",
+        "Number 9223372036854775807 1:1 0-22;",
+    ),
     (b"01000000000000000000000", "WideNumber 1:1"),
     (b"a 9223372036854775808x", "WideNumber 1:3"),
     // Letters and texts.
@@ -72,7 +90,10 @@ static ROWS: [(&[u8], &str); 97] = [
     (b"\"\"", "Text [] 1:1 0-2;"),
     (b"\"a\tb'\"", "Text [97, 9, 98, 39] 1:1 0-6;"),
     (b"\"\x80\x7F\"", "Text [128, 127] 1:1 0-4;"),
-    (b"\"\\n\\t\\r\\0\\\\\\'\\\"\"", "Text [10, 9, 13, 0, 92, 39, 34] 1:1 0-16;"),
+    (
+        b"\"\\n\\t\\r\\0\\\\\\'\\\"\"",
+        "Text [10, 9, 13, 0, 92, 39, 34] 1:1 0-16;",
+    ),
     (b"\"\\08\"", "Text [0, 56] 1:1 0-5;"),
     (b"\"\\01\"", "BadEscape 1:2"),
     (b"\"a\\q", "BadEscape 1:3"),
@@ -81,7 +102,10 @@ static ROWS: [(&[u8], &str); 97] = [
     (b"\"\x1F\"", "OpenText 1:1"),
     // Directives.
     (b"#include <pthread.h>\n#include \t<stdio.h>", ""),
-    (b"#include <stdlib.h>// x\n#include <errno.h> /* a */ \t\n;", "Semicolon 3:1 53-54;"),
+    (
+        b"#include <stdlib.h>// x\n#include <errno.h> /* a */ \t\n;",
+        "Semicolon 3:1 53-54;",
+    ),
     (b"/* x\n */ const\t#include <stdio.h>", ""),
     (b"a /*\n*/ #include <stdio.h>", "Name a 1:1 0-1;"),
     (b"a #include <stdio.h>", "BadByte 1:3"),
@@ -92,7 +116,10 @@ static ROWS: [(&[u8], &str); 97] = [
     (b"#include <stdio.h> /* a */ // b", "BadDirective 1:1"),
     (b"#include <stdio.h> /* a\n*/", "BadDirective 1:1"),
     (b"\n  #pragma", "BadDirective 2:3"),
-    (b"N\n #define N 3\nN N1", "Name N 1:1 0-1;Number 3 3:1 15-16;Name N1 3:3 17-19;"),
+    (
+        b"N\n #define N 3\nN N1",
+        "Name N 1:1 0-1;Number 3 3:1 15-16;Name N1 3:3 17-19;",
+    ),
     (b"#define N -0x10L/* x */\nN", "Number -16 2:1 24-25;"),
     (b"#define A 1\n#define A 1", "BadDirective 2:1"),
     (b"#define A 1\n#define B A", "BadDirective 2:1"),
@@ -131,7 +158,13 @@ fn write_token(out: &mut String, token: &Token) -> Result<(), Fail> {
         Kind::Punct(punct) => write!(out, "{punct:?}")?,
         Kind::Refused(word) => write_spelled(out, "Refused", word.as_slice())?,
     }
-    let Token { line, column, start, end, .. } = token;
+    let Token {
+        line,
+        column,
+        start,
+        end,
+        ..
+    } = token;
     write!(out, " {line}:{column} {start}-{end};")?;
     Ok(())
 }
@@ -165,11 +198,7 @@ fn shown(alloc: Global, text: &[u8]) -> Result<String, Fail>
     Ok(out)
 }
 
-fn check_rows(
-    rt: &impl Abort,
-    alloc: Global,
-    mut rows: &[(&[u8], &str)],
-) -> Result<(), Fail> {
+fn check_rows(rt: &impl Abort, alloc: Global, mut rows: &[(&[u8], &str)]) -> Result<(), Fail> {
     while let [row, rest @ ..] = rows {
         assert!(rt; row.0.len() < 100);
         let found = shown(alloc, row.0)?;

@@ -1,5 +1,5 @@
 use Rattle.std.proofs.Common.{◌≡◌, ◌+◌, drop, option_map}
-use Rattle.c_lexer.specs.Blanks.{comment_end}
+use Rattle.c_lexer.specs.Comments.{comment_end}
 use Rattle.c_lexer.proofs.scan.comment_len.Given as goal
 
 abbrev pub invariant-loop-at : goal.invariant-loop-at
