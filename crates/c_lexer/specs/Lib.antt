@@ -1,0 +1,14 @@
+pub mod Bytes
+pub mod Classes
+pub mod Comments
+pub mod Defined
+pub mod Directives
+pub mod Faults
+pub mod Laws
+pub mod Names
+pub mod Numbers
+pub mod Pieces
+pub mod Quotes
+pub mod Spans
+pub mod Tables
+pub mod Tokens

@@ -1,6 +1,25 @@
-//! The tokens of a C source (C99 6.4) in this project's profile. It stands on `rr_base`.
+//! The tokens of a C source (C99 6.4) in this project's profile. It stands on `rr_base` and the kit's `indexmap`.
+//! It promises that `tokens` gives exactly the tokens of a text, each with its place and span, or else the first
+//! fault in the text at its place.
 #![tactic(auto)]
 
+mod cut;
+mod directive;
+mod fault;
+mod law;
+mod lex;
+mod names;
+mod number;
+mod piece;
+mod quoted;
+mod scan;
+mod spelling;
+#[cfg(test)]
+mod tests;
 mod token;
 
+pub use fault::LexFault;
+pub use law::{law_longest_is_cut, law_places_are_true, law_spelled_are_found};
+pub use lex::tokens;
+pub use spelling::is_library_name;
 pub use token::{Kind, Punct, Token, Word};

@@ -1,0 +1,65 @@
+-- One unit of a text more.
+use Rattle.std.proofs.Common.{◌≡◌, ℕ, zero, suc, ◌≤◌, ◌<◌, ◌+◌, ◌-◌, List, [], ◌∷◌, ◌++◌, length, drop, refl, ap, sym, ◌∙◌, arith, add-zero, append_assoc}
+use Rattle.std.proofs.lemmas.List.{drop-drop}
+use Rattle.c_lexer.specs.Bytes.{Text}
+use Rattle.c_lexer.specs.Quotes.{unit_at, body_from, body_by, with_byte}
+use Rattle.c_lexer.specs.declared.piece.Unit.{Unit as Part}
+use Rattle.c_lexer.specs.declared.piece.Unit.TheVariants as part
+use Rattle.c_lexer.specs.declared.piece.Body.{Body}
+use Rattle.c_lexer.specs.declared.piece.Body.TheVariants as body
+
+-- with the bytes of what stands before
+abbrev pub with_bytes : List ℕ → Body → Body
+with_bytes front (body.Closed bytes len) = body.Closed (front ++ bytes) len
+with_bytes front (body.BadEscape at) = body.BadEscape at
+with_bytes front body.Open = body.Open
+
+pub with_bytes-empty : (b : Body) → with_bytes [] b ≡ b
+with_bytes-empty (body.Closed bytes len) = refl
+with_bytes-empty (body.BadEscape at) = refl
+with_bytes-empty body.Open = refl
+
+pub with_bytes-byte : (front : List ℕ) (v : ℕ) (b : Body) → with_bytes (front ++ v ∷ []) b ≡ with_bytes front (with_byte v b)
+with_bytes-byte front v (body.Closed bytes len) = ap (λ bs. body.Closed bs len) (append_assoc front (v ∷ []) bytes)
+with_bytes-byte front v (body.BadEscape at) = refl
+with_bytes-byte front v body.Open = refl
+
+passes : (n at : ℕ) (bs : Text) → n ≤ length bs → body_from n at bs ≡ body_from 0 (at + n) (drop n bs)
+passes zero at bs h = ap (λ k. body_from 0 k bs) (sym (add-zero at))
+passes (suc n) at [] h = absurd (omega arith)
+passes (suc n) at (b ∷ bs) h =
+    let e : at + 1 + n ≡ at + suc n = omega arith in
+    passes n (at + 1) bs (omega arith) ∙ ap (λ k. body_from 0 k (drop n bs)) e
+
+behind : (n at b : ℕ) (bs : Text) → 1 ≤ n → n ≤ length (b ∷ bs) → body_from (n - 1) (at + 1) bs ≡ body_from 0 (at + n) (drop n (b ∷ bs))
+behind zero at b bs h le = absurd (omega arith)
+behind (suc n) at b bs h le =
+    let e : suc n - 1 ≡ n = omega arith in
+    ap (λ k. body_from k (at + 1) bs) e ∙ passes (suc n) at (b ∷ bs) le
+
+module _ (at : ℕ) where
+  -- what a body is by the unit that it begins with
+  pub byte_step : (bs : Text) (v n : ℕ) → unit_at 34 bs ≡ part.Byte v n → 1 ≤ n → n ≤ length bs → body_from 0 at bs ≡ with_byte v (body_from 0 (at + n) (drop n bs))
+  byte_step [] v n e h le = absurd (omega arith)
+  byte_step (b ∷ bs) v n e h le =
+      ap (λ u. body_by u at (λ n. body_from (n - 1) (at + 1) bs)) e ∙ ap (with_byte v) (behind n at b bs h le)
+
+  pub close_step : (bs : Text) → unit_at 34 bs ≡ part.Close → 1 ≤ length bs → body_from 0 at bs ≡ body.Closed [] at
+  close_step [] e h = absurd (omega arith)
+  close_step (b ∷ bs) e h = ap (λ u. body_by u at (λ n. body_from (n - 1) (at + 1) bs)) e
+
+  pub escape_step : (bs : Text) → unit_at 34 bs ≡ part.BadEscape → 1 ≤ length bs → body_from 0 at bs ≡ body.BadEscape at
+  escape_step [] e h = absurd (omega arith)
+  escape_step (b ∷ bs) e h = ap (λ u. body_by u at (λ n. body_from (n - 1) (at + 1) bs)) e
+
+  pub open_step : (bs : Text) → unit_at 34 bs ≡ part.Open → body_from 0 at bs ≡ body.Open
+  open_step [] e = refl
+  open_step (b ∷ bs) e = ap (λ u. body_by u at (λ n. body_from (n - 1) (at + 1) bs)) e
+
+-- one turn of the loop that collects the bytes
+pub byte_turn : (text : Text) (len v n : ℕ) (front : List ℕ) (whole : Body) → unit_at 34 (drop len text) ≡ part.Byte v n → 1 ≤ n → n ≤ length (drop len text)
+    → with_bytes front (body_from 0 len (drop len text)) ≡ whole → with_bytes (front ++ v ∷ []) (body_from 0 (len + n) (drop (len + n) text)) ≡ whole
+byte_turn text len v n front whole e h le so =
+    with_bytes-byte front v (body_from 0 (len + n) (drop (len + n) text))
+    ∙ ap (λ bs. with_bytes front (with_byte v (body_from 0 (len + n) bs))) (sym (drop-drop n len text))
+    ∙ ap (with_bytes front) (sym (byte_step len (drop len text) v n e h le)) ∙ so

@@ -1,0 +1,117 @@
+-- The tokens of a source, or its first fault: from its front on it is cut into pieces, each the longest that fits.
+use Rattle.std.specs.Prelude.{◌≡◌, ◌≤◌, ◌<◌, ℕ, zero, suc, ◌+◌, ◌-◌, Bool, true, false, ◌&&◌, if◌then◌else◌, ◌==◌, nat_lt, nat_eq, List, [], ◌∷◌, ◌++◌, length, take, slice_index, slice_range, Result, Ok, Err, codes}
+use Rattle.std.specs.Char.{is_ascii_digit}
+use Rattle.std.specs.List.{prefix_len, starts_with}
+use Rattle.c_lexer.specs.Bytes.{Text, is_blank, begins_name, is_in_line}
+use Rattle.c_lexer.specs.Tables.{puncts}
+use Rattle.c_lexer.specs.Numbers.{number_at}
+use Rattle.c_lexer.specs.Quotes.{letter_at, text_at}
+use Rattle.c_lexer.specs.Comments.{comment_at}
+use Rattle.c_lexer.specs.Defined.{Defined}
+use Rattle.c_lexer.specs.Faults.{fault_at}
+use Rattle.c_lexer.specs.Names.{name_at}
+use Rattle.c_lexer.specs.Directives.{directive_at}
+use Rattle.c_lexer.specs.declared.fault.Fault.{Fault}
+use Rattle.c_lexer.specs.declared.fault.Fault.TheVariants as fault
+use Rattle.c_lexer.specs.declared.fault.LexFault.{LexFault}
+use Rattle.c_lexer.specs.declared.fault.LexFault.TheVariants as lex
+use Rattle.c_lexer.specs.declared.piece.Piece.{Piece}
+use Rattle.c_lexer.specs.declared.piece.Piece.TheVariants as piece
+use Rattle.c_lexer.specs.declared.piece.Place.{Place}
+use Rattle.c_lexer.specs.declared.token.Kind.{Kind}
+use Rattle.c_lexer.specs.declared.token.Kind.TheVariants as kind
+use Rattle.c_lexer.specs.declared.token.Punct.{Punct}
+use Rattle.c_lexer.specs.declared.token.Token.{Token}
+
+-- ---- what a text begins with
+
+-- the first of these that the text begins with
+abbrev pub punct_in : List (Text × Punct) → Text → Piece
+punct_in [] text = piece.Fault fault.BadByte 0
+punct_in (e ∷ es) text = if starts_with nat_eq text e.0 then piece.Token (kind.Punct e.1) (length e.0) else punct_in es text
+
+unfoldable pub punct_at : Text → Piece
+punct_at = punct_in puncts
+
+-- what a text that isn't empty begins with, where these names have values, but for directives
+unfoldable pub plain_at : Defined → Text → Piece
+plain_at defined text =
+    let b = slice_index text 0 in
+    if is_blank b then piece.Blank 1
+    else (if starts_with nat_eq text (codes "//") then piece.Blank (prefix_len is_in_line text)
+    else (if starts_with nat_eq text (codes "/*") then comment_at text
+    else (if begins_name b then name_at defined text
+    else (if is_ascii_digit b then number_at text
+    else (if b == 39 then letter_at text
+    else (if b == 34 then text_at text
+    else punct_at text))))))
+
+-- the same with directives, each of which begins with the first byte on its line that isn't blank
+unfoldable pub piece_at : Bool → Defined → Text → Piece
+piece_at first defined text = if slice_index text 0 == 35 && first then directive_at defined text else plain_at defined text
+
+-- ---- where it stands
+
+-- the place behind this byte
+abbrev pub next : ℕ → Place → Place
+next b place = if b == 10 then record { at = place.at + 1; line = place.line + 1; column = 1 } else record { at = place.at + 1; line = place.line; column = place.column + 1 }
+
+-- the place behind these bytes
+abbrev pub after : Text → Place → Place
+after [] place = place
+after (b ∷ bs) place = after bs (next b place)
+
+-- ---- the tokens of a text
+
+-- the tokens, or the first fault
+abbrev pub Found : Type 0
+Found = Result (List Token) LexFault
+
+-- a token of so many bytes
+abbrev pub token_at : Kind → ℕ → Place → Token
+token_at kind len place = record { kind = kind; line = place.line; column = place.column; start = place.at; end = place.at + len }
+
+abbrev pub with_token : Token → Found → Found
+with_token t (Ok ts) = Ok (t ∷ ts)
+with_token t (Err f) = Err f
+
+-- where reading stands: the place, the line of the last token (0 if there is none), and the names that have values
+pub record Reading : Type 0 where
+  pub place : Place
+  pub token_line : ℕ
+  pub defined : Defined
+
+-- one byte on
+abbrev pub passed : ℕ → Reading → Reading
+passed b r = record r { place = next b r.place }
+
+-- the piece with which the text begins, and then what comes behind so many bytes
+abbrev pub met : Piece → Text → Reading → (ℕ → Reading → Found) → Found
+met (piece.Blank n) text r more = more n r
+met (piece.Token k n) text r more =
+    with_token (token_at k n r.place) (more n (record r { token_line = r.place.line }))
+met (piece.Define from to value n) text r more = more n (record r { defined = r.defined ++ (slice_range text from to, value) ∷ [] })
+met (piece.Fault f n) text r more = Err (fault_at f (after (take n text) r.place))
+
+-- the tokens from here on, where so many bytes of the last piece are left
+abbrev pub tokens_from : ℕ → Reading → Text → Found
+tokens_from left r [] = Ok []
+tokens_from (suc left) r (b ∷ bs) = tokens_from left (passed b r) bs
+tokens_from zero r (b ∷ bs) =
+    met (piece_at (nat_lt r.token_line r.place.line) r.defined (b ∷ bs)) (b ∷ bs) r (λ n r'. tokens_from (n - 1) (passed b r') bs)
+
+abbrev pub start : Reading
+start = record { place = record { at = 0; line = 1; column = 1 }; token_line = 0; defined = [] }
+
+unfoldable pub tokens_of : Text → Found
+tokens_of text = tokens_from 0 start text
+
+-- an answer tells the first fault, but where memory is wanting
+abbrev pub IsFaultOf : LexFault → Found → Type 0
+IsFaultOf lex.OutOfMemory found = Unit {0}
+IsFaultOf (lex.BadByte line column) found = found ≡ Err (lex.BadByte line column)
+IsFaultOf (lex.OpenComment line column) found = found ≡ Err (lex.OpenComment line column)
+IsFaultOf (lex.OpenText line column) found = found ≡ Err (lex.OpenText line column)
+IsFaultOf (lex.BadEscape line column) found = found ≡ Err (lex.BadEscape line column)
+IsFaultOf (lex.WideNumber line column) found = found ≡ Err (lex.WideNumber line column)
+IsFaultOf (lex.BadDirective line column) found = found ≡ Err (lex.BadDirective line column)

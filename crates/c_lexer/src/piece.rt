@@ -1,0 +1,70 @@
+use crate::fault::Fault;
+use crate::token::Kind;
+
+/// A place in a source: how many bytes stand before it, and its line and column, both from 1.
+#[derive(Clone, Copy, Debug, PartialEq, Eq)]
+pub struct Place {
+    pub at: u32,
+    pub line: u32,
+    pub column: u32,
+}
+
+/// A number as it is written: its value where that is below 2^63, and its length with its suffix.
+#[derive(Clone, Copy, Debug, PartialEq, Eq)]
+pub struct Literal {
+    pub value: Option<u64>,
+    pub len: usize,
+}
+
+/// What stands behind the opening quote of a letter or text, or behind such a unit.
+#[derive(Clone, Copy, Debug, PartialEq, Eq)]
+pub enum Unit {
+    /// A byte or an escape: the byte that it means, and its length.
+    Byte(u8, usize),
+    /// The closing quote.
+    Close,
+    /// An escape that isn't one of the profile.
+    BadEscape,
+    /// What can't stand there.
+    Open,
+}
+
+/// What stands behind the opening quote of a text, as a whole.
+#[derive(Debug, Drop)]
+pub enum Body {
+    /// The bytes that it means, and its length up to the closing quote.
+    Closed(rr_base::Bytes, usize),
+    /// An escape that isn't one of the profile, so many bytes on.
+    BadEscape(usize),
+    /// No closing quote.
+    Open,
+}
+
+/// Where the parts of a `#define` stand on its line: its name's bytes are those `from` to `to`, and its digits
+/// begin at `digits`, right behind `sign` if a `-` stands there.
+#[derive(Clone, Copy, Debug, PartialEq, Eq)]
+pub struct Parts {
+    pub from: usize,
+    pub to: usize,
+    pub sign: usize,
+    pub minus: bool,
+    pub digits: usize,
+}
+
+/// What a source that isn't empty begins with.
+#[derive(Debug, Drop)]
+pub enum Piece {
+    /// So many bytes that stand for a blank.
+    Blank(usize),
+    /// A token of so many bytes.
+    Token(Kind, usize),
+    /// A `#define` of `len` bytes, which gives a value to the name that stands at its bytes `from` to `to`.
+    Define {
+        from: usize,
+        to: usize,
+        value: i64,
+        len: usize,
+    },
+    /// A fault so many bytes on.
+    Fault(Fault, usize),
+}
