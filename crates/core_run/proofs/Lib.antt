@@ -1,3 +1,4 @@
-pub mod Places
-pub mod Lawful
 pub mod Beginnings
+pub mod Lawful
+pub mod Places
+pub mod SoundWords
