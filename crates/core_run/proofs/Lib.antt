@@ -1,4 +1,7 @@
+pub mod Beginnings
 pub mod FlowFacts
 pub mod Lawful
 pub mod Places
 pub mod Retakes
+pub mod SoundWords
+pub mod ThreadRanges
