@@ -12,6 +12,8 @@ mod onward;
 mod pointers;
 mod printing;
 mod region;
+#[cfg(test)]
+mod tests;
 mod thread;
 mod work;
 mod works;
