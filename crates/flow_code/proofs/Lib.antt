@@ -1,3 +1,4 @@
 pub mod Placing
 pub mod Filling
 pub mod Printed
+pub mod Prints
