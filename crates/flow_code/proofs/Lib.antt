@@ -3,9 +3,10 @@ pub mod Calls
 pub mod Counts
 pub mod Dues
 pub mod Filling
+pub mod Goings
 pub mod Placing
 pub mod Printed
-pub mod Goings
+pub mod Prints
 pub mod Quietly
 pub mod Ranges
 pub mod Settle

@@ -230,7 +230,7 @@ abbrev pub character : List ℕ → ℤ → ℕ
 character input (pos n) = byte_in (slice_get input n)
 character input (negsuc n) = word (negsuc 0)
 
--- what the answer to the event of a call leads to
+-- what the answer to the event of a call leads to; `printf` gives how many bytes it has printed, as a word
 abbrev pub library_onward : Caller → LibraryCall → List ℕ → ℕ → ℤ → ℤ → Onward
 library_onward w (call.Create function) words made kept answer = create_onward made kept answer
 library_onward w call.Join words made kept answer = join_onward (not (argument words 1 == 0)) made answer

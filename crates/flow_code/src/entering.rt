@@ -1,10 +1,8 @@
 // Entering a function: the objects that it has from its entry on, and the registers of its frame.
 ghost use Rattle.std.specs.Prelude.{◌≡◌, ◌≤◌, length, codes, nat_eq, MatchOption, Some, None};
 ghost use Rattle.std.specs.Cmp.Lexicographic.{pointwise};
-ghost use Rattle.std.specs.Option.{option_copied};
 ghost use Rattle.std.specs.Vec.{vec_capacity};
-ghost use Rattle.flow_code.specs.Threads.{size_in as size_in_of, size_of as size_of_site, object, object_of, objects_of, fitted, placed, with_arguments};
-ghost use Rattle.flow_code.specs.Library.{argument as argument_of};
+ghost use Rattle.flow_code.specs.Threads as spec;
 ghost use Rattle.flow_code.specs.Next.{words_of};
 
 use crate::act::{Act, Instr};
@@ -22,7 +20,7 @@ pub fn is_main(name: &[u8]) -> bool
 
 /// The size in cells of the site's objects, and 0 where the code doesn't have the site.
 pub fn size_of(sites: &[Site], site: u16) -> u32
-    ensures { result ≡ size_of_site sites.now site }
+    ensures { result ≡ spec.size_of sites.now site }
 {
     match site_at(sites, site) {
         Some(site) => site.layout.size,
@@ -32,7 +30,7 @@ pub fn size_of(sites: &[Site], site: u16) -> u32
 
 // The register and the site of the instruction's object, if it makes one at the entry.
 fn object_in(act: &Act) -> Option<(u32, u16)>
-    ensures { MatchOption result (object_of act.now ≡ None) (λ it. object_of act.now ≡ Some (object it.0 it.1)) }
+    ensures { MatchOption result (spec.object_of act.now ≡ None) (λ it. spec.object_of act.now ≡ Some (spec.object it.0 it.1)) }
 {
     match act {
         Act::Alloc {
@@ -46,7 +44,7 @@ fn object_in(act: &Act) -> Option<(u32, u16)>
 
 /// How many objects the function of these instructions has from its entry on.
 pub fn objects_len(instrs: &[Instr]) -> usize
-    ensures { result ≡ length (objects_of instrs.now) }
+    ensures { result ≡ length (spec.objects_of instrs.now) }
 {
     for (at, instr) in instrs.iter().enumerate() {
         if object_in(&instr.act).is_none() {
@@ -59,7 +57,7 @@ pub fn objects_len(instrs: &[Instr]) -> usize
 /// The arena's next free cell once the objects of these instructions have theirs from cell `at` on, and None where
 /// they don't fit before cell `end`.
 pub fn fitted_in(sites: &[Site], end: u32, instrs: &[Instr], at: u32) -> Option<u32>
-    ensures { result ≡ fitted sites.now end (objects_of instrs.now) at }
+    ensures { result ≡ spec.fitted sites.now end (spec.objects_of instrs.now) at }
 {
     let mut next = at;
     for instr in instrs {
@@ -78,7 +76,7 @@ pub fn fitted_in(sites: &[Site], end: u32, instrs: &[Instr], at: u32) -> Option<
 
 /// Writes the pointers to the objects of these instructions, which have the cells from `at` on, into their registers.
 pub fn place(sites: &[Site], instrs: &[Instr], at: u32, registers: &mut Vec<u64>)
-    ensures { registers.new.items ≡ placed sites.now (objects_of instrs.now) at registers.old.items }
+    ensures { registers.new.items ≡ spec.placed sites.now (spec.objects_of instrs.now) at registers.old.items }
 {
     let mut next = at;
     for instr in instrs {
@@ -98,7 +96,7 @@ pub fn place(sites: &[Site], instrs: &[Instr], at: u32, registers: &mut Vec<u64>
 /// `ws`.
 pub fn fill(arguments: &[u32], registers: &[u64], count: u32, mut into: Vec<u64>) -> Vec<u64>
     requires { count ≤ vec_capacity into }
-    ensures { result.items ≡ with_arguments count (words_of registers.now arguments.now) }
+    ensures { result.items ≡ spec.with_arguments count (words_of registers.now arguments.now) }
 {
     into.clear();
     for k in 0..count {

@@ -1,40 +1,40 @@
 // What C's operators give of words that hold whole numbers.
 ghost use Rattle.std.specs.Prelude.{◌≡◌, ◌+ℤ◌, ◌-ℤ◌, ◌*ℤ◌, pos, int_div, int_rem};
-ghost use Rattle.flow_code.specs.Values.{number as number_of, word as word_of, truth as truth_of, fitting, divided, shifted_left, shifted_right, binary_of};
+ghost use Rattle.flow_code.specs.Values as spec;
 
 use crate::work::BinaryOp;
 use rr_base::Trap;
 
 /// The signed number that a word shows.
 pub fn number(word: u64) -> i64
-    ensures { result ≡ number_of word }
+    ensures { result ≡ spec.number word }
 {
     word.cast_signed()
 }
 
 /// The word that shows a signed number.
 pub fn word(number: i64) -> u64
-    ensures { result ≡ word_of number }
+    ensures { result ≡ spec.word number }
 {
     number.cast_unsigned()
 }
 
 /// 1 where it holds, else 0.
 pub fn truth(holds: bool) -> u64
-    ensures { result ≡ truth_of holds }
+    ensures { result ≡ spec.truth holds }
 {
     u64::from(holds)
 }
 
 fn add(left: i64, right: i64) -> Result<u64, Trap>
-    ensures { result ≡ fitting (left +ℤ right) }
+    ensures { result ≡ spec.fitting (left +ℤ right) }
 {
     let sum = left.checked_add(right).ok_or(Trap::Overflow)?;
     Ok(word(sum))
 }
 
 fn subtract(left: i64, right: i64) -> Result<u64, Trap>
-    ensures { result ≡ fitting (left -ℤ right) }
+    ensures { result ≡ spec.fitting (left -ℤ right) }
 {
     let difference = left.checked_sub(right).ok_or(Trap::Overflow)?;
     Ok(word(difference))
@@ -42,20 +42,20 @@ fn subtract(left: i64, right: i64) -> Result<u64, Trap>
 
 /// Unary `-` (C99 6.5.3.3). It is Overflow at the least number.
 pub fn negate(number: i64) -> Result<u64, Trap>
-    ensures { result ≡ fitting (pos 0 -ℤ number) }
+    ensures { result ≡ spec.fitting (pos 0 -ℤ number) }
 {
     subtract(0, number)
 }
 
 fn multiply(left: i64, right: i64) -> Result<u64, Trap>
-    ensures { result ≡ fitting (left *ℤ right) }
+    ensures { result ≡ spec.fitting (left *ℤ right) }
 {
     let product = left.checked_mul(right).ok_or(Trap::Overflow)?;
     Ok(word(product))
 }
 
 fn divide(left: i64, right: i64) -> Result<u64, Trap>
-    ensures { result ≡ divided int_div left right }
+    ensures { result ≡ spec.divided int_div left right }
 {
     if right == 0 {
         return Err(Trap::DivideByZero);
@@ -65,7 +65,7 @@ fn divide(left: i64, right: i64) -> Result<u64, Trap>
 }
 
 fn take_remainder(left: i64, right: i64) -> Result<u64, Trap>
-    ensures { result ≡ divided int_rem left right }
+    ensures { result ≡ spec.divided int_rem left right }
 {
     if right == 0 {
         return Err(Trap::DivideByZero);
@@ -75,7 +75,7 @@ fn take_remainder(left: i64, right: i64) -> Result<u64, Trap>
 }
 
 fn shift_left(left: i64, right: i64) -> Result<u64, Trap>
-    ensures { result ≡ shifted_left left right }
+    ensures { result ≡ spec.shifted_left left right }
 {
     if right < 0 || right >= 64 {
         return Err(Trap::ShiftRange);
@@ -90,7 +90,7 @@ fn shift_left(left: i64, right: i64) -> Result<u64, Trap>
 }
 
 fn shift_right(left: i64, right: i64) -> Result<u64, Trap>
-    ensures { result ≡ shifted_right left right }
+    ensures { result ≡ spec.shifted_right left right }
 {
     if right < 0 || right >= 64 {
         return Err(Trap::ShiftRange);
@@ -100,7 +100,7 @@ fn shift_right(left: i64, right: i64) -> Result<u64, Trap>
 
 /// What a binary operator gives of two words that hold whole numbers (C99 6.5.5 to 6.5.12).
 pub fn binary(op: BinaryOp, left: u64, right: u64) -> Result<u64, Trap>
-    ensures { result ≡ binary_of op left right }
+    ensures { result ≡ spec.binary_of op left right }
 {
     let (a, b) = (number(left), number(right));
     match op {

@@ -1,6 +1,6 @@
 // Calls of the library: the events of each, one after another.
-ghost use Rattle.std.specs.Prelude.{◌≡◌, ℤ};
-ghost use Rattle.flow_code.specs.Library.{argument as argument_of, clipped as clipped_of, slot_in as slot_in_of, count_in as count_in_of, barrier_count as barrier_count_of, is_misuse as is_misuse_of, is_serial as is_serial_of, cell_of as cell_of_words, create_due as create_due_of, is_joinable as is_joinable_of, join_thread_due as join_thread_due_of, join_due as join_due_of, exit_due as exit_due_of, mutex_due as mutex_due_of, at_cell, wait_due_at as wait_due_at_of, wait_due as wait_due_of, barrier_init_due as barrier_init_due_of, barrier_wait_due as barrier_wait_due_of, print_due as print_due_of, asks_for as asks_for_of, library_due as library_due_of};
+ghost use Rattle.std.specs.Prelude.{◌≡◌};
+ghost use Rattle.flow_code.specs.Library as spec;
 ghost use Rattle.flow_code.specs.Threads.{argument_cell as argument_cell_of, result_cell as result_cell_of};
 ghost use Rattle.flow_code.specs.Next.{words_of};
 
@@ -19,7 +19,7 @@ const MOST_PRINTED: u128 = 1 << 24;
 
 /// The word of argument `k`, and 0 where the call has fewer.
 pub fn argument(registers: &[u64], arguments: &[u32], k: usize) -> u64
-    ensures { result ≡ argument_of (words_of registers.now arguments.now) k }
+    ensures { result ≡ spec.argument (words_of registers.now arguments.now) k }
 {
     match arguments.get(k) {
         Some(r) => register(registers, *r),
@@ -28,7 +28,7 @@ pub fn argument(registers: &[u64], arguments: &[u32], k: usize) -> u64
 }
 
 fn clipped(bound: u64, value: i64) -> u64
-    ensures { result ≡ clipped_of bound value }
+    ensures { result ≡ spec.clipped bound value }
 {
     match u64::try_from(value) {
         Ok(value) if value < bound => value,
@@ -38,35 +38,35 @@ fn clipped(bound: u64, value: i64) -> u64
 
 /// A thread's number, or 0 where the answer isn't one.
 pub fn slot_in(answer: i64) -> u8
-    ensures { result ≡ slot_in_of answer }
+    ensures { result ≡ spec.slot_in answer }
 {
     clipped(16, answer) as u8
 }
 
 /// An epoch, a generation or a function, or 0 where the answer isn't one.
 pub fn count_in(answer: i64) -> u32
-    ensures { result ≡ count_in_of answer }
+    ensures { result ≡ spec.count_in answer }
 {
     clipped(1 << 32, answer) as u32
 }
 
 /// How many threads a barrier is to wait for, or 0 where the number can't be.
 fn barrier_count(number: i64) -> u8
-    ensures { result ≡ barrier_count_of number }
+    ensures { result ≡ spec.barrier_count number }
 {
     clipped(17, number) as u8
 }
 
 /// Whether an operation answers that its object was used against its rules.
 pub fn is_misuse(answer: i64) -> bool
-    ensures { result ≡ is_misuse_of answer }
+    ensures { result ≡ spec.is_misuse answer }
 {
     answer == -2
 }
 
 /// Whether a barrier answers the last thread to come.
 pub fn is_serial(answer: i64) -> bool
-    ensures { result ≡ is_serial_of answer }
+    ensures { result ≡ spec.is_serial answer }
 {
     answer == -1
 }
@@ -92,7 +92,7 @@ fn cell_of(
     k: usize,
     kind: CellKind,
 ) -> Result<u32, Trap>
-    ensures { result ≡ cell_of_words caller.now (words_of registers.now arguments.now) k kind }
+    ensures { result ≡ spec.cell_of caller.now (words_of registers.now arguments.now) k kind }
 {
     resolved(caller.sites(), argument(registers, arguments, k), kind)
 }
@@ -105,7 +105,7 @@ fn create_due(
     made: u8,
     kept: i64,
 ) -> Due
-    ensures { result ≡ create_due_of caller.now function (words_of registers.now arguments.now) made kept }
+    ensures { result ≡ spec.create_due caller.now function (words_of registers.now arguments.now) made kept }
 {
     match made {
         0 => match cell_of(caller, registers, arguments, 0, CellKind::Whole) {
@@ -136,7 +136,7 @@ fn create_due(
 }
 
 fn is_joinable(caller: &Caller, thread: i64) -> bool
-    ensures { result ≡ is_joinable_of caller.now thread }
+    ensures { result ≡ spec.is_joinable caller.now thread }
 {
     1 <= thread
         && thread < i64::from(caller.setup().slots())
@@ -144,7 +144,7 @@ fn is_joinable(caller: &Caller, thread: i64) -> bool
 }
 
 fn join_thread_due(caller: &Caller, thread: i64) -> Due
-    ensures { result ≡ join_thread_due_of caller.now thread }
+    ensures { result ≡ spec.join_thread_due caller.now thread }
 {
     if is_joinable(caller, thread) {
         Due::Operate {
@@ -157,7 +157,7 @@ fn join_thread_due(caller: &Caller, thread: i64) -> Due
 }
 
 fn join_due(caller: &Caller, registers: &[u64], arguments: &[u32], made: u8, kept: i64) -> Due
-    ensures { result ≡ join_due_of caller.now (words_of registers.now arguments.now) made kept }
+    ensures { result ≡ spec.join_due caller.now (words_of registers.now arguments.now) made kept }
 {
     let thread = number(argument(registers, arguments, 0));
     match made {
@@ -190,7 +190,7 @@ fn join_due(caller: &Caller, registers: &[u64], arguments: &[u32], made: u8, kep
 }
 
 fn exit_due(caller: &Caller, value: u64, made: u8) -> Due
-    ensures { result ≡ exit_due_of caller.now value made }
+    ensures { result ≡ spec.exit_due caller.now value made }
 {
     match made {
         0 => Due::Store {
@@ -209,7 +209,7 @@ fn exit_due(caller: &Caller, value: u64, made: u8) -> Due
 }
 
 fn mutex_due(caller: &Caller, op: Op, registers: &[u64], arguments: &[u32], made: u8) -> Due
-    ensures { result ≡ mutex_due_of caller.now op (words_of registers.now arguments.now) made }
+    ensures { result ≡ spec.mutex_due caller.now op (words_of registers.now arguments.now) made }
 {
     if made > 0 {
         return Due::Trap(Trap::MutexMisuse);
@@ -224,7 +224,7 @@ fn mutex_due(caller: &Caller, op: Op, registers: &[u64], arguments: &[u32], made
 }
 
 fn wait_due_at(cond: u32, mutex: u32, made: u8, kept: i64) -> Due
-    ensures { result ≡ wait_due_at_of cond mutex made kept }
+    ensures { result ≡ spec.wait_due_at cond mutex made kept }
 {
     match made {
         0 => Due::Operate {
@@ -254,7 +254,7 @@ fn wait_due_at(cond: u32, mutex: u32, made: u8, kept: i64) -> Due
 }
 
 fn wait_due(caller: &Caller, registers: &[u64], arguments: &[u32], made: u8, kept: i64) -> Due
-    ensures { result ≡ wait_due_of caller.now (words_of registers.now arguments.now) made kept }
+    ensures { result ≡ spec.wait_due caller.now (words_of registers.now arguments.now) made kept }
 {
     let cond = match cell_of(caller, registers, arguments, 0, CellKind::Cond) {
         Ok(cell) => cell,
@@ -267,7 +267,7 @@ fn wait_due(caller: &Caller, registers: &[u64], arguments: &[u32], made: u8, kep
 }
 
 fn signal_due(caller: &Caller, registers: &[u64], arguments: &[u32]) -> Due
-    ensures { result ≡ at_cell (cell_of_words caller.now (words_of registers.now arguments.now) 0 CellKind.Cond) (λ c. Due.Operate Op.Signal (ObjId.Cond c)) }
+    ensures { result ≡ spec.at_cell (spec.cell_of caller.now (words_of registers.now arguments.now) 0 CellKind.Cond) (λ c. Due.Operate Op.Signal (ObjId.Cond c)) }
 {
     match cell_of(caller, registers, arguments, 0, CellKind::Cond) {
         Ok(cell) => Due::Operate {
@@ -279,7 +279,7 @@ fn signal_due(caller: &Caller, registers: &[u64], arguments: &[u32]) -> Due
 }
 
 fn barrier_init_due(caller: &Caller, registers: &[u64], arguments: &[u32], made: u8) -> Due
-    ensures { result ≡ barrier_init_due_of caller.now (words_of registers.now arguments.now) made }
+    ensures { result ≡ spec.barrier_init_due caller.now (words_of registers.now arguments.now) made }
 {
     if made > 0 {
         return Due::Trap(Trap::BarrierMisuse);
@@ -302,7 +302,7 @@ fn barrier_wait_due(
     made: u8,
     kept: i64,
 ) -> Due
-    ensures { result ≡ barrier_wait_due_of caller.now (words_of registers.now arguments.now) made kept }
+    ensures { result ≡ spec.barrier_wait_due caller.now (words_of registers.now arguments.now) made kept }
 {
     if made > 0 && is_misuse(kept) {
         return Due::Trap(Trap::BarrierMisuse);
@@ -323,7 +323,7 @@ fn barrier_wait_due(
 }
 
 fn asks_for(caller: &Caller, registers: &[u64], arguments: &[u32], kind: CellKind) -> Due
-    ensures { result ≡ asks_for_of caller.now (words_of registers.now arguments.now) kind }
+    ensures { result ≡ spec.asks_for caller.now (words_of registers.now arguments.now) kind }
 {
     match cell_of(caller, registers, arguments, 0, kind) {
         Ok(_) => Due::Quiet,
@@ -332,7 +332,7 @@ fn asks_for(caller: &Caller, registers: &[u64], arguments: &[u32], kind: CellKin
 }
 
 fn print_due(caller: &Caller, bytes: u128) -> Due
-    ensures { result ≡ print_due_of caller.now bytes }
+    ensures { result ≡ spec.print_due caller.now bytes }
 {
     if bytes <= MOST_PRINTED && u128::from(caller.printed()) + bytes <= MOST_PRINTED {
         Due::Operate {
@@ -353,7 +353,7 @@ pub fn library_due(
     made: u8,
     kept: i64,
 ) -> Due
-    ensures { result ≡ library_due_of caller.now call.now (words_of registers.now arguments.now) made kept }
+    ensures { result ≡ spec.library_due caller.now call.now (words_of registers.now arguments.now) made kept }
 {
     match call {
         LibraryCall::Create { function } => create_due(

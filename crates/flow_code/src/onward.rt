@@ -1,6 +1,6 @@
 // What the answers to the events of calls lead to.
 ghost use Rattle.std.specs.Prelude.{◌≡◌};
-ghost use Rattle.flow_code.specs.Library.{create_onward as create_onward_of, join_onward as join_onward_of, exit_onward as exit_onward_of, checked_onward as checked_onward_of, wait_onward as wait_onward_of, barrier_wait_onward as barrier_wait_onward_of, character as character_of, library_onward as library_onward_of};
+ghost use Rattle.flow_code.specs.Library as spec;
 ghost use Rattle.flow_code.specs.Next.{words_of};
 
 use crate::act::LibraryCall;
@@ -14,7 +14,7 @@ use crate::thread::Onward;
 const NO_THREAD_LEFT: u64 = 11;
 
 fn create_onward(made: u8, kept: i64, answer: i64) -> Onward
-    ensures { result ≡ create_onward_of made kept answer }
+    ensures { result ≡ spec.create_onward made kept answer }
 {
     match made {
         0 if answer == 0 => Onward::Gives {
@@ -27,7 +27,7 @@ fn create_onward(made: u8, kept: i64, answer: i64) -> Onward
 }
 
 fn join_onward(asked: bool, made: u8, answer: i64) -> Onward
-    ensures { result ≡ join_onward_of asked made answer }
+    ensures { result ≡ spec.join_onward asked made answer }
 {
     match made {
         0 if asked || is_misuse(answer) => Onward::Stays { kept: answer },
@@ -37,7 +37,7 @@ fn join_onward(asked: bool, made: u8, answer: i64) -> Onward
 }
 
 fn exit_onward(made: u8, kept: i64) -> Onward
-    ensures { result ≡ exit_onward_of made kept }
+    ensures { result ≡ spec.exit_onward made kept }
 {
     match made {
         0 | 1 => Onward::Stays { kept },
@@ -46,7 +46,7 @@ fn exit_onward(made: u8, kept: i64) -> Onward
 }
 
 fn checked_onward(answer: i64) -> Onward
-    ensures { result ≡ checked_onward_of answer }
+    ensures { result ≡ spec.checked_onward answer }
 {
     if is_misuse(answer) {
         Onward::Stays { kept: answer }
@@ -56,7 +56,7 @@ fn checked_onward(answer: i64) -> Onward
 }
 
 fn wait_onward(made: u8, kept: i64, answer: i64) -> Onward
-    ensures { result ≡ wait_onward_of made kept answer }
+    ensures { result ≡ spec.wait_onward made kept answer }
 {
     match made {
         0 => Onward::Stays { kept: answer },
@@ -67,7 +67,7 @@ fn wait_onward(made: u8, kept: i64, answer: i64) -> Onward
 }
 
 fn barrier_wait_onward(made: u8, answer: i64) -> Onward
-    ensures { result ≡ barrier_wait_onward_of made answer }
+    ensures { result ≡ spec.barrier_wait_onward made answer }
 {
     if made > 0 {
         Onward::Gives { value: 0 }
@@ -82,7 +82,7 @@ fn barrier_wait_onward(made: u8, answer: i64) -> Onward
 
 /// The byte at this place of the input, or EOF as a word (C99 7.19.7.6).
 fn character(input: &[u8], place: i64) -> u64
-    ensures { result ≡ character_of input.now place }
+    ensures { result ≡ spec.character input.now place }
 {
     let byte = match usize::try_from(place) {
         Ok(place) => input.get(place),
@@ -105,7 +105,7 @@ pub fn library_onward(
     kept: i64,
     answer: i64,
 ) -> Onward
-    ensures { result ≡ library_onward_of caller.now call.now (words_of registers.now arguments.now) made kept answer }
+    ensures { result ≡ spec.library_onward caller.now call.now (words_of registers.now arguments.now) made kept answer }
 {
     match call {
         LibraryCall::Create { function: _ } => create_onward(made, kept, answer),

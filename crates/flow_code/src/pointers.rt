@@ -2,14 +2,14 @@
 ghost use Rattle.std.specs.Prelude.{◌≡◌, ◌<◌, ◌^◌, ◌*ℤ◌, pos};
 ghost use Rattle.std.specs.Option.{option_copied};
 ghost use Rattle.rr_base.specs.Words.{pack};
-ghost use Rattle.flow_code.specs.Pointers.{known as known_of, resolved as resolved_of, site_at as site_of_number, is_kind as is_kind_of, kind_at as kind_at_of, kind_in as kind_in_of, moved as moved_of, moved_by as moved_by_of, directed as directed_of, pointer_at as pointer_at_of, in_one_object as in_one_object_of, compared as compared_of, elements_between as elements_between_of, pointer_to as pointer_to_of, number_from as number_from_of};
+ghost use Rattle.flow_code.specs.Pointers as spec;
 
 use crate::evaluate;
 use rr_base::{CellKind, Layout, PtrWord, Site, Trap};
 
 /// The site of this number; the first has number 1.
 pub fn site_at(sites: &[Site], number: u16) -> Option<&Site>
-    ensures { option_copied result ≡ site_of_number sites.now number }
+    ensures { option_copied result ≡ spec.site_at sites.now number }
 {
     if number == 0 {
         return None;
@@ -19,7 +19,7 @@ pub fn site_at(sites: &[Site], number: u16) -> Option<&Site>
 
 /// The word as the code reads it: one of a site that the code doesn't have is read as a word of site 0.
 pub fn known(sites: &[Site], word: u64) -> PtrWord
-    ensures { result ≡ known_of sites.now word }
+    ensures { result ≡ spec.known sites.now word }
 {
     let pointer = PtrWord::from_word(word);
     if usize::from(pointer.site()) <= sites.len() {
@@ -30,7 +30,7 @@ pub fn known(sites: &[Site], word: u64) -> PtrWord
 }
 
 fn is_kind(found: Option<CellKind>, want: CellKind) -> bool
-    ensures { result ≡ is_kind_of found want }
+    ensures { result ≡ spec.is_kind found want }
 {
     match found {
         Some(kind) => kind == want,
@@ -39,7 +39,7 @@ fn is_kind(found: Option<CellKind>, want: CellKind) -> bool
 }
 
 fn kind_at(layout: &Layout, offset: u16) -> Option<CellKind>
-    ensures { result ≡ kind_at_of layout.now offset }
+    ensures { result ≡ spec.kind_at layout.now offset }
 {
     if layout.size == 0 {
         return None;
@@ -51,7 +51,7 @@ fn kind_at(layout: &Layout, offset: u16) -> Option<CellKind>
 }
 
 fn kind_in(site: Option<&Site>, offset: u16) -> Option<CellKind>
-    ensures { result ≡ kind_in_of (option_copied site.entry) offset }
+    ensures { result ≡ spec.kind_in (option_copied site.entry) offset }
 {
     kind_at(&site?.layout, offset)
 }
@@ -59,7 +59,7 @@ fn kind_in(site: Option<&Site>, offset: u16) -> Option<CellKind>
 /// The cell to which the word points, for an access of this kind (C99 6.5.3.2). It is BadDereference or OutOfObject
 /// where the word points to no cell, else BadKind where the cell is of another kind.
 pub fn resolved(sites: &[Site], word: u64, want: CellKind) -> Result<u32, Trap>
-    ensures { result ≡ resolved_of sites.now word want }
+    ensures { result ≡ spec.resolved sites.now word want }
 {
     let cell = known(sites, word).cell()?;
     let pointer = PtrWord::from_word(word);
@@ -76,15 +76,15 @@ pub fn resolved(sites: &[Site], word: u64, want: CellKind) -> Result<u32, Trap>
 /// The pointer so many cells further on, within its object or right behind it (C99 6.5.6). It is BadDereference
 /// where the word points nowhere, else OutOfObject where the pointer would leave its object.
 pub fn moved(sites: &[Site], word: u64, cells: i64) -> Result<u64, Trap>
-    ensures { result ≡ moved_of sites.now word cells }
+    ensures { result ≡ spec.moved sites.now word cells }
 {
     let pointer = known(sites, word).moved(cells)?;
     Ok(pointer.word())
 }
 
-/// A number of elements, forwards or back.
-pub fn directed(back: bool, elements: i64) -> i128
-    ensures { result ≡ directed_of back elements }
+// A number of elements, forwards or back; back, the least of 64 bits is one of 65.
+fn directed(back: bool, elements: i64) -> i128
+    ensures { result ≡ spec.directed back elements }
 {
     if back {
         -i128::from(elements)
@@ -102,7 +102,7 @@ pub fn moved_by(
     element: u32,
     back: bool,
 ) -> Result<u64, Trap>
-    ensures { result ≡ moved_by_of sites.now word (directed_of back elements *ℤ pos element) }
+    ensures { result ≡ spec.moved_by sites.now word (spec.directed back elements *ℤ pos element) }
 {
     let cells = directed(back, elements)
         .checked_mul(i128::from(element))
@@ -116,7 +116,7 @@ pub fn moved_by(
 /// The pointer to the first cell of a new object. Its parts are to fit, as those of a valid code do: a site below
 /// 2^10, a base below 2^22 and at most 65,535 cells; else the word has what is left of them.
 pub fn pointer_at(site: u16, base: u32, cells: u32) -> u64
-    ensures value { result ≡ pointer_at_of site base cells }
+    ensures value { result ≡ spec.pointer_at site base cells }
     ensures parts { site < 2 ^ 10 → base < 2 ^ 22 → cells < 2 ^ 16 → result ≡ pack site base cells 0 }
 {
     let word = (u128::from(site) << 54) + (u128::from(base) << 32) + (u128::from(cells) << 16);
@@ -124,14 +124,14 @@ pub fn pointer_at(site: u16, base: u32, cells: u32) -> u64
 }
 
 fn in_one_object(left: PtrWord, right: PtrWord) -> bool
-    ensures { result ≡ in_one_object_of left right }
+    ensures { result ≡ spec.in_one_object left right }
 {
     left.site() != 0 && left.site() == right.site() && left.base() == right.base()
 }
 
 /// What is asked of two pointers into one object (C99 6.5.8). It is CompareObjects exactly where they aren't.
 pub fn compared(sites: &[Site], left: u64, right: u64, answer: u64) -> Result<u64, Trap>
-    ensures { result ≡ compared_of sites.now left right answer }
+    ensures { result ≡ spec.compared sites.now left right answer }
 {
     if in_one_object(known(sites, left), known(sites, right)) {
         Ok(answer)
@@ -143,7 +143,7 @@ pub fn compared(sites: &[Site], left: u64, right: u64, answer: u64) -> Result<u6
 /// How many elements of `element` cells lie from the second pointer to the first, truncated towards zero, as a
 /// word (C99 6.5.6); of elements of no cells, 0.
 pub fn elements_between(left: u64, right: u64, element: u32) -> u64
-    ensures { result ≡ elements_between_of left right element }
+    ensures { result ≡ spec.elements_between left right element }
 {
     if element == 0 {
         return 0;
@@ -155,7 +155,7 @@ pub fn elements_between(left: u64, right: u64, element: u32) -> u64
 
 /// The number as a pointer (C99 6.3.2.3). It is CastRange exactly outside of -2^53 to 2^53 - 1.
 pub fn pointer_to(number: i64) -> Result<u64, Trap>
-    ensures { result ≡ pointer_to_of number }
+    ensures { result ≡ spec.pointer_to number }
 {
     let pointer = PtrWord::of_number(number)?;
     Ok(pointer.word())
@@ -163,7 +163,7 @@ pub fn pointer_to(number: i64) -> Result<u64, Trap>
 
 /// The pointer as a number, as a word (C99 6.3.2.3). It is PointerToNumber exactly where it points to an object.
 pub fn number_from(sites: &[Site], word: u64) -> Result<u64, Trap>
-    ensures { result ≡ number_from_of sites.now word }
+    ensures { result ≡ spec.number_from sites.now word }
 {
     let number = known(sites, word).to_number()?;
     Ok(evaluate::word(number))

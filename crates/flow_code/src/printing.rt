@@ -2,7 +2,7 @@
 ghost use Rattle.std.specs.Prelude.{◌≡◌, ◌+◌, ◌<◌, ◌≤◌, ◌++◌, ◌^◌, length, slice_index, IfOk, OnOk, MatchOption, if◌then◌else◌};
 ghost use Rattle.std.specs.Fmt.{signed_decimal};
 ghost use Rattle.flow_code.specs.Works.{register as register_of};
-ghost use Rattle.flow_code.specs.Library.{text_of, takes_argument as takes_argument_of, printed_piece, piece_of};
+ghost use Rattle.flow_code.specs.Library as spec;
 ghost use Rattle.flow_code.specs.Next.{words_of};
 
 use crate::act::{LibraryCall, Piece};
@@ -27,7 +27,7 @@ fn word_at(registers: &[u64], arguments: &[u32], k: usize) -> Option<u64>
 // Which argument is next behind a piece, where `k` is next before it.
 fn next_argument(piece: Piece, k: usize) -> usize
     requires { k + 1 < 2 ^ 64 }
-    ensures { result ≡ (if takes_argument_of piece then k + 1 else k) }
+    ensures { result ≡ (if spec.takes_argument piece then k + 1 else k) }
 {
     match piece {
         Piece::Byte(_) => k,
@@ -43,7 +43,7 @@ fn number_len(number: i64) -> usize
 }
 
 fn text_len(piece: Piece, word: Option<u64>) -> usize
-    ensures value { result ≡ length (text_of piece word) }
+    ensures value { result ≡ length (spec.text_of piece word) }
     ensures short { result ≤ 40 }
 {
     match (piece, word) {
@@ -55,7 +55,7 @@ fn text_len(piece: Piece, word: Option<u64>) -> usize
 }
 
 fn push_text(out: &mut Bytes, piece: Piece, word: Option<u64>) -> Result<(), AllocError>
-    ensures { OnOk result (out.new ≡ out.old ++ text_of piece word) }
+    ensures { OnOk result (out.new ≡ out.old ++ spec.text_of piece word) }
 {
     match (piece, word) {
         (Piece::Byte(byte), _) => out.push(byte),
@@ -69,7 +69,7 @@ fn push_text(out: &mut Bytes, piece: Piece, word: Option<u64>) -> Result<(), All
 
 // How many bytes a format prints. Each of up to 2^64 pieces prints up to 20, so the sum has 128 bits.
 fn printed_len(format: &[Piece], registers: &[u64], arguments: &[u32]) -> u128
-    ensures { result ≡ length (printed_piece format.now (words_of registers.now arguments.now)) }
+    ensures { result ≡ length (spec.printed_piece format.now (words_of registers.now arguments.now)) }
 {
     let mut len = 0;
     let mut next = 0;
@@ -82,7 +82,7 @@ fn printed_len(format: &[Piece], registers: &[u64], arguments: &[u32]) -> u128
 
 /// How many bytes the call prints.
 pub fn piece_len(call: &LibraryCall, registers: &[u64], arguments: &[u32]) -> u128
-    ensures { result ≡ length (piece_of call.now (words_of registers.now arguments.now)) }
+    ensures { result ≡ length (spec.piece_of call.now (words_of registers.now arguments.now)) }
 {
     match call {
         LibraryCall::Print { format } => printed_len(format.as_slice(), registers, arguments),
@@ -97,7 +97,7 @@ fn push_printed(
     registers: &[u64],
     arguments: &[u32],
 ) -> Result<(), AllocError>
-    ensures { OnOk result (out.new ≡ out.old ++ printed_piece format.now (words_of registers.now arguments.now)) }
+    ensures { OnOk result (out.new ≡ out.old ++ spec.printed_piece format.now (words_of registers.now arguments.now)) }
 {
     let mut next = 0;
     for piece in format {
@@ -114,7 +114,7 @@ pub fn piece(
     registers: &[u64],
     arguments: &[u32],
 ) -> Result<Bytes, AllocError>
-    ensures { IfOk result (λ bytes. bytes ≡ piece_of call.now (words_of registers.now arguments.now)) }
+    ensures { IfOk result (λ bytes. bytes ≡ spec.piece_of call.now (words_of registers.now arguments.now)) }
 {
     let mut bytes = Bytes::new(alloc);
     match call {

@@ -1,6 +1,6 @@
 // What an instruction that computes gives, from the registers of its frame.
 ghost use Rattle.std.specs.Prelude.{◌≡◌, slice_set};
-ghost use Rattle.flow_code.specs.Works.{register as register_of, is_pointer as is_pointer_of, based as based_of, pointer_binary_of, either_binary_of, work_of};
+ghost use Rattle.flow_code.specs.Works as spec;
 
 use crate::evaluate::{binary, negate, number, truth, word};
 use crate::pointers::{compared, elements_between, moved, moved_by, number_from, pointer_to};
@@ -9,7 +9,7 @@ use rr_base::{PtrWord, Site, Trap};
 
 /// The word in a register, and 0 in one that the frame doesn't have.
 pub fn register(registers: &[u64], r: u32) -> u64
-    ensures { result ≡ register_of registers.now r }
+    ensures { result ≡ spec.register registers.now r }
 {
     registers.get(r as usize).copied().unwrap_or(0)
 }
@@ -25,13 +25,13 @@ pub fn set_register(registers: &mut Vec<u64>, r: u32, word: u64)
 
 /// Whether a register holds a pointer; one that the function doesn't have holds none.
 pub fn is_pointer(pointers: &[bool], r: u32) -> bool
-    ensures { result ≡ is_pointer_of pointers.now r }
+    ensures { result ≡ spec.is_pointer pointers.now r }
 {
     pointers.get(r as usize).copied().unwrap_or(false)
 }
 
 fn based(slots: u8, address: PtrWord) -> u64
-    ensures { result ≡ based_of slots address }
+    ensures { result ≡ spec.based slots address }
 {
     address
         .word()
@@ -39,7 +39,7 @@ fn based(slots: u8, address: PtrWord) -> u64
 }
 
 fn pointer_binary(sites: &[Site], op: BinaryOp, left: u64, right: u64) -> Result<u64, Trap>
-    ensures { result ≡ pointer_binary_of sites.now op left right }
+    ensures { result ≡ spec.pointer_binary_of sites.now op left right }
 {
     let (from, to) = (
         PtrWord::from_word(left).offset(),
@@ -61,7 +61,7 @@ fn either_binary(
     left: u64,
     right: u64,
 ) -> Result<u64, Trap>
-    ensures { result ≡ either_binary_of are_pointers sites.now op left right }
+    ensures { result ≡ spec.either_binary_of are_pointers sites.now op left right }
 {
     if are_pointers {
         pointer_binary(sites, op, left, right)
@@ -79,7 +79,7 @@ pub fn compute(
     registers: &[u64],
     work: &Work,
 ) -> Result<u64, Trap>
-    ensures { result ≡ work_of slots sites.now pointers.now registers.now work.now }
+    ensures { result ≡ spec.work_of slots sites.now pointers.now registers.now work.now }
 {
     match *work {
         Work::Constant(value) => Ok(word(value)),
