@@ -10,6 +10,8 @@ use Rattle.flow_code.specs.Ranges.{InRange}
 use Rattle.flow_code.proofs.Ranges.{stepped_in_range, gave_up_in_range, stopped_in_range, shut_in_range, count_fits, arena_fits}
 use Rattle.flow_code.proofs.Counts.{stepped_is}
 use Rattle.core_run.specs.Flows.{Fits, IsSoundFlow}
+use Rattle.core_run.specs.Machine.{start_thread}
+use Rattle.core_run.proofs.ThreadRanges.{start_in_range}
 
 pub fits_of : (code : Code) (s : SetupView) (t : ℕ) (th : Thread) → IsSoundFlow code s t th → Fits th
 fits_of code s t th f =
@@ -48,3 +50,13 @@ sound_next code s t th q d answer f e h = subst (IsSoundFlow code s t) (sym (h �
 
 pub next_is : (code : Code) (s : SetupView) (t : ℕ) (th q : Thread) (d : Due) (answer : ℤ) → d ≡ due_of code s t th → q ≡ after_due code s t th d answer → q ≡ stepped code s t th answer
 next_is code s t th q d answer e h = h ∙ sym (stepped_is code s t th d answer (sym e))
+
+-- a thread at its start is sound
+pub sound_start : (code : Code) (s : SetupView) (t : ℕ) → IsRunnable code → IsWithinLimits s → t < s.slots → IsSoundFlow code s t (start_thread code s t)
+sound_start code s t r l n = record { runnable = r; limits = l; number = n; range = start_in_range code s t }
+
+pub sound_given_up : (code : Code) (s : SetupView) (t : ℕ) (th q : Thread) (lock stripe : ℕ) → IsSoundFlow code s t th → th.entries < most_entries → th.revokes < most_revokes → q ≡ gave_up th lock stripe → IsSoundFlow code s t q
+sound_given_up code s t th q lock stripe f e r h = subst (IsSoundFlow code s t) (sym h) (sound_give_up code s t th lock stripe e r f)
+
+pub sound_begun : (code : Code) (s : SetupView) (t : ℕ) (th : Thread) → IsRunnable code → IsWithinLimits s → t < s.slots → th ≡ start_thread code s t → IsSoundFlow code s t th
+sound_begun code s t th r l n h = subst (IsSoundFlow code s t) (sym h) (sound_start code s t r l n)

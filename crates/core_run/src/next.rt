@@ -7,12 +7,13 @@ ghost use Rattle.flow_code.specs.Next.{quiet_unless as quiet_unless_of, load_due
 ghost use Rattle.flow_code.specs.Pointers.{resolved as resolved_of};
 ghost use Rattle.flow_code.specs.Works.{register as register_of, is_pointer as is_pointer_of};
 ghost use Rattle.flow_code.specs.declared.act.Act.TheVariants as act;
-ghost use Rattle.std.specs.Prelude.{Some, None};
+ghost use Rattle.std.specs.Prelude.{Some, None, position, IfSome};
+ghost use Rattle.core_run.specs.Machine.{main_of};
 
 use crate::due::{first_owed, limited, listed, owing};
 use crate::place::{arena_end, function_at, instr_at, instrs_at, pointers_at};
 use crate::state::ThreadState;
-use flow_code::{Act, Caller, Code, Due, LibraryCall, Phase, compute, fitted_in, is_main, is_pointer, library_due, number, register, resolved, size_of};
+use flow_code::{Act, Caller, Code, Due, Function, LibraryCall, Phase, compute, fitted_in, is_main, is_pointer, library_due, number, register, resolved, size_of};
 use rr_base::{CellKind, Trap};
 use sync_objects::{ObjId, Op, Setup};
 
@@ -112,6 +113,24 @@ pub(crate) fn is_main_function(code: &Code, function: u32) -> bool
     match function_at(code, function) {
         Some(f) => is_main(f.name.as_slice()),
         None => false,
+    }
+}
+
+fn main_place(functions: &[Function]) -> Option<usize>
+    ensures value { result ≡ position (λ f. is_main_in (Some f)) functions.now }
+    ensures within { IfSome result (λ k. k < length functions.now) }
+{
+    functions.iter().position(|f| is_main(f.name.as_slice()))
+}
+
+// The function `main`.
+pub(crate) fn main_function(code: &Code) -> u32
+    requires { length code.now.functions ≤ 2 ^ 20 }
+    ensures { result ≡ main_of code.now }
+{
+    match main_place(code.functions.as_slice()) {
+        Some(k) => k as u32,
+        None => 0,
     }
 }
 

@@ -7,13 +7,15 @@ ghost use Rattle.flow_code.specs.Threads.{Frame as FrameView, instrs_in};
 ghost use Rattle.std.specs.Option.{option_copied};
 ghost use Rattle.core_run.specs.Flows.{Kept, is_ready, needs};
 ghost use Rattle.core_run.specs.Machine.{no_frame};
-ghost use Rattle.std.specs.Prelude.{OnOk};
+ghost use Rattle.std.specs.Prelude.{OnOk, IfOk};
+ghost use Rattle.core_run.specs.Pieces.{piece_at};
+ghost use Rattle.flow_code.specs.Next.{act_at};
 
 use crate::frame::Frame;
 use crate::region::OpenRegion;
 use crate::place::{instr_at, instrs_at, registers_at};
-use flow_code::{Act, Code, Instr, Onward, Phase, Stripe, pointer_at};
-use rr_base::Trap;
+use flow_code::{Act, Code, Instr, Onward, Phase, Stripe, piece, pointer_at};
+use rr_base::{Bytes, Trap};
 use std::alloc::{AllocError, Global};
 use std::marker::Model;
 use sync_objects::Op;
@@ -100,6 +102,19 @@ impl ThreadState {
         let needed = self.needed(code);
         self.spare.clear();
         self.spare.reserve(needed as usize)
+    }
+
+    // The bytes that the call at which the thread stands prints.
+    pub(crate) fn piece(&self, alloc: Global, code: &Code) -> Result<Bytes, AllocError>
+        ensures { IfOk result (λ bytes. bytes ≡ piece_at (act_at code.now self.now.thread.top) self.now.thread.top.registers) }
+    {
+        let (function, instr) = self.top.place();
+        match instr_at(code, function, instr) {
+            Some(Instr { act: Act::Library { call, arguments, .. }, .. }) => {
+                piece(alloc, call, self.top.registers(), arguments.as_slice())
+            }
+            _ => Ok(Bytes::new(alloc)),
+        }
     }
 
     // Puts a result into a register, and goes on.
