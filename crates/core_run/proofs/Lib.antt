@@ -6,3 +6,4 @@ pub mod Reached
 pub mod Retakes
 pub mod SoundWords
 pub mod ThreadRanges
+pub mod Told
