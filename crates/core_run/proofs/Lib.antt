@@ -7,3 +7,4 @@ pub mod Retakes
 pub mod SoundWords
 pub mod ThreadRanges
 pub mod Told
+pub mod WholeRuns

@@ -1,5 +1,5 @@
 -- What holds of each state that can be reached from the start.
-use Rattle.std.proofs.Common.{◌≡◌, ◌≢◌, ℕ, zero, suc, ◌+◌, ◌*◌, ◌-◌, ◌^◌, ◌<◌, ◌≤◌, ◌⊎◌, inl, inr, ⊎_elim, Bool, true, false, if◌then◌else◌, nat_lt, List, [], ◌∷◌, length, Option, Some, None, refl, sym, ap, subst, ◌∙◌, ℤ, pos, arith, length-set}
+use Rattle.std.proofs.Common.{◌≡◌, ℕ, zero, suc, ◌+◌, ◌*◌, ◌-◌, ◌^◌, ◌≤◌, Bool, true, false, if◌then◌else◌, nat_lt, List, [], ◌∷◌, length, Some, refl, sym, ap, subst, ◌∙◌, ℤ, pos, arith, length-set}
 use Rattle.std.specs.Prelude.{slice_get, slice_set, sum_by}
 use Rattle.std.proofs.lemmas.List.Sums.{sum_by-set, sum_by-cons}
 use Rattle.std.proofs.lemmas.Option.{slice_get_within, get_or_from_slice_get}
@@ -18,18 +18,18 @@ use Rattle.flow_code.specs.Threads.{Thread}
 use Rattle.flow_code.specs.Next.{stepped as thread_stepped, action_at, gave_up, stopped, shut}
 use Rattle.flow_code.specs.Settle.{settled, IsRunnable}
 use Rattle.flow_code.specs.Ranges.{InRange}
-use Rattle.flow_code.proofs.Counts.{Counts, action_counts, operation_rises, counted_rises, settled_keeps_all}
+use Rattle.flow_code.proofs.Counts.{Counts, action_counts, operation_rises, settled_keeps_all}
 use Rattle.flow_code.proofs.Ranges.{count_fits}
 use Rattle.core_run.specs.Words.{cells_of, has_object, start_words}
 use Rattle.core_run.specs.Pieces.{piece_next}
-use Rattle.core_run.specs.Machine.{Told, entry_of, operation, action_effect, may_revoke, may_stop, may_close, effect_of, machine, start_told, start_threads_from, start_state}
+use Rattle.core_run.specs.Machine.{Told, entry_of, operation, action_effect, may_revoke, may_stop, may_close, effect_of, machine, start_threads_from, start_state}
 use Rattle.core_run.specs.Kept.{AreSound, AreInRange, IsKept}
 use Rattle.core_run.proofs.Lawful.{effect_go, effect_revoke, effect_stop, effect_close, change_is}
 use Rattle.core_run.proofs.SoundWords.{sound_start, sound_more, sound_step}
 use Rattle.core_run.proofs.ThreadRanges.{start_all_in_range, threads_in_range}
 use Rattle.runs.specs.Labels.{Label, Go, Revoke, Stop, Close, label_thread}
-use Rattle.runs.specs.Steps.{Change, NotAllowed, Becomes, Outcome, Blocked, Leaves, Effect, Refused, Marks, Loads, Stores, Operates, State, outcome, stepped, effect_entry, added, Reaches}
-use Rattle.runs.proofs.Swap.{load_inv, change_inv, Steps, steps_of, adds_of}
+use Rattle.runs.specs.Steps.{Becomes, Leaves, Effect, Refused, Marks, Loads, Stores, Operates, State, outcome, stepped, effect_entry, added, Reaches}
+use Rattle.runs.proofs.Swap.{load_inv, change_inv, steps_of, adds_of}
 use Rattle.runs.proofs.Kept.{kept_along}
 
 -- the events of a thread and its entries that aren't ending ones, together
@@ -160,7 +160,7 @@ module _ (code : Code) (s : SetupView) where
         sound = sound_more code s (all_steps st.threads + length (added (machine code s) st l)) (all_steps st1.threads) st1.words (omega arith) (sound_step code s runnable limits (all_steps st.threads) st st1 l (omega arith) (omega arith) e h.sound);
       }
 
-  start_length : (k n : ℕ) → length (start_threads_from code s k n) ≡ n
+  pub start_length : (k n : ℕ) → length (start_threads_from code s k n) ≡ n
   start_length k zero = refl
   start_length k (suc n) = ap suc (start_length (k + 1) n)
 

@@ -1,15 +1,15 @@
 -- The words of objects stay sound, and each step raises their numbers by at most one.
-use Rattle.std.proofs.Common.{◌≡◌, ◌≢◌, ℕ, zero, suc, ◌+◌, ◌-◌, ◌^◌, ◌<◌, ◌≤◌, ◌⊎◌, inl, inr, ⊎_elim, Bool, true, false, if◌then◌else◌, nat_lt, List, [], ◌∷◌, length, Option, Some, None, refl, sym, ap, subst, ◌∙◌, ℤ, pos, arith}
+use Rattle.std.proofs.Common.{◌≡◌, ◌≢◌, ℕ, ◌+◌, ◌-◌, ◌^◌, ◌<◌, ◌≤◌, ⊎_elim, Bool, true, false, if◌then◌else◌, nat_lt, List, [], length, Some, refl, sym, ap, subst, ◌∙◌, ℤ, pos, arith}
 use Rattle.std.specs.Prelude.{slice_get, slice_set}
 use Rattle.std.proofs.lemmas.Bool.{ltb-true}
 use Rattle.std.proofs.lemmas.Option.{same_Some}
 use Rattle.rr_base.proofs.Lists.{slice_get-set_other, slice_get-set_same}
 use Rattle.sync_objects.specs.Setup.{SetupView, IsWithinLimits}
-use Rattle.sync_objects.specs.Names.{name_of, kind_of, object_kind, Fits}
+use Rattle.sync_objects.specs.Names.{name_of, object_kind, Fits}
 use Rattle.sync_objects.specs.Sound.{IsSoundWord, IsInRange}
 use Rattle.sync_objects.specs.Start.{start_word}
 use Rattle.sync_objects.specs.Words.{number_of}
-use Rattle.sync_objects.specs.Advance.{Advance, Advances, advanced}
+use Rattle.sync_objects.specs.Advance.{Advances, advanced}
 use Rattle.sync_objects.specs.declared.object.ObjId.{ObjId}
 use Rattle.sync_objects.specs.declared.object.ObjId.TheVariants as object
 use Rattle.sync_objects.specs.declared.operation.Op.{Op}
@@ -21,7 +21,7 @@ use Rattle.flow_code.specs.declared.thread.Action.TheVariants as action
 use Rattle.flow_code.specs.Threads.{Thread}
 use Rattle.flow_code.specs.Next.{stepped as thread_stepped, action_at, gave_up, stopped, shut}
 use Rattle.flow_code.specs.Settle.{settled, IsRunnable}
-use Rattle.flow_code.proofs.Asked.{IsOwn, own_action}
+use Rattle.flow_code.proofs.Asked.{own_action}
 use Rattle.core_run.specs.Words.{cells_of, has_object, place_of, start_words}
 use Rattle.core_run.specs.Pieces.{piece_next}
 use Rattle.core_run.specs.Machine.{Told, entry_of, operation, action_effect, may_revoke, may_stop, may_close, effect_of, machine}
@@ -30,9 +30,9 @@ use Rattle.core_run.proofs.Places.{place_behind, place_apart}
 use Rattle.core_run.proofs.Beginnings.{start_word_at, start_number}
 use Rattle.core_run.proofs.Lawful.{effect_go, effect_revoke, effect_stop, effect_close, change_is}
 use Rattle.runs.specs.Labels.{Label, Go, Revoke, Stop, Close, label_thread}
-use Rattle.runs.specs.Steps.{Change, NotAllowed, Becomes, Outcome, Blocked, Leaves, Effect, Refused, Marks, Loads, Stores, Operates, State, outcome, stepped, effect_entry, added}
+use Rattle.runs.specs.Steps.{Change, Becomes, Leaves, Effect, Refused, Marks, Loads, Stores, Operates, State, outcome, stepped, effect_entry, added}
 use Rattle.runs.proofs.SameEntries.{object_cases}
-use Rattle.runs.proofs.Swap.{load_inv, change_inv, Steps, steps_of, adds_of}
+use Rattle.runs.proofs.Swap.{load_inv, change_inv, steps_of, adds_of}
 
 module _ (code : Code) (s : SetupView) where
   -- where an object has its word

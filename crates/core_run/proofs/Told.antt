@@ -1,14 +1,13 @@
 -- Each thread tells its own entries: they are those of the run.
-use Rattle.std.proofs.Common.{◌≡◌, ◌≢◌, ℕ, zero, suc, ◌+◌, ◌≤◌, ◌⊎◌, inl, inr, ⊎_elim, Bool, true, false, if◌then◌else◌, nat_lt, List, [], ◌∷◌, ◌++◌, length, map, Option, Some, None, refl, sym, ap, subst, ◌∙◌, ℤ, pos, arith, append-nil}
+use Rattle.std.proofs.Common.{◌≡◌, ◌≢◌, ℕ, suc, ◌+◌, ◌⊎◌, inl, inr, Bool, true, false, if◌then◌else◌, nat_lt, List, [], ◌∷◌, ◌++◌, length, map, Option, Some, None, refl, sym, ap, subst, ◌∙◌, ℤ, pos, arith, append-nil}
 use Rattle.std.specs.Prelude.{slice_get, slice_set, slice_index}
 use Rattle.std.proofs.lemmas.Bool.{cases_eq}
 use Rattle.std.proofs.lemmas.Option.{get_or_from_slice_get}
 use Rattle.rr_base.proofs.Lists.{slice_get-set_other, slice_get-set_same}
-use Rattle.sync_objects.specs.Setup.{SetupView, IsWithinLimits}
+use Rattle.sync_objects.specs.Setup.{SetupView}
 use Rattle.sync_objects.specs.Names.{name_of}
 use Rattle.sync_objects.specs.Words.{number_of}
 use Rattle.sync_objects.specs.Advance.{advanced}
-use Rattle.sync_objects.specs.declared.entry.Entry.{Entry}
 use Rattle.sync_objects.specs.declared.entry.Noted.{Noted}
 use Rattle.sync_objects.specs.declared.object.ObjId.{ObjId}
 use Rattle.sync_objects.specs.declared.object.ObjId.TheVariants as object
@@ -19,18 +18,18 @@ use Rattle.flow_code.specs.declared.thread.Action.{Action}
 use Rattle.flow_code.specs.declared.thread.Action.TheVariants as action
 use Rattle.flow_code.specs.Threads.{Thread}
 use Rattle.flow_code.specs.Next.{stepped as thread_stepped, action_at, gave_up, stopped, shut}
-use Rattle.flow_code.specs.Settle.{settled, IsRunnable}
-use Rattle.core_run.specs.Words.{cells_of, has_object, place_of}
+use Rattle.flow_code.specs.Settle.{settled}
+use Rattle.core_run.specs.Words.{cells_of, has_object}
 use Rattle.core_run.specs.Pieces.{piece_next}
-use Rattle.core_run.specs.Machine.{Told, entry_of, operation, action_effect, may_revoke, may_stop, may_close, effect_of, machine, start_told, start_state}
+use Rattle.core_run.specs.Machine.{Told, entry_of, operation, action_effect, may_revoke, may_stop, may_close, effect_of, machine, start_state}
 use Rattle.core_run.specs.Histories.{run_of, list_in, list_of, lists_of}
 use Rattle.core_run.proofs.Lawful.{effect_go, effect_revoke, effect_stop, effect_close, change_is}
 use Rattle.core_run.proofs.ThreadRanges.{start_thread_is}
 use Rattle.runs.specs.Labels.{Label, Go, Revoke, Stop, Close, label_thread}
 use Rattle.runs.specs.Merge.{lists_from}
-use Rattle.runs.specs.Steps.{Change, NotAllowed, Becomes, Outcome, Blocked, Leaves, Effect, Refused, Marks, Loads, Stores, Operates, State, outcome, stepped, effect_entry, added, trace, entries_of}
+use Rattle.runs.specs.Steps.{Becomes, Leaves, Effect, Refused, Marks, Loads, Stores, Operates, State, outcome, stepped, effect_entry, added, trace, entries_of}
 use Rattle.runs.proofs.Lists.{own_in, own_out}
-use Rattle.runs.proofs.Swap.{load_inv, change_inv, Steps, steps_of, adds_of}
+use Rattle.runs.proofs.Swap.{load_inv, change_inv, steps_of, adds_of}
 use Rattle.runs.proofs.Kept.{lists_are}
 
 module _ (code : Code) (s : SetupView) where
