@@ -11,6 +11,7 @@ mod frame;
 mod laws;
 mod next;
 mod outcome;
+mod parts;
 mod place;
 mod region;
 mod state;
