@@ -8,3 +8,4 @@ pub mod SoundWords
 pub mod ThreadRanges
 pub mod Told
 pub mod WholeRuns
+pub mod PartFacts

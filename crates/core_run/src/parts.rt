@@ -96,3 +96,32 @@ fn mark(flow: &mut Flow, thread: u8) -> Result<Own, AllocError>
     let _ = thread;
     Ok(Own::Marked)
 }
+
+/// One own step of a thread that makes no entry, if its next is one.
+pub(crate) fn own_step(flow: &mut Flow, words: &mut Vec<u64>, cells: u32, thread: u8) -> Result<Own, AllocError>
+    requires cells { cells ≡ cells_of flow.old.code flow.old.setup }
+    requires words { cells ≤ length words.old.items }
+    requires number { flow.old.number ≡ thread }
+    ensures code { flow.new.code ≡ flow.old.code }
+    ensures setup { flow.new.setup ≡ flow.old.setup }
+    ensures number { flow.new.number ≡ flow.old.number }
+    ensures keeps { KeepsObjects cells words.old.items words.new.items }
+    ensures own { (told : Told) → told.thread ≡ flow.old.kept.thread → IfOk result (OwnIs flow.old.code flow.old.setup thread told words.old.items words.new.items flow.new.kept.thread) }
+{
+    flow.settle()?;
+    match flow.next_action() {
+        Action::Load { cell } => {
+            let own = load(flow, words, cells, thread, cell)?;
+            Ok(own)
+        }
+        Action::Store { cell, value } => {
+            let own = store(flow, words, cells, thread, cell, value)?;
+            Ok(own)
+        }
+        Action::Mark => {
+            let own = mark(flow, thread)?;
+            Ok(own)
+        }
+        Action::Quiet | Action::Operate { .. } | Action::Ended => Ok(Own::Stays),
+    }
+}
