@@ -267,7 +267,7 @@ fn wait_due(caller: &Caller, registers: &[u64], arguments: &[u32], made: u8, kep
 }
 
 fn signal_due(caller: &Caller, registers: &[u64], arguments: &[u32]) -> Due
-    ensures { result ≡ spec.at_cell (spec.cell_of caller.now (words_of registers.now arguments.now) 0 CellKind.Cond) (λ c. Due.Operate Op.Signal (ObjId.Cond c)) }
+    ensures { result ≡ spec.signal_due caller.now (words_of registers.now arguments.now) }
 {
     match cell_of(caller, registers, arguments, 0, CellKind::Cond) {
         Ok(cell) => Due::Operate {
