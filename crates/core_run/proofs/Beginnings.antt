@@ -1,5 +1,5 @@
 -- The words at the start: those of cells, and behind them each object's start word at its place.
-use Rattle.std.proofs.Common.{◌≡◌, ◌≢◌, ℕ, zero, suc, ◌+◌, ◌*◌, ◌-◌, ◌<◌, ◌≤◌, ◌&&◌, Bool, true, false, nat_lt, List, [], ◌∷◌, ◌++◌, length, replicate, Option, Some, None, refl, sym, ap, subst, ◌∙◌, arith, append_assoc, length-append}
+use Rattle.std.proofs.Common.{◌≡◌, ℕ, zero, suc, ◌+◌, ◌*◌, ◌<◌, true, nat_lt, List, [], ◌∷◌, ◌++◌, length, replicate, Option, Some, refl, sym, ap, ◌∙◌, arith, append_assoc, length-append}
 use Rattle.std.specs.Prelude.{slice_get}
 use Rattle.std.proofs.lemmas.Bool.{ltb-true, and_parts}
 use Rattle.std.proofs.lemmas.List.{length-replicate}
@@ -13,7 +13,7 @@ use Rattle.sync_objects.proofs.Packings.{number_of-word_of}
 use Rattle.rr_base.specs.declared.layout.CellKind.{CellKind}
 use Rattle.rr_base.proofs.Lists.{slice_get-append_left, slice_get-append_right}
 use Rattle.flow_code.specs.declared.code.Code.{Code}
-use Rattle.core_run.specs.Words.{cells_of, has_object, place_of, start_global, start_globals, start_cells, start_objects, start_words}
+use Rattle.core_run.specs.Words.{cells_of, has_object, place_of, start_globals, start_cells, start_objects, start_words}
 
 -- how many words there are
 

@@ -1,12 +1,11 @@
 -- The machine of a code keeps to the laws of runs.
-use Rattle.std.proofs.Common.{◌≡◌, ◌≢◌, ℕ, zero, suc, ◌+◌, ◌^◌, ◌<◌, ◌≤◌, ◌&&◌, Bool, true, false, if◌then◌else◌, nat_lt, List, [], ◌∷◌, ◌++◌, length, refl, sym, ap, subst, ◌∙◌, ℤ, pos, arith}
+use Rattle.std.proofs.Common.{◌≡◌, ℕ, suc, ◌≤◌, Bool, true, false, if◌then◌else◌, nat_lt, List, [], refl, sym, ap, subst, ◌∙◌, ℤ, pos, arith}
 use Rattle.std.proofs.lemmas.Bool.{ltb-true}
 use Rattle.sync_objects.specs.Setup.{SetupView, IsWithinLimits}
 use Rattle.sync_objects.specs.Names.{name_of}
 use Rattle.sync_objects.specs.Words.{number_of}
 use Rattle.sync_objects.specs.Advance.{Advance, NotAllowed as NoRow, Advances, advanced}
 use Rattle.sync_objects.specs.declared.entry.Entry.{Entry}
-use Rattle.sync_objects.specs.declared.entry.Noted.{Noted}
 use Rattle.sync_objects.specs.declared.object.ObjId.{ObjId}
 use Rattle.sync_objects.specs.declared.object.ObjId.TheVariants as object
 use Rattle.sync_objects.specs.declared.operation.Op.{Op}
@@ -19,18 +18,18 @@ use Rattle.flow_code.specs.declared.thread.Action.{Action}
 use Rattle.flow_code.specs.declared.thread.Action.TheVariants as action
 use Rattle.flow_code.specs.Values.{number}
 use Rattle.flow_code.specs.Threads.{Thread}
-use Rattle.flow_code.specs.Next.{stepped, action_at, gave_up, stopped, shut, has_ended}
+use Rattle.flow_code.specs.Next.{stepped, action_at, gave_up, stopped, shut}
 use Rattle.flow_code.specs.Settle.{settled, IsRunnable}
 use Rattle.flow_code.proofs.Calls.{is_from_outside}
 use Rattle.flow_code.proofs.Counts.{Counts, action_counts, step_grows, settled_count}
-use Rattle.flow_code.proofs.Asked.{IsOwn, own_action}
-use Rattle.core_run.specs.Words.{cells_of, has_object, place_of}
+use Rattle.flow_code.proofs.Asked.{own_action}
+use Rattle.core_run.specs.Words.{cells_of, has_object}
 use Rattle.core_run.specs.Pieces.{piece_next}
-use Rattle.core_run.specs.Machine.{Told, accessed, marked, operated, change_of, entry_of, access_of, operation, action_effect, may_revoke, may_stop, may_close, effect_of, machine}
+use Rattle.core_run.specs.Machine.{Told, operated, change_of, entry_of, operation, action_effect, may_revoke, may_stop, may_close, effect_of, machine}
 use Rattle.core_run.proofs.Places.{place_behind, place_apart}
-use Rattle.runs.specs.Labels.{Label, Go, Revoke, Stop, Close, label_thread, operation_label, label_of}
-use Rattle.runs.specs.Steps.{Change, NotAllowed, Becomes, Effect, Refused, Marks, Loads, Stores, Operates}
-use Rattle.runs.specs.Laws.{GoesOn, Draws, IsOperation, IsLawfulEffect, IsLawful}
+use Rattle.runs.specs.Labels.{Label, Go, Revoke, Stop, Close, operation_label}
+use Rattle.runs.specs.Steps.{Becomes, Effect, Refused}
+use Rattle.runs.specs.Laws.{GoesOn, IsLawfulEffect, IsLawful}
 
 -- what a label does, by the kind of the label
 

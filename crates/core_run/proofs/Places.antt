@@ -1,5 +1,5 @@
 -- The words of objects stand behind those of cells, each at a place of its own.
-use Rattle.std.proofs.Common.{◌≡◌, ◌≢◌, ℕ, zero, suc, ◌+◌, ◌*◌, ◌-◌, ◌/◌, ◌%◌, ◌<◌, ◌≤◌, ◌&&◌, Bool, true, false, if◌then◌else◌, nat_lt, length, refl, sym, ap, ◌∙◌, arith}
+use Rattle.std.proofs.Common.{◌≡◌, ℕ, zero, suc, ◌+◌, ◌*◌, ◌-◌, ◌/◌, ◌%◌, ◌<◌, ◌≤◌, true, if◌then◌else◌, nat_lt, length, sym, ap, ◌∙◌, arith}
 use Rattle.std.proofs.lemmas.Bool.{ltb-true, lt-ltb, le-ltb, and_parts, cond-true, cond-false}
 use Rattle.sync_objects.specs.Setup.{SetupView, IsWithinLimits}
 use Rattle.sync_objects.specs.declared.object.ObjId.{ObjId}

@@ -1,15 +1,15 @@
 -- The words of objects stay sound, and each step raises their numbers by at most one.
-use Rattle.std.proofs.Common.{◌≡◌, ◌≢◌, ℕ, zero, suc, ◌+◌, ◌-◌, ◌^◌, ◌<◌, ◌≤◌, ◌⊎◌, inl, inr, ⊎_elim, Bool, true, false, if◌then◌else◌, nat_lt, List, [], ◌∷◌, length, Option, Some, None, refl, sym, ap, subst, ◌∙◌, ℤ, pos, arith}
+use Rattle.std.proofs.Common.{◌≡◌, ◌≢◌, ℕ, ◌+◌, ◌-◌, ◌^◌, ◌<◌, ◌≤◌, ⊎_elim, Bool, true, false, if◌then◌else◌, nat_lt, List, [], length, Some, refl, sym, ap, subst, ◌∙◌, ℤ, pos, arith}
 use Rattle.std.specs.Prelude.{slice_get, slice_set}
 use Rattle.std.proofs.lemmas.Bool.{ltb-true}
 use Rattle.std.proofs.lemmas.Option.{same_Some}
 use Rattle.rr_base.proofs.Lists.{slice_get-set_other, slice_get-set_same}
 use Rattle.sync_objects.specs.Setup.{SetupView, IsWithinLimits}
-use Rattle.sync_objects.specs.Names.{name_of, kind_of, object_kind, Fits}
+use Rattle.sync_objects.specs.Names.{name_of, object_kind, Fits}
 use Rattle.sync_objects.specs.Sound.{IsSoundWord, IsInRange}
 use Rattle.sync_objects.specs.Start.{start_word}
 use Rattle.sync_objects.specs.Words.{number_of}
-use Rattle.sync_objects.specs.Advance.{Advance, Advances, advanced}
+use Rattle.sync_objects.specs.Advance.{Advances, advanced}
 use Rattle.sync_objects.specs.declared.object.ObjId.{ObjId}
 use Rattle.sync_objects.specs.declared.object.ObjId.TheVariants as object
 use Rattle.sync_objects.specs.declared.operation.Op.{Op}
@@ -21,7 +21,7 @@ use Rattle.flow_code.specs.declared.thread.Action.TheVariants as action
 use Rattle.flow_code.specs.Threads.{Thread}
 use Rattle.flow_code.specs.Next.{stepped as thread_stepped, action_at, gave_up, stopped, shut}
 use Rattle.flow_code.specs.Settle.{settled, IsRunnable}
-use Rattle.flow_code.proofs.Asked.{IsOwn, own_action}
+use Rattle.flow_code.proofs.Asked.{own_action}
 use Rattle.core_run.specs.Words.{cells_of, has_object, place_of, start_words}
 use Rattle.core_run.specs.Pieces.{piece_next}
 use Rattle.core_run.specs.Machine.{Told, entry_of, operation, action_effect, may_revoke, may_stop, may_close, effect_of, machine}
@@ -30,9 +30,9 @@ use Rattle.core_run.proofs.Places.{place_behind, place_apart}
 use Rattle.core_run.proofs.Beginnings.{start_word_at, start_number}
 use Rattle.core_run.proofs.Lawful.{effect_go, effect_revoke, effect_stop, effect_close, change_is}
 use Rattle.runs.specs.Labels.{Label, Go, Revoke, Stop, Close, label_thread}
-use Rattle.runs.specs.Steps.{Change, NotAllowed, Becomes, Outcome, Blocked, Leaves, Effect, Refused, Marks, Loads, Stores, Operates, State, outcome, stepped}
+use Rattle.runs.specs.Steps.{Change, Becomes, Leaves, Effect, Refused, Marks, Loads, Stores, Operates, State, outcome, stepped, effect_entry, added}
 use Rattle.runs.proofs.SameEntries.{object_cases}
-use Rattle.runs.proofs.Swap.{load_inv, change_inv, Steps, steps_of}
+use Rattle.runs.proofs.Swap.{load_inv, change_inv, steps_of, adds_of}
 
 module _ (code : Code) (s : SetupView) where
   -- where an object has its word
@@ -141,21 +141,25 @@ module _ (code : Code) (s : SetupView) where
   effect_is_sound runnable limits (Close t) told small =
       subst IsSoundEffect (sym (effect_close code s t told)) (if_sound (may_close told.thread) _ (λ m. operation_is_sound t told op.Close (object.Slot t) [] (λ answer. shut told.thread) small refl tt))
 
-  outcome_sound : IsWithinLimits s → (n : ℕ) (words after : List ℕ) (e : Effect Told) (told : Told) → n < 2 ^ 32 - 1 → IsSoundEffect e → outcome (machine code s) words e ≡ Leaves after told → AreSound code s n words → AreSound code s (n + 1) after
+  -- an operation is one more, and nothing else is
+  outcome_sound : IsWithinLimits s → (n : ℕ) (words after : List ℕ) (e : Effect Told) (told : Told) → n < 2 ^ 32 - 1 → IsSoundEffect e → outcome (machine code s) words e ≡ Leaves after told → AreSound code s n words → AreSound code s (n + length (effect_entry (machine code s) words e)) after
   outcome_sound limits n words after Refused told few h e k = cc
-  outcome_sound limits n words after (Marks th) told few h e k = let same : words ≡ after = cc in subst (AreSound code s (n + 1)) same (sound_more n (n + 1) words (omega arith) k)
+  outcome_sound limits n words after (Marks th) told few h e k = let same : words ≡ after = cc in subst (AreSound code s (n + 0)) same (sound_more n (n + 0) words (omega arith) k)
   outcome_sound limits n words after (Loads c next) told few h e k =
       let i = load_inv words next (slice_get words c) after told e in
-      subst (AreSound code s (n + 1)) (sym i.2) (sound_more n (n + 1) words (omega arith) k)
+      subst (AreSound code s (n + 0)) (sym i.2) (sound_more n (n + 0) words (omega arith) k)
   outcome_sound limits n words after (Stores c w th) told few h e k =
       let i = change_inv words c (λ v. Becomes w (pos 0) th) (slice_get words c) after told e in
-      subst (AreSound code s (n + 1)) (sym i.5) (sound_more n (n + 1) (slice_set words c i.1) (omega arith) (sound_store n words c i.1 h k))
+      subst (AreSound code s (n + 0)) (sym i.5) (sound_more n (n + 0) (slice_set words c i.1) (omega arith) (sound_store n words c i.1 h k))
   outcome_sound limits n words after (Operates e change) told few h q k =
       let i = change_inv words (place e.obj) change (slice_get words (place e.obj)) after told q in
       subst (AreSound code s (n + 1)) (sym i.5) (sound_operation n words h.o e.obj h.t i.0 i.1 i.2 limits h.small few h.fits h.range h.has i.3 (h.row i.0 i.1 i.2 told i.4) k)
 
   -- each step keeps the words of objects sound
-  pub sound_step : IsRunnable code → IsWithinLimits s → (n : ℕ) (st st1 : State Told) (l : Label) → n < 2 ^ 32 - 1 → label_thread l < 16 → stepped (machine code s) st l ≡ Some st1 → AreSound code s n st.words → AreSound code s (n + 1) st1.words
+  pub sound_step : IsRunnable code → IsWithinLimits s → (n : ℕ) (st st1 : State Told) (l : Label) → n < 2 ^ 32 - 1 → label_thread l < 16 → stepped (machine code s) st l ≡ Some st1 → AreSound code s n st.words → AreSound code s (n + length (added (machine code s) st l)) st1.words
   sound_step runnable limits n st st1 l few small e k =
       let x = steps_of (machine code s) st l st1 e in
-      subst (AreSound code s (n + 1)) (sym (ap (λ (z : State Told). z.words) x.to)) (outcome_sound limits n st.words x.words (effect_of code s l x.before) x.after few (effect_is_sound runnable limits l x.before small) x.leaves k)
+      let adds = adds_of (machine code s) st l st1 x in
+      subst (λ a. AreSound code s (n + length a) st1.words) (sym adds)
+        (subst (AreSound code s (n + length (effect_entry (machine code s) st.words (effect_of code s l x.before)))) (sym (ap (λ (z : State Told). z.words) x.to))
+          (outcome_sound limits n st.words x.words (effect_of code s l x.before) x.after few (effect_is_sound runnable limits l x.before small) x.leaves k))

@@ -1,5 +1,5 @@
 -- The numbers of all threads are in range at the start, and stay so.
-use Rattle.std.proofs.Common.{◌≡◌, ◌≢◌, ℕ, zero, suc, ◌+◌, ◌*◌, ◌<◌, ◌≤◌, ◌⊎◌, inl, inr, ⊎_elim, ◌&&◌, not, Bool, true, false, if◌then◌else◌, nat_lt, List, [], ◌∷◌, length, Option, Some, None, refl, sym, ap, subst, ◌∙◌, ℤ, pos, arith}
+use Rattle.std.proofs.Common.{◌≡◌, ℕ, zero, suc, ◌+◌, ◌<◌, ⊎_elim, ◌&&◌, not, Bool, true, false, if◌then◌else◌, nat_lt, List, [], Some, refl, sym, ap, subst, ◌∙◌, ℤ, pos, arith}
 use Rattle.std.specs.Prelude.{slice_get, slice_set}
 use Rattle.std.proofs.lemmas.Bool.{ltb-true, and_parts, cases_eq, not-true}
 use Rattle.std.proofs.lemmas.Option.{same_Some}
@@ -15,7 +15,7 @@ use Rattle.flow_code.specs.declared.code.Code.{Code}
 use Rattle.flow_code.specs.declared.thread.Action.{Action}
 use Rattle.flow_code.specs.declared.thread.Action.TheVariants as action
 use Rattle.flow_code.specs.Values.{number}
-use Rattle.flow_code.specs.Threads.{Frame, Thread}
+use Rattle.flow_code.specs.Threads.{Thread}
 use Rattle.flow_code.specs.Next.{most_entries, most_revokes, holds, stepped as thread_stepped, action_at, gave_up, stopped, shut, has_ended, has_begun}
 use Rattle.flow_code.specs.Settle.{settled}
 use Rattle.flow_code.specs.Ranges.{InRange, within}
@@ -26,8 +26,8 @@ use Rattle.core_run.specs.Machine.{Told, entry_of, operation, action_effect, may
 use Rattle.core_run.specs.Kept.{AreInRange}
 use Rattle.core_run.proofs.Lawful.{effect_go, effect_revoke, effect_stop, effect_close, change_is}
 use Rattle.runs.specs.Labels.{Label, Go, Revoke, Stop, Close, label_thread}
-use Rattle.runs.specs.Steps.{Change, NotAllowed, Becomes, Outcome, Blocked, Leaves, Effect, Refused, Marks, Loads, Stores, Operates, State, outcome, stepped}
-use Rattle.runs.proofs.Swap.{load_inv, change_inv, Steps, steps_of}
+use Rattle.runs.specs.Steps.{Becomes, Leaves, Effect, Refused, Marks, Loads, Stores, Operates, State, outcome, stepped}
+use Rattle.runs.proofs.Swap.{load_inv, change_inv, steps_of}
 
 -- a thread at the start
 pub start_in_range : (code : Code) (s : SetupView) (k : ℕ) → InRange code s k (start_thread code s k)

@@ -1,5 +1,6 @@
 pub mod Endings
 pub mod Flows
+pub mod Histories
 pub mod Kept
 pub mod Machine
 pub mod Pieces

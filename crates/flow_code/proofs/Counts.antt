@@ -3,10 +3,12 @@ use Rattle.std.proofs.Common.{◌≡◌, ℕ, zero, suc, ◌+◌, ◌-◌, ◌�
 use Rattle.std.specs.Prelude.{slice_get}
 use Rattle.std.proofs.lemmas.Bool.{true≢false}
 use Rattle.sync_objects.specs.Setup.{SetupView}
-use Rattle.sync_objects.specs.Names.{name_of, is_weak}
+use Rattle.sync_objects.specs.Names.{name_of, is_ending, is_weak}
 use Rattle.sync_objects.specs.declared.object.ObjId.{ObjId}
 use Rattle.sync_objects.specs.declared.operation.Op.{Op}
 use Rattle.sync_objects.specs.declared.operation.Op.TheVariants as op
+use Rattle.sync_objects.specs.declared.operation.OpName.{OpName}
+use Rattle.sync_objects.specs.declared.operation.OpName.TheVariants as name
 use Rattle.rr_base.specs.declared.trap.Trap.{Trap}
 use Rattle.flow_code.specs.declared.act.Act.{Act}
 use Rattle.flow_code.specs.declared.act.Act.TheVariants as act
@@ -131,6 +133,7 @@ settled_count code s t th = (settled_keeps_all code s t th).rest.count
 -- a load, a store or a mark is one event more, and its thread goes on
 pub record Counts (th q : Thread) : Type 0 where
   pub count : q.count ≡ suc th.count
+  pub entries : q.entries ≡ th.entries
   pub lives : has_ended q.phase ≡ false
 
 pub runs_of : (code : Code) (s : SetupView) (t : ℕ) (th q : Thread) (d : Due) → IsAccess d → ThreadGoes code s t th q d → Runs code s t th q
@@ -156,7 +159,7 @@ access_counts code s t th d answer a e =
     let p = access_by_code code s t th d a e in
     let r = runs_of code s t th (phase_after code s t th th.phase answer) d a (thread_goes code s t th d answer p.0) in
     let k = phase_keeps code s t th th.phase answer in
-    subst (Counts th) (sym (stepped_is code s t th d answer e ∙ access_after code s t th d answer a)) (record { count = omega (arith, k.count); lives = r.lives })
+    subst (Counts th) (sym (stepped_is code s t th d answer e ∙ access_after code s t th d answer a)) (record { count = omega (arith, k.count); entries = k.entries; lives = r.lives })
 
 -- an operation that takes an owed stripe again, and any other one
 pub after_operate : (code : Code) (s : SetupView) (t : ℕ) (th : Thread) (o : Op) (obj : ObjId) (answer : ℤ) →
@@ -191,6 +194,49 @@ due_grows code s t th (due.Trap kind) answer = omega arith
 
 pub step_grows : (code : Code) (s : SetupView) (t : ℕ) (th : Thread) (answer : ℤ) → th.count ≤ (stepped code s t th answer).count
 step_grows code s t th answer = subst (λ z. th.count ≤ z.count) (sym (stepped_is code s t th (due_of code s t th) answer refl)) (due_grows code s t th (due_of code s t th) answer)
+
+-- an operation is an event, or an entry that isn't an ending one
+
+name_rises : (n : OpName) (count entries : ℕ) → count + entries + 1 ≤ (if is_weak n then count else count + 1) + (if is_ending n then entries else entries + 1)
+name_rises name.Take count entries = omega arith
+name_rises name.Retake count entries = omega arith
+name_rises name.Give count entries = omega arith
+name_rises name.Revoke count entries = omega arith
+name_rises name.End count entries = omega arith
+name_rises name.Leave count entries = omega arith
+name_rises name.HaltAll count entries = omega arith
+name_rises name.TrapHere count entries = omega arith
+name_rises name.Stop count entries = omega arith
+name_rises name.Close count entries = omega arith
+name_rises n count entries = omega arith
+
+pub counted_rises : (o : Op) (q : Thread) → q.count + q.entries + 1 ≤ (counted o q).count + (counted o q).entries
+counted_rises o q = name_rises (name_of o) q.count q.entries
+
+counts_more : (o : Op) (th q r : Thread) → r ≡ counted o q → q.count ≡ th.count → q.entries ≡ th.entries → th.count + th.entries + 1 ≤ r.count + r.entries
+counts_more o th q r e c n =
+    let rises = counted_rises o q in
+    let count_is = ap (λ (z : Thread). z.count) e in
+    let entries_is = ap (λ (z : Thread). z.entries) e in
+    omega arith
+
+due_rises : (code : Code) (s : SetupView) (t : ℕ) (th : Thread) (d : Due) (o : Op) (obj : ObjId) (answer : ℤ) → action_of d ≡ action.Operate o obj → th.count + th.entries + 1 ≤ (after_due code s t th d answer).count + (after_due code s t th d answer).entries
+due_rises code s t th due.Nothing o obj answer e = cc
+due_rises code s t th due.Quiet o obj answer e = cc
+due_rises code s t th (due.Load c) o obj answer e = cc
+due_rises code s t th (due.Store c w) o obj answer e = cc
+due_rises code s t th due.Mark o obj answer e = cc
+due_rises code s t th (due.Operate p q) o obj answer e =
+    ⊎_elim
+      (λ h. counts_more op.Retake th (record th { stripes = repaid th.stripes }) (after_due code s t th (due.Operate p q) answer) h.1 refl refl)
+      (λ h. let k = phase_keeps code s t th th.phase answer in counts_more p th (phase_after code s t th th.phase answer) (after_due code s t th (due.Operate p q) answer) h k.count k.entries)
+      (after_operate code s t th p q answer)
+due_rises code s t th (due.Trap kind) o obj answer e = omega arith
+
+pub operation_rises : (code : Code) (s : SetupView) (t : ℕ) (th : Thread) (o : Op) (obj : ObjId) (answer : ℤ) → action_at code s t th ≡ action.Operate o obj → th.count + th.entries + 1 ≤ (stepped code s t th answer).count + (stepped code s t th answer).entries
+operation_rises code s t th o obj answer e =
+    subst (λ z. th.count + th.entries + 1 ≤ z.count + z.entries) (sym (stepped_is code s t th (due_of code s t th) answer refl))
+      (due_rises code s t th (due_of code s t th) o obj answer (sym (action_is code s t th) ∙ e))
 
 -- nothing is due in a thread that has ended, and else only behind the last instruction of a function
 
