@@ -1,9 +1,8 @@
 -- One unit of a text more.
-use Rattle.std.proofs.Common.{◌≡◌, ℕ, zero, suc, ◌≤◌, ◌<◌, ◌+◌, ◌-◌, List, [], ◌∷◌, ◌++◌, length, drop, refl, ap, sym, ◌∙◌, arith, add-zero, append_assoc}
+use Rattle.std.proofs.Common.{◌≡◌, ℕ, zero, suc, ◌≤◌, ◌+◌, ◌-◌, List, [], ◌∷◌, ◌++◌, length, drop, refl, ap, sym, ◌∙◌, arith, add-zero, append_assoc}
 use Rattle.std.proofs.lemmas.List.{drop-drop}
 use Rattle.c_lexer.specs.Bytes.{Text}
 use Rattle.c_lexer.specs.Quotes.{unit_at, body_from, body_by, with_byte}
-use Rattle.c_lexer.specs.declared.piece.Unit.{Unit as Part}
 use Rattle.c_lexer.specs.declared.piece.Unit.TheVariants as part
 use Rattle.c_lexer.specs.declared.piece.Body.{Body}
 use Rattle.c_lexer.specs.declared.piece.Body.TheVariants as body
@@ -13,11 +12,6 @@ abbrev pub with_bytes : List ℕ → Body → Body
 with_bytes front (body.Closed bytes len) = body.Closed (front ++ bytes) len
 with_bytes front (body.BadEscape at) = body.BadEscape at
 with_bytes front body.Open = body.Open
-
-pub with_bytes-empty : (b : Body) → with_bytes [] b ≡ b
-with_bytes-empty (body.Closed bytes len) = refl
-with_bytes-empty (body.BadEscape at) = refl
-with_bytes-empty body.Open = refl
 
 pub with_bytes-byte : (front : List ℕ) (v : ℕ) (b : Body) → with_bytes (front ++ v ∷ []) b ≡ with_bytes front (with_byte v b)
 with_bytes-byte front v (body.Closed bytes len) = ap (λ bs. body.Closed bs len) (append_assoc front (v ∷ []) bytes)
@@ -37,24 +31,11 @@ behind (suc n) at b bs h le =
     let e : suc n - 1 ≡ n = omega arith in
     ap (λ k. body_from k (at + 1) bs) e ∙ passes (suc n) at (b ∷ bs) le
 
-module _ (at : ℕ) where
-  -- what a body is by the unit that it begins with
-  pub byte_step : (bs : Text) (v n : ℕ) → unit_at 34 bs ≡ part.Byte v n → 1 ≤ n → n ≤ length bs → body_from 0 at bs ≡ with_byte v (body_from 0 (at + n) (drop n bs))
-  byte_step [] v n e h le = absurd (omega arith)
-  byte_step (b ∷ bs) v n e h le =
-      ap (λ u. body_by u at (λ n. body_from (n - 1) (at + 1) bs)) e ∙ ap (with_byte v) (behind n at b bs h le)
-
-  pub close_step : (bs : Text) → unit_at 34 bs ≡ part.Close → 1 ≤ length bs → body_from 0 at bs ≡ body.Closed [] at
-  close_step [] e h = absurd (omega arith)
-  close_step (b ∷ bs) e h = ap (λ u. body_by u at (λ n. body_from (n - 1) (at + 1) bs)) e
-
-  pub escape_step : (bs : Text) → unit_at 34 bs ≡ part.BadEscape → 1 ≤ length bs → body_from 0 at bs ≡ body.BadEscape at
-  escape_step [] e h = absurd (omega arith)
-  escape_step (b ∷ bs) e h = ap (λ u. body_by u at (λ n. body_from (n - 1) (at + 1) bs)) e
-
-  pub open_step : (bs : Text) → unit_at 34 bs ≡ part.Open → body_from 0 at bs ≡ body.Open
-  open_step [] e = refl
-  open_step (b ∷ bs) e = ap (λ u. body_by u at (λ n. body_from (n - 1) (at + 1) bs)) e
+-- what a body is that begins with a byte or an escape
+byte_step : (at : ℕ) (bs : Text) (v n : ℕ) → unit_at 34 bs ≡ part.Byte v n → 1 ≤ n → n ≤ length bs → body_from 0 at bs ≡ with_byte v (body_from 0 (at + n) (drop n bs))
+byte_step at [] v n e h le = absurd (omega arith)
+byte_step at (b ∷ bs) v n e h le =
+    ap (λ u. body_by u at (λ n. body_from (n - 1) (at + 1) bs)) e ∙ ap (with_byte v) (behind n at b bs h le)
 
 -- one turn of the loop that collects the bytes
 pub byte_turn : (text : Text) (len v n : ℕ) (front : List ℕ) (whole : Body) → unit_at 34 (drop len text) ≡ part.Byte v n → 1 ≤ n → n ≤ length (drop len text)

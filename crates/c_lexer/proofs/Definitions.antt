@@ -1,29 +1,16 @@
 -- What a `#define` gives a value.
-use Rattle.std.proofs.Common.{◌≡◌, ℕ, ◌+◌, ◌-◌, ◌≤◌, ◌<◌, ◌&&◌, Bool, true, false, not, is_some, List, [], ◌∷◌, length, take, drop, slice_range, Option, Some, None, refl, ap, sym, ◌∙◌, arith, if◌then◌else◌, length-take}
+use Rattle.std.proofs.Common.{◌≡◌, ℕ, ◌+◌, ◌-◌, ◌≤◌, ◌&&◌, Bool, true, false, not, is_some, length, take, drop, slice_range, Option, Some, None, refl, ap, sym, ◌∙◌, arith, if◌then◌else◌, length-take}
 use Rattle.std.proofs.lemmas.List.{drop-take, take-take}
 use Rattle.c_lexer.specs.Bytes.{Text}
 use Rattle.c_lexer.specs.Defined.{Defined}
 use Rattle.c_lexer.specs.Directives.{valued, value_by, is_tail}
 use Rattle.c_lexer.specs.Names.{entry_of, is_free}
 use Rattle.c_lexer.specs.declared.fault.Fault.TheVariants.{BadDirective}
-use Rattle.c_lexer.specs.Pieces.{IsPlainWithin, IsWithin, GivesNew}
+use Rattle.c_lexer.specs.Pieces.{IsWithin, GivesNew}
 use Rattle.c_lexer.specs.declared.piece.Literal.{Literal}
 use Rattle.c_lexer.specs.declared.piece.Parts.{Parts}
 use Rattle.c_lexer.specs.declared.piece.Piece.{Piece}
 use Rattle.c_lexer.specs.declared.piece.Piece.TheVariants as piece
-
--- of what is no definition nothing is asked
-pub plain-within : (p : Piece) (len : ℕ) → IsPlainWithin p len → IsWithin p len
-plain-within (piece.Blank n) len h = h
-plain-within (piece.Token k n) len h = h
-plain-within (piece.Define from to value n) len h = absurd h
-plain-within (piece.Fault f n) len h = h
-
-pub plain-new : (p : Piece) (len : ℕ) (defined : Defined) (text : Text) → IsPlainWithin p len → GivesNew p defined text
-plain-new (piece.Blank n) len defined text h = tt
-plain-new (piece.Token k n) len defined text h = tt
-plain-new (piece.Define from to value n) len defined text h = absurd h
-plain-new (piece.Fault f n) len defined text h = tt
 
 last_of : (a b : Bool) → (a && b) ≡ true → b ≡ true
 last_of true b h = h

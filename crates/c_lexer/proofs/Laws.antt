@@ -1,21 +1,18 @@
 -- Proofs of the laws.
-use Rattle.std.proofs.Common.{◌≡◌, ℕ, zero, suc, ◌≤◌, ◌<◌, ◌+◌, ◌-◌, Bool, true, false, cond, ◌&&◌, ◌==◌, nat_eq, nat_lt, List, [], ◌∷◌, ◌++◌, length, map, take, drop, reverse, get_or, Contains, All, Ok, Err, refl, ap, sym, ◌∙◌, subst, arith, append_assoc, IsTrue, if◌then◌else◌, rules, length-append}
+use Rattle.std.proofs.Common.{◌≡◌, ℕ, zero, suc, ◌≤◌, ◌<◌, ◌+◌, Bool, true, false, ◌&&◌, nat_eq, nat_lt, List, [], ◌∷◌, ◌++◌, length, map, take, get_or, Contains, Ok, Err, refl, ap, sym, ◌∙◌, subst, arith, if◌then◌else◌, rules, length-append}
 use Rattle.std.proofs.lemmas.Bool.{ltb-true}
 use Rattle.std.proofs.Math.Seq.{drop-append_seam}
-use Rattle.std.specs.List.{starts_with, AllByRecursion, suffix_len, count_by}
+use Rattle.std.specs.List.{starts_with, AllByRecursion}
 use Rattle.std.proofs.lemmas.List.Elements.{All-contains, All-from_recursion, recursion_from_All}
-use Rattle.c_lexer.specs.Bytes.{Text, is_in_line}
+use Rattle.c_lexer.specs.Bytes.{Text}
 use Rattle.c_lexer.specs.Defined.{Defined}
 use Rattle.c_lexer.specs.Names.{name_at, is_blank_word, word_of, kind_of}
-use Rattle.c_lexer.specs.Laws.{IsTokenOf, LongestIsCut, spellings, spelled, AreFound, SpelledAreFound, IsPlaceOf, line_of, column_of, ArePlaced, PlacesAreTrue}
+use Rattle.c_lexer.specs.Laws.{IsTokenOf, LongestIsCut, spellings, spelled, AreFound, SpelledAreFound}
 use Rattle.c_lexer.proofs.Steps.{on, token_step, blank_step}
-use Rattle.c_lexer.specs.Tables.{puncts, words}
-use Rattle.c_lexer.specs.Faults.{fault_at}
-use Rattle.c_lexer.specs.Tokens.{Found, Reading, start, piece_at, plain_at, punct_at, punct_in, tokens_of, tokens_from, with_token, met, next, after, passed}
-use Rattle.c_lexer.specs.declared.fault.Fault.{Fault}
+use Rattle.c_lexer.specs.Tables.{puncts}
+use Rattle.c_lexer.specs.Tokens.{Found, Reading, start, piece_at, plain_at, punct_at, punct_in, tokens_of, tokens_from, with_token}
 use Rattle.c_lexer.specs.declared.piece.Piece.{Piece}
 use Rattle.c_lexer.specs.declared.piece.Piece.TheVariants as piece
-use Rattle.c_lexer.specs.declared.piece.Place.{Place}
 use Rattle.c_lexer.specs.declared.token.Kind.{Kind}
 use Rattle.c_lexer.specs.declared.token.Kind.TheVariants as kind
 use Rattle.c_lexer.specs.declared.token.Punct.{Punct}

@@ -1,10 +1,10 @@
 -- Laws of digits.
-use Rattle.std.proofs.Common.{◌≡◌, ℕ, zero, suc, ◌≤◌, ◌<◌, ◌+◌, ◌*◌, ◌^◌, Bool, true, false, List, [], ◌∷◌, arith, length, drop, get_or, drop-cons, refl, sym, ◌∙◌, ap, None, IsTrue, ◌&&◌}
+use Rattle.std.proofs.Common.{◌≡◌, ℕ, zero, suc, ◌≤◌, ◌<◌, ◌+◌, ◌*◌, ◌^◌, Bool, true, false, List, [], ◌∷◌, arith, length, drop, get_or, drop-cons, refl, sym, ◌∙◌, ap, None, ◌&&◌}
 use Rattle.std.proofs.lemmas.Bool.Decides.{nat_tests}
 use Rattle.std.specs.Char.{digit_value, is_digit, is_ascii_digit}
 use Rattle.std.specs.List.{prefix_len}
 use Rattle.c_lexer.specs.Bytes.{Text}
-use Rattle.c_lexer.specs.Numbers.{digits_value, narrow, based, literal_at, begins_hexadecimal}
+use Rattle.c_lexer.specs.Numbers.{digits_value, narrow, based, begins_hexadecimal}
 
 times : (base v : ℕ) → 1 ≤ base → v ≤ v * base
 times base v h = grind arith

@@ -1,14 +1,12 @@
 -- The places of tokens and faults.
-use Rattle.std.proofs.Common.{◌≡◌, ℕ, zero, suc, ◌≤◌, ◌<◌, ◌+◌, ◌-◌, Bool, true, false, cond, not, ◌==◌, nat_lt, List, [], ◌∷◌, ◌++◌, length, take, drop, reverse, slice_range, All, Ok, Err, refl, ap, sym, ◌∙◌, subst, arith, append_assoc, length-append, zero-add, append-nil, if◌then◌else◌}
+use Rattle.std.proofs.Common.{◌≡◌, ℕ, zero, suc, ◌+◌, ◌-◌, Bool, true, false, cond, not, ◌==◌, nat_lt, List, [], ◌∷◌, ◌++◌, length, take, drop, slice_range, All, Ok, Err, refl, ap, sym, ◌∙◌, subst, arith, append_assoc, length-append, zero-add, append-nil, if◌then◌else◌}
 use Rattle.std.specs.List.{suffix_len, prefix_len, count_by}
 use Rattle.std.proofs.lemmas.List.{reverse-append, take-append-drop}
 use Rattle.std.proofs.Math.Seq.{take-append_seam}
 use Rattle.std.proofs.lemmas.List.Sums.{sum_by-append}
 use Rattle.c_lexer.specs.Bytes.{Text, is_in_line}
-use Rattle.c_lexer.specs.Laws.{IsPlaceOf, line_of, column_of, ArePlaced, PlacesAreTrue}
-use Rattle.c_lexer.specs.Faults.{fault_at}
+use Rattle.c_lexer.specs.Laws.{IsPlaceOf, ArePlaced, PlacesAreTrue}
 use Rattle.c_lexer.specs.Tokens.{Found, Reading, start, piece_at, tokens_of, tokens_from, with_token, met, next, after, passed}
-use Rattle.c_lexer.specs.declared.fault.Fault.{Fault}
 use Rattle.c_lexer.specs.declared.piece.Piece.{Piece}
 use Rattle.c_lexer.specs.declared.piece.Piece.TheVariants as piece
 use Rattle.c_lexer.specs.declared.piece.Place.{Place}

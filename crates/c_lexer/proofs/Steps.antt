@@ -3,7 +3,7 @@ use Rattle.std.proofs.Common.{◌≡◌, ℕ, zero, suc, ◌≤◌, ◌<◌, ◌
 use Rattle.c_lexer.specs.Bytes.{Text}
 use Rattle.c_lexer.specs.Spans.{AreInOrder}
 use Rattle.c_lexer.specs.Faults.{fault_at}
-use Rattle.c_lexer.specs.Tokens.{Reading, Found, piece_at, next, after, passed, met, tokens_from, with_token, IsFaultOf}
+use Rattle.c_lexer.specs.Tokens.{Reading, Found, piece_at, after, passed, met, tokens_from, with_token, IsFaultOf}
 use Rattle.c_lexer.specs.declared.fault.Fault.{Fault}
 use Rattle.c_lexer.specs.declared.fault.Fault.TheVariants as fault
 use Rattle.c_lexer.specs.declared.piece.Piece.TheVariants as piece

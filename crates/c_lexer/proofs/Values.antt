@@ -1,5 +1,5 @@
 -- The values of names, as a map keeps them and as a list.
-use Rattle.std.proofs.Common.{◌≡◌, Bool, cond, List, [], ◌∷◌, ◌++◌, map, Option, Some, ℤ, refl, ap}
+use Rattle.std.proofs.Common.{◌≡◌, cond, List, [], ◌∷◌, ◌++◌, map, Some, ℤ, refl, ap}
 use Rattle.std.specs.Map.{lookup}
 use Rattle.std.specs.Str.{bytes_eq}
 use Rattle.c_lexer.specs.Bytes.{Text}

@@ -1,5 +1,5 @@
--- Directives (C99 6.10.2, 6.10.3), each on one line: `#include <H>` and `#define NAME number`.
-use Rattle.std.specs.Prelude.{ℕ, ◌+◌, Bool, true, false, not, ◌&&◌, ◌||◌, if◌then◌else◌, ◌==◌, nat_lt, nat_eq, List, [], ◌∷◌, length, take, drop, slice_index, slice_range, Option, Some, None, pos, neg_ℤ, codes}
+-- Directives (C99 6.10.2, 6.10.3), each on one line: `#include <H>` and `#define NAME number`. Any other is a fault at its `#`.
+use Rattle.std.specs.Prelude.{ℕ, ◌+◌, Bool, false, ◌&&◌, ◌||◌, if◌then◌else◌, ◌==◌, nat_lt, nat_eq, List, [], ◌∷◌, length, take, drop, slice_index, slice_range, Option, Some, None, pos, neg_ℤ, codes}
 use Rattle.std.specs.Char.{is_ascii_digit}
 use Rattle.std.specs.List.{prefix_len, starts_with}
 use Rattle.c_lexer.specs.Bytes.{Text, is_gap, is_in_line, begins_name, continues_name}
@@ -52,7 +52,7 @@ include_at line =
     if nat_lt 8 header && include_by (header_len headers (drop header line)) (drop header line) then piece.Blank (length line)
     else piece.Fault BadDirective 0
 
--- where the parts of a definition stand on its line: a gap, a name, a gap, a sign or none, and digits
+-- where the parts of a definition stand on its line, behind its `#define`: a gap, a name, a gap, a `-` or none, and a number
 unfoldable pub parts_of : Text → Parts
 parts_of line =
     let from = 7 + gap_len (drop 7 line) in
@@ -70,7 +70,7 @@ abbrev pub value_by : Option ℕ → Parts → ℕ → Piece
 value_by None parts len = piece.Fault WideNumber parts.digits
 value_by (Some v) parts len = piece.Define parts.from parts.to (if parts.minus then neg_ℤ (pos v) else pos v) len
 
--- a definition by its number
+-- a definition with this number, behind which the line must end. A value that is too great is a fault at its digits
 unfoldable pub valued : Literal → Parts → Text → Piece
 valued literal parts line =
     if is_tail (drop (parts.digits + literal.len) line) then value_by literal.value parts (length line)

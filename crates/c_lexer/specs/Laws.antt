@@ -1,6 +1,6 @@
 -- What follows of the tokens of a text, in words that know nothing of how they are found.
-use Rattle.std.specs.Prelude.{◌≡◌, ◌≤◌, ℕ, ◌+◌, Bool, ◌==◌, nat_eq, IsTrue, List, [], ◌∷◌, ◌++◌, length, map, take, Contains, All, count_by, Ok, Err}
-use Rattle.std.specs.List.{starts_with, suffix_len, AllByRecursion}
+use Rattle.std.specs.Prelude.{◌≡◌, ◌≤◌, ℕ, ◌+◌, ◌==◌, nat_eq, IsTrue, List, [], ◌∷◌, ◌++◌, length, map, take, Contains, All, count_by, Ok, Err}
+use Rattle.std.specs.List.{starts_with, suffix_len}
 use Rattle.c_lexer.specs.Bytes.{Text, is_in_line}
 use Rattle.c_lexer.specs.Tables.{puncts, words}
 use Rattle.c_lexer.specs.Faults.{fault_at}
@@ -11,7 +11,6 @@ use Rattle.c_lexer.specs.declared.piece.Piece.TheVariants as piece
 use Rattle.c_lexer.specs.declared.piece.Place.{Place}
 use Rattle.c_lexer.specs.declared.token.Kind.{Kind}
 use Rattle.c_lexer.specs.declared.token.Kind.TheVariants as kind
-use Rattle.c_lexer.specs.declared.token.Token.{Token}
 
 -- ---- the longest punctuation
 

@@ -1,5 +1,5 @@
 -- Names and words (C99 6.4.1, 6.4.2).
-use Rattle.std.specs.Prelude.{ℕ, Bool, not, ◌&&◌, ◌||◌, if◌then◌else◌, List, [], ◌∷◌, take, Option, Some, None, is_some, ℤ}
+use Rattle.std.specs.Prelude.{Bool, not, ◌&&◌, if◌then◌else◌, List, [], ◌∷◌, take, Option, Some, None, is_some, ℤ}
 use Rattle.std.specs.List.{prefix_len}
 use Rattle.std.specs.Str.{bytes_eq}
 use Rattle.c_lexer.specs.Bytes.{Text, continues_name}
@@ -16,6 +16,7 @@ abbrev pub entry_of : {A : Type 0} → List (Text × A) → Text → Option A
 entry_of [] name = None
 entry_of (e ∷ es) name = if bytes_eq name e.0 then Some e.1 else entry_of es name
 
+-- the word of the language that is spelled so
 unfoldable pub word_of : Text → Option Word
 word_of = entry_of words
 
@@ -39,10 +40,11 @@ abbrev pub word_by : Option Word → Defined → Text → Kind
 word_by (Some w) defined name = kind.Word w
 word_by None defined name = if is_refused name then kind.Refused name else name_by (entry_of defined name) name
 
--- the token that a name, as long as it goes on, is
+-- what a name is, as a token
 unfoldable pub kind_of : Defined → Text → Kind
 kind_of defined name = word_by (word_of name) defined name
 
+-- a text that begins with a letter or `_`
 unfoldable pub name_at : Defined → Text → Piece
 name_at defined text =
     let len = prefix_len continues_name text in

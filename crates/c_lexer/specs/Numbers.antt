@@ -1,5 +1,5 @@
 -- Numbers as they are written (C99 6.4.4.1).
-use Rattle.std.specs.Prelude.{ℕ, ◌+◌, ◌*◌, ◌^◌, Bool, true, false, ◌&&◌, ◌||◌, if◌then◌else◌, ◌==◌, nat_lt, nat_eq, List, [], ◌∷◌, take, drop, slice_index, pos, Option, Some, None, codes}
+use Rattle.std.specs.Prelude.{ℕ, ◌+◌, ◌*◌, ◌^◌, Bool, true, false, ◌&&◌, ◌||◌, if◌then◌else◌, ◌==◌, nat_lt, nat_eq, [], ◌∷◌, take, drop, slice_index, pos, Option, Some, None, codes}
 use Rattle.std.specs.Char.{is_digit, digit_value}
 use Rattle.std.specs.List.{prefix_len, starts_with}
 use Rattle.c_lexer.specs.Bytes.{Text, continues_name}
@@ -42,11 +42,13 @@ literal_at text =
     if begins_hexadecimal text then based 16 2 text
     else (if slice_index text 0 == 48 then based 8 0 text else based 10 0 text)
 
--- a number of this value and length, behind which a letter, digit or `_` stands or doesn't
+-- a number of this value and length, right behind which a letter, digit or `_` stands or doesn't: a value that is too great
+-- is the first fault, and then that byte
 abbrev pub number_by : Option ℕ → ℕ → Bool → Piece
 number_by None len more = piece.Fault WideNumber 0
 number_by (Some v) len true = piece.Fault BadByte len
 number_by (Some v) len false = piece.Token (kind.Number (pos v)) len
 
+-- the token of a number, at a text that begins with a digit
 unfoldable pub number_at : Text → Piece
 number_at text = let literal = literal_at text in number_by literal.value literal.len (continues_name (slice_index text literal.len))

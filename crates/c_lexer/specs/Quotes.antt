@@ -1,5 +1,5 @@
 -- Letters and texts (C99 6.4.4.4, 6.4.5). Past its end a source reads as bytes 0, which may not stand between quotes.
-use Rattle.std.specs.Prelude.{ℕ, zero, suc, ◌+◌, ◌-◌, Bool, not, ◌&&◌, ◌||◌, if◌then◌else◌, ◌==◌, List, [], ◌∷◌, drop, slice_index, Option, Some, None}
+use Rattle.std.specs.Prelude.{ℕ, zero, suc, ◌+◌, ◌-◌, not, ◌&&◌, ◌||◌, if◌then◌else◌, ◌==◌, [], ◌∷◌, drop, slice_index, Option, Some, None}
 use Rattle.std.specs.Char.{is_digit}
 use Rattle.c_lexer.specs.Bytes.{Text, is_quotable}
 use Rattle.c_lexer.specs.declared.fault.Fault.TheVariants as fault
@@ -30,7 +30,7 @@ escape b next =
     if not (is_quotable b) then part.Open
     else (if b == 48 && is_digit next 8 then part.BadEscape else escape_by (escaped b))
 
--- what the text begins with between these quotes
+-- what the text begins with, inside of quotes of this kind
 unfoldable pub unit_at : ℕ → Text → Part
 unit_at quote text =
     let b = slice_index text 0 in
@@ -38,13 +38,14 @@ unit_at quote text =
     else (if b == 92 then escape (slice_index text 1) (slice_index text 2)
     else (if is_quotable b then part.Byte b 1 else part.Open))
 
--- one unit and the closing quote
+-- the token of a letter: this unit behind its `'`, and then the closing one
 abbrev pub letter_by : Part → Text → Piece
 letter_by (part.Byte v n) text = if slice_index text (1 + n) == 39 then piece.Token (kind.Letter v) (n + 2) else piece.Fault fault.OpenText 0
 letter_by part.Close text = piece.Fault fault.OpenText 0
 letter_by part.BadEscape text = piece.Fault fault.BadEscape 1
 letter_by part.Open text = piece.Fault fault.OpenText 0
 
+-- a text that begins with `'`
 unfoldable pub letter_at : Text → Piece
 letter_at text = letter_by (unit_at 39 (drop 1 text)) text
 
@@ -59,16 +60,19 @@ body_by part.Close at more = body.Closed [] at
 body_by part.BadEscape at more = body.BadEscape at
 body_by part.Open at more = body.Open
 
--- units up to the closing `"`; so many bytes of the last one are left, and so many bytes stand before these
+-- the units up to the closing `"`, the first that is none from the left being the fault. The unit before reaches over `left` bytes
+-- more, and `at` bytes stand before these
 abbrev pub body_from : ℕ → ℕ → Text → Body
 body_from left at [] = body.Open
 body_from (suc left) at (b ∷ bs) = body_from left (at + 1) bs
 body_from zero at (b ∷ bs) = body_by (unit_at 34 (b ∷ bs)) at (λ n. body_from (n - 1) (at + 1) bs)
 
+-- the token of a text by what stands behind its `"`
 abbrev pub text_by : Body → Piece
 text_by (body.Closed bytes len) = piece.Token (kind.Text bytes) (len + 2)
 text_by (body.BadEscape at) = piece.Fault fault.BadEscape (at + 1)
 text_by body.Open = piece.Fault fault.OpenText 0
 
+-- a text that begins with `"`
 unfoldable pub text_at : Text → Piece
 text_at text = text_by (body_from 0 0 (drop 1 text))

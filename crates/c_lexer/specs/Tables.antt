@@ -1,5 +1,5 @@
 -- The spellings that mean something of their own: punctuation (C99 6.4.6), words (6.4.1), and the names of the library.
-use Rattle.std.specs.Prelude.{ℕ, Bool, ◌||◌, List, [], ◌∷◌, codes}
+use Rattle.std.specs.Prelude.{Bool, List, [], ◌∷◌, codes}
 use Rattle.std.specs.Str.{bytes_eq}
 use Rattle.std.specs.List.{list_any}
 use Rattle.c_lexer.specs.Bytes.{Text}

@@ -1,5 +1,6 @@
--- The tokens of a source, or its first fault: from its front on it is cut into pieces, each the longest that fits.
-use Rattle.std.specs.Prelude.{◌≡◌, ◌≤◌, ◌<◌, ℕ, zero, suc, ◌+◌, ◌-◌, Bool, true, false, ◌&&◌, if◌then◌else◌, ◌==◌, nat_lt, nat_eq, List, [], ◌∷◌, ◌++◌, length, take, slice_index, slice_range, Result, Ok, Err, codes}
+-- The tokens of a source, or its first fault (C99 6.4). From its front on a source is cut into pieces, each as long as it goes:
+-- a blank, a token, a directive, or a fault, with which reading ends. What comes behind a piece is read in the same way.
+use Rattle.std.specs.Prelude.{◌≡◌, ℕ, zero, suc, ◌+◌, ◌-◌, Bool, ◌&&◌, if◌then◌else◌, ◌==◌, nat_lt, nat_eq, List, [], ◌∷◌, ◌++◌, length, take, slice_index, slice_range, Result, Ok, Err, codes}
 use Rattle.std.specs.Char.{is_ascii_digit}
 use Rattle.std.specs.List.{prefix_len, starts_with}
 use Rattle.c_lexer.specs.Bytes.{Text, is_blank, begins_name, is_in_line}
@@ -11,7 +12,6 @@ use Rattle.c_lexer.specs.Defined.{Defined}
 use Rattle.c_lexer.specs.Faults.{fault_at}
 use Rattle.c_lexer.specs.Names.{name_at}
 use Rattle.c_lexer.specs.Directives.{directive_at}
-use Rattle.c_lexer.specs.declared.fault.Fault.{Fault}
 use Rattle.c_lexer.specs.declared.fault.Fault.TheVariants as fault
 use Rattle.c_lexer.specs.declared.fault.LexFault.{LexFault}
 use Rattle.c_lexer.specs.declared.fault.LexFault.TheVariants as lex
@@ -25,7 +25,7 @@ use Rattle.c_lexer.specs.declared.token.Token.{Token}
 
 -- ---- what a text begins with
 
--- the first of these that the text begins with
+-- the first of these that the text begins with; as the longest stand first, that is the longest (C99 6.4.6)
 abbrev pub punct_in : List (Text × Punct) → Text → Piece
 punct_in [] text = piece.Fault fault.BadByte 0
 punct_in (e ∷ es) text = if starts_with nat_eq text e.0 then piece.Token (kind.Punct e.1) (length e.0) else punct_in es text
@@ -33,7 +33,7 @@ punct_in (e ∷ es) text = if starts_with nat_eq text e.0 then piece.Token (kind
 unfoldable pub punct_at : Text → Piece
 punct_at = punct_in puncts
 
--- what a text that isn't empty begins with, where these names have values, but for directives
+-- the piece that a text which isn't empty begins with, where these names have values, but for directives
 unfoldable pub plain_at : Defined → Text → Piece
 plain_at defined text =
     let b = slice_index text 0 in
@@ -46,7 +46,7 @@ plain_at defined text =
     else (if b == 34 then text_at text
     else punct_at text))))))
 
--- the same with directives, each of which begins with the first byte on its line that isn't blank
+-- the same with directives. A `#` begins one where it is first on its line: where no token stands before it there
 unfoldable pub piece_at : Bool → Defined → Text → Piece
 piece_at first defined text = if slice_index text 0 == 35 && first then directive_at defined text else plain_at defined text
 
@@ -85,7 +85,7 @@ pub record Reading : Type 0 where
 abbrev pub passed : ℕ → Reading → Reading
 passed b r = record r { place = next b r.place }
 
--- the piece with which the text begins, and then what comes behind so many bytes
+-- what is found at a text that begins with this piece, where `more` is what is found behind so many bytes
 abbrev pub met : Piece → Text → Reading → (ℕ → Reading → Found) → Found
 met (piece.Blank n) text r more = more n r
 met (piece.Token k n) text r more =
@@ -93,20 +93,21 @@ met (piece.Token k n) text r more =
 met (piece.Define from to value n) text r more = more n (record r { defined = r.defined ++ (slice_range text from to, value) ∷ [] })
 met (piece.Fault f n) text r more = Err (fault_at f (after (take n text) r.place))
 
--- the tokens from here on, where so many bytes of the last piece are left
+-- what is found from here on, where the piece before reaches over so many bytes more
 abbrev pub tokens_from : ℕ → Reading → Text → Found
 tokens_from left r [] = Ok []
 tokens_from (suc left) r (b ∷ bs) = tokens_from left (passed b r) bs
 tokens_from zero r (b ∷ bs) =
     met (piece_at (nat_lt r.token_line r.place.line) r.defined (b ∷ bs)) (b ∷ bs) r (λ n r'. tokens_from (n - 1) (passed b r') bs)
 
+-- before the first byte
 abbrev pub start : Reading
 start = record { place = record { at = 0; line = 1; column = 1 }; token_line = 0; defined = [] }
 
 unfoldable pub tokens_of : Text → Found
 tokens_of text = tokens_from 0 start text
 
--- an answer tells the first fault, but where memory is wanting
+-- the answer is the fault that is found, but where memory is wanting
 abbrev pub IsFaultOf : LexFault → Found → Type 0
 IsFaultOf lex.OutOfMemory found = Unit {0}
 IsFaultOf (lex.BadByte line column) found = found ≡ Err (lex.BadByte line column)

@@ -3,9 +3,8 @@
 ghost use Rattle.std.specs.Prelude.{◌≡◌, ◌≤◌, ◌-◌, length, slice_index, IsTrue};
 ghost use Rattle.std.specs.Char.{is_ascii_digit};
 ghost use Rattle.c_lexer.specs.Directives as spec;
-ghost use Rattle.c_lexer.specs.Pieces.{ArePartsWithin, GivesNew, IsShort};
+ghost use Rattle.c_lexer.specs.Pieces.{ArePartsWithin, GivesNew, IsPlainWithin, IsShort, IsWithin};
 ghost use Rattle.c_lexer.specs.Names.{is_free};
-ghost use Rattle.c_lexer.specs.Pieces.{IsPlainWithin, IsWithin};
 
 use crate::fault::Fault;
 use crate::names::Names;

@@ -63,8 +63,12 @@ fn pass(text: &[u8], mut place: Place) -> Place
     place
 }
 
-/// The tokens of a C source (C99 6.4), or its first fault. Comments, `const` and `volatile` are blanks; `#include`
-/// of a header of the profile is too; from a `#define` on its name is a number.
+/// The tokens of a C source (C99 6.4), or its first fault. A comment, `const`, `volatile` and `#include` of a header
+/// of the profile stand for blanks. Behind a `#define` its name is a number.
+///
+/// # Errors
+/// The first fault of the text, with the line and column at which it stands; `OutOfMemory` if the tokens don't fit
+/// into memory.
 pub fn tokens(alloc: Global, text: &[u8]) -> Result<List<Token>, LexFault>
     requires { length text.now < 2 ^ 32 - 1 }
     ensures tokens { IfOk result (λ ts. spec.tokens_of text.now ≡ Ok ts) }

@@ -23,6 +23,7 @@ impl<'a> Model for Names<'a> {
 }
 
 impl<'a> Names<'a> {
+    /// No names.
     pub fn new(alloc: Global) -> Names<'a>
         ensures { result ≡ [] }
     {
@@ -31,6 +32,7 @@ impl<'a> Names<'a> {
         }
     }
 
+    /// The value that the name has, if any.
     pub fn value_of(&self, name: &[u8]) -> Option<i64>
         ensures { result ≡ entry_of self.now name.now }
     {

@@ -2,9 +2,8 @@
 
 ghost use Rattle.std.specs.Prelude.{◌≡◌, ◌<◌, ◌≤◌, ◌+◌, ◌^◌, length, slice_index, IsTrue};
 ghost use Rattle.std.specs.Char.{is_ascii_digit};
-ghost use Rattle.c_lexer.specs.Pieces.{IsShort};
+ghost use Rattle.c_lexer.specs.Pieces.{IsPlainWithin, IsShort};
 ghost use Rattle.c_lexer.specs.Numbers as spec;
-ghost use Rattle.c_lexer.specs.Pieces.{IsPlainWithin};
 
 use crate::fault::Fault;
 use crate::piece::{Literal, Piece};

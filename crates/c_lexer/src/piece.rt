@@ -1,5 +1,6 @@
 use crate::fault::Fault;
 use crate::token::Kind;
+use rr_base::Bytes;
 
 /// A place in a source: how many bytes stand before it, and its line and column, both from 1.
 #[derive(Clone, Copy, Debug, PartialEq, Eq)]
@@ -33,7 +34,7 @@ pub enum Unit {
 #[derive(Debug, Drop)]
 pub enum Body {
     /// The bytes that it means, and its length up to the closing quote.
-    Closed(rr_base::Bytes, usize),
+    Closed(Bytes, usize),
     /// An escape that isn't one of the profile, so many bytes on.
     BadEscape(usize),
     /// No closing quote.

@@ -2,8 +2,7 @@
 
 ghost use Rattle.std.specs.Prelude.{◌≡◌, ◌<◌, ◌≤◌, ◌+◌, length, slice_index, IfOk};
 ghost use Rattle.c_lexer.specs.Quotes as spec;
-ghost use Rattle.c_lexer.specs.Pieces.{IsEscapeOf, IsPartWithin, IsBodyWithin};
-ghost use Rattle.c_lexer.specs.Pieces.{IsPlainWithin};
+ghost use Rattle.c_lexer.specs.Pieces.{IsBodyWithin, IsEscapeOf, IsPartWithin, IsPlainWithin};
 
 use crate::fault::Fault;
 use crate::piece::{Body, Piece, Unit};

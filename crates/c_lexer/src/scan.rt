@@ -28,18 +28,21 @@ pub fn byte(text: &[u8], at: usize) -> u8
     if at < text.len() { text[at] } else { 0 }
 }
 
+/// Whether the byte is a blank of itself.
 pub fn is_blank(b: u8) -> bool
     ensures { result ≡ spec.is_blank b }
 {
     b == b' ' || b == b'\t' || b == b'\n' || b == b'\r' || b == b'\x0C'
 }
 
+/// Whether a name may begin with the byte.
 pub fn begins_name(b: u8) -> bool
     ensures { result ≡ spec.begins_name b }
 {
     b.is_ascii_alphabetic() || b == b'_'
 }
 
+/// Whether the byte may stand in a name.
 pub fn continues_name(b: u8) -> bool
     ensures { result ≡ spec.continues_name b }
 {

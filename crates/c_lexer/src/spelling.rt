@@ -215,6 +215,7 @@ pub fn word_of(name: &[u8]) -> Option<Word>
     word_in(&WORDS, name)
 }
 
+/// Whether the word stands for a blank.
 #[tactic(auto, unfolding(crate::specs::Names::is_blank_word))]
 pub fn is_blank_word(name: &[u8]) -> bool
     ensures { result ≡ names.is_blank_word name.now }
@@ -222,6 +223,7 @@ pub fn is_blank_word(name: &[u8]) -> bool
     is_among(&BLANK_WORDS, name)
 }
 
+/// Whether the word is one of C that the profile refuses.
 #[tactic(auto, unfolding(crate::specs::Names::is_refused))]
 pub fn is_refused(name: &[u8]) -> bool
     ensures { result ≡ names.is_refused name.now }

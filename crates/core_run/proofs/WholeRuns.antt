@@ -10,7 +10,8 @@ use Rattle.flow_code.specs.declared.code.Code.{Code}
 use Rattle.flow_code.specs.Settle.{IsRunnable}
 use Rattle.core_run.specs.Words.{cells_of, has_object, place_of, start_words}
 use Rattle.core_run.specs.Machine.{Told, machine, start_state}
-use Rattle.core_run.specs.Histories.{run_of, walk_of, HasNoRace, HaveEnded, list_of, lists_of, entries_in}
+use Rattle.core_run.specs.Walks.{walk_of}
+use Rattle.core_run.specs.Histories.{run_of, HasNoRace, HaveEnded, list_of, lists_of, entries_in}
 use Rattle.core_run.proofs.Beginnings.{start_word_at, start_number}
 use Rattle.core_run.proofs.Lawful.{lawful}
 use Rattle.core_run.proofs.Reached.{kept, start_length}
@@ -32,7 +33,7 @@ module _ (code : Code) (s : SetupView) (runnable : IsRunnable code) (limits : Is
       converge (machine code s) (lawful code s runnable limits) labels other (start_state code s) end other_end free runs other_runs ended other_ended
         (λ t. sym (list_is code s labels end t runs) ∙ same t ∙ list_is code s other other_end t other_runs)
 
-  pub merges_walk : (labels : List Label) (end : State Told) (merged : List Noted) → HasNoRace code s → run_of code s labels ≡ Some end → HaveEnded code s end → IsMerge (list_of end) merged → walk_of code s (entries_in merged) ≡ Some end
+  pub merges_walk : (labels : List Label) (end : State Told) (merged : List Noted) → HasNoRace code s → run_of code s labels ≡ Some end → HaveEnded code s end → IsMerge (list_of end) merged → walk_of code s (entries_in merged) (start_state code s) ≡ Some end
   merges_walk labels end merged free runs ended merges =
       merge_walks (machine code s) (lawful code s runnable limits) merged labels (start_state code s) end runs free ended
         (record { threads = λ t. merges.threads t ∙ list_is code s labels end t runs; ascending = merges.ascending })

@@ -8,15 +8,10 @@ use Rattle.core_run.specs.Machine.{Told, machine, start_state}
 use Rattle.runs.specs.Labels.{Label}
 use Rattle.runs.specs.Laws.{IsRaceFree}
 use Rattle.runs.specs.Steps.{State, AllEnded, Reaches, run}
-use Rattle.runs.specs.Walk.{walk}
 
 -- the state after a run from the start
 abbrev pub run_of : Code → SetupView → List Label → Option (State Told)
 run_of code s labels = run (machine code s) labels (start_state code s)
-
--- the state after the walk of some entries from the start
-abbrev pub walk_of : Code → SetupView → List Entry → Option (State Told)
-walk_of code s entries = walk (machine code s) entries (start_state code s)
 
 abbrev pub IsReachable : Code → SetupView → State Told → Type 0
 IsReachable code s st = Reaches (machine code s) (start_state code s) st

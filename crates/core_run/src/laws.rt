@@ -5,9 +5,10 @@ ghost use Rattle.sync_objects.specs.Setup.{SetupView, IsWithinLimits};
 ghost use Rattle.sync_objects.specs.declared.entry.Noted.{Noted};
 ghost use Rattle.flow_code.specs.declared.code.Code.{Code};
 ghost use Rattle.flow_code.specs.Settle.{IsRunnable};
-ghost use Rattle.core_run.specs.Histories.{run_of, walk_of, IsReachable, HasNoRace, HaveEnded, list_of, lists_of, entries_in};
+ghost use Rattle.core_run.specs.Histories.{run_of, IsReachable, HasNoRace, HaveEnded, list_of, lists_of, entries_in};
 ghost use Rattle.core_run.specs.Kept.{IsKept};
-ghost use Rattle.core_run.specs.Machine.{Told, machine};
+ghost use Rattle.core_run.specs.Machine.{Told, machine, start_state};
+ghost use Rattle.core_run.specs.Walks.{walk_of};
 ghost use Rattle.runs.specs.Labels.{Label};
 ghost use Rattle.runs.specs.Laws.{IsLawful};
 ghost use Rattle.runs.specs.Merge.{IsMerge, written_merge};
@@ -58,7 +59,7 @@ pub fn law_merges()
         run_of code setup labels ≡ Some end →
         HaveEnded code setup end →
         IsMerge (list_of end) merged →
-        walk_of code setup (entries_in merged) ≡ Some end }
+        walk_of code setup (entries_in merged) (start_state code setup) ≡ Some end }
 {}
 
 /// Law: the written merge of the lists of a run takes all of their entries, and is a merge of them.

@@ -111,13 +111,13 @@ create_goes_on (suc (suc (suc n))) kept answer = tt
 create_goes : (w : Caller) (function : ℕ) (words : List ℕ) (made : ℕ) (kept answer : ℤ) → CallGoes w (call.Create function) words made kept answer (create_due w function words made kept)
 create_goes w function words zero kept answer =
     at_each (CallGoes w (call.Create function) words zero kept answer) (cell_of w words 0 kind.Whole) (λ c. due.Operate (op.Draw w.setup.slots) object.Threads)
-      (λ c. (asked (op.Draw w.setup.slots) object.Threads refl refl refl, (λ l f. (l.some_slot, l.few_slots)), goes refl (silent w (call.Create function) words zero kept answer refl (create_goes_on zero kept answer))))
-      (λ k. tt)
+    (λ c. (asked (op.Draw w.setup.slots) object.Threads refl refl refl, (λ l f. (l.some_slot, l.few_slots)), goes refl (silent w (call.Create function) words zero kept answer refl (create_goes_on zero kept answer))))
+    (λ k. tt)
 create_goes w function words (suc zero) kept answer = silent w (call.Create function) words 1 kept answer refl (create_goes_on 1 kept answer)
 create_goes w function words (suc (suc zero)) kept answer =
     at_each (CallGoes w (call.Create function) words 2 kept answer) (cell_of w words 0 kind.Whole) (λ c. due.Store c _)
-      (λ c. silent w (call.Create function) words 2 kept answer refl (create_goes_on 2 kept answer))
-      (λ k. tt)
+    (λ c. silent w (call.Create function) words 2 kept answer refl (create_goes_on 2 kept answer))
+    (λ k. tt)
 create_goes w function words (suc (suc (suc n))) kept answer =
     (asked (op.Start function) (object.Slot (slot_in kept)) refl refl refl, (λ l f. f), goes refl (silent w (call.Create function) words (suc (suc (suc n))) kept answer refl tt))
 
@@ -133,24 +133,24 @@ join_continues w words made kept answer = silent w call.Join words made kept ans
 join_thread_goes : (w : Caller) (words : List ℕ) (kept answer n : ℤ) → CallGoes w call.Join words 0 kept answer (join_thread_due w n)
 join_thread_goes w words kept answer n =
     if_each (CallGoes w call.Join words 0 kept answer) (is_joinable w n) (due.Operate op.Join (object.Slot (slot_in n))) (due.Trap trap.BadThread)
-      (λ e. (asked op.Join (object.Slot (slot_in n)) refl refl refl, (λ l f. tt), goes refl (join_continues w words 0 kept answer)))
-      tt
+    (λ e. (asked op.Join (object.Slot (slot_in n)) refl refl refl, (λ l f. tt), goes refl (join_continues w words 0 kept answer)))
+    tt
 
 join_goes : (w : Caller) (words : List ℕ) (made : ℕ) (kept answer : ℤ) → CallGoes w call.Join words made kept answer (join_due w words made kept)
 join_goes w words zero kept answer =
     if_each (CallGoes w call.Join words zero kept answer) (argument words 1 == 0) (join_thread_due w (number (argument words 0))) (at_cell (cell_of w words 1 kind.Pointer) (λ c. join_thread_due w (number (argument words 0))))
-      (λ e. join_thread_goes w words kept answer (number (argument words 0)))
-      (at_each (CallGoes w call.Join words zero kept answer) (cell_of w words 1 kind.Pointer) (λ c. join_thread_due w (number (argument words 0)))
-        (λ c. join_thread_goes w words kept answer (number (argument words 0)))
-        (λ k. tt))
+    (λ e. join_thread_goes w words kept answer (number (argument words 0)))
+    (at_each (CallGoes w call.Join words zero kept answer) (cell_of w words 1 kind.Pointer) (λ c. join_thread_due w (number (argument words 0)))
+    (λ c. join_thread_goes w words kept answer (number (argument words 0)))
+    (λ k. tt))
 join_goes w words (suc zero) kept answer =
     if_each (CallGoes w call.Join words 1 kept answer) (is_misuse kept) (due.Trap trap.BadThread) (due.Load _)
-      (λ e. tt)
-      (join_continues w words 1 kept answer)
+    (λ e. tt)
+    (join_continues w words 1 kept answer)
 join_goes w words (suc (suc n)) kept answer =
     at_each (CallGoes w call.Join words (suc (suc n)) kept answer) (cell_of w words 1 kind.Pointer) (λ c. due.Store c _)
-      (λ c. join_continues w words (suc (suc n)) kept answer)
-      (λ k. tt)
+    (λ c. join_continues w words (suc (suc n)) kept answer)
+    (λ k. tt)
 
 exit_goes : (w : Caller) (words : List ℕ) (made : ℕ) (kept answer : ℤ) → CallGoes w call.Exit words made kept answer (exit_due w (argument words 0) made)
 exit_goes w words zero kept answer = silent w call.Exit words zero kept answer refl (omega arith)
@@ -183,22 +183,22 @@ wait_goes_at w words zero kept answer c m = (asked op.CondEnter (object.Cond c) 
 wait_goes_at w words (suc zero) kept answer c m = (asked op.Unlock (object.Mutex m) refl refl refl, (λ l f. tt), goes refl (wait_continues w words 1 kept answer))
 wait_goes_at w words (suc (suc zero)) kept answer c m =
     if_each (CallGoes w call.CondWait words 2 kept answer) (is_misuse kept) (due.Trap trap.MutexMisuse) (due.Operate (op.CondWake (count_in kept)) (object.Cond c))
-      (λ e. tt)
-      (asked (op.CondWake (count_in kept)) (object.Cond c) refl refl refl, (λ l f. tt), goes refl (wait_continues w words 2 kept answer))
+    (λ e. tt)
+    (asked (op.CondWake (count_in kept)) (object.Cond c) refl refl refl, (λ l f. tt), goes refl (wait_continues w words 2 kept answer))
 wait_goes_at w words (suc (suc (suc n))) kept answer c m = (asked op.Lock (object.Mutex m) refl refl refl, (λ l f. tt), goes refl (wait_continues w words (suc (suc (suc n))) kept answer))
 
 wait_goes : (w : Caller) (words : List ℕ) (made : ℕ) (kept answer : ℤ) → CallGoes w call.CondWait words made kept answer (wait_due w words made kept)
 wait_goes w words made kept answer =
     at_each (CallGoes w call.CondWait words made kept answer) (cell_of w words 0 kind.Cond) (λ c. at_cell (cell_of w words 1 kind.Mutex) (λ m. wait_due_at c m made kept))
-      (λ c. at_each (CallGoes w call.CondWait words made kept answer) (cell_of w words 1 kind.Mutex) (λ m. wait_due_at c m made kept) (λ m. wait_goes_at w words made kept answer c m) (λ k. tt))
-      (λ k. tt)
+    (λ c. at_each (CallGoes w call.CondWait words made kept answer) (cell_of w words 1 kind.Mutex) (λ m. wait_due_at c m made kept) (λ m. wait_goes_at w words made kept answer c m) (λ k. tt))
+    (λ k. tt)
 
 -- a call with one operation on the condition or the barrier of its first argument
 barrier_init_goes : (w : Caller) (words : List ℕ) (made : ℕ) (kept answer : ℤ) → CallGoes w call.BarrierInit words made kept answer (barrier_init_due w words made)
 barrier_init_goes w words zero kept answer =
     at_each (CallGoes w call.BarrierInit words zero kept answer) (cell_of w words 0 kind.Barrier) (λ c. due.Operate (op.BarrierInit (barrier_count (number (argument words 1)))) (object.Barrier c))
-      (λ c. (asked (op.BarrierInit (barrier_count (number (argument words 1)))) (object.Barrier c) refl refl refl, (λ l f. tt), goes refl (silent w call.BarrierInit words zero kept answer refl (checked_goes_on answer))))
-      (λ k. tt)
+    (λ c. (asked (op.BarrierInit (barrier_count (number (argument words 1)))) (object.Barrier c) refl refl refl, (λ l f. tt), goes refl (silent w call.BarrierInit words zero kept answer refl (checked_goes_on answer))))
+    (λ k. tt)
 barrier_init_goes w words (suc n) kept answer = tt
 
 barrier_wait_goes_on : (made : ℕ) (answer : ℤ) → GoesOn made (barrier_wait_onward made answer)
@@ -211,20 +211,20 @@ barrier_wait_continues w words made kept answer = silent w call.BarrierWait word
 barrier_wait_goes : (w : Caller) (words : List ℕ) (made : ℕ) (kept answer : ℤ) → CallGoes w call.BarrierWait words made kept answer (barrier_wait_due w words made kept)
 barrier_wait_goes w words zero kept answer =
     at_each (CallGoes w call.BarrierWait words zero kept answer) (cell_of w words 0 kind.Barrier) (λ c. due.Operate op.Arrive (object.Barrier c))
-      (λ c. (asked op.Arrive (object.Barrier c) refl refl refl, (λ l f. tt), goes refl (barrier_wait_continues w words zero kept answer)))
-      (λ k. tt)
+    (λ c. (asked op.Arrive (object.Barrier c) refl refl refl, (λ l f. tt), goes refl (barrier_wait_continues w words zero kept answer)))
+    (λ k. tt)
 barrier_wait_goes w words (suc n) kept answer =
     if_each (CallGoes w call.BarrierWait words (suc n) kept answer) (is_misuse kept) (due.Trap trap.BarrierMisuse) (at_cell (cell_of w words 0 kind.Barrier) (λ c. due.Operate (op.Pass (count_in kept)) (object.Barrier c)))
-      (λ e. tt)
-      (at_each (CallGoes w call.BarrierWait words (suc n) kept answer) (cell_of w words 0 kind.Barrier) (λ c. due.Operate (op.Pass (count_in kept)) (object.Barrier c))
-        (λ c. (asked (op.Pass (count_in kept)) (object.Barrier c) refl refl refl, (λ l f. tt), goes refl (barrier_wait_continues w words (suc n) kept answer)))
-        (λ k. tt))
+    (λ e. tt)
+    (at_each (CallGoes w call.BarrierWait words (suc n) kept answer) (cell_of w words 0 kind.Barrier) (λ c. due.Operate (op.Pass (count_in kept)) (object.Barrier c))
+    (λ c. (asked (op.Pass (count_in kept)) (object.Barrier c) refl refl refl, (λ l f. tt), goes refl (barrier_wait_continues w words (suc n) kept answer)))
+    (λ k. tt))
 
 print_goes : (w : Caller) (c : LibraryCall) (words : List ℕ) (made : ℕ) (kept answer : ℤ) (bytes : ℕ) → length (piece_of c words) ≡ bytes → GoesOn made (library_onward w c words made kept answer) → CallGoes w c words made kept answer (print_due w bytes)
 print_goes w c words made kept answer bytes p g =
     if_each (CallGoes w c words made kept answer) (nat_le (w.printed + bytes) most_printed) (due.Operate op.Print object.Output) (due.Trap trap.Limit)
-      (λ e. let room = leb-true (w.printed + bytes) most_printed e in (asked op.Print object.Output refl refl refl, (λ l f. tt), goes refl (record { prints = λ h. omega arith; goes_on = g })))
-      tt
+    (λ e. let room = leb-true (w.printed + bytes) most_printed e in (asked op.Print object.Output refl refl refl, (λ l f. tt), goes refl (record { prints = λ h. omega arith; goes_on = g })))
+    tt
 
 gives_zero : (w : Caller) (c : LibraryCall) (words : List ℕ) (made : ℕ) (kept : ℤ) → length (piece_of c words) ≡ 0 → ((answer : ℤ) → library_onward w c words made kept answer ≡ onward.Gives 0) → IsWithoutEvents w c words made kept
 gives_zero w c words made kept p g = record { prints_nothing = p; value = 0; gives = g }
@@ -248,8 +248,8 @@ call_goes w call.CondInit words made kept answer = asks_goes w call.CondInit wor
 call_goes w call.CondWait words made kept answer = wait_goes w words made kept answer
 call_goes w call.CondSignal words made kept answer =
     at_each (CallGoes w call.CondSignal words made kept answer) (cell_of w words 0 kind.Cond) (λ c. due.Operate op.Signal (object.Cond c))
-      (λ c. (asked op.Signal (object.Cond c) refl refl refl, (λ l f. tt), goes refl (silent w call.CondSignal words made kept answer refl tt)))
-      (λ k. tt)
+    (λ c. (asked op.Signal (object.Cond c) refl refl refl, (λ l f. tt), goes refl (silent w call.CondSignal words made kept answer refl tt)))
+    (λ k. tt)
 call_goes w call.CondDestroy words made kept answer = asks_goes w call.CondDestroy words made kept answer kind.Cond (gives_zero w call.CondDestroy words made kept refl (λ a. refl))
 call_goes w call.BarrierInit words made kept answer = barrier_init_goes w words made kept answer
 call_goes w call.BarrierWait words made kept answer = barrier_wait_goes w words made kept answer

@@ -118,14 +118,14 @@ quiet_keeps code s t th answer e =
 pub settled_keeps_all : (code : Code) (s : SetupView) (t : ℕ) (th : Thread) → KeepsAll th (settled code s t th)
 settled_keeps_all code s t th =
     settled_keeps code s t (KeepsAll th)
-      (λ q e h. let k = quiet_keeps code s t q (pos 0) e in
-        record {
-          rest = rest th (stepped code s t q (pos 0)) (k.rest.count ∙ h.rest.count) (k.rest.entries ∙ h.rest.entries) (k.rest.revokes ∙ h.rest.revokes) (k.rest.stripes ∙ h.rest.stripes) (k.rest.regions ∙ h.rest.regions);
-          printed = k.printed ∙ h.printed;
-          phase = k.phase ∙ h.phase;
-        })
-      th
-      (record { rest = rest th th refl refl refl refl refl; printed = refl; phase = refl })
+    (λ q e h. let k = quiet_keeps code s t q (pos 0) e in
+    record {
+      rest = rest th (stepped code s t q (pos 0)) (k.rest.count ∙ h.rest.count) (k.rest.entries ∙ h.rest.entries) (k.rest.revokes ∙ h.rest.revokes) (k.rest.stripes ∙ h.rest.stripes) (k.rest.regions ∙ h.rest.regions);
+      printed = k.printed ∙ h.printed;
+      phase = k.phase ∙ h.phase;
+    })
+    th
+    (record { rest = rest th th refl refl refl refl refl; printed = refl; phase = refl })
 
 pub settled_count : (code : Code) (s : SetupView) (t : ℕ) (th : Thread) → (settled code s t th).count ≡ th.count
 settled_count code s t th = (settled_keeps_all code s t th).rest.count
@@ -187,9 +187,9 @@ due_grows code s t th (due.Store c w) answer = let k = (phase_keeps code s t th 
 due_grows code s t th due.Mark answer = let k = (phase_keeps code s t th th.phase answer).count in omega arith
 due_grows code s t th (due.Operate o obj) answer =
     ⊎_elim
-      (λ h. subst (λ z. th.count ≤ z.count) (sym h.1) (counted_up op.Retake th (record th { stripes = repaid th.stripes }) refl))
-      (λ h. subst (λ z. th.count ≤ z.count) (sym h) (counted_up o th (phase_after code s t th th.phase answer) (phase_keeps code s t th th.phase answer).count))
-      (after_operate code s t th o obj answer)
+    (λ h. subst (λ z. th.count ≤ z.count) (sym h.1) (counted_up op.Retake th (record th { stripes = repaid th.stripes }) refl))
+    (λ h. subst (λ z. th.count ≤ z.count) (sym h) (counted_up o th (phase_after code s t th th.phase answer) (phase_keeps code s t th th.phase answer).count))
+    (after_operate code s t th o obj answer)
 due_grows code s t th (due.Trap kind) answer = omega arith
 
 pub step_grows : (code : Code) (s : SetupView) (t : ℕ) (th : Thread) (answer : ℤ) → th.count ≤ (stepped code s t th answer).count

@@ -82,14 +82,14 @@ module _ (code : Code) (s : SetupView) (t : ℕ) (th : Thread) where
   malloc_goes : (into site unit : ℕ) (n : ℤ) → ThreadGoes (allocated th into site (cells_in n)) (malloc_due unit th.arena (arena_end code s t) n)
   malloc_goes into site unit n =
       either_each (ThreadGoes (allocated th into site (cells_in n))) (is_size unit n) (if nat_le (th.arena + cells_in n) (arena_end code s t) then due.Quiet else due.Trap trap.ArenaFull) (due.Trap trap.BadSize)
-        (λ e. either_each (ThreadGoes (allocated th into site (cells_in n))) (nat_le (th.arena + cells_in n) (arena_end code s t)) due.Quiet (due.Trap trap.ArenaFull)
-          (λ r. record {
-            same_phase = refl;
-            same_printed = refl;
-            shaped = λ h. record { few_printed = h.few_printed; few_made = omega arith; few_frames = h.few_frames; room = leb-true (th.arena + cells_in n) (arena_end code s t) r; callers = h.callers };
-          })
-          (λ r. tt))
-        (λ e. tt)
+      (λ e. either_each (ThreadGoes (allocated th into site (cells_in n))) (nat_le (th.arena + cells_in n) (arena_end code s t)) due.Quiet (due.Trap trap.ArenaFull)
+      (λ r. record {
+        same_phase = refl;
+        same_printed = refl;
+        shaped = λ h. record { few_printed = h.few_printed; few_made = omega arith; few_frames = h.few_frames; room = leb-true (th.arena + cells_in n) (arena_end code s t) r; callers = h.callers };
+      })
+      (λ r. tt))
+      (λ e. tt)
 
   load_goes : (q : Thread) (r : Result ℕ Trap) → Runs q → ThreadGoes q (load_due r)
   load_goes q (Ok c) h = h
@@ -107,10 +107,10 @@ module _ (code : Code) (s : SetupView) (t : ℕ) (th : Thread) where
       ThreadGoes (entered code s t th below f arguments) (enter_due code s t th frames f)
   enter_goes frames f below arguments n c =
       either_each (ThreadGoes (entered code s t th below f arguments)) (nat_le s.limit th.count) (due.Trap trap.Limit) (if nat_le most_frames frames then due.Trap trap.Depth else mark_if (fitted code.sites (arena_end code s t) (objects_in code f) th.arena))
-        (λ e. tt)
-        (λ e. either_each (ThreadGoes (entered code s t th below f arguments)) (nat_le most_frames frames) (due.Trap trap.Depth) (mark_if (fitted code.sites (arena_end code s t) (objects_in code f) th.arena))
-          (λ r. tt)
-          (λ r. let few = leb-false most_frames frames r in mark_goes (entered code s t th below f arguments) (fitted code.sites (arena_end code s t) (objects_in code f) th.arena) (record { lives = refl; shaped = λ h. entered_shaped code s t th below f arguments (omega arith) (c h) h })))
+      (λ e. tt)
+      (λ e. either_each (ThreadGoes (entered code s t th below f arguments)) (nat_le most_frames frames) (due.Trap trap.Depth) (mark_if (fitted code.sites (arena_end code s t) (objects_in code f) th.arena))
+      (λ r. tt)
+      (λ r. let few = leb-false most_frames frames r in mark_goes (entered code s t th below f arguments) (fitted code.sites (arena_end code s t) (objects_in code f) th.arena) (record { lives = refl; shaped = λ h. entered_shaped code s t th below f arguments (omega arith) (c h) h })))
 
   back_quiet : (value : ℕ) (o : Option Frame) → StaysQuiet (back_in code th value o)
   back_quiet value None = record { same_phase = refl; same_printed = refl; shaped = λ h. h }
@@ -121,9 +121,12 @@ module _ (code : Code) (s : SetupView) (t : ℕ) (th : Thread) where
   end_goes v true made run at first main is =
       (record { fits = refl; own = refl; strong = refl }, (λ l f. tt), thread_ends (inr refl) refl (in_phase code s t th phase.Halted))
   end_goes v false zero run at first main is = in_frame_runs (one_made th.top (pos 0)) run (omega (arith, is))
-  end_goes v false (suc zero) run at first main is =
-      (record { fits = refl; own = refl; strong = refl }, (λ l f. tt), slot_ends refl (in_frame_runs (one_made th.top (pos 0)) run (omega (arith, is)))
-        (ap (phase_due code s t (counted op.End (in_frame th (one_made th.top (pos 0))))) run ∙ ap (act_due code s t (counted op.End (in_frame th (one_made th.top (pos 0))))) at ∙ next (length th.below == 0) (is_main code th.top.function) th.top.made first main is))
+  end_goes v false (suc zero) run at first main is = (
+    record { fits = refl; own = refl; strong = refl },
+    (λ l f. tt),
+    slot_ends refl (in_frame_runs (one_made th.top (pos 0)) run (omega (arith, is)))
+        (ap (phase_due code s t (counted op.End (in_frame th (one_made th.top (pos 0))))) run ∙ ap (act_due code s t (counted op.End (in_frame th (one_made th.top (pos 0))))) at ∙ next (length th.below == 0) (is_main code th.top.function) th.top.made first main is),
+  )
     where
       next : (b m : Bool) (n : ℕ) → b ≡ true → m ≡ false → n ≡ 1 → (if b then end_due m t (n + 1) (value_of th.top.registers v) else due.Quiet) ≡ due.Operate op.Leave object.Threads
       next b m n e f g = rw (e, f, g) refl
@@ -135,7 +138,7 @@ module _ (code : Code) (s : SetupView) (t : ℕ) (th : Thread) where
     where
       by : (b : Bool) → (length th.below == 0) ≡ b →
           ThreadGoes (if b then end_onward (is_main code th.top.function) th th.top.made else back_in code th (value_of th.top.registers v) (slice_get th.below (length th.below - 1)))
-            (if b then end_due (is_main code th.top.function) t th.top.made (value_of th.top.registers v) else due.Quiet)
+          (if b then end_due (is_main code th.top.function) t th.top.made (value_of th.top.registers v) else due.Quiet)
       by true e = end_goes v (is_main code th.top.function) th.top.made run at e refl refl
       by false e = back_quiet (value_of th.top.registers v) (slice_get th.below (length th.below - 1))
 
@@ -174,16 +177,16 @@ module _ (code : Code) (s : SetupView) (t : ℕ) (th : Thread) where
         phase_due code s t (counted op.End (after_call (onward.Stays kept))) (counted op.End (after_call (onward.Stays kept))).phase ≡ due.Operate op.Leave object.Threads
     leave_next kept run at h =
         ap (phase_due code s t (counted op.End (after_call (onward.Stays kept)))) run ∙ ap (act_due code s t (counted op.End (after_call (onward.Stays kept)))) at
-          ∙ h (caller code s t (counted op.End (after_call (onward.Stays kept)))) kept
+        ∙ h (caller code s t (counted op.End (after_call (onward.Stays kept)))) kept
 
     call_operates : (o : Op) → th.phase ≡ phase.Running → act_at code th.top ≡ Some (act.Library c arguments into) → CallOperates (caller code s t th) c given_words th.top.made th.top.kept answer o → ThreadOperates o (after_call leads_to)
     call_operates o run at (goes e h) = runs e (call_runs into _ th.top.made leads_to run refl h.prints h.goes_on)
     call_operates o run at (ends_slot e h) =
         subst (λ z. ThreadOperates o (after_call z)) (sym h.stays)
-          (slot_ends e (call_runs into _ th.top.made (onward.Stays h.kept_next) run refl (λ p. let q = h.prints_nothing in omega arith) h.first) (leave_next h.kept_next run at h.leaves_next))
+        (slot_ends e (call_runs into _ th.top.made (onward.Stays h.kept_next) run refl (λ p. let q = h.prints_nothing in omega arith) h.first) (leave_next h.kept_next run at h.leaves_next))
     call_operates o run at (leaves_all e h) =
         subst (λ z. ThreadOperates o (after_call z)) (sym h.ends)
-          (thread_ends (inl e) refl (λ k. in_phase code s t (record th { printed = th.printed + length (piece_of c given_words) }) phase.Ended (printed_more code s t th (th.printed + length (piece_of c given_words)) (let q = h.prints_nothing in let r = k.few_printed in omega arith) k)))
+        (thread_ends (inl e) refl (λ k. in_phase code s t (record th { printed = th.printed + length (piece_of c given_words) }) phase.Ended (printed_more code s t th (th.printed + length (piece_of c given_words)) (let q = h.prints_nothing in let r = k.few_printed in omega arith) k)))
 
     library_goes : (d : Due) → th.phase ≡ phase.Running → act_at code th.top ≡ Some (act.Library c arguments into) → CallGoes (caller code s t th) c given_words th.top.made th.top.kept answer d → ThreadGoes (after_call leads_to) d
     library_goes due.Nothing run at h = absurd h
@@ -205,7 +208,7 @@ module _ (code : Code) (s : SetupView) (t : ℕ) (th : Thread) where
   act_goes (Some act.Mark) answer run at = in_frame_runs (past th.top) run (omega arith)
   act_goes (Some (act.Call function arguments into)) answer run at =
       enter_goes (length th.below + 1) function (th.below ++ one_made th.top (pos 0) ∷ []) (words_of th.top.registers arguments) (length-append th.below (one_made th.top (pos 0) ∷ []))
-        (λ h. each_more (StandsIn code) th.below (one_made th.top (pos 0)) h.callers (stands_in code th.top (act.Call function arguments into) at))
+      (λ h. each_more (StandsIn code) th.below (one_made th.top (pos 0)) h.callers (stands_in code th.top (act.Call function arguments into) at))
   act_goes (Some (act.Library call arguments into)) answer run at = library_goes call arguments into answer (library_due (caller code s t th) call (words_of th.top.registers arguments) th.top.made th.top.kept) run at (call_goes (caller code s t th) call (words_of th.top.registers arguments) th.top.made th.top.kept answer)
   act_goes (Some (act.Jump to)) answer run at = in_frame_quiet (jumped th.top to) refl
   act_goes (Some (act.Branch on then_at else_at)) answer run at = in_frame_quiet (jumped th.top (branch_to (register th.top.registers on) then_at else_at)) refl

@@ -45,8 +45,8 @@ mark_not_quiet (Some a) e = cc
 enter_not_quiet : (code : Code) (s : SetupView) (t : ℕ) (th : Thread) (frames f : ℕ) → enter_due code s t th frames f ≡ due.Quiet → ⊥
 enter_not_quiet code s t th frames f =
     neither (nat_le s.limit th.count) (due.Trap trap.Limit) (if nat_le most_frames frames then due.Trap trap.Depth else mark_if (fitted code.sites (arena_end code s t) (objects_in code f) th.arena))
-      (λ (e : due.Trap trap.Limit ≡ due.Quiet). cc)
-      (neither (nat_le most_frames frames) (due.Trap trap.Depth) (mark_if (fitted code.sites (arena_end code s t) (objects_in code f) th.arena)) (λ (e : due.Trap trap.Depth ≡ due.Quiet). cc) (mark_not_quiet (fitted code.sites (arena_end code s t) (objects_in code f) th.arena)))
+    (λ (e : due.Trap trap.Limit ≡ due.Quiet). cc)
+    (neither (nat_le most_frames frames) (due.Trap trap.Depth) (mark_if (fitted code.sites (arena_end code s t) (objects_in code f) th.arena)) (λ (e : due.Trap trap.Depth ≡ due.Quiet). cc) (mark_not_quiet (fitted code.sites (arena_end code s t) (objects_in code f) th.arena)))
 
 end_not_quiet : (m : Bool) (t made value : ℕ) → end_due m t made value ≡ due.Quiet → ⊥
 end_not_quiet true t made value e = cc

@@ -150,7 +150,7 @@ module _ (code : Code) (s : SetupView) (t : ℕ) where
       let same = k.count in
       let room = p.1 in
       subst (InRange code s t) (sym (access_after code s t th d answer a))
-        (in_range (one_more q) (within (omega arith)) (subst (λ n. n ≤ most_entries) (sym k.entries) h.few_entries) (subst (λ n. n ≤ most_revokes) (sym k.revokes) h.few_revokes) (one_more_shaped q (r.shaped (shape_of th h))))
+      (in_range (one_more q) (within (omega arith)) (subst (λ n. n ≤ most_entries) (sym k.entries) h.few_entries) (subst (λ n. n ≤ most_revokes) (sym k.revokes) h.few_revokes) (one_more_shaped q (r.shaped (shape_of th h))))
 
   -- a quiet step changes no count, and none is due in a thread that has ended or is about to leave
   quiet_in_range : (th : Thread) (answer : ℤ) → due_of code s t th ≡ due.Quiet → InRange code s t th → InRange code s t (after_due code s t th due.Quiet answer)
@@ -193,7 +193,7 @@ module _ (code : Code) (s : SetupView) (t : ℕ) where
   pub gave_up_in_range : (th : Thread) (lock stripe : ℕ) → th.entries < most_entries → th.revokes < most_revokes → InRange code s t th → InRange code s t (gave_up th lock stripe)
   gave_up_in_range th lock stripe e r h =
       in_range (gave_up th lock stripe) (gave_up_counted th lock stripe h.counted) (omega arith) (omega arith)
-        (record { few_printed = h.few_printed; few_made = h.few_made; few_frames = h.few_frames; room = h.room; callers = h.callers })
+      (record { few_printed = h.few_printed; few_made = h.few_made; few_frames = h.few_frames; room = h.room; callers = h.callers })
 
   -- the thread was stopped or closed
   pub stopped_in_range : (th : Thread) → has_ended th.phase ≡ false → InRange code s t th → InRange code s t (stopped th)

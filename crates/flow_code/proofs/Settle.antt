@@ -100,9 +100,9 @@ module _ (code : Code) (s : SetupView) (t : ℕ) (runnable : IsRunnable code) wh
       let falls = weight_falls th (pos 0) e in
       let q = stepped code s t th (pos 0) in
       ap (λ z. settle (weight code s t z) code s t z) (quiet_answer code s t th answer e)
-        ∙ same_settle (weight code s t q) (weight code s t th) q (omega arith) (omega arith)
-        ∙ sym (ap (λ d. settle_on (settle (weight code s t th) code s t) code s t th (is_quiet d)) e)
-        ∙ same_settle (suc (weight code s t th)) (weight code s t th) th (omega arith) (omega arith)
+      ∙ same_settle (weight code s t q) (weight code s t th) q (omega arith) (omega arith)
+      ∙ sym (ap (λ d. settle_on (settle (weight code s t th) code s t) code s t th (is_quiet d)) e)
+      ∙ same_settle (suc (weight code s t th)) (weight code s t th) th (omega arith) (omega arith)
 
   settle_quiet : (n : ℕ) (th : Thread) → weight code s t th ≤ n → due_of code s t (settle n code s t th) ≡ due.Quiet → ⊥
   settle_quiet zero th h e = let w = weight_quiet code s t th e in absurd (omega arith)

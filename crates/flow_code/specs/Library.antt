@@ -143,6 +143,10 @@ wait_due_at c m (suc (suc (suc n))) kept = due.Operate op.Lock (object.Mutex m)
 abbrev pub wait_due : Caller → List ℕ → ℕ → ℤ → Due
 wait_due w words made kept = at_cell (cell_of w words 0 kind.Cond) (λ c. at_cell (cell_of w words 1 kind.Mutex) (λ m. wait_due_at c m made kept))
 
+-- pthread_cond_signal and pthread_cond_broadcast
+abbrev pub signal_due : Caller → List ℕ → Due
+signal_due w words = at_cell (cell_of w words 0 kind.Cond) (λ c. due.Operate op.Signal (object.Cond c))
+
 -- how many threads a barrier is to wait for, or 0 where the number can't be
 abbrev pub barrier_count : ℤ → ℕ
 barrier_count z = clipped 17 z
@@ -174,7 +178,7 @@ library_due w call.MutexTryLock words made kept = mutex_due w op.TryLock words m
 library_due w call.MutexDestroy words made kept = asks_for w words kind.Mutex
 library_due w call.CondInit words made kept = asks_for w words kind.Cond
 library_due w call.CondWait words made kept = wait_due w words made kept
-library_due w call.CondSignal words made kept = at_cell (cell_of w words 0 kind.Cond) (λ c. due.Operate op.Signal (object.Cond c))
+library_due w call.CondSignal words made kept = signal_due w words
 library_due w call.CondDestroy words made kept = asks_for w words kind.Cond
 library_due w call.BarrierInit words made kept = barrier_init_due w words made
 library_due w call.BarrierWait words made kept = barrier_wait_due w words made kept

@@ -8,7 +8,7 @@ ghost use Rattle.flow_code.specs.Next.{words_of};
 use crate::act::{Act, Instr};
 use crate::library::argument;
 use crate::pointers::{pointer_at, site_at};
-use crate::works::{register, set_register};
+use crate::works::set_register;
 use rr_base::Site;
 
 /// Whether a function of this name is the program's `main` (C99 5.1.2.2.1).
@@ -84,6 +84,7 @@ pub fn place(sites: &[Site], instrs: &[Instr], at: u32, registers: &mut Vec<u64>
             Some((into, site)) => {
                 let size = size_of(sites, site);
                 set_register(registers, into, pointer_at(site, next, size));
+                // A pointer's base counts modulo 2^32, so this may too.
                 next = next.wrapping_add(size);
             }
             None => return,

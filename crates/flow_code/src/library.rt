@@ -14,7 +14,7 @@ use crate::works::register;
 use rr_base::{CellKind, Trap};
 use sync_objects::{ObjId, Op};
 
-/// The most bytes that a thread prints.
+// The most bytes that a thread prints.
 const MOST_PRINTED: u128 = 1 << 24;
 
 /// The word of argument `k`, and 0 where the call has fewer.
@@ -50,7 +50,7 @@ pub fn count_in(answer: i64) -> u32
     clipped(1 << 32, answer) as u32
 }
 
-/// How many threads a barrier is to wait for, or 0 where the number can't be.
+// How many threads a barrier is to wait for, or 0 where the number can't be.
 fn barrier_count(number: i64) -> u8
     ensures { result ≡ spec.barrier_count number }
 {
@@ -267,7 +267,7 @@ fn wait_due(caller: &Caller, registers: &[u64], arguments: &[u32], made: u8, kep
 }
 
 fn signal_due(caller: &Caller, registers: &[u64], arguments: &[u32]) -> Due
-    ensures { result ≡ spec.at_cell (spec.cell_of caller.now (words_of registers.now arguments.now) 0 CellKind.Cond) (λ c. Due.Operate Op.Signal (ObjId.Cond c)) }
+    ensures { result ≡ spec.signal_due caller.now (words_of registers.now arguments.now) }
 {
     match cell_of(caller, registers, arguments, 0, CellKind::Cond) {
         Ok(cell) => Due::Operate {

@@ -10,7 +10,7 @@ use crate::library::{argument, is_misuse, is_serial};
 use crate::printing::piece_len;
 use crate::thread::Onward;
 
-/// EAGAIN (POSIX errno.h): no thread is left to create.
+// EAGAIN (POSIX errno.h): no thread is left to create.
 const NO_THREAD_LEFT: u64 = 11;
 
 fn create_onward(made: u8, kept: i64, answer: i64) -> Onward
@@ -80,7 +80,7 @@ fn barrier_wait_onward(made: u8, answer: i64) -> Onward
     }
 }
 
-/// The byte at this place of the input, or EOF as a word (C99 7.19.7.6).
+// The byte at this place of the input, or EOF as a word (C99 7.19.7.6).
 fn character(input: &[u8], place: i64) -> u64
     ensures { result ≡ spec.character input.now place }
 {

@@ -63,10 +63,8 @@ pub fn resolved(sites: &[Site], word: u64, want: CellKind) -> Result<u32, Trap>
 {
     let cell = known(sites, word).cell()?;
     let pointer = PtrWord::from_word(word);
-    if is_kind(
-        kind_in(site_at(sites, pointer.site()), pointer.offset()),
-        want,
-    ) {
+    let kind = kind_in(site_at(sites, pointer.site()), pointer.offset());
+    if is_kind(kind, want) {
         Ok(cell)
     } else {
         Err(Trap::BadKind)

@@ -1,7 +1,6 @@
 // What calls print.
-ghost use Rattle.std.specs.Prelude.{◌≡◌, ◌+◌, ◌<◌, ◌≤◌, ◌++◌, ◌^◌, length, slice_index, IfOk, OnOk, MatchOption, if◌then◌else◌};
+ghost use Rattle.std.specs.Prelude.{◌≡◌, ◌+◌, ◌<◌, ◌≤◌, ◌++◌, ◌^◌, length, slice_get, IfOk, OnOk, if◌then◌else◌};
 ghost use Rattle.std.specs.Fmt.{signed_decimal};
-ghost use Rattle.flow_code.specs.Works.{register as register_of};
 ghost use Rattle.flow_code.specs.Library as spec;
 ghost use Rattle.flow_code.specs.Next.{words_of};
 
@@ -15,13 +14,10 @@ use std::alloc::{AllocError, Global};
 
 // The word of argument `k`, if the call has it.
 fn word_at(registers: &[u64], arguments: &[u32], k: usize) -> Option<u64>
-    ensures { MatchOption result (length arguments.now ≤ k) (λ w. (k < length arguments.now) × (w ≡ register_of registers.now (slice_index arguments.now k))) }
+    ensures { result ≡ slice_get (words_of registers.now arguments.now) k }
 {
-    if k < arguments.len() {
-        Some(register(registers, arguments[k]))
-    } else {
-        None
-    }
+    let r = arguments.get(k)?;
+    Some(register(registers, *r))
 }
 
 // Which argument is next behind a piece, where `k` is next before it.

@@ -60,7 +60,6 @@ fn pointer_words(rt: HostRuntime) -> Result<(), Fail> {
 fn lists(rt: HostRuntime) -> Result<(), Fail> {
     let alloc = rt.alloc();
     let mut list = List::with_capacity(alloc, 4)?;
-    list.reserve(9)?;
     list.push(1u8)?;
     list.insert(0, 7)?;
     list.append(List::from_vec([4u8, 5].to_vec(alloc)?))?;

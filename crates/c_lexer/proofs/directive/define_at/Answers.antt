@@ -1,5 +1,4 @@
-use Rattle.std.proofs.Common.{◌≡◌, sym, ap, ◌∙◌}
-use Rattle.c_lexer.specs.Directives.{valued}
+use Rattle.std.proofs.Common.{sym, ◌∙◌}
 use Rattle.c_lexer.proofs.Definitions.{free-new, valued-new}
 use Rattle.c_lexer.proofs.directive.define_at.Goals as goal
 

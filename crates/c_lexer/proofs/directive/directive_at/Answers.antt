@@ -1,5 +1,4 @@
-use Rattle.std.proofs.Common.{◌≡◌, sym, ap, ◌∙◌}
-use Rattle.c_lexer.proofs.Definitions.{plain-new, line-new}
+use Rattle.c_lexer.proofs.Definitions.{line-new}
 use Rattle.c_lexer.proofs.directive.directive_at.Goals as goal
 
 pub returns-then-starts_with-2-clause-new : goal.returns-then-starts_with-2-clause-new

@@ -1,11 +1,11 @@
-use Rattle.std.proofs.Common.{rules, arith, ap, sym, ◌∙◌, ◌≡◌, ◌+◌, take, drop, length, ◌≤◌, ◌++◌, ◌∷◌, [], ℤ, w64, to_z, of_z, length-take}
+use Rattle.std.proofs.Common.{rules, arith, ap, sym, ◌∙◌, ◌+◌, length, ◌≤◌, ◌++◌, ◌∷◌, [], ℤ, w64, to_z, of_z, length-take}
 use Rattle.std.proofs.Math.Facts.{to_z-of_z}
 use Rattle.std.proofs.lemmas.List.Elements.{All-push}
 use Rattle.c_lexer.specs.Spans.{IsPlaced}
 use Rattle.c_lexer.specs.declared.piece.Piece.TheVariants as piece
 use Rattle.c_lexer.specs.declared.token.Token.{Token}
 use Rattle.std.proofs.lemmas.List.{take_rest}
-use Rattle.c_lexer.specs.Tokens.{Reading, tokens_of, tokens_from, with_token, token_at, after}
+use Rattle.c_lexer.specs.Tokens.{Reading, tokens_of, token_at}
 use Rattle.c_lexer.proofs.Steps.{with_front, with_front-token, with_front-empty, blank_step, token_step, define_step, fault_step, order-pushed, order-later, fault-of}
 use Rattle.c_lexer.proofs.lex.tokens.Goals as goal
 

@@ -1,4 +1,4 @@
-use Rattle.std.proofs.Common.{◌≡◌, sym, ap, ◌∙◌, arith, None}
+use Rattle.std.proofs.Common.{sym, ap, ◌∙◌, arith}
 use Rattle.c_lexer.specs.Numbers.{narrow}
 use Rattle.c_lexer.proofs.Numerals.{digits_value-next, narrow-wide}
 use Rattle.c_lexer.proofs.number.digits_value.Goals as goal

@@ -1,4 +1,4 @@
-use Rattle.std.proofs.Common.{rules, ◌≡◌, ◌≤◌, sym, ◌∙◌}
+use Rattle.std.proofs.Common.{sym, ◌∙◌}
 use Rattle.c_lexer.proofs.Numerals.{hexadecimal-some, octal-some, decimal-some}
 use Rattle.c_lexer.proofs.number.literal_at.Goals as goal
 
