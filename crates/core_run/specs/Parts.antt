@@ -1,13 +1,19 @@
 -- What the two kinds of steps in the part of an entry leave: a load, a store or a mark of its thread, and then the operation
 -- that makes the entry.
-use Rattle.std.specs.Prelude.{◌≡◌, ℕ, ◌≤◌, if◌then◌else◌, ℤ, pos, List, [], ◌∷◌, length, slice_get, slice_index}
+use Rattle.std.specs.Prelude.{◌≡◌, ℕ, ◌≤◌, ◌-◌, ◌^◌, Bool, true, false, if◌then◌else◌, ℤ, pos, List, [], ◌∷◌, length, slice_get, slice_index}
 use Rattle.sync_objects.specs.Setup.{SetupView}
 use Rattle.sync_objects.specs.Words.{number_of}
+use Rattle.sync_objects.specs.Names.{name_of}
 use Rattle.sync_objects.specs.declared.entry.Entry.{Entry}
+use Rattle.sync_objects.specs.declared.object.ObjId.{ObjId}
+use Rattle.sync_objects.specs.declared.operation.Op.{Op}
+use Rattle.sync_objects.specs.declared.operation.Op.TheVariants as op
+use Rattle.flow_code.specs.declared.thread.Action.TheVariants as action
+use Rattle.core_run.specs.Kept.{AreSound}
 use Rattle.flow_code.specs.declared.code.Code.{Code}
 use Rattle.flow_code.specs.declared.thread.Action.{Action}
 use Rattle.flow_code.specs.Threads.{Thread}
-use Rattle.core_run.specs.Machine.{Told, machine, effect_of, action_effect, marked, accessed, operated}
+use Rattle.core_run.specs.Machine.{Told, machine, effect_of, action_effect, marked, accessed, operated, entry_of}
 use Rattle.core_run.specs.Words.{cells_of, place_of}
 use Rattle.core_run.specs.declared.parts.Own.{Own}
 use Rattle.core_run.specs.declared.parts.Own.TheVariants as own
@@ -68,3 +74,15 @@ MadeIs code s told e ws ws1 th1 m = MadeOutcome code s told e ws ws1 th1 m (effe
 pub record KeepsObjects (cells : ℕ) (ws ws1 : List ℕ) : Type 0 where
   pub len : length ws1 ≡ length ws
   pub objects : (i : ℕ) → cells ≤ i → slice_get ws1 i ≡ slice_get ws i
+
+abbrev pub is_print : Op → Bool
+is_print op.Print = true
+is_print _ = false
+
+-- what the operation that comes next in a thread in state th has come to
+abbrev pub PerformedIs : Code → SetupView → ℕ → Told → Thread → Op → ObjId → List ℕ → List ℕ → Thread → Made → Type 0
+PerformedIs code s t told th o obj ws ws1 th1 m = MadeOutcome code s told (entry_of t th (name_of o) obj) ws ws1 th1 m (action_effect code s t told th (action.Operate o obj))
+
+-- the words of objects can be, and have numbers below the greatest
+abbrev pub AreUsable : Code → SetupView → List ℕ → Type 0
+AreUsable code s ws = AreSound code s (2 ^ 32 - 2) ws

@@ -4,14 +4,15 @@ ghost use Rattle.flow_code.specs.Next.{action_at};
 ghost use Rattle.flow_code.specs.Settle.{settled};
 ghost use Rattle.flow_code.specs.declared.thread.Action.TheVariants as action;
 ghost use Rattle.core_run.specs.Machine.{Told};
-ghost use Rattle.core_run.specs.Words.{cells_of};
-ghost use Rattle.core_run.specs.Parts.{OwnOf, OwnIs, KeepsObjects};
+ghost use Rattle.core_run.specs.Words.{cells_of, has_object as has_object_of, place_of as place_of_object};
+ghost use Rattle.core_run.specs.Parts.{OwnOf, OwnIs, KeepsObjects, is_print as is_print_of, PerformedIs, AreUsable};
 
 use crate::access::Access;
 use crate::flow::Flow;
-use flow_code::Action;
+use flow_code::{Action, Code};
 use rr_base::Bytes;
 use std::alloc::AllocError;
+use sync_objects::{ObjId, Op, Setup, advance};
 
 /// What a thread's own step has come to.
 #[derive(Clone, Copy)]
@@ -123,5 +124,44 @@ pub(crate) fn own_step(flow: &mut Flow, words: &mut Vec<u64>, cells: u32, thread
             Ok(own)
         }
         Action::Quiet | Action::Operate { .. } | Action::Ended => Ok(Own::Stays),
+    }
+}
+
+fn is_print(op: Op) -> bool
+    ensures { result ≡ is_print_of op }
+{
+    matches!(op, Op::Print)
+}
+
+/// Whether the machine has the object.
+pub(crate) fn has_object(code: &Code, setup: &Setup, cells: u32, obj: ObjId) -> bool
+    requires { cells ≡ cells_of code.now setup.now }
+    ensures { result ≡ has_object_of code.now setup.now obj }
+{
+    match obj {
+        ObjId::Mutex(cell) | ObjId::Cond(cell) | ObjId::Barrier(cell) => cell < cells,
+        ObjId::Weak { lock, stripe } => usize::from(lock) < code.locks.len() && stripe < 8,
+        ObjId::Slot(k) => k < setup.slots(),
+        ObjId::Threads | ObjId::Halt | ObjId::Input | ObjId::Output => true,
+    }
+}
+
+/// Where the object's word stands.
+pub(crate) fn place_of(cells: u32, obj: ObjId) -> usize
+    ensures { result ≡ place_of_object cells obj }
+{
+    let cells = cells as usize;
+    match obj {
+        ObjId::Mutex(cell) => cells + cell as usize,
+        ObjId::Cond(cell) => 2 * cells + cell as usize,
+        ObjId::Barrier(cell) => 3 * cells + cell as usize,
+        ObjId::Slot(k) => 4 * cells + usize::from(k),
+        ObjId::Threads => 4 * cells + 16,
+        ObjId::Halt => 4 * cells + 17,
+        ObjId::Input => 4 * cells + 18,
+        ObjId::Output => 4 * cells + 19,
+        ObjId::Weak { lock, stripe } => {
+            4 * cells + 20 + 8 * usize::from(lock) + usize::from(stripe)
+        }
     }
 }
