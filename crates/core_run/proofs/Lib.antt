@@ -9,3 +9,4 @@ pub mod ThreadRanges
 pub mod Told
 pub mod WholeRuns
 pub mod PartFacts
+pub mod Performed

@@ -80,6 +80,20 @@ impl<'a> Flow<'a> {
         self.state.holds(lock, stripe)
     }
 
+    /// The code that the thread runs.
+    pub fn code(&self) -> &'a Code
+        ensures { result.now ≡ self.now.code }
+    {
+        self.code
+    }
+
+    /// The setup under which it runs.
+    pub fn setup(&self) -> &'a Setup
+        ensures { result.now ≡ self.now.setup }
+    {
+        self.setup
+    }
+
     /// How many events the thread has made.
     pub fn count(&self) -> u32
         ensures { result ≡ self.now.kept.thread.count }

@@ -1,5 +1,7 @@
 // The steps of an entry's part, over one thread and the words.
-ghost use Rattle.std.specs.Prelude.{◌≡◌, ◌<◌, ◌≤◌, ◌^◌, ◌+◌, length, true, IfOk, ℕ, List};
+ghost use Rattle.std.specs.Prelude.{◌≡◌, ◌<◌, ◌≤◌, ◌^◌, ◌+◌, length, true, IfOk, IfSome, ℕ, List, slice_get};
+ghost use Rattle.sync_objects.specs.Setup.{IsWithinLimits};
+ghost use Rattle.flow_code.specs.Settle.{IsRunnable};
 ghost use Rattle.flow_code.specs.Next.{action_at};
 ghost use Rattle.flow_code.specs.Settle.{settled};
 ghost use Rattle.flow_code.specs.declared.thread.Action.TheVariants as action;
@@ -164,4 +166,48 @@ pub(crate) fn place_of(cells: u32, obj: ObjId) -> usize
             4 * cells + 20 + 8 * usize::from(lock) + usize::from(stripe)
         }
     }
+}
+
+// The operation that comes next in a settled thread, if its object allows it there.
+fn perform(flow: &mut Flow, words: &mut Vec<u64>, cells: u32, thread: u8, op: Op, obj: ObjId) -> Result<Made, AllocError>
+    requires runnable { IsRunnable flow.old.code }
+    requires limits { IsWithinLimits flow.old.setup }
+    requires cells { cells ≡ cells_of flow.old.code flow.old.setup }
+    requires thread { thread < 16 }
+    requires number { flow.old.number ≡ thread }
+    requires next { action_at flow.old.code flow.old.setup thread flow.old.kept.thread ≡ action.Operate op obj }
+    requires sound { AreUsable flow.old.code flow.old.setup words.old.items }
+    ensures code { flow.new.code ≡ flow.old.code }
+    ensures setup { flow.new.setup ≡ flow.old.setup }
+    ensures number { flow.new.number ≡ flow.old.number }
+    ensures made { (told : Told) → IfOk result (PerformedIs flow.old.code flow.old.setup thread told flow.old.kept.thread op obj words.old.items words.new.items flow.new.kept.thread) }
+{
+    if !has_object(flow.code(), flow.setup(), cells, obj) {
+        return Ok(Made::Refused);
+    }
+    let place = place_of(cells, obj);
+    let Some(word) = word_at(words, place) else {
+        return Ok(Made::Refused);
+    };
+    let Some((next, answer)) = advance(op, thread, word) else {
+        return Ok(Made::Refused);
+    };
+    if is_print(op) {
+        let bytes = flow.piece()?;
+        flow.reserve()?;
+        flow.take_answer(answer);
+        words[place] = next;
+        return Ok(Made::Printed(bytes));
+    }
+    flow.reserve()?;
+    flow.take_answer(answer);
+    words[place] = next;
+    Ok(Made::Silent)
+}
+
+fn word_at(words: &[u64], place: usize) -> Option<u64>
+    ensures value { result ≡ slice_get words.now place }
+    ensures within { IfSome result (λ _. place < length words.now) }
+{
+    words.get(place).copied()
 }

@@ -1,0 +1,134 @@
+-- What an operation that comes next does to the words and the thread.
+use Rattle.std.proofs.Common.{◌≡◌, ◌≢◌, ℕ, ◌<◌, ◌≤◌, ◌+◌, ◌-◌, ◌^◌, Bool, true, false, List, [], ◌∷◌, Some, None, Option, refl, sym, ap, ◌∙◌, subst, arith, ℤ}
+use Rattle.std.specs.Prelude.{slice_get, slice_set, slice_index, if◌then◌else◌}
+use Rattle.sync_objects.specs.Setup.{SetupView}
+use Rattle.sync_objects.specs.Names.{name_of, kind_of, object_kind, Fits}
+use Rattle.sync_objects.specs.Sound.{IsSoundWord}
+use Rattle.sync_objects.specs.Words.{number_of}
+use Rattle.sync_objects.specs.Advance.{Advance, NotAllowed as NoRow, Advances, advanced}
+use Rattle.sync_objects.specs.declared.entry.Entry.{Entry}
+use Rattle.sync_objects.specs.declared.object.ObjId.{ObjId}
+use Rattle.sync_objects.specs.declared.operation.Op.{Op}
+use Rattle.sync_objects.specs.declared.operation.Op.TheVariants as op
+use Rattle.flow_code.specs.declared.code.Code.{Code}
+use Rattle.flow_code.specs.declared.thread.Action.TheVariants as action
+use Rattle.flow_code.specs.Threads.{Thread}
+use Rattle.flow_code.specs.Next.{stepped, act_at}
+use Rattle.core_run.specs.Kept.{AreSound}
+use Rattle.core_run.specs.Machine.{Told, action_effect, change_of, operated, entry_of, operation}
+use Rattle.core_run.specs.Words.{cells_of, has_object, place_of}
+use Rattle.core_run.specs.Pieces.{piece_next, piece_at}
+use Rattle.core_run.specs.Parts.{made_outcome, is_print, PerformedIs, AreUsable, noted}
+use Rattle.core_run.specs.declared.parts.Made.TheVariants as made
+use Rattle.runs.specs.Same.{same_entry}
+use Rattle.runs.specs.Steps.{Effect, Refused, Operates, Change, Becomes, NotAllowed, Outcome, Blocked, Leaves, change_outcome, changed_outcome}
+use Rattle.runs.proofs.SameEntries.{same_entry-refl}
+use Rattle.std.proofs.lemmas.Option.{get_or_from_slice_get}
+
+-- what `advance` asks of an object's word
+pub record Askable (code : Code) (s : SetupView) (o : Op) (w : ℕ) : Type 0 where
+  pub sound : IsSoundWord (kind_of (name_of o)) w
+  pub number : number_of w < 2 ^ 32 - 1
+
+pub askable : (code : Code) (s : SetupView) (ws : List ℕ) (o : Op) (obj : ObjId) (w : ℕ) → AreUsable code s ws → has_object code s obj ≡ true → slice_get ws (place_of (cells_of code s) obj) ≡ Some w → Fits (name_of o) obj → Askable code s o w
+askable code s ws o obj w h has at fits =
+    let k = h.each obj w has at in
+    let low = k.1 in
+    record { sound = subst (λ z. IsSoundWord z w) (sym fits) k.0; number = omega arith }
+
+-- an operation other than a print prints nothing
+pub silent : (code : Code) (th : Thread) (o : Op) → is_print o ≡ false → piece_next code th o ≡ []
+silent code th op.Lock h = refl
+silent code th op.TryLock h = refl
+silent code th op.Unlock h = refl
+silent code th op.MutexInit h = refl
+silent code th op.CondEnter h = refl
+silent code th (op.CondWake epoch) h = refl
+silent code th op.Signal h = refl
+silent code th (op.BarrierInit count) h = refl
+silent code th op.Arrive h = refl
+silent code th (op.Pass generation) h = refl
+silent code th op.Take h = refl
+silent code th op.Retake h = refl
+silent code th op.Give h = refl
+silent code th op.Revoke h = refl
+silent code th (op.Draw slots) h = refl
+silent code th (op.Start function) h = refl
+silent code th op.Begin h = refl
+silent code th op.End h = refl
+silent code th op.Join h = refl
+silent code th op.Close h = refl
+silent code th op.Leave h = refl
+silent code th op.HaltAll h = refl
+silent code th op.TrapHere h = refl
+silent code th op.Stop h = refl
+silent code th (op.GetChar len) h = refl
+silent code th op.Print h = cc
+
+-- a print prints the piece of the call at which the thread stands
+pub prints : (code : Code) (th : Thread) (o : Op) → is_print o ≡ true → piece_next code th o ≡ piece_at (act_at code th.top) th.top.registers ∷ []
+prints code th op.Print h = refl
+prints code th op.Lock h = cc
+prints code th op.TryLock h = cc
+prints code th op.Unlock h = cc
+prints code th op.MutexInit h = cc
+prints code th op.CondEnter h = cc
+prints code th (op.CondWake epoch) h = cc
+prints code th op.Signal h = cc
+prints code th (op.BarrierInit count) h = cc
+prints code th op.Arrive h = cc
+prints code th (op.Pass generation) h = cc
+prints code th op.Take h = cc
+prints code th op.Retake h = cc
+prints code th op.Give h = cc
+prints code th op.Revoke h = cc
+prints code th (op.Draw slots) h = cc
+prints code th (op.Start function) h = cc
+prints code th op.Begin h = cc
+prints code th op.End h = cc
+prints code th op.Join h = cc
+prints code th op.Close h = cc
+prints code th op.Leave h = cc
+prints code th op.HaltAll h = cc
+prints code th op.TrapHere h = cc
+prints code th op.Stop h = cc
+prints code th (op.GetChar len) h = cc
+
+module _ (code : Code) (s : SetupView) (t : ℕ) (told : Told) (th : Thread) (o : Op) (obj : ObjId) (ws : List ℕ) where
+  abbrev own_entry : Entry
+  own_entry = entry_of t th (name_of o) obj
+
+  abbrev change : ℕ → Change Told
+  change w = change_of (record told { thread = th }) own_entry (piece_next code th o) (λ answer. stepped code s t th answer) w (advanced o t w)
+
+  abbrev place : ℕ
+  place = place_of (cells_of code s) obj
+
+  pub lacks_object : has_object code s obj ≡ false → made_outcome (cells_of code s) own_entry ws (action_effect code s t told th (action.Operate o obj)) ≡ Blocked
+  lacks_object h = ap (λ b. made_outcome (cells_of code s) own_entry ws (if b then Operates own_entry change else Refused)) h
+
+  -- what its object's word decides
+  decided : has_object code s obj ≡ true → made_outcome (cells_of code s) own_entry ws (action_effect code s t told th (action.Operate o obj)) ≡ change_outcome ws place change (slice_get ws place)
+  decided h =
+      ap (λ b. made_outcome (cells_of code s) own_entry ws (if b then Operates own_entry change else Refused)) h
+      ∙ ap (λ b. if b then change_outcome ws place change (slice_get ws place) else Blocked) (same_entry-refl own_entry)
+
+  pub lacks_word : has_object code s obj ≡ true → slice_get ws place ≡ None → made_outcome (cells_of code s) own_entry ws (action_effect code s t told th (action.Operate o obj)) ≡ Blocked
+  lacks_word h e = decided h ∙ ap (change_outcome ws place change) e
+
+  pub not_allowed : (w : ℕ) → has_object code s obj ≡ true → slice_get ws place ≡ Some w → advanced o t w ≡ NoRow → made_outcome (cells_of code s) own_entry ws (action_effect code s t told th (action.Operate o obj)) ≡ Blocked
+  not_allowed w h e a =
+      decided h ∙ ap (change_outcome ws place change) e
+      ∙ ap (λ z. changed_outcome ws place (change_of (record told { thread = th }) own_entry (piece_next code th o) (λ answer. stepped code s t th answer) w z)) a
+
+  pub allowed : (w next : ℕ) (answer : ℤ) (ws1 : List ℕ) (th1 : Thread) (printed : List (List ℕ)) → has_object code s obj ≡ true → slice_get ws place ≡ Some w → advanced o t w ≡ Advances next answer → ws1 ≡ slice_set ws place next → th1 ≡ stepped code s t th answer → piece_next code th o ≡ printed → made_outcome (cells_of code s) own_entry ws (action_effect code s t told th (action.Operate o obj)) ≡ Leaves ws1 (operated told th1 (record { entry = own_entry; number = noted code s ws own_entry }) printed)
+  allowed w next answer ws1 th1 printed h e a words_are thread_is pieces =
+      decided h ∙ ap (change_outcome ws place change) e
+      ∙ ap (λ z. changed_outcome ws place (change_of (record told { thread = th }) own_entry (piece_next code th o) (λ answer. stepped code s t th answer) w z)) a
+      ∙ ap (λ z. Leaves z (operated told (stepped code s t th answer) (record { entry = own_entry; number = number_of w }) (piece_next code th o))) (sym words_are)
+      ∙ ap (λ z. Leaves ws1 (operated told z (record { entry = own_entry; number = number_of w }) (piece_next code th o))) (sym thread_is)
+      ∙ ap (λ z. Leaves ws1 (operated told th1 (record { entry = own_entry; number = number_of w }) z)) pieces
+      ∙ ap (λ z. Leaves ws1 (operated told th1 (record { entry = own_entry; number = number_of z }) printed)) (sym (index_is ws place w e))
+    where
+      index_is : (xs : List ℕ) (i x : ℕ) → slice_get xs i ≡ Some x → slice_index xs i ≡ x
+      index_is xs i x h = get_or_from_slice_get xs i x 0 h
