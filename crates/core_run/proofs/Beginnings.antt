@@ -47,7 +47,7 @@ words_behind code = (slot_words ++ single_words) ++ replicate (8 * length code.l
 objects_are : (code : Code) (s : SetupView) → start_objects code s ≡ replicate (3 * cells_of code s) 0 ++ words_behind code
 objects_are code s =
     ap (λ (ws : List ℕ). ws ++ replicate (8 * length code.locks) 0) (append_assoc (replicate (3 * cells_of code s) 0) slot_words single_words)
-      ∙ append_assoc (replicate (3 * cells_of code s) 0) (slot_words ++ single_words) (replicate (8 * length code.locks) 0)
+    ∙ append_assoc (replicate (3 * cells_of code s) 0) (slot_words ++ single_words) (replicate (8 * length code.locks) 0)
 
 pub length-start_words : (code : Code) (s : SetupView) → length (start_words code s) ≡ 4 * cells_of code s + 20 + 8 * length code.locks
 length-start_words code s =
@@ -87,7 +87,7 @@ behind_cells code s n o e =
     let place : 4 * cells_of code s + n ≡ cells_of code s + (3 * cells_of code s + n) = omega arith in
     let len : 3 * cells_of code s ≡ length zeros = sym (length-replicate (3 * cells_of code s) 0) in
     ap (slice_get (start_words code s)) place
-      ∙ behind code s (3 * cells_of code s + n) o (ap (λ ws. slice_get ws (3 * cells_of code s + n)) (objects_are code s) ∙ ap (λ k. slice_get (zeros ++ words_behind code) (k + n)) len ∙ slice_get-append_right zeros (words_behind code) n ∙ e)
+    ∙ behind code s (3 * cells_of code s + n) o (ap (λ ws. slice_get ws (3 * cells_of code s + n)) (objects_are code s) ∙ ap (λ k. slice_get (zeros ++ words_behind code) (k + n)) len ∙ slice_get-append_right zeros (words_behind code) n ∙ e)
 
 zero_word : (n : ℕ) → n ≡ 0 → Some 0 ≡ Some (word_of 0 n)
 zero_word n e = ap (λ k. Some (word_of 0 k)) (sym e)
@@ -123,8 +123,8 @@ start_word_at code s (object.Weak lock stripe) l h =
     let n = 8 * lock + stripe in
     let place : 4 * cells_of code s + 20 + 8 * lock + stripe ≡ 4 * cells_of code s + (20 + n) = omega arith in
     ap (slice_get (start_words code s)) place
-      ∙ behind_cells code s (20 + n) (Some 0) (slice_get-append_right (slot_words ++ single_words) (replicate (8 * length code.locks) 0) n ∙ get_replicate (8 * length code.locks) n (omega arith))
-      ∙ zero_word (packed_start (object.Weak lock stripe)) (starts-Weak lock stripe)
+    ∙ behind_cells code s (20 + n) (Some 0) (slice_get-append_right (slot_words ++ single_words) (replicate (8 * length code.locks) 0) n ∙ get_replicate (8 * length code.locks) n (omega arith))
+    ∙ zero_word (packed_start (object.Weak lock stripe)) (starts-Weak lock stripe)
 
 -- no object has had an operation
 pub start_number : (o : ObjId) → number_of (start_word o) ≡ 0

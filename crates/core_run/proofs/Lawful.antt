@@ -80,11 +80,11 @@ module _ (code : Code) (s : SetupView) where
         counted = same;
         object = has;
         draws = λ old new answer q e.
-          let i = change_is told (entry_of t told.thread (name_of o) obj) printed after old (advanced o t old) new answer q e in
-          let number_is = number_rises o t old new answer i.0 in
-          let count_is = ap (λ (z : Told). z.thread.count) i.1 in
-          let more = grows answer in
-          record { numbered = omega arith; counted = omega arith };
+            let i = change_is told (entry_of t told.thread (name_of o) obj) printed after old (advanced o t old) new answer q e in
+            let number_is = number_rises o t old new answer i.0 in
+            let count_is = ap (λ (z : Told). z.thread.count) i.1 in
+            let more = grows answer in
+            record { numbered = omega arith; counted = omega arith };
       })
 
   goes_on : (told q : Told) (st : Thread) → st.count ≡ told.thread.count → Counts st q.thread → GoesOn (machine code s) told q
@@ -110,13 +110,13 @@ module _ (code : Code) (s : SetupView) where
       subst (IsLawfulEffect (machine code s) (Go t) told) (sym (effect_go code s t told)) (lawful_action runnable t told (settled code s t told.thread) (action_at code s t (settled code s t told.thread)) refl (settled_count code s t told.thread))
   lawful_label runnable (Revoke t lock stripe) told =
       subst (IsLawfulEffect (machine code s) (Revoke t lock stripe) told) (sym (effect_revoke code s t lock stripe told))
-        (if_may (Revoke t lock stripe) told (may_revoke told.thread lock stripe) _ (lawful_operation (Revoke t lock stripe) t told told op.Revoke (object.Weak lock stripe) [] (λ answer. gave_up told.thread lock stripe) refl refl (λ answer. omega arith)))
+      (if_may (Revoke t lock stripe) told (may_revoke told.thread lock stripe) _ (lawful_operation (Revoke t lock stripe) t told told op.Revoke (object.Weak lock stripe) [] (λ answer. gave_up told.thread lock stripe) refl refl (λ answer. omega arith)))
   lawful_label runnable (Stop t) told =
       subst (IsLawfulEffect (machine code s) (Stop t) told) (sym (effect_stop code s t told))
-        (if_may (Stop t) told (may_stop told.thread) _ (lawful_operation (Stop t) t told told op.Stop object.Halt [] (λ answer. stopped told.thread) refl refl (λ answer. omega arith)))
+      (if_may (Stop t) told (may_stop told.thread) _ (lawful_operation (Stop t) t told told op.Stop object.Halt [] (λ answer. stopped told.thread) refl refl (λ answer. omega arith)))
   lawful_label runnable (Close t) told =
       subst (IsLawfulEffect (machine code s) (Close t) told) (sym (effect_close code s t told))
-        (if_may (Close t) told (may_close told.thread) _ (lawful_operation (Close t) t told told op.Close (object.Slot t) [] (λ answer. shut told.thread) refl refl (λ answer. omega arith)))
+      (if_may (Close t) told (may_close told.thread) _ (lawful_operation (Close t) t told told op.Close (object.Slot t) [] (λ answer. shut told.thread) refl refl (λ answer. omega arith)))
 
   -- the machine keeps to the laws
   pub lawful : IsRunnable code → IsWithinLimits s → IsLawful (machine code s)

@@ -57,7 +57,7 @@ object_at_place code s (object.Cond cell) l h =
 object_at_place code s (object.Barrier cell) l h =
     let lt = ltb-true cell (cells_of code s) h in
     above (3 * cells_of code s + cell) (2 * cells_of code s) _ _ (omega arith) ∙ above (3 * cells_of code s + cell) (3 * cells_of code s) _ _ (omega arith)
-      ∙ below (3 * cells_of code s + cell) (4 * cells_of code s) _ _ (omega arith) ∙ ap object.Barrier (omega arith)
+    ∙ below (3 * cells_of code s + cell) (4 * cells_of code s) _ _ (omega arith) ∙ ap object.Barrier (omega arith)
 object_at_place code s (object.Slot k) l h =
     let lt = ltb-true k s.slots h in
     let few = l.few_slots in
@@ -70,7 +70,7 @@ object_at_place code s (object.Weak lock stripe) l h =
     let lt = ltb-true stripe 8 (and_parts (nat_lt lock (length code.locks)) (nat_lt stripe 8) h).1 in
     let n = 20 + 8 * lock + stripe in
     ap (object_at (cells_of code s)) (omega arith) ∙ behind_cells (cells_of code s) n ∙ above n 16 _ _ (omega arith) ∙ above n 20 _ _ (omega arith)
-      ∙ ap (λ k. object.Weak k ((n - 20) % 8)) (omega arith) ∙ ap (object.Weak lock) (omega arith)
+    ∙ ap (λ k. object.Weak k ((n - 20) % 8)) (omega arith) ∙ ap (object.Weak lock) (omega arith)
 
 -- equal places are those of one object
 pub place_apart : (code : Code) (s : SetupView) (o p : ObjId) → IsWithinLimits s → has_object code s o ≡ true → has_object code s p ≡ true → place_of (cells_of code s) o ≡ place_of (cells_of code s) p → o ≡ p

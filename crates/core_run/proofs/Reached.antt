@@ -52,7 +52,7 @@ module _ (code : Code) (s : SetupView) where
   operation_raises : (n t : ℕ) (told : Told) (o : Op) (obj : ObjId) (printed : List (List ℕ)) (after : ℤ → Thread) → ((answer : ℤ) → n + 1 ≤ (after answer).count + (after answer).entries) → Raises n (operation code s t told o obj printed after)
   operation_raises n t told o obj printed after h =
       if_raises n (has_object code s obj) _ (λ old new answer q e.
-        subst (λ (z : Told). n + 1 ≤ steps_in z) (sym (change_is told (entry_of t told.thread (name_of o) obj) printed after old (advanced o t old) new answer q e).1) (h answer))
+      subst (λ (z : Told). n + 1 ≤ steps_in z) (sym (change_is told (entry_of t told.thread (name_of o) obj) printed after old (advanced o t old) new answer q e).1) (h answer))
 
   access_raises : (st q : Thread) → Counts st q → st.count + st.entries ≤ q.count + q.entries
   access_raises st q c = let count = c.count in let entries = c.entries in omega arith

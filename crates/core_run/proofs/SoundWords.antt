@@ -46,17 +46,17 @@ module _ (code : Code) (s : SetupView) where
   pub sound_start : IsWithinLimits s → AreSound code s 0 (start_words code s)
   sound_start limits = record {
     each = λ o w has at.
-      let word_is : start_word o ≡ w = same_Some (start_word o) w (sym (start_word_at code s o limits has) ∙ at) in
-      let zero_number = start_number o in
-      (subst (IsSoundWord (object_kind o)) word_is (start_is_sound o), subst (λ z. number_of z ≤ 0) word_is (omega arith));
+        let word_is : start_word o ≡ w = same_Some (start_word o) w (sym (start_word_at code s o limits has) ∙ at) in
+        let zero_number = start_number o in
+        (subst (IsSoundWord (object_kind o)) word_is (start_is_sound o), subst (λ z. number_of z ≤ 0) word_is (omega arith));
   }
 
   -- after a store
   pub sound_store : (n : ℕ) (words : List ℕ) (c w : ℕ) → c < cells_of code s → AreSound code s n words → AreSound code s n (slice_set words c w)
   sound_store n words c w lt h = record {
     each = λ o v has at.
-      let behind = place_behind (cells_of code s) o in
-      h.each o v has (sym (slice_get-set_other words c (place o) w (λ e. absurd (omega arith))) ∙ at);
+        let behind = place_behind (cells_of code s) o in
+        h.each o v has (sym (slice_get-set_other words c (place o) w (λ e. absurd (omega arith))) ∙ at);
   }
 
   -- after the object's word has become another sound one, by one operation more
@@ -84,9 +84,9 @@ module _ (code : Code) (s : SetupView) where
       let k = h.each obj old has at in
       let low = k.1 in
       sound_change n words obj old new limits has at
-        (subst (λ z. IsSoundWord z new) fits (keeps_sound o t old new answer small range (omega arith) (subst (λ z. IsSoundWord z old) (sym fits) k.0) moves))
-        (number_rises o t old new answer moves)
-        h
+      (subst (λ z. IsSoundWord z new) fits (keeps_sound o t old new answer small range (omega arith) (subst (λ z. IsSoundWord z old) (sym fits) k.0) moves))
+      (number_rises o t old new answer moves)
+      h
 
   -- what an effect does to sound words: an operation is one of a thread on an object that it fits
   pub record Operation (obj : ObjId) (change : ℕ → Change Told) : Type 0 where
@@ -161,5 +161,5 @@ module _ (code : Code) (s : SetupView) where
       let x = steps_of (machine code s) st l st1 e in
       let adds = adds_of (machine code s) st l st1 x in
       subst (λ a. AreSound code s (n + length a) st1.words) (sym adds)
-        (subst (AreSound code s (n + length (effect_entry (machine code s) st.words (effect_of code s l x.before)))) (sym (ap (λ (z : State Told). z.words) x.to))
-          (outcome_sound limits n st.words x.words (effect_of code s l x.before) x.after few (effect_is_sound runnable limits l x.before small) x.leaves k))
+      (subst (AreSound code s (n + length (effect_entry (machine code s) st.words (effect_of code s l x.before)))) (sym (ap (λ (z : State Told). z.words) x.to))
+      (outcome_sound limits n st.words x.words (effect_of code s l x.before) x.after few (effect_is_sound runnable limits l x.before small) x.leaves k))

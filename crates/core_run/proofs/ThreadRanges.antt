@@ -87,7 +87,7 @@ module _ (code : Code) (s : SetupView) where
   operation_keeps : (t : ℕ) (told : Told) (o : Op) (obj : ObjId) (printed : List (List ℕ)) (after : ℤ → Thread) → ((answer : ℤ) → InRange code s t (after answer)) → KeepsRange t (operation code s t told o obj printed after)
   operation_keeps t told o obj printed after h =
       if_keeps t (has_object code s obj) _ (λ has old new answer q e.
-        subst (λ (z : Told). InRange code s t z.thread) (sym (change_is told (entry_of t told.thread (name_of o) obj) printed after old (advanced o t old) new answer q e).1) (h answer))
+      subst (λ (z : Told). InRange code s t z.thread) (sym (change_is told (entry_of t told.thread (name_of o) obj) printed after old (advanced o t old) new answer q e).1) (h answer))
 
   action_keeps : (t : ℕ) (told : Told) (st : Thread) (a : Action) → InRange code s t st → KeepsRange t (action_effect code s t told st a)
   action_keeps t told st action.Quiet h = tt
@@ -125,9 +125,9 @@ module _ (code : Code) (s : SetupView) where
   set_in_range : (threads : List Told) (t : ℕ) (before after : Told) → slice_get threads t ≡ Some before → InRange code s t after.thread → AreInRange code s threads → AreInRange code s (slice_set threads t after)
   set_in_range threads t before after at h k = record {
     each = λ u told e. ⊎_elim
-      (λ same. subst (λ n. InRange code s n told.thread) (sym same) (subst (λ (z : Told). InRange code s t z.thread) (same_Some after told (sym (slice_get-set_same threads t after before at) ∙ ap (slice_get (slice_set threads t after)) (sym same) ∙ e)) h))
-      (λ ne. k.each u told (sym (slice_get-set_other threads t u after ne) ∙ e))
-      (cases_eq u t);
+        (λ same. subst (λ n. InRange code s n told.thread) (sym same) (subst (λ (z : Told). InRange code s t z.thread) (same_Some after told (sym (slice_get-set_same threads t after before at) ∙ ap (slice_get (slice_set threads t after)) (sym same) ∙ e)) h))
+        (λ ne. k.each u told (sym (slice_get-set_other threads t u after ne) ∙ e))
+        (cases_eq u t);
   }
 
   -- each step keeps the numbers of all threads in range
@@ -136,4 +136,4 @@ module _ (code : Code) (s : SetupView) where
       let x = steps_of (machine code s) st l st1 e in
       let h = k.each (label_thread l) x.before x.stands in
       subst (AreInRange code s) (sym (ap (λ (z : State Told). z.threads) x.to))
-        (set_in_range st.threads (label_thread l) x.before x.after x.stands (outcome_keeps (label_thread l) st.words x.words (effect_of code s l x.before) x.after (effect_keeps l x.before h) x.leaves) k)
+      (set_in_range st.threads (label_thread l) x.before x.after x.stands (outcome_keeps (label_thread l) st.words x.words (effect_of code s l x.before) x.after (effect_keeps l x.before h) x.leaves) k)

@@ -47,8 +47,11 @@ module _ (code : Code) (s : SetupView) where
 
   operation_tells : (t : ℕ) (told before : Told) (o : Op) (obj : ObjId) (printed : List (List ℕ)) (after : ℤ → Thread) → before.entries ≡ told.entries → Tells t told (operation code s t before o obj printed after)
   operation_tells t told before o obj printed after same =
-      if_tells t told (has_object code s obj) _ (refl, (λ old new answer q e.
-        ap (λ (z : Told). z.entries) (change_is before (entry_of t before.thread (name_of o) obj) printed after old (advanced o t old) new answer q e).1 ∙ ap (λ es. es ++ record { entry = entry_of t before.thread (name_of o) obj; number = number_of old } ∷ []) same))
+      if_tells t told (has_object code s obj) _ (
+        refl,
+        (λ old new answer q e.
+            ap (λ (z : Told). z.entries) (change_is before (entry_of t before.thread (name_of o) obj) printed after old (advanced o t old) new answer q e).1 ∙ ap (λ es. es ++ record { entry = entry_of t before.thread (name_of o) obj; number = number_of old } ∷ []) same),
+      )
 
   action_tells : (t : ℕ) (told : Told) (st : Thread) (a : Action) → Tells t told (action_effect code s t told st a)
   action_tells t told st action.Quiet = tt
@@ -98,8 +101,8 @@ module _ (code : Code) (s : SetupView) where
           let here : list_of st1 (label_thread l) ≡ x.after.entries = ap (λ ths. list_in (slice_get ths (label_thread l))) threads_are ∙ ap list_in (slice_get-set_same st.threads (label_thread l) x.after x.before x.stands) in
           let there : list_of st (label_thread l) ≡ x.before.entries = ap list_in x.stands in
           ap (list_of st1) same ∙ here ∙ o.0 ∙ ap (λ es. es ++ effect_entry (machine code s) st.words (effect_of code s l x.before)) (sym there)
-            ∙ ap (λ es. list_of st (label_thread l) ++ es) (sym o.1 ∙ ap (entries_of (label_thread l)) (sym adds))
-            ∙ ap (λ u. list_of st u ++ entries_of u (added (machine code s) st l)) (sym same)
+          ∙ ap (λ es. list_of st (label_thread l) ++ es) (sym o.1 ∙ ap (entries_of (label_thread l)) (sym adds))
+          ∙ ap (λ u. list_of st u ++ entries_of u (added (machine code s) st l)) (sym same)
       by (inr ne) =
           let x = steps_of (machine code s) st l st1 e in
           let o = outcome_tells (label_thread l) st.words x.words (effect_of code s l x.before) x.before x.after (effect_tells l x.before) x.leaves in
@@ -124,7 +127,7 @@ module _ (code : Code) (s : SetupView) where
   lists_by (told ∷ threads) k xs h =
       let k_is : k ≡ k + 0 = omega arith in
       ap (λ es. es ∷ lists_from (k + 1) (length threads) xs) (ap (λ n. entries_of n xs) k_is ∙ sym (h 0))
-        ∙ ap (λ ls. told.entries ∷ ls) (lists_by threads (k + 1) xs (λ i. let n : k + suc i ≡ k + 1 + i = omega arith in h (suc i) ∙ ap (λ n. entries_of n xs) n))
+      ∙ ap (λ ls. told.entries ∷ ls) (lists_by threads (k + 1) xs (λ i. let n : k + suc i ≡ k + 1 + i = omega arith in h (suc i) ∙ ap (λ n. entries_of n xs) n))
 
   pub lists_are_told : (labels : List Label) (end : State Told) → run_of code s labels ≡ Some end → lists_from 0 (length end.threads) (trace (machine code s) labels (start_state code s)) ≡ lists_of end
   lists_are_told labels end e =

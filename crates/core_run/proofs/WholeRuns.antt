@@ -31,12 +31,12 @@ module _ (code : Code) (s : SetupView) (runnable : IsRunnable code) (limits : Is
   pub ends_converge : (labels other : List Label) (end other_end : State Told) → HasNoRace code s → run_of code s labels ≡ Some end → run_of code s other ≡ Some other_end → HaveEnded code s end → HaveEnded code s other_end → ((t : ℕ) → list_of end t ≡ list_of other_end t) → end ≡ other_end
   ends_converge labels other end other_end free runs other_runs ended other_ended same =
       converge (machine code s) (lawful code s runnable limits) labels other (start_state code s) end other_end free runs other_runs ended other_ended
-        (λ t. sym (list_is code s labels end t runs) ∙ same t ∙ list_is code s other other_end t other_runs)
+      (λ t. sym (list_is code s labels end t runs) ∙ same t ∙ list_is code s other other_end t other_runs)
 
   pub merges_walk : (labels : List Label) (end : State Told) (merged : List Noted) → HasNoRace code s → run_of code s labels ≡ Some end → HaveEnded code s end → IsMerge (list_of end) merged → walk_of code s (entries_in merged) (start_state code s) ≡ Some end
   merges_walk labels end merged free runs ended merges =
       merge_walks (machine code s) (lawful code s runnable limits) merged labels (start_state code s) end runs free ended
-        (record { threads = λ t. merges.threads t ∙ list_is code s labels end t runs; ascending = merges.ascending })
+      (record { threads = λ t. merges.threads t ∙ list_is code s labels end t runs; ascending = merges.ascending })
 
   no_number : (o : ObjId) → has_object code s o ≡ true → number_at (machine code s) (start_words code s) o ≡ 0
   no_number o has = ap number_of (get_or_from_slice_get (start_words code s) (place_of (cells_of code s) o) (start_word o) 0 (start_word_at code s o limits has)) ∙ start_number o

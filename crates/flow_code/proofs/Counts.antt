@@ -228,15 +228,15 @@ due_rises code s t th (due.Store c w) o obj answer e = cc
 due_rises code s t th due.Mark o obj answer e = cc
 due_rises code s t th (due.Operate p q) o obj answer e =
     ⊎_elim
-      (λ h. counts_more op.Retake th (record th { stripes = repaid th.stripes }) (after_due code s t th (due.Operate p q) answer) h.1 refl refl)
-      (λ h. let k = phase_keeps code s t th th.phase answer in counts_more p th (phase_after code s t th th.phase answer) (after_due code s t th (due.Operate p q) answer) h k.count k.entries)
-      (after_operate code s t th p q answer)
+    (λ h. counts_more op.Retake th (record th { stripes = repaid th.stripes }) (after_due code s t th (due.Operate p q) answer) h.1 refl refl)
+    (λ h. let k = phase_keeps code s t th th.phase answer in counts_more p th (phase_after code s t th th.phase answer) (after_due code s t th (due.Operate p q) answer) h k.count k.entries)
+    (after_operate code s t th p q answer)
 due_rises code s t th (due.Trap kind) o obj answer e = omega arith
 
 pub operation_rises : (code : Code) (s : SetupView) (t : ℕ) (th : Thread) (o : Op) (obj : ObjId) (answer : ℤ) → action_at code s t th ≡ action.Operate o obj → th.count + th.entries + 1 ≤ (stepped code s t th answer).count + (stepped code s t th answer).entries
 operation_rises code s t th o obj answer e =
     subst (λ z. th.count + th.entries + 1 ≤ z.count + z.entries) (sym (stepped_is code s t th (due_of code s t th) answer refl))
-      (due_rises code s t th (due_of code s t th) o obj answer (sym (action_is code s t th) ∙ e))
+    (due_rises code s t th (due_of code s t th) o obj answer (sym (action_is code s t th) ∙ e))
 
 -- nothing is due in a thread that has ended, and else only behind the last instruction of a function
 
