@@ -1,9 +1,9 @@
 -- What an operation that comes next does to the words and the thread.
 use Rattle.std.proofs.Common.{◌≡◌, ◌≢◌, ℕ, ◌<◌, ◌≤◌, ◌+◌, ◌-◌, ◌^◌, Bool, true, false, List, [], ◌∷◌, Some, None, Option, refl, sym, ap, ◌∙◌, subst, arith, ℤ}
 use Rattle.std.specs.Prelude.{slice_get, slice_set, slice_index, if◌then◌else◌}
-use Rattle.sync_objects.specs.Setup.{SetupView}
+use Rattle.sync_objects.specs.Setup.{SetupView, IsWithinLimits}
 use Rattle.sync_objects.specs.Names.{name_of, kind_of, object_kind, Fits}
-use Rattle.sync_objects.specs.Sound.{IsSoundWord}
+use Rattle.sync_objects.specs.Sound.{IsSoundWord, IsInRange}
 use Rattle.sync_objects.specs.Words.{number_of}
 use Rattle.sync_objects.specs.Advance.{Advance, NotAllowed as NoRow, Advances, advanced}
 use Rattle.sync_objects.specs.declared.entry.Entry.{Entry}
@@ -13,7 +13,9 @@ use Rattle.sync_objects.specs.declared.operation.Op.TheVariants as op
 use Rattle.flow_code.specs.declared.code.Code.{Code}
 use Rattle.flow_code.specs.declared.thread.Action.TheVariants as action
 use Rattle.flow_code.specs.Threads.{Thread}
-use Rattle.flow_code.specs.Next.{stepped, act_at}
+use Rattle.flow_code.specs.Next.{stepped, act_at, action_at}
+use Rattle.flow_code.specs.Settle.{IsRunnable}
+use Rattle.flow_code.proofs.Asked.{own_action}
 use Rattle.core_run.specs.Kept.{AreSound}
 use Rattle.core_run.specs.Machine.{Told, action_effect, change_of, operated, entry_of, operation}
 use Rattle.core_run.specs.Words.{cells_of, has_object, place_of}
@@ -132,3 +134,10 @@ module _ (code : Code) (s : SetupView) (t : ℕ) (told : Told) (th : Thread) (o 
     where
       index_is : (xs : List ℕ) (i x : ℕ) → slice_get xs i ≡ Some x → slice_index xs i ≡ x
       index_is xs i x h = get_or_from_slice_get xs i x 0 h
+
+-- what the code knows of an operation that comes next
+pub askable_next : (code : Code) (s : SetupView) (t : ℕ) (th : Thread) (ws : List ℕ) (o : Op) (obj : ObjId) (w : ℕ) → IsRunnable code → action_at code s t th ≡ action.Operate o obj → AreUsable code s ws → true ≡ has_object code s obj → Some w ≡ slice_get ws (place_of (cells_of code s) obj) → Askable code s o w
+askable_next code s t th ws o obj w run next usable has at = askable code s ws o obj w usable (sym has) (sym at) (own_action code s t th o obj run next).fits
+
+pub range_next : (code : Code) (s : SetupView) (t : ℕ) (th : Thread) (o : Op) (obj : ObjId) → IsRunnable code → IsWithinLimits s → action_at code s t th ≡ action.Operate o obj → IsInRange o
+range_next code s t th o obj run limits next = (own_action code s t th o obj run next).range limits
