@@ -10,3 +10,4 @@ pub mod Told
 pub mod WholeRuns
 pub mod PartFacts
 pub mod Performed
+pub mod Outside

@@ -17,14 +17,19 @@ use Rattle.flow_code.specs.Next.{stepped, act_at, action_at}
 use Rattle.flow_code.specs.Settle.{IsRunnable}
 use Rattle.flow_code.proofs.Asked.{own_action}
 use Rattle.core_run.specs.Kept.{AreSound}
-use Rattle.core_run.specs.Machine.{Told, action_effect, change_of, operated, entry_of, operation}
+use Rattle.core_run.specs.Machine.{Told, effect_of, action_effect, change_of, operated, entry_of, operation}
 use Rattle.core_run.specs.Words.{cells_of, has_object, place_of}
 use Rattle.core_run.specs.Pieces.{piece_next, piece_at}
-use Rattle.core_run.specs.Parts.{made_outcome, is_print, PerformedIs, AreUsable, noted}
-use Rattle.core_run.specs.declared.parts.Made.TheVariants as made
+use Rattle.core_run.specs.Parts.{made_outcome, MadeOutcome, MadeIs, is_print, PerformedIs, AreUsable, noted}
+use Rattle.core_run.specs.declared.parts.Made.{Made}
+use Rattle.core_run.proofs.PartFacts.{effect_here}
+use Rattle.runs.specs.Labels.{Go, label_of}
+use Rattle.flow_code.specs.Settle.{settled}
+use Rattle.flow_code.specs.declared.thread.Action.{Action}
+use Rattle.std.specs.Prelude.{nat_lt}
 use Rattle.runs.specs.Same.{same_entry}
-use Rattle.runs.specs.Steps.{Effect, Refused, Operates, Change, Becomes, NotAllowed, Outcome, Blocked, Leaves, change_outcome, changed_outcome}
-use Rattle.runs.proofs.SameEntries.{same_entry-refl}
+use Rattle.runs.specs.Steps.{Effect, Refused, Operates, Loads, Stores, Change, Becomes, NotAllowed, Outcome, Blocked, Leaves, change_outcome, changed_outcome}
+use Rattle.runs.proofs.SameEntries.{same_entry-refl, same_entry-true}
 use Rattle.std.proofs.lemmas.Option.{get_or_from_slice_get}
 
 -- what `advance` asks of an object's word
@@ -141,3 +146,47 @@ askable_next code s t th ws o obj w run next usable has at = askable code s ws o
 
 pub range_next : (code : Code) (s : SetupView) (t : ℕ) (th : Thread) (o : Op) (obj : ObjId) → IsRunnable code → IsWithinLimits s → action_at code s t th ≡ action.Operate o obj → IsInRange o
 range_next code s t th o obj run limits next = (own_action code s t th o obj run next).range limits
+
+-- ---- the operation of an entry, if it is the thread's next one
+
+-- an operation of another entry than this one
+pub other_entry : (cells : ℕ) (want own : Entry) (ws : List ℕ) (b : Bool) (change : ℕ → Change Told) → same_entry own want ≡ false → made_outcome cells want ws (if b then Operates own change else Refused) ≡ Blocked
+other_entry cells want own ws true change h = ap (λ z. if z then change_outcome ws (place_of cells own.obj) change (slice_get ws (place_of cells own.obj)) else Blocked) h
+other_entry cells want own ws false change h = refl
+
+-- an access is no operation
+pub no_load : (cells : ℕ) (want : Entry) (ws : List ℕ) (b : Bool) (c : ℕ) (next : ℕ → Told) → made_outcome cells want ws (if b then Loads c next else Refused) ≡ Blocked
+no_load cells want ws true c next = refl
+no_load cells want ws false c next = refl
+
+pub no_store : (cells : ℕ) (want : Entry) (ws : List ℕ) (b : Bool) (c w : ℕ) (th : Told) → made_outcome cells want ws (if b then Stores c w th else Refused) ≡ Blocked
+no_store cells want ws true c w th = refl
+no_store cells want ws false c w th = refl
+
+module _ (code code1 : Code) (s s1 : SetupView) (n0 n1 : ℕ) (e : Entry) (told : Told) (th st : Thread) (a : Action) (same_code : code1 ≡ code) (same_setup : s1 ≡ s) (same_number : n1 ≡ n0) (number : n0 ≡ e.thread) (is : told.thread ≡ th) (settles : st ≡ settled code s n0 th) (acts : a ≡ action_at code1 s1 n1 st) (label : label_of e ≡ Go e.thread) where
+  -- what the entry's label does
+  label_effect : effect_of code s (label_of e) told ≡ action_effect code s e.thread told st a
+  label_effect = ap (λ z. effect_of code s z told) label ∙ effect_here code code1 s s1 e.thread n0 n1 told th st a same_code same_setup same_number number is settles acts
+
+  pub not_operating : (ws : List ℕ) → ((o : Op) (obj : ObjId) → a ≡ action.Operate o obj → ⊥) → made_outcome (cells_of code s) e ws (effect_of code s (label_of e) told) ≡ Blocked
+  not_operating ws never = ap (made_outcome (cells_of code s) e ws) label_effect ∙ by a never
+    where
+      by : (b : Action) → ((o : Op) (obj : ObjId) → b ≡ action.Operate o obj → ⊥) → made_outcome (cells_of code s) e ws (action_effect code s e.thread told st b) ≡ Blocked
+      by action.Quiet never = refl
+      by (action.Load c) never = no_load (cells_of code s) e ws (nat_lt c (cells_of code s)) c _
+      by (action.Store c w) never = no_store (cells_of code s) e ws (nat_lt c (cells_of code s)) c w _
+      by action.Mark never = refl
+      by (action.Operate o obj) never = absurd (never o obj refl)
+      by action.Ended never = refl
+
+  pub other_operation : (ws : List ℕ) (o : Op) (obj : ObjId) → a ≡ action.Operate o obj → same_entry (entry_of e.thread st (name_of o) obj) e ≡ false → made_outcome (cells_of code s) e ws (effect_of code s (label_of e) told) ≡ Blocked
+  other_operation ws o obj q h =
+      ap (made_outcome (cells_of code s) e ws) (label_effect ∙ ap (action_effect code s e.thread told st) q)
+      ∙ other_entry (cells_of code s) e (entry_of e.thread st (name_of o) obj) ws (has_object code s obj) _ h
+
+  pub this_operation : (ws ws1 : List ℕ) (th1 : Thread) (o : Op) (obj : ObjId) (m : Made) → a ≡ action.Operate o obj → same_entry (entry_of e.thread st (name_of o) obj) e ≡ true → PerformedIs code1 s1 e.thread told st o obj ws ws1 th1 m → MadeIs code s told e ws ws1 th1 m
+  this_operation ws ws1 th1 o obj m q h p =
+      subst (λ z. MadeOutcome code s told e ws ws1 th1 m z) (sym (label_effect ∙ ap (action_effect code s e.thread told st) q))
+        (subst (λ z. MadeOutcome code s told z ws ws1 th1 m (action_effect code s e.thread told st (action.Operate o obj))) (same_entry-true (entry_of e.thread st (name_of o) obj) e h)
+          (subst (λ z. PerformedIs code z e.thread told st o obj ws ws1 th1 m) same_setup
+            (subst (λ z. PerformedIs z s1 e.thread told st o obj ws ws1 th1 m) same_code p)))

@@ -1,6 +1,6 @@
 -- What the two kinds of steps in the part of an entry leave: a load, a store or a mark of its thread, and then the operation
 -- that makes the entry.
-use Rattle.std.specs.Prelude.{◌≡◌, ℕ, ◌≤◌, ◌-◌, ◌^◌, Bool, true, false, if◌then◌else◌, ℤ, pos, List, [], ◌∷◌, length, slice_get, slice_index}
+use Rattle.std.specs.Prelude.{◌≡◌, ℕ, ◌≤◌, ◌-◌, ◌^◌, Bool, true, false, if◌then◌else◌, ℤ, pos, List, [], ◌∷◌, length, Some, None, slice_get, slice_index}
 use Rattle.sync_objects.specs.Setup.{SetupView}
 use Rattle.sync_objects.specs.Words.{number_of}
 use Rattle.sync_objects.specs.Names.{name_of}
@@ -14,7 +14,8 @@ use Rattle.flow_code.specs.declared.code.Code.{Code}
 use Rattle.flow_code.specs.declared.thread.Action.{Action}
 use Rattle.flow_code.specs.Threads.{Thread}
 use Rattle.core_run.specs.Machine.{Told, machine, effect_of, action_effect, marked, accessed, operated, entry_of}
-use Rattle.core_run.specs.Words.{cells_of, place_of}
+use Rattle.core_run.specs.Words.{cells_of, has_object, place_of}
+use Rattle.sync_objects.specs.Advance.{NotAllowed, Advances, advanced}
 use Rattle.core_run.specs.declared.parts.Own.{Own}
 use Rattle.core_run.specs.declared.parts.Own.TheVariants as own
 use Rattle.core_run.specs.declared.parts.Made.{Made}
@@ -86,3 +87,17 @@ PerformedIs code s t told th o obj ws ws1 th1 m = MadeOutcome code s told (entry
 -- the words of objects can be, and have numbers below the greatest
 abbrev pub AreUsable : Code → SetupView → List ℕ → Type 0
 AreUsable code s ws = AreSound code s (2 ^ 32 - 2) ws
+
+-- the operation isn't allowed at the object's word, or the machine has no such object
+pub data LacksWord (code : Code) (s : SetupView) (t : ℕ) (o : Op) (obj : ObjId) (ws : List ℕ) : Type 0 where
+  no_object : has_object code s obj ≡ false → LacksWord code s t o obj ws
+  no_word : slice_get ws (place_of (cells_of code s) obj) ≡ None → LacksWord code s t o obj ws
+  no_row : (w : ℕ) → slice_get ws (place_of (cells_of code s) obj) ≡ Some w → advanced o t w ≡ NotAllowed → LacksWord code s t o obj ws
+
+-- the operation is allowed at the object's word, and this is the word after it
+pub record HasWord (code : Code) (s : SetupView) (t : ℕ) (o : Op) (obj : ObjId) (ws : List ℕ) (next : ℕ) : Type 0 where
+  pub has : has_object code s obj ≡ true
+  pub word : ℕ
+  pub at : slice_get ws (place_of (cells_of code s) obj) ≡ Some word
+  pub answer : ℤ
+  pub moves : advanced o t word ≡ Advances next answer

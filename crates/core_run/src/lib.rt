@@ -9,11 +9,13 @@ mod enter;
 mod flow;
 mod frame;
 mod laws;
+mod make;
 mod next;
 mod outcome;
 mod parts;
 mod place;
 mod region;
+mod same;
 mod state;
 mod step;
 

@@ -169,7 +169,7 @@ pub(crate) fn place_of(cells: u32, obj: ObjId) -> usize
 }
 
 // The operation that comes next in a settled thread, if its object allows it there.
-fn perform(flow: &mut Flow, words: &mut Vec<u64>, cells: u32, thread: u8, op: Op, obj: ObjId) -> Result<Made, AllocError>
+pub(crate) fn perform(flow: &mut Flow, words: &mut Vec<u64>, cells: u32, thread: u8, op: Op, obj: ObjId) -> Result<Made, AllocError>
     requires runnable { IsRunnable flow.old.code }
     requires limits { IsWithinLimits flow.old.setup }
     requires cells { cells ≡ cells_of flow.old.code flow.old.setup }
@@ -205,7 +205,8 @@ fn perform(flow: &mut Flow, words: &mut Vec<u64>, cells: u32, thread: u8, op: Op
     Ok(Made::Silent)
 }
 
-fn word_at(words: &[u64], place: usize) -> Option<u64>
+/// The word at this place, if there is one.
+pub(crate) fn word_at(words: &[u64], place: usize) -> Option<u64>
     ensures value { result ≡ slice_get words.now place }
     ensures within { IfSome result (λ _. place < length words.now) }
 {
