@@ -1,0 +1,5 @@
+pub mod Names
+pub mod Operations
+pub mod Log
+pub mod Text
+pub mod Reading
