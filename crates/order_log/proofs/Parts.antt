@@ -12,7 +12,7 @@ use Rattle.std.proofs.lemmas.Int.Digits.{all_below_base_digits_of}
 use Rattle.facts.specs.Profile.{Text}
 use Rattle.order_log.specs.Names.{begins_name, continues_name, IsName}
 use Rattle.order_log.specs.Text.{number_text}
-use Rattle.order_log.specs.Recogniser.{cut, after_word, digits_from, number_in, only_zero, is_name, capped}
+use Rattle.order_log.specs.Line.{cut, after_word, digits_from, number_in, only_zero, is_name, capped}
 use Rattle.order_log.proofs.Numbers.{digit}
 
 -- ---- bytes that a text doesn't have

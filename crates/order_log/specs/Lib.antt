@@ -3,4 +3,4 @@ pub mod Operations
 pub mod Log
 pub mod Text
 pub mod Reading
-pub mod Recogniser
+pub mod Line
