@@ -4,3 +4,4 @@ pub mod Log
 pub mod Text
 pub mod Reading
 pub mod Line
+pub mod Recogniser
