@@ -2,3 +2,6 @@ pub mod Numbers
 pub mod Parts
 pub mod Entries
 pub mod Heads
+pub mod Lists
+pub mod Cutting
+pub mod Machine
