@@ -5,3 +5,4 @@ pub mod Heads
 pub mod Lists
 pub mod Cutting
 pub mod Machine
+pub mod Said
