@@ -6,3 +6,5 @@ pub mod Lists
 pub mod Cutting
 pub mod Machine
 pub mod Said
+pub mod Walks
+pub mod Completes
