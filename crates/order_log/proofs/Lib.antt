@@ -8,3 +8,5 @@ pub mod Machine
 pub mod Said
 pub mod Walks
 pub mod Completes
+pub mod Right
+pub mod Only
