@@ -1,8 +1,12 @@
 -- A line cut into its parts, and put together again.
-use Rattle.std.proofs.Common.{◌≡◌, ℕ, zero, suc, ◌+◌, ◌-◌, ◌*◌, ◌<◌, ◌≤◌, min, Bool, true, false, cond, eqb, List, [], ◌∷◌, ◌++◌, length, map, Option, Some, None, refl, sym, ap, subst, ◌∙◌, arith}
+use Rattle.std.proofs.Common.{◌≡◌, ℕ, zero, suc, ◌+◌, ◌-◌, ◌*◌, ◌<◌, ◌≤◌, min, Bool, true, false, cond, eqb, List, [], ◌∷◌, ◌++◌, length, map, take, drop, get_or, Option, Some, None, refl, sym, ap, subst, ◌∙◌, arith}
 use Rattle.std.specs.Prelude.{codes, IsTrue, ◌&&◌}
 use Rattle.std.specs.List.{AllByRecursion, list_all}
-use Rattle.std.specs.Option.{option_map}
+use Rattle.std.specs.Option.{option_map, MatchOption}
+use Rattle.std.specs.Prelude.{nat_eq}
+use Rattle.std.specs.Borrow.{Bor}
+use Rattle.std.specs.Cmp.Lexicographic.{pointwise}
+use Rattle.std.proofs.lemmas.List.{take-append-drop, drop_more, drop_all, take_more, take_all}
 use Rattle.std.specs.Char.{is_ascii_digit}
 use Rattle.std.specs.Int.Digits.{digits_of, AllBelowBase}
 use Rattle.std.proofs.lemmas.Bool.{cases_Bool, eqb-true, eq-eqb, ne_eqb, cond-true, cond-false, and_parts, and_from}
@@ -109,14 +113,44 @@ after_word_at (w ∷ ws) rest = cond-true (eqb w w) _ _ (eq-eqb w w refl) ∙ af
 pub after_word_is : (word line rest : Text) → after_word word line ≡ Some rest → line ≡ word ++ rest
 after_word_is [] line rest e = same_Some line rest e
 after_word_is (w ∷ ws) [] rest e = absurd (none-some rest e)
-after_word_is (w ∷ ws) (b ∷ bs) rest e = by (eqb w b) refl (after_word_is ws bs rest)
+after_word_is (w ∷ ws) (b ∷ bs) rest e = by (eqb b w) refl (after_word_is ws bs rest)
   where
-    by : (t : Bool) → eqb w b ≡ t → (after_word ws bs ≡ Some rest → bs ≡ ws ++ rest) → b ∷ bs ≡ w ∷ (ws ++ rest)
+    by : (t : Bool) → eqb b w ≡ t → (after_word ws bs ≡ Some rest → bs ≡ ws ++ rest) → b ∷ bs ≡ w ∷ (ws ++ rest)
     by true is others =
-        let head : w ≡ b = eqb-true w b is in
-        let tail = others (sym (cond-true (eqb w b) (after_word ws bs) None is) ∙ e) in
+        let head : b ≡ w = eqb-true b w is in
+        let tail = others (sym (cond-true (eqb b w) (after_word ws bs) None is) ∙ e) in
         cc
-    by false is others = absurd (none-some rest (sym (cond-false (eqb w b) (after_word ws bs) None is) ∙ e))
+    by false is others = absurd (none-some rest (sym (cond-false (eqb b w) (after_word ws bs) None is) ∙ e))
+
+-- as it is tested at once
+after_word_by : (word text : Text) → after_word word text ≡ cond (pointwise nat_eq (take (length word) text) word) (Some (drop (length word) text)) None
+after_word_by [] text = refl
+after_word_by (w ∷ ws) [] = refl
+after_word_by (w ∷ ws) (b ∷ bs) = by (eqb b w) (after_word_by ws bs)
+  where
+    by : (t : Bool) → after_word ws bs ≡ cond (pointwise nat_eq (take (length ws) bs) ws) (Some (drop (length ws) bs)) None
+        → cond t (after_word ws bs) None ≡ cond (t && pointwise nat_eq (take (length ws) bs) ws) (Some (drop (length ws) bs)) None
+    by true e = e
+    by false e = refl
+
+-- what a call that strips the word answers
+pub stripped : (word text : Text) (r : Option (Bor Text)) → MatchOption r (pointwise nat_eq (take (length word) text) word ≡ false) (λ x. (pointwise nat_eq (take (length word) text) word ≡ true) × (x.now ≡ drop (length word) text) × (length x.now + length word ≡ length text))
+    → option_map (λ x. x.now) r ≡ after_word word text
+stripped word text None h = sym (after_word_by word text ∙ cond-false _ _ _ h)
+stripped word text (Some x) h = ap (λ (t : Text). Some t) h.1 ∙ sym (after_word_by word text ∙ cond-true _ _ _ h.0)
+
+-- ---- cuts by a place
+
+pub cut_found : (c i : ℕ) (bs : Text) → i < length bs → Free c (take i bs) → get_or bs i 0 ≡ c → cut c bs ≡ Some (take i bs, drop (i + 1) bs)
+cut_found c i bs lt h at =
+    let parts : bs ≡ take i bs ++ c ∷ drop (i + 1) bs = sym (take-append-drop i bs) ∙ ap (λ (t : Text). take i bs ++ t) (drop_more bs i 0 lt ∙ ap (λ (b : ℕ). b ∷ drop (i + 1) bs) at) in
+    ap (cut c) parts ∙ cut_at c (take i bs) (drop (i + 1) bs) h
+
+pub Free-more : (c i : ℕ) (bs : Text) → i < length bs → Free c (take i bs) → (get_or bs i 0 ≡ c → ⊥) → Free c (take (i + 1) bs)
+Free-more c i bs lt h other = subst (Free c) (sym (take_more bs i 0 lt)) (Free-append c (take i bs) (get_or bs i 0 ∷ []) h (ne_eqb _ _ other, tt))
+
+pub cut_not_found : (c i : ℕ) (bs : Text) → length bs ≤ i → Free c (take i bs) → cut c bs ≡ None
+cut_not_found c i bs le h = cut_none c bs (subst (Free c) (take_all i bs le) h)
 
 -- ---- numbers as 64 bits hold them
 
@@ -139,3 +173,23 @@ capped_one b bs rest v = by (is_ascii_digit b)
 pub capped-digits_from : (bs : Text) → CappedAlike bs
 capped-digits_from [] v = let same : capped (capped v) ≡ capped v = omega arith in ap Some same
 capped-digits_from (b ∷ bs) v = capped_one b bs (capped-digits_from bs) v
+
+-- one digit more, as 64 bits hold the number
+pub digit_more : (text : Text) (i value more : ℕ) (total : Option ℕ) → i < length text → is_ascii_digit (get_or text i 0) ≡ true → more ≡ capped (value * 10 + (get_or text i 0 - 48))
+    → option_map capped (digits_from value (drop i text)) ≡ total → option_map capped (digits_from more (drop (i + 1) text)) ≡ total
+digit_more text i value more total lt is new so_far =
+    let b = get_or text i 0 in
+    let rest = drop (i + 1) text in
+    let one : digits_from value (drop i text) ≡ digits_from (value * 10 + (b - 48)) rest = ap (digits_from value) (drop_more text i 0 lt) ∙ cond-true (is_ascii_digit b) _ _ is in
+    ap (λ (k : ℕ). option_map capped (digits_from k rest)) new ∙ capped-digits_from rest (value * 10 + (b - 48)) ∙ ap (option_map capped) (sym one) ∙ so_far
+
+pub digit_none : (text : Text) (i value : ℕ) (total : Option ℕ) → i < length text → is_ascii_digit (get_or text i 0) ≡ false → option_map capped (digits_from value (drop i text)) ≡ total → None ≡ total
+digit_none text i value total lt is so_far =
+    let one : digits_from value (drop i text) ≡ None = ap (digits_from value) (drop_more text i 0 lt) ∙ cond-false (is_ascii_digit (get_or text i 0)) _ _ is in
+    ap (option_map capped) (sym one) ∙ so_far
+
+pub digits_done : (text : Text) (i value : ℕ) (total : Option ℕ) → length text ≤ i → value ≤ 18446744073709551615 → option_map capped (digits_from value (drop i text)) ≡ total → Some value ≡ total
+digits_done text i value total le small so_far =
+    let same : capped value ≡ value = omega arith in
+    let one : digits_from value (drop i text) ≡ Some value = ap (digits_from value) (drop_all i text le) in
+    ap Some (sym same) ∙ ap (option_map capped) (sym one) ∙ so_far

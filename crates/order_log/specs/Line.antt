@@ -29,7 +29,7 @@ cut c (b ∷ bs) = if b == c then Some ([], bs) else option_map (λ p. (b ∷ p.
 abbrev pub after_word : Text → Text → Option Text
 after_word [] line = Some line
 after_word (w ∷ ws) [] = None
-after_word (w ∷ ws) (b ∷ bs) = if w == b then after_word ws bs else None
+after_word (w ∷ ws) (b ∷ bs) = if b == w then after_word ws bs else None
 
 -- the number that decimal digits behind those of v write
 abbrev pub digits_from : ℕ → Text → Option ℕ

@@ -4,6 +4,8 @@
 
 mod fault;
 mod log;
+mod part;
 
 pub use fault::LogFault;
 pub use log::Log;
+pub use part::is_name;
