@@ -14,7 +14,10 @@ use Rattle.sync_objects.specs.declared.object.ObjId.{ObjId}
 use Rattle.sync_objects.specs.declared.object.ObjId.TheVariants as object
 use Rattle.sync_objects.specs.declared.operation.OpName.{OpName}
 use Rattle.sync_objects.specs.declared.operation.OpName.TheVariants as op
-use Rattle.order_log.specs.Operations.{op_text, Kind, Mutexes, Conds, Barriers, Stripes, Slots, Counts, Halts, Inputs, Outputs, kind_of, object_kind, Fits}
+use Rattle.sync_objects.specs.declared.kind.ObjKind.{ObjKind}
+use Rattle.sync_objects.specs.declared.kind.ObjKind.TheVariants as kind
+use Rattle.sync_objects.specs.Names.{kind_of, object_kind, Fits}
+use Rattle.order_log.specs.Operations.{op_text}
 use Rattle.order_log.specs.Text.{number_text, object_text, entry_line}
 use Rattle.order_log.specs.Line.{◌>>=◌, cut, number_in, op_among, op_rows, weak_in, lone_object, object_by, object_in, kind_number, fits, entry_in}
 use Rattle.order_log.proofs.Numbers.{number_in-number_text, number_text-number_in}
@@ -124,19 +127,19 @@ op_lacks op.Print = refl
 
 -- ---- kinds
 
-abbrev kind_at : ℕ → Kind
-kind_at n = cond (eqb n 0) Mutexes (cond (eqb n 1) Conds (cond (eqb n 2) Barriers (cond (eqb n 3) Stripes (cond (eqb n 4) Slots (cond (eqb n 5) Counts (cond (eqb n 6) Halts (cond (eqb n 7) Inputs (Outputs))))))))
+abbrev kind_at : ℕ → ObjKind
+kind_at n = cond (eqb n 0) kind.Mutex (cond (eqb n 1) kind.Cond (cond (eqb n 2) kind.Barrier (cond (eqb n 3) kind.Weak (cond (eqb n 4) kind.Slot (cond (eqb n 5) kind.Threads (cond (eqb n 6) kind.Halt (cond (eqb n 7) kind.Input (kind.Output))))))))
 
-kind_at-number : (k : Kind) → kind_at (kind_number k) ≡ k
-kind_at-number Mutexes = refl
-kind_at-number Conds = refl
-kind_at-number Barriers = refl
-kind_at-number Stripes = refl
-kind_at-number Slots = refl
-kind_at-number Counts = refl
-kind_at-number Halts = refl
-kind_at-number Inputs = refl
-kind_at-number Outputs = refl
+kind_at-number : (k : ObjKind) → kind_at (kind_number k) ≡ k
+kind_at-number kind.Mutex = refl
+kind_at-number kind.Cond = refl
+kind_at-number kind.Barrier = refl
+kind_at-number kind.Weak = refl
+kind_at-number kind.Slot = refl
+kind_at-number kind.Threads = refl
+kind_at-number kind.Halt = refl
+kind_at-number kind.Input = refl
+kind_at-number kind.Output = refl
 
 pub Fits-fits : (o : OpName) (x : ObjId) → fits o x ≡ true → Fits o x
 Fits-fits o x e = sym (kind_at-number (kind_of o)) ∙ ap kind_at (eqb-true _ _ e) ∙ kind_at-number (object_kind x)

@@ -14,9 +14,9 @@ use Rattle.facts.specs.Profile.{Text, Pair, AreAscending}
 use Rattle.sync_objects.specs.declared.entry.Entry.{Entry}
 use Rattle.sync_objects.specs.declared.object.ObjId.{ObjId}
 use Rattle.sync_objects.specs.declared.object.ObjId.TheVariants as object
+use Rattle.sync_objects.specs.Names.{Fits, is_ending}
 use Rattle.sync_objects.specs.Setup.{SetupView, IsWithinLimits}
 use Rattle.order_log.specs.Log.{LogView, IsNamePair, HasNames, IsLog, IsObjectWithin, last_count, IsEntryWithin, is_ending_of, is_other_of, KeepsLimits}
-use Rattle.order_log.specs.Operations.{Fits, is_ending}
 use Rattle.order_log.specs.Text.{number_text, hex_text, entry_line, pair_line, profile_lines, log_lines}
 use Rattle.order_log.specs.Line.{after_word, number_in, pair_in, hex_in, entry_in, ends_before}
 use Rattle.order_log.specs.Recogniser.{is_object_within, is_entry_within, has_room, may_follow}

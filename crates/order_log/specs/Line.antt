@@ -11,8 +11,10 @@ use Rattle.sync_objects.specs.declared.object.ObjId.{ObjId}
 use Rattle.sync_objects.specs.declared.object.ObjId.TheVariants as object
 use Rattle.sync_objects.specs.declared.operation.OpName.{OpName}
 use Rattle.sync_objects.specs.declared.operation.OpName.TheVariants as op
+use Rattle.sync_objects.specs.declared.kind.ObjKind.{ObjKind}
+use Rattle.sync_objects.specs.declared.kind.ObjKind.TheVariants as kind
+use Rattle.sync_objects.specs.Names.{kind_of, object_kind}
 use Rattle.order_log.specs.Names.{begins_name, continues_name}
-use Rattle.order_log.specs.Operations.{Kind, Mutexes, Conds, Barriers, Stripes, Slots, Counts, Halts, Inputs, Outputs, kind_of, object_kind}
 
 infixl 10 ◌>>=◌
 abbrev pub ◌>>=◌ : {A B : Type 0} → Option A → (A → Option B) → Option B
@@ -119,16 +121,16 @@ unfoldable pub object_in : Text → Option ObjId
 object_in [] = None
 object_in (b ∷ bs) = object_by b bs
 
-abbrev pub kind_number : Kind → ℕ
-kind_number Mutexes = 0
-kind_number Conds = 1
-kind_number Barriers = 2
-kind_number Stripes = 3
-kind_number Slots = 4
-kind_number Counts = 5
-kind_number Halts = 6
-kind_number Inputs = 7
-kind_number Outputs = 8
+abbrev pub kind_number : ObjKind → ℕ
+kind_number kind.Mutex = 0
+kind_number kind.Cond = 1
+kind_number kind.Barrier = 2
+kind_number kind.Weak = 3
+kind_number kind.Slot = 4
+kind_number kind.Threads = 5
+kind_number kind.Halt = 6
+kind_number kind.Input = 7
+kind_number kind.Output = 8
 
 abbrev pub fits : OpName → ObjId → Bool
 fits op obj = kind_number (kind_of op) == kind_number (object_kind obj)

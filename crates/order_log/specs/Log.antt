@@ -8,9 +8,9 @@ use Rattle.sync_objects.specs.declared.entry.Entry.{Entry}
 use Rattle.sync_objects.specs.declared.object.ObjId.{ObjId}
 use Rattle.sync_objects.specs.declared.object.ObjId.TheVariants as object
 use Rattle.sync_objects.specs.declared.operation.OpName.{OpName}
+use Rattle.sync_objects.specs.Names.{Fits, is_ending}
 use Rattle.sync_objects.specs.Setup.{SetupView, IsWithinLimits}
 use Rattle.order_log.specs.Names.{IsName}
-use Rattle.order_log.specs.Operations.{Fits, is_ending}
 
 -- what the run was set up with, the functions that it took for parallel, and its operations in order. The numbers
 -- are of any size here

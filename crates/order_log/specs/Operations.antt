@@ -1,7 +1,5 @@
--- What operations are called in a log, which kind of object each works on, and which of them end a thread.
-use Rattle.std.specs.Prelude.{◌≡◌, ℕ, Bool, true, false, List, codes}
-use Rattle.sync_objects.specs.declared.object.ObjId.{ObjId}
-use Rattle.sync_objects.specs.declared.object.ObjId.TheVariants as object
+-- What operations are called in a log.
+use Rattle.std.specs.Prelude.{ℕ, List, codes}
 use Rattle.sync_objects.specs.declared.operation.OpName.{OpName}
 use Rattle.sync_objects.specs.declared.operation.OpName.TheVariants as op
 
@@ -32,68 +30,3 @@ op_text op.TrapHere = codes "trap"
 op_text op.Stop = codes "stop"
 op_text op.GetChar = codes "getchar"
 op_text op.Print = codes "print"
-
--- the kinds of objects
-pub data Kind : Type 0 where
-  Mutexes : Kind
-  Conds : Kind
-  Barriers : Kind
-  Stripes : Kind
-  Slots : Kind
-  Counts : Kind
-  Halts : Kind
-  Inputs : Kind
-  Outputs : Kind
-
-abbrev pub kind_of : OpName → Kind
-kind_of op.Lock = Mutexes
-kind_of op.TryLock = Mutexes
-kind_of op.Unlock = Mutexes
-kind_of op.MutexInit = Mutexes
-kind_of op.CondEnter = Conds
-kind_of op.CondWake = Conds
-kind_of op.Signal = Conds
-kind_of op.BarrierInit = Barriers
-kind_of op.Arrive = Barriers
-kind_of op.Pass = Barriers
-kind_of op.Take = Stripes
-kind_of op.Retake = Stripes
-kind_of op.Give = Stripes
-kind_of op.Revoke = Stripes
-kind_of op.Draw = Counts
-kind_of op.Start = Slots
-kind_of op.Begin = Slots
-kind_of op.End = Slots
-kind_of op.Join = Slots
-kind_of op.Close = Slots
-kind_of op.Leave = Counts
-kind_of op.HaltAll = Halts
-kind_of op.TrapHere = Halts
-kind_of op.Stop = Halts
-kind_of op.GetChar = Inputs
-kind_of op.Print = Outputs
-
-abbrev pub object_kind : ObjId → Kind
-object_kind (object.Mutex cell) = Mutexes
-object_kind (object.Cond cell) = Conds
-object_kind (object.Barrier cell) = Barriers
-object_kind (object.Weak lock stripe) = Stripes
-object_kind (object.Slot slot) = Slots
-object_kind object.Threads = Counts
-object_kind object.Halt = Halts
-object_kind object.Input = Inputs
-object_kind object.Output = Outputs
-
--- the operation fits the object
-abbrev pub Fits : OpName → ObjId → Type 0
-Fits op obj = kind_of op ≡ object_kind obj
-
--- the entries that may be a thread's last ones
-abbrev pub is_ending : OpName → Bool
-is_ending op.End = true
-is_ending op.Leave = true
-is_ending op.HaltAll = true
-is_ending op.TrapHere = true
-is_ending op.Stop = true
-is_ending op.Close = true
-is_ending _ = false

@@ -8,11 +8,11 @@ use Rattle.sync_objects.specs.declared.entry.Entry.{Entry}
 use Rattle.sync_objects.specs.declared.object.ObjId.{ObjId}
 use Rattle.sync_objects.specs.declared.object.ObjId.TheVariants as object
 use Rattle.sync_objects.specs.declared.operation.OpName.{OpName}
+use Rattle.sync_objects.specs.Names.{is_ending}
 use Rattle.sync_objects.specs.Setup.{SetupView}
 use Rattle.order_log.specs.declared.fault.LogFault.{LogFault}
 use Rattle.order_log.specs.declared.fault.LogFault.TheVariants.{LogSyntax, LogLimit, OutOfMemory}
 use Rattle.order_log.specs.Log.{LogView, last_count, is_ending_of, is_other_of}
-use Rattle.order_log.specs.Operations.{is_ending}
 use Rattle.order_log.specs.Reading.{lines_of}
 use Rattle.order_log.specs.Line.{after_word, number_in, pair_in, hex_in, entry_in}
 

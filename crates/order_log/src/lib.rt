@@ -4,6 +4,7 @@
 
 mod fault;
 mod log;
+mod operation;
 mod part;
 
 pub use fault::LogFault;
