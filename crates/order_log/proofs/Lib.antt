@@ -10,3 +10,4 @@ pub mod Walks
 pub mod Completes
 pub mod Right
 pub mod Only
+pub mod Clipped

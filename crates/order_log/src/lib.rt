@@ -2,6 +2,7 @@
 //! back as that log, nothing else is read, and each refusal names the first line that spoils the text.
 #![tactic(auto)]
 
+mod entry;
 mod fault;
 mod log;
 mod operation;
