@@ -1,5 +1,5 @@
 -- A text cut into its lines, and put together again.
-use Rattle.std.proofs.Common.{◌≡◌, ℕ, zero, suc, ◌+◌, ◌<◌, ◌≤◌, Bool, true, false, cond, eqb, List, [], ◌∷◌, ◌++◌, length, take, Option, Some, None, refl, sym, ap, subst, ◌∙◌, arith, append_assoc}
+use Rattle.std.proofs.Common.{◌≡◌, ℕ, zero, suc, ◌+◌, ◌<◌, ◌≤◌, Bool, true, false, cond, eqb, List, [], ◌∷◌, ◌++◌, length, take, Option, Some, None, Result, Ok, Err, refl, sym, ap, subst, ◌∙◌, arith, append_assoc}
 use Rattle.std.specs.List.{AllByRecursion, flat_map}
 use Rattle.std.proofs.lemmas.Bool.{eqb-true, eq-eqb, cond-true, cond-false}
 use Rattle.std.proofs.lemmas.List.{append-nil}
@@ -8,8 +8,9 @@ use Rattle.facts.specs.Profile.{Text}
 use Rattle.order_log.specs.Text.{text_of}
 use Rattle.order_log.specs.Reading.{onto_first, lines_of}
 use Rattle.order_log.specs.Line.{cut}
-use Rattle.order_log.specs.Recogniser.{kept, unfinished_of}
-use Rattle.order_log.proofs.Parts.{Free, Cuts, cut_is}
+use Rattle.order_log.specs.Recogniser.{kept, unfinished_of, lines_in, next, first_of, next_line}
+use Rattle.order_log.specs.declared.fault.LogFault.TheVariants.{LogSyntax}
+use Rattle.order_log.proofs.Parts.{Free, Cuts, cut_is, cut_free}
 
 -- lines without a newline in them
 abbrev pub AreLines : List Text → Type 0
@@ -94,3 +95,11 @@ pub next_some : (bytes line rest : Text) → cut 10 bytes ≡ Some (line, rest) 
 next_some bytes line rest e =
     let c = cut_is 10 bytes (line, rest) e in
     record { lines = ap lines_of c.text ∙ lines_of_line line rest c.free; unfinished = ap unfinished_of c.text ∙ unfinished_of_line line rest c.free }
+
+pub next_line_none : (at : ℕ) (bytes : Text) → cut 10 bytes ≡ None → next_line (lines_in at bytes) ≡ Err (LogSyntax at)
+next_line_none at bytes e = ap (λ (ls : List Text). first_of at ls (unfinished_of bytes)) (lines_of_none bytes (cut_free 10 bytes e))
+
+pub next_line_some : (at more : ℕ) (bytes line rest : Text) → Some (line, rest) ≡ cut 10 bytes → more ≡ next at → next_line (lines_in at bytes) ≡ Ok (line, lines_in more rest)
+next_line_some at more bytes line rest e step =
+    let n = next_some bytes line rest (sym e) in
+    (λ i. first_of at (n.lines i) (n.unfinished i)) ∙ (λ i. Ok (line, lines_in (sym step i) rest))

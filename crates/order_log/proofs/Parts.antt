@@ -81,6 +81,21 @@ pub cut_none : (c : ℕ) (bs : Text) → Free c bs → cut c bs ≡ None
 cut_none c [] h = refl
 cut_none c (b ∷ bs) h = cond-false (eqb b c) _ _ h.0 ∙ ap (option_map (λ (p : Text × Text). (b ∷ p.0, p.1))) (cut_none c bs h.1)
 
+abbrev onto_front : ℕ → Text × Text → Text × Text
+onto_front b p = (b ∷ p.0, p.1)
+
+cut_free_one : (c b : ℕ) (bs : Text) (o : Option (Text × Text)) → (o ≡ None → Free c bs) → eqb b c ≡ false → option_map (onto_front b) o ≡ None → Free c (b ∷ bs)
+cut_free_one c b bs None others other e = (other, others refl)
+cut_free_one c b bs (Some p) others other e = absurd (none-some (onto_front b p) (sym e))
+
+pub cut_free : (c : ℕ) (bs : Text) → cut c bs ≡ None → Free c bs
+cut_free c [] e = tt
+cut_free c (b ∷ bs) e = by (eqb b c) refl (cut_free c bs)
+  where
+    by : (t : Bool) → eqb b c ≡ t → (cut c bs ≡ None → Free c bs) → Free c (b ∷ bs)
+    by true is others = let found : Text × Text = ([], bs) in absurd (none-some found (sym (sym (cond-true (eqb b c) _ _ is) ∙ e)))
+    by false is others = cut_free_one c b bs (cut c bs) others is (sym (cond-false (eqb b c) _ _ is) ∙ e)
+
 -- the parts on both sides of a byte
 pub record Cuts (c : ℕ) (bs : Text) (p : Text × Text) : Type 0 where
   pub text : bs ≡ p.0 ++ c ∷ p.1

@@ -4,9 +4,11 @@
 
 mod entry;
 mod fault;
+mod head;
 mod log;
 mod operation;
 mod part;
+mod reader;
 
 pub use fault::LogFault;
 pub use log::Log;
