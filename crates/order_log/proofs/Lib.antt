@@ -11,3 +11,4 @@ pub mod Completes
 pub mod Right
 pub mod Only
 pub mod Clipped
+pub mod Loops

@@ -5,8 +5,10 @@
 mod entry;
 mod fault;
 mod head;
+mod hex;
 mod log;
 mod operation;
+mod pairs;
 mod part;
 mod reader;
 
