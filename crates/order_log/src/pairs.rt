@@ -1,7 +1,6 @@
 // The pairs of a profile.
 
-ghost use Rattle.std.specs.Prelude.{◌≡◌, [], option_map};
-ghost use Rattle.facts.specs.Profile.{ArePairs};
+ghost use Rattle.std.specs.Prelude.{◌≡◌, ℕ, [], option_map};
 ghost use Rattle.order_log.specs.Line as line;
 ghost use Rattle.order_log.specs.Recogniser as recogniser;
 ghost use Rattle.order_log.specs.Recogniser.{Gives, lines_in};
@@ -9,6 +8,7 @@ ghost use Rattle.order_log.specs.Recogniser.{Gives, lines_in};
 use crate::fault::LogFault;
 use crate::part::{after_word, cut, has_name};
 use crate::reader::{Reader, next_line};
+use facts::FunctionPairs;
 use rr_base::{Bytes, List};
 use std::alloc::Global;
 
@@ -38,8 +38,8 @@ fn pair_in<'a>(before: &[(Bytes, Bytes)], text: &'a [u8]) -> Option<(&'a [u8], &
     Some((first, second))
 }
 
-/// So many pairs, one a line.
-pub fn pairs(
+// So many pairs, one a line.
+fn pairs(
     alloc: Global,
     reader: &mut Reader,
     count: u64,
@@ -58,4 +58,16 @@ pub fn pairs(
         left -= 1;
     }
     Ok(found)
+}
+
+/// The pairs of a profile of so many, one a line.
+pub fn function_pairs(
+    alloc: Global,
+    reader: &mut Reader,
+    count: u64,
+) -> Result<FunctionPairs, LogFault>
+    ensures { (n : ℕ) → count ≡ line.capped n → Gives (λ ps. (ps, lines_in reader.new.line reader.new.bytes.now)) result (recogniser.pairs_from n [] (lines_in reader.old.line reader.old.bytes.now)) }
+{
+    let _left = reader.bytes.len();
+    Ok(FunctionPairs::new(pairs(alloc, reader, count)?))
 }
