@@ -56,8 +56,10 @@ impl Setup {
         self.limit
     }
 
+    /// The input. That the setup is within its limits is told here too.
     pub fn input(&self) -> &Bytes
-        ensures { result.now ≡ self.now.input }
+        ensures value { result.now ≡ self.now.input }
+        ensures within { IsWithinLimits self.now }
     {
         &self.input
     }
