@@ -184,9 +184,7 @@ sized_adds n p k line s e =
           let few = h.1.1 in
           record {
             setup = record { some_slot = h.0.0.0; few_slots = h.0.0.1; enough_cells = h.0.1.0; few_cells = h.0.1.1; some_event = h.0.2.0; few_events = h.0.2.1; short_input = omega arith };
-            entries = tt;
-            others = λ thread. omega arith;
-            endings = λ thread. omega arith;
+            entries = record { each = tt; others = λ thread. omega arith; endings = λ thread. omega arith };
           };
     })
 
@@ -238,12 +236,14 @@ whole_adds n p input es line s found =
       says = ap (λ (ls : List Text). numbers_lines n ++ ls) says;
       fine = λ f. record { profile = f.profile; input = f.input; operations = All-append (λ x. Fits x.op x.obj) es (e ∷ []) f.operations (is.fitting, tt) };
       kept = λ t k. let parts = and_parts (is_entry_within (setup_of n input) e) (has_room (is_ending e.op) e.thread es) t in
-          let counts = (λ (thread : ℕ). counts_kept (eqb e.thread thread) (is_ending e.op) thread es e refl refl parts.1 (k.others thread, k.endings thread)) in
+          let counts = (λ (thread : ℕ). counts_kept (eqb e.thread thread) (is_ending e.op) thread es e refl refl parts.1 (k.entries.others thread, k.entries.endings thread)) in
           record {
             setup = k.setup;
-            entries = All-append (IsEntryWithin (setup_of n input)) es (e ∷ []) k.entries (entry_within (setup_of n input) e parts.0, tt);
-            others = λ thread. let c = counts thread in omega (arith, c.0, count_push (is_other_of thread) es e);
-            endings = λ thread. let c = counts thread in omega (arith, c.1, count_push (is_ending_of thread) es e);
+            entries = record {
+              each = All-append (IsEntryWithin (setup_of n input)) es (e ∷ []) k.entries.each (entry_within (setup_of n input) e parts.0, tt);
+              others = λ thread. let c = counts thread in omega (arith, c.0, count_push (is_other_of thread) es e);
+              endings = λ thread. let c = counts thread in omega (arith, c.1, count_push (is_ending_of thread) es e);
+            };
           };
     })
 

@@ -144,8 +144,8 @@ room_for false es e fs is others endings =
 
 may_come : (s : SetupView) (es : List Entry) (e : Entry) (fs : List Entry) (p : Profile) → KeepsLimits (record { setup = s; profile = p; entries = es ++ e ∷ fs }) → may_follow s es e ≡ true
 may_come s es e fs p h =
-    let within = All_back (IsEntryWithin s) es (e ∷ fs) h.entries in
-    and_from (is_entry_within s e) (has_room (is_ending e.op) e.thread es) (within_entry s e within.0) (room_for (is_ending e.op) es e fs refl (h.others e.thread) (h.endings e.thread))
+    let within = All_back (IsEntryWithin s) es (e ∷ fs) h.entries.each in
+    and_from (is_entry_within s e) (has_room (is_ending e.op) e.thread es) (within_entry s e within.0) (room_for (is_ending e.op) es e fs refl (h.entries.others e.thread) (h.entries.endings e.thread))
 
 walk_entries : (strict : Bool) (n : Numbers) (p : Profile) (input : List ℕ) (es fs : List Entry) → AllByRecursion (λ e. Fits e.op e.obj) fs → (strict ≡ true → KeepsLimits (view_of n p input (es ++ fs)))
     → walk strict (Whole n p input es) (map entry_line fs) ≡ Some (Whole n p input (es ++ fs))

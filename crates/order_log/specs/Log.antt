@@ -65,9 +65,13 @@ is_ending_of thread e = e.thread == thread && is_ending e.op
 abbrev pub is_other_of : ℕ → Entry → Bool
 is_other_of thread e = e.thread == thread && not (is_ending e.op)
 
--- all numbers are within their limits, and no thread has too many entries of either sort
+-- the entries are within the limits, and no thread has too many of either sort
+pub record AreWithin (s : SetupView) (es : List Entry) : Type 0 where
+  pub each : AllByRecursion (IsEntryWithin s) es
+  pub others : (thread : ℕ) → count_by (is_other_of thread) es ≤ 1048576
+  pub endings : (thread : ℕ) → count_by (is_ending_of thread) es ≤ 6
+
+-- a log within the limits
 pub record KeepsLimits (v : LogView) : Type 0 where
   pub setup : IsWithinLimits v.setup
-  pub entries : AllByRecursion (IsEntryWithin v.setup) v.entries
-  pub others : (thread : ℕ) → count_by (is_other_of thread) v.entries ≤ 1048576
-  pub endings : (thread : ℕ) → count_by (is_ending_of thread) v.entries ≤ 6
+  pub entries : AreWithin v.setup v.entries
