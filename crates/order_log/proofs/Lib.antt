@@ -12,3 +12,4 @@ pub mod Right
 pub mod Only
 pub mod Clipped
 pub mod Loops
+pub mod Few

@@ -38,8 +38,10 @@ impl Setup {
         }
     }
 
+    /// The number of slots. That the setup is within its limits is told here too.
     pub fn slots(&self) -> u8
-        ensures { result ≡ self.now.slots }
+        ensures value { result ≡ self.now.slots }
+        ensures within { IsWithinLimits self.now }
     {
         self.slots
     }
