@@ -13,3 +13,4 @@ pub mod Only
 pub mod Clipped
 pub mod Loops
 pub mod Few
+pub mod Counting

@@ -1,5 +1,5 @@
 -- Reading line by line, as the code does it. What it comes to is said in Reading.antt: here the steps only have names.
-use Rattle.std.specs.Prelude.{◌≡◌, ℕ, zero, suc, ◌+◌, min, Bool, true, false, ◌&&◌, ◌==◌, nat_lt, nat_le, if◌then◌else◌, List, [], ◌∷◌, ◌++◌, count_by, codes, Option, Some, None, option_and_then, Result, Ok, Err}
+use Rattle.std.specs.Prelude.{◌≡◌, ℕ, zero, suc, ◌+◌, min, Bool, true, false, ◌&&◌, ◌==◌, nat_lt, nat_le, if◌then◌else◌, List, [], ◌∷◌, ◌++◌, length, slice_index, ◌<◌, count_by, codes, Option, Some, None, option_and_then, Result, Ok, Err}
 use Rattle.std.specs.Str.{bytes_eq}
 use Rattle.facts.specs.declared.profile.Profile.{Profile}
 use Rattle.facts.specs.declared.profile.Profile.TheVariants as profile
@@ -150,3 +150,10 @@ log_at l = do
   input ← input_at size.0 size.1
   entries ← entries_at (record { slots = slots.0; cells = cells.0; limit = limit.0; input = input.0 }) input.1
   Ok (record { setup = record { slots = slots.0; cells = cells.0; limit = limit.0; input = input.0 }; profile = profile.0; entries = entries })
+
+-- ---- counting
+
+-- the counts are those of these entries
+pub record AreCounted (others endings : List ℕ) (es : List Entry) : Type 0 where
+  pub of_others : (thread : ℕ) → thread < 16 → slice_index others thread ≡ count_by (is_other_of thread) es
+  pub of_endings : (thread : ℕ) → thread < 16 → slice_index endings thread ≡ count_by (is_ending_of thread) es

@@ -2,6 +2,7 @@
 //! back as that log, nothing else is read, and each refusal names the first line that spoils the text.
 #![tactic(auto)]
 
+mod body;
 mod entry;
 mod fault;
 mod head;
@@ -10,8 +11,10 @@ mod log;
 mod operation;
 mod pairs;
 mod part;
+mod read;
 mod reader;
 
 pub use fault::LogFault;
 pub use log::Log;
 pub use part::is_name;
+pub use read::read_log;

@@ -8,6 +8,7 @@ use crate::fault::LogFault;
 use crate::part::cut;
 
 /// The bytes that are left of a text, and the number of their first line.
+#[derive(Drop)]
 pub struct Reader<'a> {
     pub bytes: &'a [u8],
     pub line: u32,
