@@ -14,3 +14,4 @@ pub mod Clipped
 pub mod Loops
 pub mod Few
 pub mod Counting
+pub mod Kept
