@@ -15,3 +15,4 @@ pub mod Loops
 pub mod Few
 pub mod Counting
 pub mod Kept
+pub mod Written

@@ -31,7 +31,7 @@ number_again_from n (x ∷ xs) some is below first value =
     let other : eqb (48 + x) 48 ≡ false = ne_eqb _ _ (λ e. omega arith) in
     rw other (digits_after 0 (x ∷ xs) below ∙ ap Some value)
 
-number_text_some : (n : ℕ) → 0 < n → number_text n ≡ map digit (digits_of 10 n)
+pub number_text_some : (n : ℕ) → 0 < n → number_text n ≡ map digit (digits_of 10 n)
 number_text_some n some = cond-false (eqb n 0) (codes "0") (map digit (digits_of 10 n)) (ne_eqb n 0 (λ e. omega arith))
 
 again_some : (n : ℕ) → 0 < n → number_in (number_text n) ≡ Some n

@@ -13,8 +13,10 @@ mod pairs;
 mod part;
 mod read;
 mod reader;
+mod write;
 
 pub use fault::LogFault;
 pub use log::Log;
 pub use part::is_name;
 pub use read::read_log;
+pub use write::write_log;
