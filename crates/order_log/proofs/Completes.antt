@@ -102,7 +102,7 @@ able_sized n p k fine =
     let input = replicate k 0 in
     let found : hex_in k (hex_text input) ≡ Some input = ap (λ (m : ℕ). hex_in m (hex_text input)) (sym (length-replicate k 0)) ∙ hex_again input (AreBytes-zeros k) in
     able_by (Sized n p k) (hex_text input) (Whole n p input []) (ap (option_map (λ bytes. (Whole n p bytes [], true))) found) fine
-        (able_whole (Whole n p input []) (view_of n p input []) (λ f. f) (λ h. h) refl)
+    (able_whole (Whole n p input []) (view_of n p input []) (λ f. f) (λ h. h) refl)
 
 able_profiled : (n : Numbers) (p : Profile) → Fine (Profiled n p) → Completed (Profiled n p)
 able_profiled n p fine = able_by (Profiled n p) (codes "input " ++ number_text 0) (Sized n p 0) (number_taken (codes "input ") 0 1048576 (λ k. Sized n p k) 0) fine (able_sized n p 0)
@@ -120,7 +120,7 @@ able_limited n fine = able_by (Limited n) (codes "profile all") (Profiled n prof
 able_celled : (s c : ℕ) → Fine (Celled s c) → Completed (Celled s c)
 able_celled s c fine =
     able_by (Celled s c) (codes "limit " ++ number_text 1) (Limited (record { slots = s; cells = c; limit = 1 }))
-        (number_taken (codes "limit ") 1 67108864 (λ k. Limited (record { slots = s; cells = c; limit = k })) 1) fine (able_limited _)
+    (number_taken (codes "limit ") 1 67108864 (λ k. Limited (record { slots = s; cells = c; limit = k })) 1) fine (able_limited _)
 
 able_slotted : (s : ℕ) → Fine (Slotted s) → Completed (Slotted s)
 able_slotted s fine = able_by (Slotted s) (codes "cells " ++ number_text 1024) (Celled s 1024) (number_taken (codes "cells ") 1024 131072 (λ k. Celled s k) 1024) fine (able_celled s 1024)

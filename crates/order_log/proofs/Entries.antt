@@ -153,7 +153,7 @@ weak_again : (lock stripe : ℕ) → weak_in (number_text lock ++ codes "." ++ n
 unfolding weak_in
 weak_again lock stripe =
     let parts : cut 46 (number_text lock ++ codes "." ++ number_text stripe) ≡ Some (number_text lock, number_text stripe) =
-        ap (cut 46) (append_assoc (number_text lock) (codes ".") (number_text stripe)) ∙ cut_at 46 (number_text lock) (number_text stripe) (Free-number_text 46 lock (omega arith)) in
+    ap (cut 46) (append_assoc (number_text lock) (codes ".") (number_text stripe)) ∙ cut_at 46 (number_text lock) (number_text stripe) (Free-number_text 46 lock (omega arith)) in
     rw (parts, number_in-number_text lock, number_in-number_text stripe) refl
 
 weak_is : (text : Text) (x : ObjId) → weak_in text ≡ Some x → codes "w" ++ text ≡ object_text x
@@ -167,7 +167,7 @@ weak_is text x e =
     let first = number_text-number_in parts.0.0 lock.0 lock.1 in
     let second = number_text-number_in parts.0.1 stripe.0 stripe.1 in
     let spelled : text ≡ number_text lock.0 ++ codes "." ++ number_text stripe.0 =
-        whole ∙ ap (λ (t : Text). t ++ 46 ∷ parts.0.1) first ∙ ap (λ (t : Text). number_text lock.0 ++ 46 ∷ t) second ∙ sym (append_assoc (number_text lock.0) (codes ".") (number_text stripe.0)) in
+    whole ∙ ap (λ (t : Text). t ++ 46 ∷ parts.0.1) first ∙ ap (λ (t : Text). number_text lock.0 ++ 46 ∷ t) second ∙ sym (append_assoc (number_text lock.0) (codes ".") (number_text stripe.0)) in
     let joined : codes "w" ++ number_text lock.0 ++ codes "." ++ number_text stripe.0 ≡ codes "w" ++ (number_text lock.0 ++ codes "." ++ number_text stripe.0) = simp append_assoc in
     ap (λ (t : Text). codes "w" ++ t) spelled ∙ sym joined ∙ ap object_text made
 
@@ -191,7 +191,7 @@ numbered_is make b bs x spelled e =
 lone_is : (b : ℕ) (x : ObjId) → lone_object b ≡ Some x → b ∷ [] ≡ object_text x
 lone_is b x e =
     let is : (c : ℕ) (y : ObjId) → object_text y ≡ c ∷ [] → eqb b c ≡ true → Some y ≡ Some x → b ∷ [] ≡ object_text x =
-        (λ c y spelled t s. ap (λ (d : ℕ). d ∷ []) (eqb-true b c t) ∙ sym spelled ∙ ap object_text (same_Some y x s)) in
+    (λ c y spelled t s. ap (λ (d : ℕ). d ∷ []) (eqb-true b c t) ∙ sym spelled ∙ ap object_text (same_Some y x s)) in
     ⊎_elim (λ w. is 84 object.Threads refl w.0 w.1)
     (λ w. ⊎_elim (λ v. is 72 object.Halt refl v.0 v.1)
     (λ v. ⊎_elim (λ u. is 73 object.Input refl u.0 u.1)

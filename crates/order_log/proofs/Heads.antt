@@ -20,10 +20,10 @@ pub pair_again : (ps : List Pair) (p : Pair) → IsNamePair p → ends_before ps
 unfolding pair_in
 pair_again ps p h last =
     let rest : after_word (codes "pair ") (pair_line p) ≡ Some (p.0 ++ 32 ∷ p.1) =
-        ap (after_word (codes "pair ")) (append_assoc (codes "pair " ++ p.0) (codes " ") p.1 ∙ append_assoc (codes "pair ") p.0 (codes " " ++ p.1)) ∙ after_word_at (codes "pair ") (p.0 ++ 32 ∷ p.1) in
+    ap (after_word (codes "pair ")) (append_assoc (codes "pair " ++ p.0) (codes " ") p.1 ∙ append_assoc (codes "pair ") p.0 (codes " " ++ p.1)) ∙ after_word_at (codes "pair ") (p.0 ++ 32 ∷ p.1) in
     let parts = cut_at 32 p.0 p.1 (Free-name 32 p.0 h.first (omega arith)) in
     let passes : (is_name p.0 && (is_name p.1 && (is_le (text_order p.0 p.1) && ends_before ps p))) ≡ true =
-        and_from _ _ (IsName-is_name p.0 h.first) (and_from _ _ (IsName-is_name p.1 h.second) (and_from _ _ h.lesser_first last)) in
+    and_from _ _ (IsName-is_name p.0 h.first) (and_from _ _ (IsName-is_name p.1 h.second) (and_from _ _ h.lesser_first last)) in
     let tested = λ (q : Pair). cond (is_name q.0 && (is_name q.1 && (is_le (text_order q.0 q.1) && ends_before ps q))) (Some q) None in
     bind_at (after_word (codes "pair ") (pair_line p)) (p.0 ++ 32 ∷ p.1) (λ (t : Text). cut 32 t >>= tested) rest ∙ bind_at (cut 32 (p.0 ++ 32 ∷ p.1)) p tested parts ∙ cond-true _ (Some p) None passes
 
@@ -44,8 +44,8 @@ pair_is ps line p found =
     let two = and_parts (is_name q.1) (is_le (text_order q.0 q.1) && ends_before ps q) one.1 in
     let three = and_parts (is_le (text_order q.0 q.1)) (ends_before ps q) two.1 in
     let text : line ≡ pair_line q =
-        after_word_is (codes "pair ") line rest.0 rest.1 ∙ ap (λ (t : Text). codes "pair " ++ t) (cut_is 32 rest.0 q parts.1).text
-        ∙ sym (append_assoc (codes "pair " ++ q.0) (codes " ") q.1 ∙ append_assoc (codes "pair ") q.0 (codes " " ++ q.1)) in
+    after_word_is (codes "pair ") line rest.0 rest.1 ∙ ap (λ (t : Text). codes "pair " ++ t) (cut_is 32 rest.0 q parts.1).text
+    ∙ sym (append_assoc (codes "pair " ++ q.0) (codes " ") q.1 ∙ append_assoc (codes "pair ") q.0 (codes " " ++ q.1)) in
     subst (λ (x : Pair). IsPairLine ps line x) fit.1 (record {
       text = text;
       names = record { first = is_name-true q.0 one.0; second = is_name-true q.1 two.0; lesser_first = three.0 };

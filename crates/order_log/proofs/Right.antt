@@ -198,7 +198,7 @@ none_walks strict p line more q e h = none-some q (sym (ap (λ (s : Step). walks
 unfit_walks : (p : Part) (line : Text) (more : List Text) (q : Part) (s : Part × Bool) → taken p line ≡ Some s → s.1 ≡ false → walks true (taken p line) (λ r. walk true r more) ≡ Some q → ⊥
 unfit_walks p line more q s e unfit h =
     let out : walks true (taken p line) (λ r. walk true r more) ≡ None =
-        ap (λ (t : Step). walks true t (λ r. walk true r more)) e ∙ ap (λ (b : Bool). cond (b || false) (walk true s.0 more) None) unfit in
+    ap (λ (t : Step). walks true t (λ r. walk true r more)) e ∙ ap (λ (b : Bool). cond (b || false) (walk true s.0 more) None) unfit in
     none-some q (sym out ∙ h)
 
 at_line : (bytes : Text) (done : List Text) (p : Part) (at : ℕ) (line : Text) (more : List Text) (on : Part → Result LogView LogFault) → lines_of bytes ≡ done ++ line ∷ more → LeadsTo done p → IsNext done at
@@ -247,4 +247,4 @@ pub run_right : (bytes : Text) (done : List Text) (p : Part) (at : ℕ) (more : 
 run_right bytes done p at [] e l number = at_end bytes done p at (e ∙ append-nil done) l number
 run_right bytes done p at (line ∷ more) e l number =
     at_line bytes done p at line more (λ q. run q (next at) more (unfinished_of bytes)) e l number
-        (λ q there. run_right bytes (done ++ line ∷ []) q (next at) more (e ∙ sym (append_assoc done (line ∷ []) more)) there (next_is done line at number))
+    (λ q there. run_right bytes (done ++ line ∷ []) q (next at) more (e ∙ sym (append_assoc done (line ∷ []) more)) there (next_is done line at number))

@@ -175,8 +175,8 @@ sized_adds n p k line s e =
     let input = m.0 in
     let is = hex_is k line input m.1 in
     let says : profile_lines p ++ (input_line (length input) ∷ hex_text input ∷ []) ++ [] ≡ (profile_lines p ++ input_line k ∷ []) ++ line ∷ [] =
-        append-nil (profile_lines p ++ (input_line (length input) ∷ hex_text input ∷ [])) ∙ (λ i. profile_lines p ++ (input_line (is.size_is i) ∷ sym is.hex.text i ∷ []))
-        ∙ sym (append_assoc (profile_lines p) (input_line k ∷ []) (line ∷ [])) in
+    append-nil (profile_lines p ++ (input_line (length input) ∷ hex_text input ∷ [])) ∙ (λ i. profile_lines p ++ (input_line (is.size_is i) ∷ sym is.hex.text i ∷ []))
+    ∙ sym (append_assoc (profile_lines p) (input_line k ∷ []) (line ∷ [])) in
     subst (λ (t : Part × Bool). Adds (Sized n p k) line t.0 t.1) m.2 (record {
       says = ap (λ (ls : List Text). numbers_lines n ++ ls) says;
       fine = λ f. record { profile = f; input = is.hex.bytes_below; operations = tt };
@@ -231,7 +231,7 @@ whole_adds n p input es line s found =
     let is = entry_is line e m.1 in
     let head = profile_lines p ++ (input_line (length input) ∷ hex_text input ∷ []) in
     let says : head ++ map entry_line (es ++ e ∷ []) ≡ (head ++ map entry_line es) ++ line ∷ [] =
-        ap (λ (ls : List Text). head ++ ls) (map-append entry_line es (e ∷ []) ∙ ap (λ (t : Text). map entry_line es ++ t ∷ []) (sym is.text)) ∙ sym (append_assoc head (map entry_line es) (line ∷ [])) in
+    ap (λ (ls : List Text). head ++ ls) (map-append entry_line es (e ∷ []) ∙ ap (λ (t : Text). map entry_line es ++ t ∷ []) (sym is.text)) ∙ sym (append_assoc head (map entry_line es) (line ∷ [])) in
     subst (λ (t : Part × Bool). Adds (Whole n p input es) line t.0 t.1) m.2 (record {
       says = ap (λ (ls : List Text). numbers_lines n ++ ls) says;
       fine = λ f. record { profile = f.profile; input = f.input; operations = All-append (λ x. Fits x.op x.obj) es (e ∷ []) f.operations (is.fitting, tt) };

@@ -154,7 +154,7 @@ walk_entries strict n p input es (f ∷ fs) fitting within =
     let regrouped : (es ++ f ∷ []) ++ fs ≡ es ++ f ∷ fs = append_assoc es (f ∷ []) fs in
     let found = entry_again f fitting.0 in
     walk_on strict (Whole n p input es) (entry_line f) (map entry_line fs) (Whole n p input (es ++ f ∷ [])) (may_follow (setup_of n input) es f)
-        (ap (option_map (λ e. (Whole n p input (es ++ e ∷ []), may_follow (setup_of n input) es e))) found) (λ t. may_come (setup_of n input) es f fs p (within t))
+    (ap (option_map (λ e. (Whole n p input (es ++ e ∷ []), may_follow (setup_of n input) es e))) found) (λ t. may_come (setup_of n input) es f fs p (within t))
     ∙ walk_entries strict n p input (es ++ f ∷ []) fs fitting.1 (λ t. subst (λ (xs : List Entry). KeepsLimits (view_of n p input xs)) (sym regrouped) (within t))
     ∙ ap (λ (xs : List Entry). Some (Whole n p input xs)) regrouped
 
@@ -170,7 +170,7 @@ walk_number : (strict : Bool) (p : Part) (word : Text) (low high n : ℕ) (make 
     → (strict ≡ true → (low ≤ n) × (n ≤ high)) → walk strict p ((word ++ number_text n) ∷ lines) ≡ walk strict (make n) lines
 walk_number strict p word low high n make lines steps within =
     walk_on strict p (word ++ number_text n) lines (make n) (nat_le low n && nat_le n high) (steps (word ++ number_text n) ∙ number_taken word low high make n)
-        (λ t. within_both low high n (within t).0 (within t).1)
+    (λ t. within_both low high n (within t).0 (within t).1)
 
 pub whole_walk : (strict : Bool) (v : LogView) → IsLog v → (strict ≡ true → KeepsLimits v) → walk strict Bare (log_lines v) ≡ Some (whole v)
 whole_walk strict v log within =
@@ -187,9 +187,9 @@ whole_walk strict v log within =
     ∙ walk_number strict Headed (codes "slots ") 1 16 s.slots (λ k. Slotted k) from_cells (λ line. refl) (λ t. ((within t).setup.some_slot, (within t).setup.few_slots))
     ∙ walk_number strict (Slotted s.slots) (codes "cells ") 1024 131072 s.cells (λ k. Celled s.slots k) from_limit (λ line. refl) (λ t. ((within t).setup.enough_cells, (within t).setup.few_cells))
     ∙ walk_number strict (Celled s.slots s.cells) (codes "limit ") 1 67108864 s.limit (λ k. Limited (record { slots = s.slots; cells = s.cells; limit = k })) lines (λ line. refl)
-        (λ t. ((within t).setup.some_event, (within t).setup.few_events))
+    (λ t. ((within t).setup.some_event, (within t).setup.few_events))
     ∙ ap (walk strict (Limited n)) (append_assoc (profile_lines v.profile) tail entries) ∙ walk_profile strict n v.profile (tail ++ entries) log.profile
     ∙ walk_number strict (Profiled n v.profile) (codes "input ") 0 1048576 size (λ k. Sized n v.profile k) (hex_text s.input ∷ entries) (λ line. refl) (λ t. (omega arith, (within t).setup.short_input))
     ∙ walk_on strict (Sized n v.profile size) (hex_text s.input) entries (Whole n v.profile s.input []) true
-        (ap (option_map (λ input. (Whole n v.profile input [], true))) (hex_again s.input log.input)) (λ t. refl)
+    (ap (option_map (λ input. (Whole n v.profile input [], true))) (hex_again s.input log.input)) (λ t. refl)
     ∙ walk_entries strict n v.profile s.input [] v.entries log.operations within

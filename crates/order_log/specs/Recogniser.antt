@@ -92,7 +92,7 @@ unfoldable pub profile_at : Lines → Result (Profile × Lines) LogFault
 profile_at l = do
   line ← next_line l
   if bytes_eq line.0 (codes "profile all") then Ok (profile.All, line.1)
-    else found_at l.at (option_and_then number_in (after_word (codes "profile ") line.0)) >>= λ n. pairs_from n [] line.1 >>= λ x. Ok (as_profile x)
+      else found_at l.at (option_and_then number_in (after_word (codes "profile ") line.0)) >>= λ n. pairs_from n [] line.1 >>= λ x. Ok (as_profile x)
 
 -- the digits of so many bytes
 unfoldable pub input_at : ℕ → Lines → Result (List ℕ × Lines) LogFault

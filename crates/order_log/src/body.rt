@@ -79,11 +79,7 @@ fn may_follow(setup: &Setup, counts: &mut Counts, entry: &Entry) -> bool
 }
 
 /// The entries of a log, to the end of the text.
-pub fn entries(
-    alloc: Global,
-    reader: &mut Reader,
-    setup: &Setup,
-) -> Result<List<Entry>, LogFault>
+pub fn entries(alloc: Global, reader: &mut Reader, setup: &Setup) -> Result<List<Entry>, LogFault>
     requires { IsWithinLimits setup.now }
     ensures { Gives (λ es. es) result (recogniser.entries_at setup.now (lines_in reader.old.line reader.old.bytes.now)) }
 {

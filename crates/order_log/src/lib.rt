@@ -7,6 +7,7 @@ mod entry;
 mod fault;
 mod head;
 mod hex;
+mod laws;
 mod log;
 mod operation;
 mod pairs;
@@ -16,7 +17,11 @@ mod reader;
 mod write;
 
 pub use fault::LogFault;
+pub use laws::law_one_text;
 pub use log::Log;
 pub use part::is_name;
 pub use read::read_log;
 pub use write::write_log;
+
+#[cfg(test)]
+mod tests;

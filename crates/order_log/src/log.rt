@@ -33,8 +33,7 @@ impl Model for Log {
 // The numbers in a slice of bytes are bytes.
 fn law_bytes(bytes: &[u8])
     ensures { AllByRecursion (λ b. b < 256) bytes.now }
-{
-}
+{}
 
 impl Log {
     pub fn new(setup: Setup, profile: Profile, entries: List<Entry>) -> Log

@@ -39,11 +39,7 @@ fn pair_in<'a>(before: &[(Bytes, Bytes)], text: &'a [u8]) -> Option<(&'a [u8], &
 }
 
 // So many pairs, one a line.
-fn pairs(
-    alloc: Global,
-    reader: &mut Reader,
-    count: u64,
-) -> Result<List<(Bytes, Bytes)>, LogFault>
+fn pairs(alloc: Global, reader: &mut Reader, count: u64) -> Result<List<(Bytes, Bytes)>, LogFault>
     ensures { Gives (λ ps. (ps, lines_in reader.new.line reader.new.bytes.now)) result (recogniser.pairs_from count [] (lines_in reader.old.line reader.old.bytes.now)) }
 {
     let mut found = List::new(alloc);
@@ -54,7 +50,10 @@ fn pairs(
         let Some((first, second)) = pair_in(found.as_slice(), line) else {
             return Err(LogFault::LogSyntax(at));
         };
-        found.push((List::from_slice(alloc, first)?, List::from_slice(alloc, second)?))?;
+        found.push((
+            List::from_slice(alloc, first)?,
+            List::from_slice(alloc, second)?,
+        ))?;
         left -= 1;
     }
     Ok(found)

@@ -11,4 +11,4 @@ pub returns-else-is_ending-clause-counted : goal.returns-else-is_ending-clause-c
 returns-else-is_ending-clause-counted c es counted room =
     let low : c.args.entry.now.thread < 16 = c.is_within.ensures.thread c.if-not-is_within.false in
     counted_other c.args.counts.now.others c.args.counts.now.endings c.takes-else-is_ending.new.counts es c.args.entry.now (omega arith) (sym c.if-is_ending.ensures)
-        (c.takes-else-is_ending.ensures.taken room) counted
+    (c.takes-else-is_ending.ensures.taken room) counted
