@@ -1,5 +1,5 @@
 -- The plain tree of each variant that holds a list.
-use Rattle.std.proofs.Common.{◌≡◌, List, [], ◌∷◌, refl, ap, map, ◌∙◌}
+use Rattle.std.proofs.Common.{◌≡◌, List, refl, ap, map, ◌∙◌}
 use Rattle.c_tree.specs.declared.expr.Expr.{Expr, Row_of-Expr, end_of-Expr, more_of-Expr}
 use Rattle.c_tree.specs.declared.expr.Expr.TheBlock.{hidden-the_row-Expr-0, items-the_row-Expr, items_hidden-the_row-Expr-0}
 use Rattle.c_tree.specs.declared.declaration.Initial.{Initial, Row_of-Initial, end_of-Initial, more_of-Initial}

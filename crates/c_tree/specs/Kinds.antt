@@ -1,5 +1,5 @@
 -- The kinds of the tokens that a tree stands for.
-use Rattle.std.specs.Prelude.{ℕ, zero, suc, ℤ, Bool, true, false, List, [], ◌∷◌, ◌++◌, Option, Some, None}
+use Rattle.std.specs.Prelude.{ℕ, zero, suc, Bool, true, false, List, [], ◌∷◌, ◌++◌, Option, Some, None}
 use Rattle.c_lexer.specs.declared.token.Kind.{Kind}
 use Rattle.c_lexer.specs.declared.token.Kind.TheVariants as kind
 use Rattle.c_lexer.specs.declared.token.Punct.{Punct}
@@ -19,7 +19,7 @@ use Rattle.c_tree.specs.declared.expr.AssignOp.TheVariants as assign_op
 use Rattle.c_tree.specs.declared.program.Params.{Params}
 use Rattle.c_tree.specs.declared.program.Params.TheVariants as params
 use Rattle.c_tree.specs.declared.program.Param.{Param}
-use Rattle.c_tree.specs.Tree.{Place, place_at, Exp, comma, assign, conditional, binary, prefix, sizeof_exp, sizeof_type, cast, index, member, arrow, post_increment, post_decrement, named, call, number, letter, text, null, paren, Exps, no_exp, and_exp, Declared, declared, Init, value, braces, mutex_start, cond_start, Inits, no_init, and_init, Object, plain, initialised, Declares, declares, Start, start_declares, start_computes, Statement, block, compute, break_at, continue_at, gives, branch, branch_else, while_loop, do_loop, for_loop, Parts, no_part, and_declares, and_does, Code, defined, prototype, Fields, fields, Outer, structure, function, objects}
+use Rattle.c_tree.specs.Tree.{Exp, comma, assign, conditional, binary, prefix, sizeof_exp, sizeof_type, cast, index, member, arrow, post_increment, post_decrement, named, call, number, letter, text, null, paren, Exps, no_exp, and_exp, Declared, declared, Init, value, braces, mutex_start, cond_start, Inits, no_init, and_init, Object, plain, initialised, Declares, declares, Start, start_declares, start_computes, Statement, block, compute, break_at, continue_at, gives, branch, branch_else, while_loop, do_loop, for_loop, Parts, no_part, and_declares, and_does, Code, defined, prototype, Fields, fields, Outer, structure, function, objects}
 
 abbrev pub prefix_punct : PrefixOp → Punct
 prefix_punct prefix_op.Address = punct.And

@@ -10,8 +10,12 @@ use Rattle.c_tree.specs.declared.expr.AssignOp.{AssignOp}
 use Rattle.c_tree.specs.declared.program.Params.{Params}
 
 -- line and column, from 1
-pub data Place : Type 0 where
-  place_at : ℕ → ℕ → Place
+pub record Place : Type 0 where
+  pub line : ℕ
+  pub column : ℕ
+
+abbrev pub place_at : ℕ → ℕ → Place
+place_at line column = record { line = line; column = column }
 
 mutual
   -- expressions, with the place of the own token last

@@ -1,5 +1,5 @@
 -- The plain tree as which a tree of the crate shows.
-use Rattle.std.specs.Prelude.{ℕ, List, [], ◌∷◌, Option, Some, None, map, option_map}
+use Rattle.std.specs.Prelude.{List, Option, Some, None, map}
 use Rattle.c_tree.specs.declared.expr.Expr.{Expr, Comma', Assign', Conditional', Binary', Prefix', SizeofExpr', SizeofType, Cast', Index', Member', Arrow', PostIncrement', PostDecrement', Name, Call', Number, Letter, Text, Null, Paren', Row_of-Expr, end_of-Expr, more_of-Expr}
 use Rattle.c_tree.specs.declared.declaration.Declarator.{Declarator}
 use Rattle.c_tree.specs.declared.declaration.Initial.{Initial, Value, Braces', Mutex, Cond, Row_of-Initial, end_of-Initial, more_of-Initial}
@@ -17,7 +17,7 @@ use Rattle.c_tree.specs.declared.program.Member.{Member}
 use Rattle.c_tree.specs.declared.program.External.{External}
 use Rattle.c_tree.specs.declared.program.External.TheVariants as external
 use Rattle.c_tree.specs.declared.program.Program.{Program}
-use Rattle.c_tree.specs.Tree.{Place, place_at, Exp, comma, assign, conditional, binary, prefix, sizeof_exp, sizeof_type, cast, index, member, arrow, post_increment, post_decrement, named, call, number, letter, text, null, paren, Exps, no_exp, and_exp, Declared, declared, Init, value, braces, mutex_start, cond_start, Inits, no_init, and_init, Object, plain, initialised, Declares, declares, Start, start_declares, start_computes, Statement, block, compute, break_at, continue_at, gives, branch, branch_else, while_loop, do_loop, for_loop, Parts, no_part, and_declares, and_does, Code, defined, prototype, Fields, fields, Outer, structure, function, objects, Part, part_declares, part_does, with_part, listed_parts}
+use Rattle.c_tree.specs.Tree.{Place, place_at, Exp, comma, assign, conditional, binary, prefix, sizeof_exp, sizeof_type, cast, index, member, arrow, post_increment, post_decrement, named, call, number, letter, text, null, paren, Exps, no_exp, and_exp, Declared, declared, Init, value, braces, mutex_start, cond_start, Inits, no_init, and_init, Object, plain, initialised, Declares, declares, Start, start_declares, start_computes, Statement, block, compute, break_at, continue_at, gives, branch, branch_else, while_loop, do_loop, for_loop, Parts, no_part, Code, defined, prototype, Fields, fields, Outer, structure, function, objects, Part, part_declares, part_does, with_part, listed_parts}
 
 abbrev mutual
   pub exp_of : Expr → Exp

@@ -1,4 +1,4 @@
-use Rattle.std.proofs.Common.{◌≡◌, ◌++◌, drop, map}
+use Rattle.std.proofs.Common.{◌≡◌, ◌++◌, drop}
 use Rattle.c_tree.specs.Kinds.{rest_params_kinds, listed_params_kinds}
 use Rattle.c_tree.proofs.print.print_listed.Given as goal
 

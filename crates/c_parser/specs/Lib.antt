@@ -1,0 +1,5 @@
+pub mod Marks
+pub mod Grammar
+pub mod Phrase
+pub mod Parse
+pub mod Rules
