@@ -1,0 +1,4 @@
+pub mod Tokens
+pub mod Works
+pub mod Language
+pub mod Enough
