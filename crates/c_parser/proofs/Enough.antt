@@ -68,10 +68,11 @@ drop_less (suc n) (t ∷ ts) = omega (arith, drop_less n ts)
 decided_less : (limit : ℕ) (ss : List Lexeme) (n : ℕ) (x : List ℕ) (at : Place) (us : List Lexeme) (h : Head) (rest : List Lexeme) → decided limit ss n x at us ≡ Got h rest → length rest ≤ length us
 decided_less limit ss n x at us h rest e = by (passes (is_of (sign punct.OpenParen)) us) (nat_le n limit) (passes follows_declarator us) e
   where
-    by : (b c d : Bool) → cond b (Got (function_head n x at) (drop 1 us)) (cond c (Got (object_head n x at) us) (cond d (Stuck Nesting (drop limit ss)) (Stuck Syntax us))) ≡ Got h rest → length rest ≤ length us
+    by : (b c d : Bool) → cond b (Got (function_head n x at) (drop 1 us)) (cond d (cond c (Got (object_head n x at) us) (Stuck Nesting (drop limit ss))) (Stuck Syntax us)) ≡ Got h rest → length rest ≤ length us
     by true c d e = let same : drop 1 us ≡ rest = cc in subst (λ z. length z ≤ length us) same (drop_less 1 us)
-    by false true d e = let same : us ≡ rest = cc in omega (arith, ap length same)
+    by false true true e = let same : us ≡ rest = cc in omega (arith, ap length same)
     by false false true e = cc
+    by false true false e = cc
     by false false false e = cc
 
 head_fewer : (limit : ℕ) (us : List Lexeme) (h : Head) (rest : List Lexeme) → outer_head limit us ≡ Got h rest → length rest < length us
@@ -193,9 +194,10 @@ token_unspent limit c l (t ∷ ts) e = taken_unspent limit l (grab c t.kind) t t
 head_unspent : (limit : ℕ) (us : List Lexeme) → outer_head limit us ≢ Spent
 head_unspent limit us e = by (token limit a_name 0 (drop (star_count us) us)) refl e
   where
-    decides : (x : List ℕ) (at : Place) (mid : List Lexeme) (b c d : Bool) → Path (Outcome Head) (cond b (Got (function_head (star_count us) x at) (drop 1 mid)) (cond c (Got (object_head (star_count us) x at) mid) (cond d (Stuck Nesting (drop limit us)) (Stuck Syntax mid)))) Spent → ⊥
+    decides : (x : List ℕ) (at : Place) (mid : List Lexeme) (b c d : Bool) → Path (Outcome Head) (cond b (Got (function_head (star_count us) x at) (drop 1 mid)) (cond d (cond c (Got (object_head (star_count us) x at) mid) (Stuck Nesting (drop limit us))) (Stuck Syntax mid))) Spent → ⊥
     decides x at mid true c d e = cc
-    decides x at mid false true d e = cc
+    decides x at mid false true true e = cc
+    decides x at mid false true false e = cc
     decides x at mid false false true e = cc
     decides x at mid false false false e = cc
 

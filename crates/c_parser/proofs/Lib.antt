@@ -2,3 +2,5 @@ pub mod Tokens
 pub mod Works
 pub mod Language
 pub mod Enough
+pub mod Examples
+pub mod Heads

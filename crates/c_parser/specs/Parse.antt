@@ -265,13 +265,13 @@ abbrev pub star_count : List Lexeme → ℕ
 star_count [] = 0
 star_count (t ∷ ts) = if is_of (sign punct.Star) t.kind then suc (star_count ts) else 0
 
--- Behind n stars and a name: a parenthesis makes it a function. The stars of a function raise no level, but those of an
--- object do, so where there are too many of them they are only now known to be.
+-- Behind n stars and a name: a parenthesis makes it a function, and what may follow a declarator an object. The stars of a
+-- function raise no level, but those of an object do, so where there are too many of them they are only now known to be.
 abbrev pub decided : ℕ → List Lexeme → ℕ → List ℕ → Place → Parser Head
 decided limit stars n x place ts =
     if passes (is_of (sign punct.OpenParen)) ts then Got (function_head n x place) (drop 1 ts)
-    else (if nat_le n limit then Got (object_head n x place) ts
-    else (if passes follows_declarator ts then Stuck Nesting (drop limit stars) else Stuck Syntax ts))
+    else (if passes follows_declarator ts then (if nat_le n limit then Got (object_head n x place) ts else Stuck Nesting (drop limit stars))
+    else Stuck Syntax ts)
 
 abbrev pub decided_by : ℕ → List Lexeme → ℕ → Outcome (List ℕ × Place) → Outcome Head
 decided_by limit stars n o = and_then o (λ x. decided limit stars n x.0 x.1)
