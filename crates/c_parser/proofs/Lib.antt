@@ -4,3 +4,4 @@ pub mod Language
 pub mod Enough
 pub mod Examples
 pub mod Heads
+pub mod Grouping

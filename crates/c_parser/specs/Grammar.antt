@@ -1,7 +1,7 @@
 -- The grammar: which trees are trees of the language, and which tokens each stands for, with their places and levels. A
 -- level is given to each production from outside; a statement, an assignment and an initial stand one above it, and what
 -- is called a context here is the level before that.
-use Rattle.std.specs.Prelude.{◌≡◌, ℕ, zero, suc, ◌+◌, ◌≤◌, ◌<◌, Bool, true, false, List, [], ◌∷◌, Option, Some, None}
+use Rattle.std.specs.Prelude.{◌≡◌, ℕ, zero, suc, ◌+◌, ◌≤◌, ◌<◌, Bool, true, false, ◌&&◌, List, [], ◌∷◌, Option, Some, None}
 use Rattle.c_lexer.specs.declared.token.Kind.{Kind}
 use Rattle.c_lexer.specs.declared.token.Kind.TheVariants as kind
 use Rattle.c_lexer.specs.declared.token.Punct.TheVariants as punct
@@ -304,15 +304,15 @@ is_nameless None zero = true
 is_nameless _ _ = false
 
 -- the word `void` alone, which is no parameter
-abbrev pub IsVoidAlone : List Param → Type 0
-IsVoidAlone (x ∷ []) = (is_void x.specifier ≡ true) × (is_nameless x.name x.stars ≡ true)
-IsVoidAlone _ = ⊥
+abbrev pub is_void_alone : List Param → Bool
+is_void_alone (x ∷ []) = is_void x.specifier && is_nameless x.name x.stars
+is_void_alone _ = false
 
 abbrev pub OfParams : Params → Beginning
 OfParams params.Nothing = nothing
 OfParams params.Void = other (w word.Void) 0
 OfParams (params.Listed []) = never
-OfParams (params.Listed (x ∷ xs)) = provided (IsVoidAlone (x ∷ xs) → ⊥) (OfParam x >> OfMoreParams xs)
+OfParams (params.Listed (x ∷ xs)) = provided (is_void_alone (x ∷ xs) ≡ false) (OfParam x >> OfMoreParams xs)
 
 abbrev pub OfCode : Code → Beginning
 OfCode (defined ps place) = own (p punct.OpenBrace) place 0 >> OfParts 0 ps >> other (p punct.CloseBrace) 0

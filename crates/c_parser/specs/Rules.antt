@@ -12,7 +12,7 @@ use Rattle.c_tree.specs.declared.program.Param.{Param}
 use Rattle.c_tree.specs.declared.program.Params.{Params}
 use Rattle.c_tree.specs.declared.program.Params.TheVariants as params_of
 use Rattle.c_tree.specs.Tree.{Place, Exp, comma, assign, conditional, binary, prefix, sizeof_exp, sizeof_type, cast, index, member, arrow, post_increment, post_decrement, named, call, number, letter, text, null, paren, Exps, listed, Declared, declared, Init, value, braces, mutex_start, cond_start, listed_inits, Object, plain, initialised, Declares, declares, Start, start_declares, start_computes, Statement, block, compute, break_at, continue_at, gives, branch, branch_else, while_loop, do_loop, for_loop, Part, part_declares, part_does, listed_parts, Code, defined, prototype, Fields, fields, Outer, structure, function, objects}
-use Rattle.c_parser.specs.Grammar.{specifier_place, tightness, first_place, ends_open}
+use Rattle.c_parser.specs.Grammar.{specifier_place, tightness, first_place, ends_open, is_void_alone}
 use Rattle.c_parser.specs.Marks.{Lexeme}
 use Rattle.c_parser.specs.Phrase as phrase
 use Rattle.c_parser.specs.Phrase.{Phrase, TreeOf, Head, function_head, object_head, Initials, initials}
@@ -64,7 +64,11 @@ stars_rule l n = on_punct punct.Star (punct_rule punct.Star l (λ _. rule.call (
 -- ---- expressions
 
 abbrev pub expression_rule : ℕ → Rule Exp
-expression_rule l = rule.call (phrase.assignment l) (λ e. on_punct punct.Comma (rule.call (phrase.more l []) (λ es. ret (comma e (listed es) (first_place e)))) (ret e))
+expression_rule l =
+    rule.call (phrase.assignment l) (λ e.
+    on_punct punct.Comma
+    (punct_rule punct.Comma l (λ _. rule.call (phrase.assignment l) (λ x. rule.call (phrase.more l (x ∷ [])) (λ es. ret (comma e (listed es) (first_place e))))))
+    (ret e))
 
 abbrev pub more_rule : ℕ → List Exp → Rule (List Exp)
 more_rule l es = on_punct punct.Comma (punct_rule punct.Comma l (λ _. rule.call (phrase.assignment l) (λ e. rule.call (phrase.more l (es ++ e ∷ [])) (λ all. ret all)))) (ret es)
@@ -247,15 +251,12 @@ param_behind_rule s =
 abbrev pub more_params_rule : List Param → Rule (List Param)
 more_params_rule xs = on_punct punct.Comma (punct_rule punct.Comma 0 (λ _. rule.call phrase.param (λ x. rule.call (phrase.more_params (xs ++ x ∷ [])) (λ all. ret all)))) (ret xs)
 
+abbrev pub params_from : List Param → Params
+params_from xs = if is_void_alone xs then params_of.Void else params_of.Listed xs
+
 -- up to the parenthesis that closes them
 abbrev pub params_rule : Rule Params
-params_rule =
-    on_punct punct.CloseParen (ret params_of.Nothing)
-    (on_word word.Void
-    (word_rule word.Void 0 (λ at.
-    on_punct punct.CloseParen (ret params_of.Void)
-    (rule.call (phrase.param_behind (specifiers.Void at.line at.column)) (λ x. rule.call (phrase.more_params (x ∷ [])) (λ xs. ret (params_of.Listed xs))))))
-    (rule.call phrase.param (λ x. rule.call (phrase.more_params (x ∷ [])) (λ xs. ret (params_of.Listed xs)))))
+params_rule = on_punct punct.CloseParen (ret params_of.Nothing) (rule.call phrase.param (λ x. rule.call (phrase.more_params (x ∷ [])) (λ xs. ret (params_from xs))))
 
 abbrev pub code_rule : Rule Code
 code_rule =
