@@ -5,3 +5,4 @@ pub mod Enough
 pub mod Examples
 pub mod Heads
 pub mod Grouping
+pub mod Sound
