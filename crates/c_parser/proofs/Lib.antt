@@ -6,3 +6,4 @@ pub mod Examples
 pub mod Heads
 pub mod Grouping
 pub mod Sound
+pub mod Reading
