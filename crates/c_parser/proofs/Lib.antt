@@ -7,3 +7,4 @@ pub mod Heads
 pub mod Grouping
 pub mod Sound
 pub mod Reading
+pub mod Ends
