@@ -8,3 +8,4 @@ pub mod Grouping
 pub mod Sound
 pub mod Reading
 pub mod Ends
+pub mod Ungrouping
