@@ -9,3 +9,6 @@ pub mod Sound
 pub mod Reading
 pub mod Ends
 pub mod Ungrouping
+pub mod Expressions
+pub mod Statements
+pub mod Outermost

@@ -35,7 +35,7 @@ holds (choose test g k) ms Q h x rest (inr e) = holds k ms Q h.1 x rest e
 more_behind : {A : Type 0} (xs : List A) (x : A) (more all : List A) → all ≡ (xs ++ x ∷ []) ++ more → all ≡ xs ++ x ∷ more
 more_behind xs x more all e = e ∙ append_assoc xs (x ∷ []) more
 
-none_behind : {A : Type 0} (xs : List A) → xs ≡ xs ++ []
+pub none_behind : {A : Type 0} (xs : List A) → xs ≡ xs ++ []
 none_behind xs = sym (append-nil xs)
 
 same_level : (l : ℕ) → l ≡ l + 0
