@@ -14,13 +14,13 @@ use Rattle.c_parser.proofs.Tokens.{grabbed}
 use Rattle.c_parser.proofs.Works.{SameHead, same_head, Language, erase-append, low-append, Spells, Reads, Refuses, Stops, Found, Lost, Works, high, passes_same}
 use Rattle.c_parser.proofs.Language.{OfHead}
 
-abbrev is_star : Kind → Bool
+abbrev pub is_star : Kind → Bool
 is_star = is_of (sign punct.Star)
 
-abbrev is_open : Kind → Bool
+abbrev pub is_open : Kind → Bool
 is_open = is_of (sign punct.OpenParen)
 
-abbrev AllStars : List Lexeme → Type 0
+abbrev pub AllStars : List Lexeme → Type 0
 AllStars [] = Unit {0}
 AllStars (t ∷ ts) = (is_star t.kind ≡ true) × AllStars ts
 
@@ -85,7 +85,7 @@ open_mark t l h = by (grab (sign punct.OpenParen) t.kind) refl h
     by None d e = cc
     by (Some u) d e = ap (λ (k : Kind). mark k t.place l) (grabbed (sign punct.OpenParen) t.kind u d)
 
-name_mark : (t : Lexeme) (x : List ℕ) (l : ℕ) → grab a_name t.kind ≡ Some x → high t l ≡ mark (kind.Name x) t.place l
+pub name_mark : (t : Lexeme) (x : List ℕ) (l : ℕ) → grab a_name t.kind ≡ Some x → high t l ≡ mark (kind.Name x) t.place l
 name_mark t x l h = ap (λ (k : Kind). mark k t.place l) (grabbed a_name t.kind x h)
 
 flat_stars : (ts : List Lexeme) → AllStars ts → (k : List Mark) → OfStars 0 (length ts) (flat ts ++ k) k
@@ -98,12 +98,12 @@ unfolding rising
 rising_stars l [] h k = refl
 rising_stars l (t ∷ ts) h k = (rising (suc l) ts ++ k, (t.place, ap (λ z. z ∷ (rising (suc l) ts ++ k)) (star_mark t (suc l) h.0)), rising_stars (suc l) ts h.1 k)
 
-counts : (ss us : List Lexeme) → AllStars ss → passes is_star us ≡ false → star_count (ss ++ us) ≡ length ss
+pub counts : (ss us : List Lexeme) → AllStars ss → passes is_star us ≡ false → star_count (ss ++ us) ≡ length ss
 counts [] [] h e = refl
 counts [] (u ∷ us) h e = ap (λ b. cond b (suc (star_count us)) 0) e
 counts (s ∷ ss) us h e = ap (λ b. cond b (suc (star_count (ss ++ us))) 0) h.0 ∙ ap suc (counts ss us h.1 e)
 
-drops : (ss us : List Lexeme) → drop (length ss) (ss ++ us) ≡ us
+pub drops : (ss us : List Lexeme) → drop (length ss) (ss ++ us) ≡ us
 drops [] us = refl
 drops (s ∷ ss) us = drops ss us
 
@@ -124,7 +124,7 @@ no_name : (m : ℕ) (t : Lexeme) (vs : List Lexeme) → grab a_name t.kind ≡ N
 no_name m t vs h = ap (λ o. taken m 0 o t vs) h
 
 -- a name is no star
-name_no_star : (t : Lexeme) (x : List ℕ) → grab a_name t.kind ≡ Some x → is_star t.kind ≡ false
+pub name_no_star : (t : Lexeme) (x : List ℕ) → grab a_name t.kind ≡ Some x → is_star t.kind ≡ false
 name_no_star t x h = ap is_star (grabbed a_name t.kind x h)
 
 abbrev function_marks : List Lexeme → Lexeme → Lexeme → List Mark
@@ -167,7 +167,7 @@ unfolding rising
 rising-cut l [] t ys = ap (λ z. high t (suc z) ∷ rising (suc z) ys) (omega arith)
 rising-cut l (x ∷ xs) t ys = let same : suc l + length xs ≡ l + suc (length xs) = omega arith in ap (λ z. high x (suc l) ∷ z) (rising-cut (suc l) xs t ys) ∙ ap (λ z. high x (suc l) ∷ (rising (suc l) xs ++ high t (suc z) ∷ rising (suc z) ys)) same
 
-le_true : (n m : ℕ) → n ≤ m → nat_le n m ≡ true
+pub le_true : (n m : ℕ) → n ≤ m → nat_le n m ≡ true
 le_true n m h = grind (arith, nat_tests)
 
 true_le : (n m : ℕ) → nat_le n m ≡ true → n ≤ m
@@ -177,7 +177,7 @@ false_lt : (n m : ℕ) → nat_le n m ≡ false → m < n
 false_lt n m h = grind (arith, nat_tests)
 
 -- what is decided, by what its tests say
-decided_is : (m : ℕ) (ts : List Lexeme) (n : ℕ) (x : List ℕ) (at : Place) (vs : List Lexeme) (b c d : Bool) → passes is_open vs ≡ b → passes follows_declarator vs ≡ c → nat_le n m ≡ d → decided m ts n x at vs ≡ cond b (Got (function_head n x at) (drop 1 vs)) (cond c (cond d (Got (object_head n x at) vs) (Stuck Nesting (drop m ts))) (Stuck Syntax vs))
+pub decided_is : (m : ℕ) (ts : List Lexeme) (n : ℕ) (x : List ℕ) (at : Place) (vs : List Lexeme) (b c d : Bool) → passes is_open vs ≡ b → passes follows_declarator vs ≡ c → nat_le n m ≡ d → decided m ts n x at vs ≡ cond b (Got (function_head n x at) (drop 1 vs)) (cond c (cond d (Got (object_head n x at) vs) (Stuck Nesting (drop m ts))) (Stuck Syntax vs))
 decided_is m ts n x at vs b c d h i j =
     ap (λ b. cond b (Got (function_head n x at) (drop 1 vs)) (cond (passes follows_declarator vs) (cond (nat_le n m) (Got (object_head n x at) vs) (Stuck Nesting (drop m ts))) (Stuck Syntax vs))) h
     ∙ ap (λ c. cond b (Got (function_head n x at) (drop 1 vs)) (cond c (cond (nat_le n m) (Got (object_head n x at) vs) (Stuck Nesting (drop m ts))) (Stuck Syntax vs))) i

@@ -12,3 +12,5 @@ pub mod Ungrouping
 pub mod Expressions
 pub mod Statements
 pub mod Outermost
+pub mod Complete
+pub mod Exactly

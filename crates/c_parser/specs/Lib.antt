@@ -3,3 +3,4 @@ pub mod Grammar
 pub mod Phrase
 pub mod Parse
 pub mod Rules
+pub mod Exact
