@@ -14,3 +14,4 @@ pub mod Statements
 pub mod Outermost
 pub mod Complete
 pub mod Exactly
+pub mod Prints

@@ -23,6 +23,11 @@ abbrev pub erase : List Mark → List Lexeme
 erase [] = []
 erase (m ∷ ms) = m.lexeme ∷ erase ms
 
+-- the kinds alone
+abbrev pub kinds_at : List Mark → List Kind
+kinds_at [] = []
+kinds_at (m ∷ ms) = m.lexeme.kind ∷ kinds_at ms
+
 abbrev pub AllLow : ℕ → List Mark → Type 0
 AllLow limit [] = Unit {0}
 AllLow limit (m ∷ ms) = (m.level ≤ limit) × AllLow limit ms

@@ -45,7 +45,7 @@ pub enum Specifier {
 #[derive(Debug, Drop)]
 pub struct CType {
     pub specifier: Specifier,
-    pub stars: u32,
+    pub stars: usize,
     pub line: u32,
     pub column: u32,
 }

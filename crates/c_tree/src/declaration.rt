@@ -6,7 +6,7 @@ use rr_base::List;
 /// So many stars, a name, and the length of each array (C99 6.7.5). Its place is that of the name.
 #[derive(Drop)]
 pub struct Declarator {
-    pub stars: u32,
+    pub stars: usize,
     pub name: Name,
     pub lengths: List<Expr>,
 }

@@ -100,7 +100,7 @@ fn put_text(alloc: Global, out: &mut List<Kind>, bytes: &Bytes) -> Result<(), Al
     out.push(Kind::Text(copy))
 }
 
-fn put_stars(out: &mut List<Kind>, stars: u32) -> Result<(), AllocError>
+fn put_stars(out: &mut List<Kind>, stars: usize) -> Result<(), AllocError>
     ensures { OnOk result (out.new ≡ out.old ++ spec.stars_kinds stars) }
 {
     let mut left = stars;
@@ -673,4 +673,50 @@ pub fn print_tree(alloc: Global, program: &Program) -> Result<List<Kind>, AllocE
         print_external(alloc, &mut out, external)?;
     }
     Ok(out)
+}
+
+#[cfg(test)]
+mod tests {
+    use super::print_tree;
+    use crate::{Declarator, External, Item, Name, Program, Specifier};
+    use c_lexer::{Kind, Punct, Word};
+    use rr_base::List;
+    use std::alloc::AllocError;
+
+    #[test]
+    fn prints_an_object(rt: HostRuntime) -> Result<(), AllocError> {
+        let alloc = rt.alloc();
+        let name = Name {
+            text: List::from_slice(alloc, b"x")?,
+            line: 1,
+            column: 5,
+        };
+        let mut items = List::new(alloc);
+        items.push(Item::Plain(Declarator {
+            stars: 1,
+            name,
+            lengths: List::new(alloc),
+        }))?;
+        let mut externals = List::new(alloc);
+        externals.push(External::Objects {
+            is_static: false,
+            specifier: Specifier::Int { line: 1, column: 1 },
+            items,
+            line: 1,
+            column: 1,
+        })?;
+        let kinds = print_tree(alloc, &Program { externals })?;
+        assert!(rt;
+            matches!(
+                kinds.as_slice(),
+                [
+                    Kind::Word(Word::Int),
+                    Kind::Punct(Punct::Star),
+                    Kind::Name(_),
+                    Kind::Punct(Punct::Semicolon)
+                ]
+            )
+        );
+        Ok(())
+    }
 }

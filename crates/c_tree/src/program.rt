@@ -8,7 +8,7 @@ use rr_base::List;
 #[derive(Debug, Drop)]
 pub struct Param {
     pub specifier: Specifier,
-    pub stars: u32,
+    pub stars: usize,
     pub name: Option<Name>,
     pub line: u32,
     pub column: u32,
@@ -54,7 +54,7 @@ pub enum External {
     Function {
         is_static: bool,
         specifier: Specifier,
-        stars: u32,
+        stars: usize,
         name: Name,
         params: Params,
         body: Body,
