@@ -1,13 +1,11 @@
 -- What the grammar has within the limit is read.
-use Rattle.std.proofs.Common.{◌≡◌, ◌≢◌, ◌⊎◌, inl, inr, ℕ, zero, suc, ◌+◌, ◌*◌, ◌≤◌, ◌<◌, Bool, true, false, cond, List, [], ◌∷◌, ◌++◌, length, Option, Some, None, refl, sym, ◌∙◌, ap, subst, arith, nat_le}
-use Rattle.c_lexer.specs.declared.token.Kind.{Kind}
+use Rattle.std.proofs.Common.{◌≡◌, ◌≢◌, inl, inr, ℕ, zero, suc, ◌+◌, ◌*◌, ◌≤◌, true, false, cond, List, [], ◌∷◌, ◌++◌, length, refl, sym, ◌∙◌, ap, subst, arith, nat_le}
 use Rattle.c_lexer.specs.declared.token.Kind.TheVariants as kind
 use Rattle.c_lexer.specs.declared.token.Punct.TheVariants as punct
 use Rattle.c_tree.specs.Tree.{Place}
 use Rattle.c_tree.specs.Kinds.{p}
 use Rattle.c_parser.specs.Marks.{Lexeme, lexeme, Mark, mark, erase, AllLow}
 use Rattle.c_parser.specs.Grammar.{OfStars, OfRaisingStars}
-use Rattle.c_parser.specs.Phrase as phrase
 use Rattle.c_parser.specs.Phrase.{Phrase, TreeOf, Head, function_head, object_head}
 use Rattle.c_parser.specs.Parse.{Class, Value, kind_of, grab, sign, a_name, follows_declarator, Rule, ret, one, heads, choose, Outcome, Got, Stuck, Spent, Nesting, Syntax, Parser, and_then, taken, token, passes, outer_head, run}
 use Rattle.c_parser.specs.Parse as rule
@@ -15,7 +13,7 @@ use Rattle.c_parser.specs.Rules.{rules, rank, read_within, read}
 use Rattle.c_parser.proofs.Tokens.{grabs}
 use Rattle.c_parser.proofs.Language.{OfHead, Of}
 use Rattle.c_parser.proofs.Enough.{read_unspent}
-use Rattle.c_parser.proofs.Heads.{is_star, is_open, AllStars, name_no_star, head_named, decided_is, le_true}
+use Rattle.c_parser.proofs.Heads.{AllStars, head_named, decided_is, le_true}
 use Rattle.c_parser.proofs.Ends.{EndsAt, HeadEndsAt, Chosen}
 use Rattle.c_parser.proofs.Outermost.{chooses}
 
@@ -45,18 +43,22 @@ head_complete : (limit : ℕ) (h : Head) (ms mid : List Mark) → OfHead h ms mi
 head_complete limit (function_head n x at) ms mid (m1, hk, (m2, en, (q, eo))) ends low =
     let s = stars_of limit 0 n ms m1 hk low in
     let low1 = subst (AllLow limit) en s.low in
-    let whole : erase ms ≡ s.stars ++ lexeme (kind.Name x) at ∷ lexeme (p punct.OpenParen) q ∷ erase mid = s.whole ∙ ap (λ z. s.stars ++ z) (ap erase en ∙ ap (λ z. lexeme (kind.Name x) at ∷ z) (ap erase eo)) in
-    (ap (outer_head limit) whole ∙ head_named limit s.stars (lexeme (kind.Name x) at) (lexeme (p punct.OpenParen) q ∷ erase mid) x s.all refl
-    ∙ decided_is limit (s.stars ++ lexeme (kind.Name x) at ∷ lexeme (p punct.OpenParen) q ∷ erase mid) (length s.stars) x at (lexeme (p punct.OpenParen) q ∷ erase mid) true (passes follows_declarator (lexeme (p punct.OpenParen) q ∷ erase mid)) (nat_le (length s.stars) limit) refl refl refl
-    ∙ ap (λ z. Got (function_head z x at) (erase mid)) s.count, (subst (AllLow limit) eo low1.1).1)
+    let whole : erase ms ≡ s.stars ++ lexeme (kind.Name x) at ∷ lexeme (p punct.OpenParen) q ∷ erase mid = s.whole ∙ ap (λ z. s.stars ++ z) (ap erase en ∙ ap (λ z. lexeme (kind.Name x) at ∷ z) (ap erase eo)) in (
+      ap (outer_head limit) whole ∙ head_named limit s.stars (lexeme (kind.Name x) at) (lexeme (p punct.OpenParen) q ∷ erase mid) x s.all refl
+          ∙ decided_is limit (s.stars ++ lexeme (kind.Name x) at ∷ lexeme (p punct.OpenParen) q ∷ erase mid) (length s.stars) x at (lexeme (p punct.OpenParen) q ∷ erase mid) true (passes follows_declarator (lexeme (p punct.OpenParen) q ∷ erase mid)) (nat_le (length s.stars) limit) refl refl refl
+          ∙ ap (λ z. Got (function_head z x at) (erase mid)) s.count,
+      (subst (AllLow limit) eo low1.1).1,
+    )
 head_complete limit (object_head n x at) ms mid (m1, hk, en) ends low =
     let both = raising_of limit 0 n ms m1 hk low (omega arith) in
     let s = both.0 in
     let low1 = subst (AllLow limit) en s.low in
-    let whole : erase ms ≡ s.stars ++ lexeme (kind.Name x) at ∷ erase mid = s.whole ∙ ap (λ z. s.stars ++ z) (ap erase en) in
-    (ap (outer_head limit) whole ∙ head_named limit s.stars (lexeme (kind.Name x) at) (erase mid) x s.all refl
-    ∙ decided_is limit (s.stars ++ lexeme (kind.Name x) at ∷ erase mid) (length s.stars) x at (erase mid) false true true ends.0 ends.1 (le_true (length s.stars) limit (omega (arith, s.count, both.1)))
-    ∙ ap (λ z. Got (object_head z x at) (erase mid)) s.count, low1.1)
+    let whole : erase ms ≡ s.stars ++ lexeme (kind.Name x) at ∷ erase mid = s.whole ∙ ap (λ z. s.stars ++ z) (ap erase en) in (
+      ap (outer_head limit) whole ∙ head_named limit s.stars (lexeme (kind.Name x) at) (erase mid) x s.all refl
+          ∙ decided_is limit (s.stars ++ lexeme (kind.Name x) at ∷ erase mid) (length s.stars) x at (erase mid) false true true ends.0 ends.1 (le_true (length s.stars) limit (omega (arith, s.count, both.1)))
+          ∙ ap (λ z. Got (object_head z x at) (erase mid)) s.count,
+      low1.1,
+    )
 
 -- what is so of the parser of each phrase
 abbrev Completes : ℕ → ((n : Phrase) → Parser (TreeOf n)) → Type 0
@@ -65,9 +67,11 @@ Completes limit env = (n : Phrase) (a : TreeOf n) (ms rest : List Mark) → Of n
 module _ (limit : ℕ) (env : (n : Phrase) → Parser (TreeOf n)) (done : Completes limit env) where
   one_done : (c : Class) (l : ℕ) (v : Value c) (at : Place) (ms mid : List Mark) → ms ≡ mark (kind_of c v) at l ∷ mid → AllLow limit ms → (token limit c l (erase ms) ≡ Got (v, at) (erase mid)) × AllLow limit mid
   one_done c l v at ms mid e low =
-      let here = subst (AllLow limit) e low in
-      (ap (λ z. token limit c l (erase z)) e ∙ ap (λ o. taken limit l o (lexeme (kind_of c v) at) (erase mid)) (grabs c v)
-      ∙ ap (λ b. cond b (Got (v, at) (erase mid)) (Stuck Nesting (lexeme (kind_of c v) at ∷ erase mid))) (le_true l limit here.0), here.1)
+      let here = subst (AllLow limit) e low in (
+        ap (λ z. token limit c l (erase z)) e ∙ ap (λ o. taken limit l o (lexeme (kind_of c v) at) (erase mid)) (grabs c v)
+            ∙ ap (λ b. cond b (Got (v, at) (erase mid)) (Stuck Nesting (lexeme (kind_of c v) at ∷ erase mid))) (le_true l limit here.0),
+        here.1,
+      )
 
   -- what comes first is done, and what follows too
   passed_on : {A B : Type 0} (o : Outcome B) (f : B → Parser A) (b : B) (x : A) (mid rest : List Mark) → (o ≡ Got b (erase mid)) × AllLow limit mid → (AllLow limit mid → f b (erase mid) ≢ Spent → (f b (erase mid) ≡ Got x (erase rest)) × AllLow limit rest) → and_then o f ≢ Spent → (and_then o f ≡ Got x (erase rest)) × AllLow limit rest

@@ -1,5 +1,5 @@
 -- The parser is exact.
-use Rattle.std.proofs.Common.{◌≡◌, ◌≢◌, ℕ, zero, suc, max, ◌+◌, ◌≤◌, ◌<◌, Bool, true, false, List, [], ◌∷◌, ◌++◌, refl, sym, ◌∙◌, ap, subst, append_assoc, append-nil, arith}
+use Rattle.std.proofs.Common.{◌≡◌, ℕ, zero, suc, max, ◌≤◌, List, [], ◌∷◌, ◌++◌, refl, sym, ◌∙◌, ap, subst, append_assoc, append-nil, arith}
 use Rattle.std.proofs.lemmas.List.{append_cancel_right}
 use Rattle.c_tree.specs.Tree.{Outer}
 use Rattle.c_parser.specs.Marks.{Lexeme, Mark, erase, AllLow}
@@ -7,7 +7,7 @@ use Rattle.c_parser.specs.Grammar.{OfProgram}
 use Rattle.c_parser.specs.Phrase as phrase
 use Rattle.c_parser.specs.Parse.{Fault, Syntax, Nesting, Outcome, Got, Stuck, Spent, Parser, and_then, run}
 use Rattle.c_parser.specs.Parse as rule
-use Rattle.c_parser.specs.Rules.{rules, read_within, read}
+use Rattle.c_parser.specs.Rules.{read_within, read}
 use Rattle.c_parser.specs.Exact.{IsProgram, Begins, IsViable, IsFaultOf, Says, parsed, IsExact}
 use Rattle.c_parser.proofs.Works.{Spells, Stops, Refuses, high}
 use Rattle.c_parser.proofs.Language.{Of}

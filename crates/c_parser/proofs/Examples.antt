@@ -1,5 +1,5 @@
 -- There is a phrase of each kind.
-use Rattle.std.proofs.Common.{◌≡◌, ◌⊎◌, inl, inr, pos, ℕ, zero, suc, ◌+◌, ◌≤◌, Bool, true, false, List, [], ◌∷◌, ◌++◌, Option, Some, None, refl, sym, append-nil, subst, append_assoc, arith}
+use Rattle.std.proofs.Common.{◌≡◌, inl, inr, pos, ℕ, suc, ◌+◌, false, List, [], ◌∷◌, ◌++◌, None, refl, sym, append-nil, arith}
 use Rattle.c_lexer.specs.declared.token.Kind.TheVariants as kind
 use Rattle.c_lexer.specs.declared.token.Punct.{Punct}
 use Rattle.c_lexer.specs.declared.token.Punct.TheVariants as punct
@@ -11,13 +11,13 @@ use Rattle.c_tree.specs.declared.program.Params.TheVariants as params
 use Rattle.c_tree.specs.Tree.{Place, place_at, Exp, number, paren, declared, mutex_start, plain, Declared, declares, start_computes, compute, prototype, fields, objects}
 use Rattle.c_tree.specs.Kinds.{p, w}
 use Rattle.c_parser.specs.Grammar.{specifier_place}
-use Rattle.c_parser.specs.Marks.{Mark, mark, ◌>>◌}
+use Rattle.c_parser.specs.Marks.{Mark, mark}
 use Rattle.c_parser.specs.Phrase as phrase
 use Rattle.c_parser.specs.Phrase.{Phrase, TreeOf, object_head, initials}
 use Rattle.c_parser.specs.Parse.{Class, Value, kind_of, Rule, ret, one, heads, choose}
 use Rattle.c_parser.specs.Parse as rule
 use Rattle.c_parser.proofs.Tokens.{example}
-use Rattle.c_parser.proofs.Works.{Language, HasPhrase, spells_both}
+use Rattle.c_parser.proofs.Works.{HasPhrase, spells_both}
 use Rattle.c_parser.proofs.Language.{OfHead, Of, Lang}
 
 abbrev at : Place

@@ -1,31 +1,27 @@
 -- The rules of types and expressions choose what the grammar has.
-use Rattle.std.proofs.Common.{◌≡◌, ◌⊎◌, inl, inr, ℕ, zero, suc, ◌+◌, ◌≤◌, ◌<◌, Bool, true, false, List, [], ◌∷◌, ◌++◌, Option, Some, None, refl, sym, ◌∙◌, ap, subst, append_assoc, append-nil, arith}
+use Rattle.std.proofs.Common.{◌≡◌, ◌⊎◌, inl, inr, ℕ, zero, suc, ◌+◌, ◌≤◌, Bool, true, false, List, [], ◌∷◌, ◌++◌, Some, None, refl, sym, ◌∙◌, ap, subst, append_assoc, append-nil, arith}
 use Rattle.c_lexer.specs.declared.token.Kind.{Kind}
 use Rattle.c_lexer.specs.declared.token.Kind.TheVariants as kind
 use Rattle.c_lexer.specs.declared.token.Punct.{Punct}
 use Rattle.c_lexer.specs.declared.token.Punct.TheVariants as punct
 use Rattle.c_lexer.specs.declared.token.Word.TheVariants as word
-use Rattle.c_tree.specs.declared.name.Name.{Name}
 use Rattle.c_tree.specs.declared.ctype.Specifier.{Specifier}
 use Rattle.c_tree.specs.declared.ctype.Specifier.TheVariants as specifiers
-use Rattle.c_tree.specs.declared.ctype.CType.{CType}
 use Rattle.c_tree.specs.declared.expr.PrefixOp.{PrefixOp}
 use Rattle.c_tree.specs.declared.expr.PrefixOp.TheVariants as prefix_op
-use Rattle.c_tree.specs.declared.expr.BinaryOp.{BinaryOp}
-use Rattle.c_tree.specs.declared.expr.AssignOp.{AssignOp}
-use Rattle.c_tree.specs.Tree.{Place, place_at, Exp, comma, assign, conditional, binary, prefix, sizeof_exp, sizeof_type, cast, index, member, arrow, post_increment, post_decrement, named, call, number, letter, text, null, paren, Exps, no_exp, and_exp, listed}
+use Rattle.c_tree.specs.Tree.{Place, place_at, Exp, comma, assign, conditional, binary, prefix, sizeof_exp, sizeof_type, cast, named, call, number, letter, text, null, paren, Exps, no_exp, and_exp, listed}
 use Rattle.c_tree.specs.Kinds.{p, w}
-use Rattle.c_parser.specs.Marks.{Mark, mark, erase}
-use Rattle.c_parser.specs.Grammar.{specifier_place, first_place, binds, is_cast, OfSpecifier, OfStars, OfType, OfExp, OfExps, OfMore, OfMaybe}
+use Rattle.c_parser.specs.Marks.{Mark, mark}
+use Rattle.c_parser.specs.Grammar.{binds, is_cast, OfSpecifier, OfStars, OfType, OfExp, OfExps, OfMore}
 use Rattle.c_parser.specs.Phrase as phrase
 use Rattle.c_parser.specs.Phrase.{Phrase, TreeOf}
 use Rattle.c_parser.specs.Parse.{sign, key, a_name, a_number, a_letter, a_text, a_prefix, a_binary, an_assign, kind_of, is_of, is_type}
-use Rattle.c_parser.specs.Rules.{rules, name_of}
+use Rattle.c_parser.specs.Rules.{rules}
 use Rattle.c_parser.proofs.Language.{Link, link, Chained, Postfix, by_index, by_member, by_arrow, by_increment, by_decrement, Postfixed, is_atom, open_mark, starts_open, Of}
-use Rattle.c_parser.proofs.Grouping.{tightness_low, tightness_small, no_cast}
-use Rattle.c_parser.proofs.Ungrouping.{Opened, opened_chain, is_paren, Peeled, peeled}
-use Rattle.c_parser.proofs.Sound.{atom_not_open, none_behind}
-use Rattle.c_parser.proofs.Ends.{joins, joins_next, next_is, sees, reads_word, AfterType, EndsAt, Chosen, by_joins, by_test, joins_test, no_comma, no_assign, no_question, no_bracket, no_dot, no_arrow, no_increment, no_decrement, no_open, no_binary, binary_joins, binary_is, assign_joins, assign_is, prefix_is, begins_exp, First, first_of_exp, exp_begins, not_begun, not_close_paren, not_type, not_semicolon}
+use Rattle.c_parser.proofs.Grouping.{tightness_low, tightness_small}
+use Rattle.c_parser.proofs.Ungrouping.{opened_chain, is_paren, Peeled, peeled}
+use Rattle.c_parser.proofs.Sound.{atom_not_open}
+use Rattle.c_parser.proofs.Ends.{joins, joins_next, next_is, sees, reads_word, EndsAt, Chosen, by_joins, by_test, joins_test, no_comma, no_assign, no_question, no_bracket, no_dot, no_arrow, no_increment, no_decrement, no_open, no_binary, binary_joins, binary_is, assign_joins, assign_is, prefix_is, First, first_of_exp, not_begun, not_close_paren, not_type, not_semicolon}
 
 -- the rule of a phrase chooses each that ends there
 abbrev pub Chooses : Phrase → Type 0
@@ -58,22 +54,66 @@ pub chooses_specifier : (l : ℕ) → Chooses (phrase.specifier l)
 chooses_specifier l (specifiers.Int line column) ms rest e ends = inl (ap (reads_word word.Int) e, (tt, place_at line column, rest, e, (refl, refl)))
 chooses_specifier l (specifiers.Long true true line column) ms rest h ends =
     let at = place_at line column in let m = mark (w word.Long) at l in
-    inr (looks (is_of (key word.Int)) false m ms h.0 h.1 refl, inl (looks (is_of (key word.Long)) true m ms h.0 h.1 refl, (tt, at, h.0, h.1,
-    inl (ap (reads_word word.Long) h.2.1.1, (tt, h.2.1.0, h.2.0, h.2.1.1, inl (ap (reads_word word.Int) h.2.2.1, (tt, h.2.2.0, rest, h.2.2.1, (refl, refl))))))))
+    inr (
+      looks (is_of (key word.Int)) false m ms h.0 h.1 refl,
+      inl (
+        looks (is_of (key word.Long)) true m ms h.0 h.1 refl,
+        (
+          tt,
+          at,
+          h.0,
+          h.1,
+          inl (ap (reads_word word.Long) h.2.1.1, (tt, h.2.1.0, h.2.0, h.2.1.1, inl (ap (reads_word word.Int) h.2.2.1, (tt, h.2.2.0, rest, h.2.2.1, (refl, refl))))),
+        ),
+      ),
+    )
 chooses_specifier l (specifiers.Long true false line column) ms rest h ends =
     let at = place_at line column in let m = mark (w word.Long) at l in
-    inr (looks (is_of (key word.Int)) false m ms h.0 h.1 refl, inl (looks (is_of (key word.Long)) true m ms h.0 h.1 refl, (tt, at, h.0, h.1,
-    inl (ap (reads_word word.Long) h.2.1.1, (tt, h.2.1.0, h.2.0, h.2.1.1, inr (ap (reads_word word.Int) h.2.2 ∙ ends.1, (refl, h.2.2)))))))
+    inr (
+      looks (is_of (key word.Int)) false m ms h.0 h.1 refl,
+      inl (
+        looks (is_of (key word.Long)) true m ms h.0 h.1 refl,
+        (
+          tt,
+          at,
+          h.0,
+          h.1,
+          inl (ap (reads_word word.Long) h.2.1.1, (tt, h.2.1.0, h.2.0, h.2.1.1, inr (ap (reads_word word.Int) h.2.2 ∙ ends.1, (refl, h.2.2)))),
+        ),
+      ),
+    )
 chooses_specifier l (specifiers.Long false true line column) ms rest h ends =
     let at = place_at line column in let m = mark (w word.Long) at l in
     let e : h.0 ≡ mark (w word.Int) h.2.2.0 l ∷ rest = h.2.1 ∙ h.2.2.1 in
-    inr (looks (is_of (key word.Int)) false m ms h.0 h.1 refl, inl (looks (is_of (key word.Long)) true m ms h.0 h.1 refl, (tt, at, h.0, h.1,
-    inr (ap (reads_word word.Long) e, inl (ap (reads_word word.Int) e, (tt, h.2.2.0, rest, e, (refl, refl)))))))
+    inr (
+      looks (is_of (key word.Int)) false m ms h.0 h.1 refl,
+      inl (
+        looks (is_of (key word.Long)) true m ms h.0 h.1 refl,
+        (
+          tt,
+          at,
+          h.0,
+          h.1,
+          inr (ap (reads_word word.Long) e, inl (ap (reads_word word.Int) e, (tt, h.2.2.0, rest, e, (refl, refl)))),
+        ),
+      ),
+    )
 chooses_specifier l (specifiers.Long false false line column) ms rest h ends =
     let at = place_at line column in let m = mark (w word.Long) at l in
     let e : h.0 ≡ rest = h.2.1 ∙ h.2.2 in
-    inr (looks (is_of (key word.Int)) false m ms h.0 h.1 refl, inl (looks (is_of (key word.Long)) true m ms h.0 h.1 refl, (tt, at, h.0, h.1,
-    inr (ap (reads_word word.Long) e ∙ ends.0, inr (ap (reads_word word.Int) e ∙ ends.1, (refl, e))))))
+    inr (
+      looks (is_of (key word.Int)) false m ms h.0 h.1 refl,
+      inl (
+        looks (is_of (key word.Long)) true m ms h.0 h.1 refl,
+        (
+          tt,
+          at,
+          h.0,
+          h.1,
+          inr (ap (reads_word word.Long) e ∙ ends.0, inr (ap (reads_word word.Int) e ∙ ends.1, (refl, e))),
+        ),
+      ),
+    )
 chooses_specifier l (specifiers.Void line column) ms rest e ends = inr (ap (reads_word word.Int) e, inr (ap (reads_word word.Long) e, inl (ap (reads_word word.Void) e, (tt, place_at line column, rest, e, (refl, refl)))))
 chooses_specifier l (specifiers.Struct name line column) ms rest h ends =
     let e = h.1 in
@@ -112,12 +152,22 @@ pub zero_plus : (n : ℕ) → n ≡ 0 + n
 zero_plus n = omega arith
 
 pub chooses_type : (l : ℕ) → Chooses (phrase.type_name l)
-chooses_type l t ms rest h ends =
-    (t.specifier, h.1.0, h.1.1, (
-      before_stars (is_of (key word.Long)) refl l t.stars h.1.0 rest h.1.2 (by_test (is_of (sign punct.CloseParen)) (is_of (key word.Long)) false close_no_long rest ends),
-      before_stars (is_of (key word.Int)) refl l t.stars h.1.0 rest h.1.2 (by_test (is_of (sign punct.CloseParen)) (is_of (key word.Int)) false close_no_int rest ends),
-    ), (t.stars, rest, (t.stars, zero_plus t.stars, h.1.2), by_test (is_of (sign punct.CloseParen)) (is_of (sign punct.Star)) false close_no_star rest ends,
-    (ap (λ (q : Place). record { specifier = t.specifier; stars = t.stars; line = q.line; column = q.column }) h.0, refl)))
+chooses_type l t ms rest h ends = (
+  t.specifier,
+  h.1.0,
+  h.1.1,
+  (
+    before_stars (is_of (key word.Long)) refl l t.stars h.1.0 rest h.1.2 (by_test (is_of (sign punct.CloseParen)) (is_of (key word.Long)) false close_no_long rest ends),
+    before_stars (is_of (key word.Int)) refl l t.stars h.1.0 rest h.1.2 (by_test (is_of (sign punct.CloseParen)) (is_of (key word.Int)) false close_no_int rest ends),
+  ),
+  (
+    t.stars,
+    rest,
+    (t.stars, zero_plus t.stars, h.1.2),
+    by_test (is_of (sign punct.CloseParen)) (is_of (sign punct.Star)) false close_no_star rest ends,
+    (ap (λ (q : Place). record { specifier = t.specifier; stars = t.stars; line = q.line; column = q.column }) h.0, refl),
+  ),
+)
 
 -- a type begins with its words
 pub type_begins : (l : ℕ) (s : Specifier) (ms rest : List Mark) → OfSpecifier l s ms rest → next_is is_type ms ≡ true
@@ -142,10 +192,34 @@ alone l e ms rest low h ends = (e, rest, (low, h), omega (arith, ends), inr (by_
 
 pub chooses_expression : (l : ℕ) → Chooses (phrase.expression l)
 chooses_expression l (comma a no_exp at) ms rest h ends = absurd h.0.2
-chooses_expression l (comma a (and_exp x xs) at) ms rest ((e, low, _), (m1, ha, (tight, (m2, (there, ec), (m3, hx, hm))))) ends =
-    (a, m1, (low, ha), joins_at 1 (mark (p punct.Comma) there l) m1 m2 ec (omega arith), inl (ap (sees punct.Comma) ec, (tt, there, m2, ec, (x, m3, (tight, hx), before_more l xs m3 rest hm ends,
-    (x ∷ as_list xs, rest, (as_list xs, refl, subst (λ z. OfMore l z m3 rest) (sym (listed_as xs)) hm), ends,
-    (ap (λ z. comma a (and_exp x z) at) (sym (listed_as xs)) ∙ ap (λ z. comma a (and_exp x (listed (as_list xs))) z) e, refl))))))
+chooses_expression l (comma a (and_exp x xs) at) ms rest ((e, low, _), (m1, ha, (tight, (m2, (there, ec), (m3, hx, hm))))) ends = (
+  a,
+  m1,
+  (low, ha),
+  joins_at 1 (mark (p punct.Comma) there l) m1 m2 ec (omega arith),
+  inl (
+    ap (sees punct.Comma) ec,
+    (
+      tt,
+      there,
+      m2,
+      ec,
+      (
+        x,
+        m3,
+        (tight, hx),
+        before_more l xs m3 rest hm ends,
+        (
+          x ∷ as_list xs,
+          rest,
+          (as_list xs, refl, subst (λ z. OfMore l z m3 rest) (sym (listed_as xs)) hm),
+          ends,
+          (ap (λ z. comma a (and_exp x z) at) (sym (listed_as xs)) ∙ ap (λ z. comma a (and_exp x (listed (as_list xs))) z) e, refl),
+        ),
+      ),
+    ),
+  ),
+)
 chooses_expression l (binary a op b at) ms rest h ends = alone l (binary a op b at) ms rest (omega (arith, tightness_low op)) h ends
 chooses_expression l e ms rest h ends = alone l e ms rest (omega arith) h ends
 
@@ -170,9 +244,22 @@ unconditional l e ms rest low h ends = (e, rest, (low, h), omega (arith, ends), 
 pub chooses_conditional : (l : ℕ) → Chooses (phrase.conditional_part l)
 chooses_conditional l (comma a es at) ms rest h ends = absurd (omega (arith, h.0))
 chooses_conditional l (assign a op b at) ms rest h ends = absurd (omega (arith, h.0))
-chooses_conditional l (conditional a b c at) ms rest (low, ((ba, bc), (m1, ha, (m2, eq, (m3, hb, (m4, (there, ec), hc)))))) ends =
-    (a, m1, (ba, ha), joins_at 3 (mark (p punct.Question) at (suc (suc l))) m1 m2 eq (omega arith), inl (ap (sees punct.Question) eq, (tt, at, m2, eq,
-    (b, m3, hb, joins_at 0 (mark (p punct.Colon) there (suc (suc l))) m3 m4 ec (omega arith), (tt, there, m4, ec, (c, rest, (bc, hc), ends, (refl, refl)))))))
+chooses_conditional l (conditional a b c at) ms rest (low, ((ba, bc), (m1, ha, (m2, eq, (m3, hb, (m4, (there, ec), hc)))))) ends = (
+  a,
+  m1,
+  (ba, ha),
+  joins_at 3 (mark (p punct.Question) at (suc (suc l))) m1 m2 eq (omega arith),
+  inl (
+    ap (sees punct.Question) eq,
+    (
+      tt,
+      at,
+      m2,
+      eq,
+      (b, m3, hb, joins_at 0 (mark (p punct.Colon) there (suc (suc l))) m3 m4 ec (omega arith), (tt, there, m4, ec, (c, rest, (bc, hc), ends, (refl, refl)))),
+    ),
+  ),
+)
 chooses_conditional l (binary a op b at) ms rest h ends = unconditional l (binary a op b at) ms rest (omega (arith, tightness_low op)) h.1 ends
 chooses_conditional l e ms rest h ends = unconditional l e ms rest (omega arith) h.1 ends
 
@@ -336,8 +423,28 @@ sizeof_operand l a at ms m1 rest e tight isnt h ends = by (starts_open m1) refl
     by true does =
         let o = opened_by (suc l) m1 (first_of_exp (suc l) a m1 rest h) does in
         let d = subst (λ z. OfExp (suc l) a z rest) o.2 h in
-        inr (ap (next_is (is_of a_prefix)) e, inl (ap (reads_word word.Sizeof) e, (tt, at, m1, e, inl (does, (tt, o.0, o.1, o.2,
-        inr (no_type_inside (suc l) o.0 a o.1 rest tight isnt d, (a, rest, (tight, isnt, d), ends, (refl, refl))))))))
+        inr (
+          ap (next_is (is_of a_prefix)) e,
+          inl (
+            ap (reads_word word.Sizeof) e,
+            (
+              tt,
+              at,
+              m1,
+              e,
+              inl (
+                does,
+                (
+                  tt,
+                  o.0,
+                  o.1,
+                  o.2,
+                  inr (no_type_inside (suc l) o.0 a o.1 rest tight isnt d, (a, rest, (tight, isnt, d), ends, (refl, refl))),
+                ),
+              ),
+            ),
+          ),
+        )
     by false shut = inr (ap (next_is (is_of a_prefix)) e, inl (ap (reads_word word.Sizeof) e, (tt, at, m1, e, inr (shut, (a, rest, (shut, tight, isnt, h), ends, (refl, refl))))))
 
 pub chooses_unary_plain : (l : ℕ) → Chooses (phrase.unary_plain l)
@@ -345,8 +452,28 @@ chooses_unary_plain l (prefix op a at) ms rest (isnt, tight, nc, (ta, (m1, e, ha
     inl (ap (next_is (is_of a_prefix)) e ∙ prefix_is op, (op, at, m1, e, (a, rest, (ta, ha), ends, (refl, refl))))
 chooses_unary_plain l (sizeof_exp a at) ms rest (isnt, tight, nc, (ta, (m1, e, ha))) ends = sizeof_operand l a at ms m1 rest e ta.0 ta.1 ha ends
 chooses_unary_plain l (sizeof_type t at) ms rest (isnt, tight, nc, (m1, e, (m2, (there, e2), (m3, ht, (q, e3))))) ends =
-    inr (ap (next_is (is_of a_prefix)) e, inl (ap (reads_word word.Sizeof) e, (tt, at, m1, e, inl (ap (sees punct.OpenParen) e2, (tt, there, m2, e2,
-    inl (type_begins (suc (suc l)) t.specifier m2 ht.1.0 ht.1.1, (t, m3, ht, closed_by (suc (suc l)) q m3 rest e3, (tt, q, rest, e3, (refl, refl)))))))))
+    inr (
+      ap (next_is (is_of a_prefix)) e,
+      inl (
+        ap (reads_word word.Sizeof) e,
+        (
+          tt,
+          at,
+          m1,
+          e,
+          inl (
+            ap (sees punct.OpenParen) e2,
+            (
+              tt,
+              there,
+              m2,
+              e2,
+              inl (type_begins (suc (suc l)) t.specifier m2 ht.1.0 ht.1.1, (t, m3, ht, closed_by (suc (suc l)) q m3 rest e3, (tt, q, rest, e3, (refl, refl)))),
+            ),
+          ),
+        ),
+      ),
+    )
 chooses_unary_plain l (cast t a at) ms rest h ends = let isnt = h.2 in cc
 chooses_unary_plain l (comma a es at) ms rest h ends = absurd (omega (arith, h.1))
 chooses_unary_plain l (assign a op b at) ms rest h ends = absurd (omega (arith, h.1))
@@ -357,8 +484,25 @@ chooses_unary_plain l e ms rest h ends = plain_atom l e ms rest h.0 ends (peeled
 pub chooses_atom : (l : ℕ) → Chooses (phrase.atom l)
 chooses_atom l (named x at) ms rest h ends = inl (ap (next_is (is_of a_name)) h.1, (x, at, rest, h.1, inr (ends, (refl, refl))))
 chooses_atom l (call x es at) ms rest (is, (m1, e, (m2, (there, e2), h))) ends =
-    inl (ap (next_is (is_of a_name)) e, (x, at, m1, e, inl (ap (sees punct.OpenParen) e2, (tt, there, m2, e2,
-    (as_list es, rest, (h.0, subst (λ z. OfExps (suc l) z m2 h.0) (sym (listed_as es)) h.1, h.2), tt, (ap (λ z. call x z at) (sym (listed_as es)), refl))))))
+    inl (
+      ap (next_is (is_of a_name)) e,
+      (
+        x,
+        at,
+        m1,
+        e,
+        inl (
+          ap (sees punct.OpenParen) e2,
+          (
+            tt,
+            there,
+            m2,
+            e2,
+            (as_list es, rest, (h.0, subst (λ z. OfExps (suc l) z m2 h.0) (sym (listed_as es)) h.1, h.2), tt, (ap (λ z. call x z at) (sym (listed_as es)), refl)),
+          ),
+        ),
+      ),
+    )
 chooses_atom l (number n at) ms rest h ends = inr (ap (next_is (is_of a_name)) h.1, inl (ap (next_is (is_of a_number)) h.1, (n, at, rest, h.1, (refl, refl))))
 chooses_atom l (letter n at) ms rest h ends = inr (ap (next_is (is_of a_name)) h.1, inr (ap (next_is (is_of a_number)) h.1, inl (ap (next_is (is_of a_letter)) h.1, (n, at, rest, h.1, (refl, refl)))))
 chooses_atom l (text x at) ms rest h ends =
@@ -370,9 +514,19 @@ chooses_atom l _ ms rest h ends = let isnt = h.0 in cc
 
 pub chooses_postfix : (l : ℕ) (left : Exp) → Chooses (phrase.postfix l left)
 chooses_postfix l left e ms rest ([], h) ends =
-    inr (ap (sees punct.OpenBracket) h.1 ∙ by_joins 4 (is_of (sign punct.OpenBracket)) no_bracket rest ends, inr (ap (sees punct.Dot) h.1 ∙ by_joins 4 (is_of (sign punct.Dot)) no_dot rest ends,
-    inr (ap (sees punct.Arrow) h.1 ∙ by_joins 4 (is_of (sign punct.Arrow)) no_arrow rest ends, inr (ap (sees punct.PlusPlus) h.1 ∙ by_joins 4 (is_of (sign punct.PlusPlus)) no_increment rest ends,
-    inr (ap (sees punct.MinusMinus) h.1 ∙ by_joins 4 (is_of (sign punct.MinusMinus)) no_decrement rest ends, h)))))
+    inr (
+      ap (sees punct.OpenBracket) h.1 ∙ by_joins 4 (is_of (sign punct.OpenBracket)) no_bracket rest ends,
+      inr (
+        ap (sees punct.Dot) h.1 ∙ by_joins 4 (is_of (sign punct.Dot)) no_dot rest ends,
+        inr (
+          ap (sees punct.Arrow) h.1 ∙ by_joins 4 (is_of (sign punct.Arrow)) no_arrow rest ends,
+          inr (
+            ap (sees punct.PlusPlus) h.1 ∙ by_joins 4 (is_of (sign punct.PlusPlus)) no_increment rest ends,
+            inr (ap (sees punct.MinusMinus) h.1 ∙ by_joins 4 (is_of (sign punct.MinusMinus)) no_decrement rest ends, h),
+          ),
+        ),
+      ),
+    )
 chooses_postfix l left e ms rest (by_index b at ∷ ops, (m4, (m1, ea, (m2, hb, (q, eb))), hp)) ends =
     inl (ap (sees punct.OpenBracket) ea, (tt, at, m1, ea, (b, m2, hb, joins_at 0 (mark (p punct.CloseBracket) q (suc (suc l))) m2 m4 eb (omega arith), (tt, q, m4, eb, (e, rest, (ops, hp), ends, (refl, refl))))))
 chooses_postfix l left e ms rest (by_member x at ∷ ops, (m4, (m1, ea, ex), hp)) ends =

@@ -1,9 +1,8 @@
 -- Operators that are read one after another are grouped as the grammar has it.
-use Rattle.std.proofs.Common.{◌≡◌, ℕ, zero, suc, ◌+◌, ◌≤◌, ◌<◌, Bool, true, false, cond, List, [], ◌∷◌, ◌++◌, refl, sym, ◌∙◌, ap, subst, arith, nat_lt}
+use Rattle.std.proofs.Common.{◌≡◌, ℕ, suc, ◌+◌, ◌≤◌, ◌<◌, Bool, true, false, cond, List, [], ◌∷◌, refl, sym, ◌∙◌, ap, subst, arith, nat_lt}
 use Rattle.std.proofs.lemmas.Bool.Decides.{nat_tests}
 use Rattle.c_tree.specs.declared.expr.BinaryOp.{BinaryOp}
 use Rattle.c_tree.specs.declared.expr.BinaryOp.TheVariants as binary_op
-use Rattle.c_lexer.specs.declared.token.Punct.TheVariants as punct
 use Rattle.c_tree.specs.Tree.{Place, Exp, comma, assign, conditional, binary, prefix, sizeof_exp, sizeof_type, cast, index, member, arrow, post_increment, post_decrement, named, call, number, letter, text, null, paren}
 use Rattle.c_tree.specs.Kinds.{p, binary_punct}
 use Rattle.c_parser.specs.Marks.{Mark, mark, own}
@@ -57,8 +56,18 @@ module _ (op : BinaryOp) (u : Exp) (at : Place) (tight : 13 ≤ binds u) where
   pub of_push : (left : Exp) (l k : ℕ) (ms m1 m2 rest : List Mark) → k ≡ l + operators_in left → 3 ≤ binds left → OfExp l left ms m1 → own (p (binary_punct op)) at (suc (suc k)) m1 m2 → OfExp (suc k) u m2 rest → OfExp l (push left op u at) ms rest
   of_push (binary a last b there) l k ms m1 m2 rest e low h o d =
       by_level (λ x. OfExp l x ms rest) (tightness last) (tightness op) (binary a last (push b op u at) there) (binary (binary a last b there) op u at)
-      (λ lt. ((h.0.0, binds-push (tightness last) b op u at h.0.1 lt), (h.1.0, h.1.1, (h.1.2.0, h.1.2.1,
-      of_push b (suc (l + operators_in a)) k h.1.2.0 m1 m2 rest (omega (arith, e)) (omega (arith, h.0.1, tightness_low last)) h.1.2.2 o d))))
+      (λ lt. (
+        (h.0.0, binds-push (tightness last) b op u at h.0.1 lt),
+        (
+          h.1.0,
+          h.1.1,
+          (
+            h.1.2.0,
+            h.1.2.1,
+            of_push b (suc (l + operators_in a)) k h.1.2.0 m1 m2 rest (omega (arith, e)) (omega (arith, h.0.1, tightness_low last)) h.1.2.2 o d,
+          ),
+        ),
+      ))
       (λ le. whole l k (binary a last b there) ms m1 m2 rest e le h o d)
   of_push (comma a es there) l k ms m1 m2 rest e low h o d = absurd (omega (arith, low))
   of_push (assign a as' b there) l k ms m1 m2 rest e low h o d = absurd (omega (arith, low))

@@ -1,5 +1,5 @@
 -- The head of a function or object is read as the grammar has it.
-use Rattle.std.proofs.Common.{◌≡◌, ◌⊎◌, inl, inr, ℕ, zero, suc, ◌+◌, ◌≤◌, ◌<◌, Bool, true, false, cond, List, [], ◌∷◌, ◌++◌, length, drop, take, Option, Some, None, is_some, refl, sym, ◌∙◌, ap, subst, append_assoc, append-nil, arith, nat_le}
+use Rattle.std.proofs.Common.{◌≡◌, ℕ, zero, suc, ◌+◌, ◌≤◌, ◌<◌, Bool, true, false, cond, List, [], ◌∷◌, ◌++◌, length, drop, Option, Some, None, is_some, refl, sym, ◌∙◌, ap, subst, append_assoc, arith, nat_le}
 use Rattle.std.proofs.lemmas.Bool.Decides.{nat_tests}
 use Rattle.c_lexer.specs.declared.token.Kind.{Kind}
 use Rattle.c_lexer.specs.declared.token.Kind.TheVariants as kind
@@ -9,9 +9,9 @@ use Rattle.c_tree.specs.Kinds.{p}
 use Rattle.c_parser.specs.Grammar.{OfStars, OfRaisingStars}
 use Rattle.c_parser.specs.Marks.{Lexeme, Mark, mark, erase, AllLow}
 use Rattle.c_parser.specs.Phrase.{Head, function_head, object_head}
-use Rattle.c_parser.specs.Parse.{sign, a_name, Value, grab, is_of, follows_declarator, Fault, Syntax, Nesting, Outcome, Got, Stuck, Spent, Parser, and_then, taken, token, passes, star_count, decided, decided_by, outer_head}
+use Rattle.c_parser.specs.Parse.{sign, a_name, grab, is_of, follows_declarator, Fault, Syntax, Nesting, Outcome, Got, Stuck, Spent, taken, token, passes, star_count, decided, decided_by, outer_head}
 use Rattle.c_parser.proofs.Tokens.{grabbed}
-use Rattle.c_parser.proofs.Works.{SameHead, same_head, Language, erase-append, low-append, Spells, Reads, Refuses, Stops, Found, Lost, Works, high, passes_same}
+use Rattle.c_parser.proofs.Works.{SameHead, erase-append, low-append, Spells, Found, Lost, Works, high, passes_same}
 use Rattle.c_parser.proofs.Language.{OfHead}
 
 abbrev pub is_star : Kind → Bool

@@ -1,6 +1,5 @@
 -- What each phrase of the rules may be, by the grammar.
-use Rattle.std.proofs.Common.{◌≡◌, ◌⊎◌, ℕ, zero, suc, ◌+◌, ◌≤◌, Bool, true, false, List, [], ◌∷◌, ◌++◌, Option, Some, None}
-use Rattle.c_lexer.specs.declared.token.Kind.{Kind}
+use Rattle.std.proofs.Common.{◌≡◌, ◌⊎◌, ℕ, suc, ◌+◌, ◌≤◌, Bool, true, false, List, [], ◌∷◌, ◌++◌}
 use Rattle.c_lexer.specs.declared.token.Kind.TheVariants as kind
 use Rattle.c_lexer.specs.declared.token.Punct.TheVariants as punct
 use Rattle.c_tree.specs.declared.name.Name.{Name}
@@ -9,7 +8,7 @@ use Rattle.c_tree.specs.declared.program.Param.{Param}
 use Rattle.c_tree.specs.declared.program.Params.{Params}
 use Rattle.c_tree.specs.Tree.{Place, place_at, Exp, index, member, arrow, post_increment, post_decrement, listed, named, call, number, letter, text, null, Declared, Init, listed_inits, Object, plain, initialised, Part, listed_parts, Code, Fields, Outer, function, objects}
 use Rattle.c_tree.specs.Kinds.{p, binary_punct}
-use Rattle.c_parser.specs.Marks.{Mark, mark, erase, Beginning, own, other, ◌>>◌, nothing, maybe, provided}
+use Rattle.c_parser.specs.Marks.{Mark, mark, erase, Beginning, own, other, ◌>>◌, maybe, provided}
 use Rattle.c_parser.specs.Grammar.{specifier_place, binds, is_cast, OfName, OfSpecifier, OfStars, OfType, OfExp, OfExps, OfMore, OfMaybe, OfRaisingStars, OfLengths, OfDeclared, OfInit, OfMoreInits, OfObject, OfMoreObjects, OfObjects, OfDeclares, OfStart, OfStatement, OfParts, OfMaybeName, OfParam, OfMoreParams, OfParams, OfCode, OfMoreDeclared, OfFields, OfMoreFields, OfOuter, OfProgram}
 use Rattle.c_parser.specs.Phrase as phrase
 use Rattle.c_parser.specs.Phrase.{Phrase, TreeOf, Head, function_head, object_head, Initials, initials}

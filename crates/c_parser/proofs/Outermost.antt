@@ -1,29 +1,27 @@
 -- The rules of statements and of what stands outermost choose what the grammar has.
-use Rattle.std.proofs.Common.{◌≡◌, ◌⊎◌, inl, inr, ℕ, zero, suc, ◌+◌, ◌≤◌, ◌<◌, Bool, true, false, cond, List, [], ◌∷◌, ◌++◌, Option, Some, None, refl, sym, ◌∙◌, ap, subst, arith}
+use Rattle.std.proofs.Common.{◌≡◌, inl, inr, ℕ, zero, suc, ◌+◌, ◌≤◌, Bool, true, false, cond, List, [], ◌∷◌, Option, Some, None, refl, sym, ◌∙◌, ap, subst, arith}
 use Rattle.c_lexer.specs.declared.token.Kind.{Kind}
 use Rattle.c_lexer.specs.declared.token.Kind.TheVariants as kind
-use Rattle.c_lexer.specs.declared.token.Punct.{Punct}
 use Rattle.c_lexer.specs.declared.token.Punct.TheVariants as punct
 use Rattle.c_lexer.specs.declared.token.Word.TheVariants as word
 use Rattle.c_tree.specs.declared.name.Name.{Name}
 use Rattle.c_tree.specs.declared.ctype.Specifier.{Specifier}
 use Rattle.c_tree.specs.declared.ctype.Specifier.TheVariants as specifiers
 use Rattle.c_tree.specs.declared.program.Param.{Param}
-use Rattle.c_tree.specs.declared.program.Params.{Params}
 use Rattle.c_tree.specs.declared.program.Params.TheVariants as params_of
-use Rattle.c_tree.specs.Tree.{Place, place_at, Exp, Declared, declared, Init, Object, plain, initialised, Statement, block, compute, break_at, continue_at, gives, branch, branch_else, while_loop, do_loop, for_loop, listed_parts, Code, defined, prototype, Fields, fields, Outer, structure, function, objects}
+use Rattle.c_tree.specs.Tree.{Place, place_at, Exp, Declared, declared, Object, plain, initialised, Statement, block, compute, break_at, continue_at, gives, branch, branch_else, while_loop, do_loop, for_loop, defined, prototype, Fields, fields, Outer, structure, function, objects}
 use Rattle.c_tree.specs.Kinds.{p, w}
-use Rattle.c_parser.specs.Marks.{Mark, mark, erase, own, other, ◌>>◌, maybe}
-use Rattle.c_parser.specs.Grammar.{specifier_place, first_place, ends_open, is_void_alone, OfName, OfSpecifier, OfStars, OfExp, OfRaisingStars, OfLengths, OfDeclared, OfInit, OfObject, OfMoreObjects, OfObjects, OfStatement, OfParts, OfMaybeName, OfParam, OfMoreParams, OfParams, OfCode, OfMoreDeclared, OfFields, OfMoreFields, OfOuter, OfProgram}
+use Rattle.c_parser.specs.Marks.{Mark, mark}
+use Rattle.c_parser.specs.Grammar.{specifier_place, ends_open, OfName, OfSpecifier, OfStars, OfRaisingStars, OfLengths, OfMoreObjects, OfStatement, OfParts, OfMaybeName, OfMoreParams, OfMoreDeclared, OfFields, OfOuter}
 use Rattle.c_parser.specs.Phrase as phrase
 use Rattle.c_parser.specs.Phrase.{Phrase, TreeOf, Head, function_head, object_head}
 use Rattle.c_parser.specs.Parse.{sign, key, a_name, is_of, is_type, follows_declarator, Rule, ret, one, choose}
 use Rattle.c_parser.specs.Parse as rule
-use Rattle.c_parser.specs.Rules.{rules, name_of, params_from, else_rule, behind_head}
-use Rattle.c_parser.proofs.Language.{OfHead, Of}
-use Rattle.c_parser.proofs.Ends.{joins, joins_next, next_is, sees, reads_word, AfterType, AfterParam, EndsAt, HeadEndsAt, Chosen, by_joins, by_test, joins_test, no_comma, begins_exp, exp_begins, not_begun, not_open_brace, not_break, not_continue, not_return, not_if, not_while, not_do, not_for, not_semicolon}
-use Rattle.c_parser.proofs.Expressions.{Chooses, looks, joins_at, one_of_more, none_of_more, chooses_specifier, chooses_stars, before_stars, zero_plus, type_begins, chooses_type, chooses_expression, chooses_more, chooses_assignment, chooses_conditional, chooses_operands, chooses_chain, chooses_unary, chooses_unary_plain, chooses_enclosed, chooses_opened, chooses_atom, chooses_postfix, chooses_arguments, chooses_maybe}
-use Rattle.c_parser.proofs.Statements.{chooses_raising, chooses_declarator, chooses_lengths, chooses_initial, chooses_more_initials, chooses_object, chooses_object_behind, before_objects, chooses_more_objects, begins_object, declared_begins, object_begins, objects_begin, after_type, chooses_declaration, chooses_start, chooses_parts, as_parts, parts_as, type_no_close}
+use Rattle.c_parser.specs.Rules.{rules}
+use Rattle.c_parser.proofs.Language.{Of}
+use Rattle.c_parser.proofs.Ends.{joins, joins_next, next_is, sees, reads_word, AfterParam, Chosen, by_test, joins_test, not_begun, not_open_brace, not_break, not_continue, not_return, not_if, not_while, not_do, not_for, not_semicolon}
+use Rattle.c_parser.proofs.Expressions.{Chooses, joins_at, one_of_more, none_of_more, chooses_specifier, chooses_stars, before_stars, zero_plus, type_begins, chooses_type, chooses_expression, chooses_more, chooses_assignment, chooses_conditional, chooses_operands, chooses_chain, chooses_unary, chooses_unary_plain, chooses_enclosed, chooses_opened, chooses_atom, chooses_postfix, chooses_arguments, chooses_maybe}
+use Rattle.c_parser.proofs.Statements.{chooses_raising, chooses_declarator, chooses_lengths, chooses_initial, chooses_more_initials, chooses_object, chooses_object_behind, before_objects, chooses_more_objects, begins_object, declared_begins, objects_begin, after_type, chooses_declaration, chooses_start, chooses_parts, as_parts, parts_as, type_no_close}
 
 -- ---- statements
 
@@ -39,14 +37,77 @@ clash b h k = cc
 
 chooses_branch : (l : ℕ) (e : Exp) (a : Statement) (at : Place) (ms rest : List Mark) → OfStatement l (branch e a at) ms rest → reads_word word.Else rest ≡ false → Chosen (rules (phrase.statement l)) (branch e a at) ms rest
 chooses_branch l e a at ms rest (m1, ei, (m2, (p2, e2), (m3, he, (m4, (p3, e3), ha)))) none =
-    inr (ap (sees punct.OpenBrace) ei, inr (ap (sees punct.Semicolon) ei, inr (ap (reads_word word.Break) ei, inr (ap (reads_word word.Continue) ei, inr (ap (reads_word word.Return) ei, inl (ap (reads_word word.If) ei,
-    (tt, at, m1, ei, (tt, p2, m2, e2, (e, m3, he, joins_at 0 (mark (p punct.CloseParen) p3 (suc l)) m3 m4 e3 (omega arith), (tt, p3, m4, e3, (a, rest, ha, (λ _. none), no_else (suc l) e a at rest none (ends_open a))))))))))))
+    inr (
+      ap (sees punct.OpenBrace) ei,
+      inr (
+        ap (sees punct.Semicolon) ei,
+        inr (
+          ap (reads_word word.Break) ei,
+          inr (
+            ap (reads_word word.Continue) ei,
+            inr (
+              ap (reads_word word.Return) ei,
+              inl (
+                ap (reads_word word.If) ei,
+                (tt, at, m1, ei, (tt, p2, m2, e2, (e, m3, he, joins_at 0 (mark (p punct.CloseParen) p3 (suc l)) m3 m4 e3 (omega arith), (tt, p3, m4, e3, (a, rest, ha, (λ _. none), no_else (suc l) e a at rest none (ends_open a)))))),
+              ),
+            ),
+          ),
+        ),
+      ),
+    )
 
 chooses_branch_else : (l : ℕ) (e : Exp) (a b : Statement) (at : Place) (ms rest : List Mark) → OfStatement l (branch_else e a b at) ms rest → (ends_open b ≡ true → reads_word word.Else rest ≡ false) → Chosen (rules (phrase.statement l)) (branch_else e a b at) ms rest
 chooses_branch_else l e a b at ms rest (shut, (m1, ei, (m2, (p2, e2), (m3, he, (m4, (p3, e3), (m5, ha, (m6, (p4, e4), hb))))))) ends =
-    inr (ap (sees punct.OpenBrace) ei, inr (ap (sees punct.Semicolon) ei, inr (ap (reads_word word.Break) ei, inr (ap (reads_word word.Continue) ei, inr (ap (reads_word word.Return) ei, inl (ap (reads_word word.If) ei,
-    (tt, at, m1, ei, (tt, p2, m2, e2, (e, m3, he, joins_at 0 (mark (p punct.CloseParen) p3 (suc l)) m3 m4 e3 (omega arith), (tt, p3, m4, e3, (a, m5, ha, (λ opens. clash (ends_open a) opens shut),
-    subst (λ z. Chosen (else_of (suc l) e a at z) (branch_else e a b at) m5 rest) (sym shut) (inl (ap (reads_word word.Else) e4, (tt, p4, m6, e4, (b, rest, hb, ends, (refl, refl))))))))))))))))
+    inr (
+      ap (sees punct.OpenBrace) ei,
+      inr (
+        ap (sees punct.Semicolon) ei,
+        inr (
+          ap (reads_word word.Break) ei,
+          inr (
+            ap (reads_word word.Continue) ei,
+            inr (
+              ap (reads_word word.Return) ei,
+              inl (
+                ap (reads_word word.If) ei,
+                (
+                  tt,
+                  at,
+                  m1,
+                  ei,
+                  (
+                    tt,
+                    p2,
+                    m2,
+                    e2,
+                    (
+                      e,
+                      m3,
+                      he,
+                      joins_at 0 (mark (p punct.CloseParen) p3 (suc l)) m3 m4 e3 (omega arith),
+                      (
+                        tt,
+                        p3,
+                        m4,
+                        e3,
+                        (
+                          a,
+                          m5,
+                          ha,
+                          (λ opens. clash (ends_open a) opens shut),
+                          subst (λ z. Chosen (else_of (suc l) e a at z) (branch_else e a b at) m5 rest) (sym shut) (inl (ap (reads_word word.Else) e4, (tt, p4, m6, e4, (b, rest, hb, ends, (refl, refl))))),
+                        ),
+                      ),
+                    ),
+                  ),
+                ),
+              ),
+            ),
+          ),
+        ),
+      ),
+    )
 
 chooses_statement : (l : ℕ) → Chooses (phrase.statement l)
 chooses_statement l (block ps at) ms rest (m1, e, (m2, h, (q, ec))) ends =
@@ -56,24 +117,131 @@ chooses_statement l (break_at at) ms rest (m1, e, (q, ec)) ends = inr (ap (sees 
 chooses_statement l (continue_at at) ms rest (m1, e, (q, ec)) ends =
     inr (ap (sees punct.OpenBrace) e, inr (ap (sees punct.Semicolon) e, inr (ap (reads_word word.Break) e, inl (ap (reads_word word.Continue) e, (tt, at, m1, e, (tt, q, rest, ec, (refl, refl)))))))
 chooses_statement l (gives x at) ms rest (m1, e, (m2, h, (q, ec))) ends =
-    inr (ap (sees punct.OpenBrace) e, inr (ap (sees punct.Semicolon) e, inr (ap (reads_word word.Break) e, inr (ap (reads_word word.Continue) e, inl (ap (reads_word word.Return) e,
-    (tt, at, m1, e, (x, m2, h, (inl refl, ap (sees punct.Semicolon) ec), (tt, q, rest, ec, (refl, refl)))))))))
+    inr (
+      ap (sees punct.OpenBrace) e,
+      inr (
+        ap (sees punct.Semicolon) e,
+        inr (
+          ap (reads_word word.Break) e,
+          inr (
+            ap (reads_word word.Continue) e,
+            inl (
+              ap (reads_word word.Return) e,
+              (tt, at, m1, e, (x, m2, h, (inl refl, ap (sees punct.Semicolon) ec), (tt, q, rest, ec, (refl, refl)))),
+            ),
+          ),
+        ),
+      ),
+    )
 chooses_statement l (branch e a at) ms rest h ends = chooses_branch l e a at ms rest h (ends refl)
 chooses_statement l (branch_else e a b at) ms rest h ends = chooses_branch_else l e a b at ms rest h ends
 chooses_statement l (while_loop x a at) ms rest (m1, e, (m2, (p2, e2), (m3, hx, (m4, (p3, e3), ha)))) ends =
-    inr (ap (sees punct.OpenBrace) e, inr (ap (sees punct.Semicolon) e, inr (ap (reads_word word.Break) e, inr (ap (reads_word word.Continue) e, inr (ap (reads_word word.Return) e, inr (ap (reads_word word.If) e, inl (ap (reads_word word.While) e,
-    (tt, at, m1, e, (tt, p2, m2, e2, (x, m3, hx, joins_at 0 (mark (p punct.CloseParen) p3 (suc l)) m3 m4 e3 (omega arith), (tt, p3, m4, e3, (a, rest, ha, ends, (refl, refl)))))))))))))
+    inr (
+      ap (sees punct.OpenBrace) e,
+      inr (
+        ap (sees punct.Semicolon) e,
+        inr (
+          ap (reads_word word.Break) e,
+          inr (
+            ap (reads_word word.Continue) e,
+            inr (
+              ap (reads_word word.Return) e,
+              inr (
+                ap (reads_word word.If) e,
+                inl (
+                  ap (reads_word word.While) e,
+                  (tt, at, m1, e, (tt, p2, m2, e2, (x, m3, hx, joins_at 0 (mark (p punct.CloseParen) p3 (suc l)) m3 m4 e3 (omega arith), (tt, p3, m4, e3, (a, rest, ha, ends, (refl, refl)))))),
+                ),
+              ),
+            ),
+          ),
+        ),
+      ),
+    )
 chooses_statement l (do_loop a x at) ms rest (m1, e, (m2, ha, (m3, (p2, e2), (m4, (p3, e3), (m5, hx, (m6, (p4, e4), (p5, e5))))))) ends =
-    inr (ap (sees punct.OpenBrace) e, inr (ap (sees punct.Semicolon) e, inr (ap (reads_word word.Break) e, inr (ap (reads_word word.Continue) e, inr (ap (reads_word word.Return) e, inr (ap (reads_word word.If) e, inr (ap (reads_word word.While) e, inl (ap (reads_word word.Do) e,
-    (tt, at, m1, e, (a, m2, ha, (λ _. ap (reads_word word.Else) e2), (tt, p2, m3, e2, (tt, p3, m4, e3, (x, m5, hx, joins_at 0 (mark (p punct.CloseParen) p4 (suc l)) m5 m6 e4 (omega arith), (tt, p4, m6, e4, (tt, p5, rest, e5, (refl, refl))))))))))))))))
+    inr (
+      ap (sees punct.OpenBrace) e,
+      inr (
+        ap (sees punct.Semicolon) e,
+        inr (
+          ap (reads_word word.Break) e,
+          inr (
+            ap (reads_word word.Continue) e,
+            inr (
+              ap (reads_word word.Return) e,
+              inr (
+                ap (reads_word word.If) e,
+                inr (
+                  ap (reads_word word.While) e,
+                  inl (
+                    ap (reads_word word.Do) e,
+                    (tt, at, m1, e, (a, m2, ha, (λ _. ap (reads_word word.Else) e2), (tt, p2, m3, e2, (tt, p3, m4, e3, (x, m5, hx, joins_at 0 (mark (p punct.CloseParen) p4 (suc l)) m5 m6 e4 (omega arith), (tt, p4, m6, e4, (tt, p5, rest, e5, (refl, refl)))))))),
+                  ),
+                ),
+              ),
+            ),
+          ),
+        ),
+      ),
+    )
 chooses_statement l (for_loop s test next a at) ms rest (m1, e, (m2, (p2, e2), (m3, hs, (m4, ht, (m5, (p3, e3), (m6, hn, (m7, (p4, e4), ha))))))) ends =
-    inr (ap (sees punct.OpenBrace) e, inr (ap (sees punct.Semicolon) e, inr (ap (reads_word word.Break) e, inr (ap (reads_word word.Continue) e, inr (ap (reads_word word.Return) e, inr (ap (reads_word word.If) e, inr (ap (reads_word word.While) e, inr (ap (reads_word word.Do) e, inl (ap (reads_word word.For) e,
-    (tt, at, m1, e, (tt, p2, m2, e2, (s, m3, hs, tt, (test, m4, ht, (inl refl, ap (sees punct.Semicolon) e3), (tt, p3, m5, e3, (next, m6, hn, (inr refl, ap (sees punct.CloseParen) e4), (tt, p4, m7, e4, (a, rest, ha, ends, (refl, refl))))))))))))))))))
+    inr (
+      ap (sees punct.OpenBrace) e,
+      inr (
+        ap (sees punct.Semicolon) e,
+        inr (
+          ap (reads_word word.Break) e,
+          inr (
+            ap (reads_word word.Continue) e,
+            inr (
+              ap (reads_word word.Return) e,
+              inr (
+                ap (reads_word word.If) e,
+                inr (
+                  ap (reads_word word.While) e,
+                  inr (
+                    ap (reads_word word.Do) e,
+                    inl (
+                      ap (reads_word word.For) e,
+                      (tt, at, m1, e, (tt, p2, m2, e2, (s, m3, hs, tt, (test, m4, ht, (inl refl, ap (sees punct.Semicolon) e3), (tt, p3, m5, e3, (next, m6, hn, (inr refl, ap (sees punct.CloseParen) e4), (tt, p4, m7, e4, (a, rest, ha, ends, (refl, refl))))))))),
+                    ),
+                  ),
+                ),
+              ),
+            ),
+          ),
+        ),
+      ),
+    )
 chooses_statement l (compute (Some x) at) ms rest (is, (m1, h, (q, ec))) ends =
-    inr (not_begun (is_of (sign punct.OpenBrace)) not_open_brace (suc l) x ms m1 h, inr (not_begun (is_of (sign punct.Semicolon)) not_semicolon (suc l) x ms m1 h, inr (not_begun (is_of (key word.Break)) not_break (suc l) x ms m1 h,
-    inr (not_begun (is_of (key word.Continue)) not_continue (suc l) x ms m1 h, inr (not_begun (is_of (key word.Return)) not_return (suc l) x ms m1 h, inr (not_begun (is_of (key word.If)) not_if (suc l) x ms m1 h,
-    inr (not_begun (is_of (key word.While)) not_while (suc l) x ms m1 h, inr (not_begun (is_of (key word.Do)) not_do (suc l) x ms m1 h, inr (not_begun (is_of (key word.For)) not_for (suc l) x ms m1 h,
-    (x, m1, h, joins_at 0 (mark (p punct.Semicolon) q (suc l)) m1 rest ec (omega arith), (tt, q, rest, ec, (ap (compute (Some x)) is, refl))))))))))))
+    inr (
+      not_begun (is_of (sign punct.OpenBrace)) not_open_brace (suc l) x ms m1 h,
+      inr (
+        not_begun (is_of (sign punct.Semicolon)) not_semicolon (suc l) x ms m1 h,
+        inr (
+          not_begun (is_of (key word.Break)) not_break (suc l) x ms m1 h,
+          inr (
+            not_begun (is_of (key word.Continue)) not_continue (suc l) x ms m1 h,
+            inr (
+              not_begun (is_of (key word.Return)) not_return (suc l) x ms m1 h,
+              inr (
+                not_begun (is_of (key word.If)) not_if (suc l) x ms m1 h,
+                inr (
+                  not_begun (is_of (key word.While)) not_while (suc l) x ms m1 h,
+                  inr (
+                    not_begun (is_of (key word.Do)) not_do (suc l) x ms m1 h,
+                    inr (
+                      not_begun (is_of (key word.For)) not_for (suc l) x ms m1 h,
+                      (x, m1, h, joins_at 0 (mark (p punct.Semicolon) q (suc l)) m1 rest ec (omega arith), (tt, q, rest, ec, (ap (compute (Some x)) is, refl))),
+                    ),
+                  ),
+                ),
+              ),
+            ),
+          ),
+        ),
+      ),
+    )
 
 -- ---- parameters
 
@@ -94,11 +262,16 @@ before_name test a b c None ms rest h e = ap (next_is test) h ∙ after_param te
 before_name test a b c (Some n) ms rest h e = ap (next_is test) h ∙ c n.text
 
 chooses_param : Chooses phrase.param
-chooses_param x ms rest (e, (m1, hs, (m2, hk, hn))) ends =
-    (x.specifier, m1, hs, (
-      before_stars (is_of (key word.Long)) refl 0 x.stars m1 m2 hk (before_name (is_of (key word.Long)) refl refl (λ _. refl) x.name m2 rest hn ends),
-      before_stars (is_of (key word.Int)) refl 0 x.stars m1 m2 hk (before_name (is_of (key word.Int)) refl refl (λ _. refl) x.name m2 rest hn ends),
-    ), (x, rest, (refl, e, (m2, hk, hn)), ends, (refl, refl)))
+chooses_param x ms rest (e, (m1, hs, (m2, hk, hn))) ends = (
+  x.specifier,
+  m1,
+  hs,
+  (
+    before_stars (is_of (key word.Long)) refl 0 x.stars m1 m2 hk (before_name (is_of (key word.Long)) refl refl (λ _. refl) x.name m2 rest hn ends),
+    before_stars (is_of (key word.Int)) refl 0 x.stars m1 m2 hk (before_name (is_of (key word.Int)) refl refl (λ _. refl) x.name m2 rest hn ends),
+  ),
+  (x, rest, (refl, e, (m2, hk, hn)), ends, (refl, refl)),
+)
 
 param_is : (s t : Specifier) (k : ℕ) (n : Option Name) (line column : ℕ) → t ≡ s → place_at line column ≡ specifier_place s → Path Param (record { specifier = t; stars = k; name = n; line = line; column = column }) (record { specifier = s; stars = k; name = n; line = (specifier_place s).line; column = (specifier_place s).column })
 param_is s t k n line column e d = ap (λ (z : Specifier). record { specifier = z; stars = k; name = n; line = line; column = column }) e ∙ ap (λ (q : Place). record { specifier = s; stars = k; name = n; line = q.line; column = q.column }) d
@@ -133,8 +306,16 @@ chooses_params params_of.Void ms rest (at, e) ends =
     inr (ap (sees punct.CloseParen) e, (x, rest, (refl, (rest, e, (rest, refl, refl))), inr ends, (x ∷ [], rest, ([], refl, refl), ends, (refl, refl))))
 chooses_params (params_of.Listed []) ms rest h ends = absurd h
 chooses_params (params_of.Listed (x ∷ xs)) ms rest (v, (m1, hx, hm)) ends =
-    inr (by_test is_type (is_of (sign punct.CloseParen)) false type_no_paren ms (type_begins 0 x.specifier ms hx.1.0 hx.1.1), (x, m1, hx, before_params xs m1 rest hm ends,
-    (x ∷ xs, rest, (xs, refl, hm), ends, (ap (λ b. cond b params_of.Void (params_of.Listed (x ∷ xs))) (sym v), refl))))
+    inr (
+      by_test is_type (is_of (sign punct.CloseParen)) false type_no_paren ms (type_begins 0 x.specifier ms hx.1.0 hx.1.1),
+      (
+        x,
+        m1,
+        hx,
+        before_params xs m1 rest hm ends,
+        (x ∷ xs, rest, (xs, refl, hm), ends, (ap (λ b. cond b params_of.Void (params_of.Listed (x ∷ xs))) (sym v), refl)),
+      ),
+    )
 
 chooses_code : Chooses phrase.code
 chooses_code (defined ps at) ms rest (m1, e, (m2, h, (q, ec))) ends =
@@ -200,9 +381,13 @@ first_object : (is_static : Bool) (s : Specifier) (at : Place) (o : Outer) (n : 
 first_object is_static s at o n name es x os ms ma mb mc md me rest q is hk en hl hx hm ec follows low =
     let same : 0 + n ≡ n = sym (zero_plus n) in
     let stop = joins_at 0 (mark (p punct.Semicolon) q 0) me rest ec (omega arith) in
-    let lengths = subst (λ z. OfLengths z es mb mc) same hl in
-    (object_head n name.text (place_at name.line name.column), mb, (ma, hk, subst (λ z. OfName z name ma mb) same en), follows_lengths n es mb mc lengths follows,
-    (es, mc, (es, refl, lengths), low, (x, md, hx, before_objects 0 os md me hm stop, (x ∷ os, me, (os, refl, hm), stop, (tt, q, rest, ec, (is, refl))))))
+    let lengths = subst (λ z. OfLengths z es mb mc) same hl in (
+      object_head n name.text (place_at name.line name.column),
+      mb,
+      (ma, hk, subst (λ z. OfName z name ma mb) same en),
+      follows_lengths n es mb mc lengths follows,
+      (es, mc, (es, refl, lengths), low, (x, md, hx, before_objects 0 os md me hm stop, (x ∷ os, me, (os, refl, hm), stop, (tt, q, rest, ec, (is, refl))))),
+    )
 
 chooses_outer_behind : (is_static : Bool) (s : Specifier) (at : Place) → Chooses (phrase.outer_behind is_static s at)
 chooses_outer_behind is_static s at o ms rest (inl (n, name, xs, c, is, (m1, hk, (m2, en, (m3, (p3, e3), (m4, hx, (m5, (p5, e5), hc))))))) ends =
@@ -221,8 +406,25 @@ object_no_brace _ h = refl
 -- without `static`
 plainly : (s : Specifier) (o : Outer) (ms m2 rest : List Mark) → OfSpecifier 0 s ms m2 → Of (phrase.outer_behind false s (specifier_place s)) o m2 rest → Chosen (rules phrase.outer) o ms rest
 plainly (specifiers.Struct name line column) o ms m2 rest (m1, e, en) h =
-    inr (ap (reads_word word.Static) e, inl (ap (reads_word word.Struct) e, (tt, place_at line column, m1, e, (name.text, place_at name.line name.column, m2, en,
-    inr (by_test begins_object (is_of (sign punct.OpenBrace)) false object_no_brace m2 (behind_begins false (specifiers.Struct name line column) (place_at line column) o m2 rest h), (o, rest, h, tt, (refl, refl)))))))
+    inr (
+      ap (reads_word word.Static) e,
+      inl (
+        ap (reads_word word.Struct) e,
+        (
+          tt,
+          place_at line column,
+          m1,
+          e,
+          (
+            name.text,
+            place_at name.line name.column,
+            m2,
+            en,
+            inr (by_test begins_object (is_of (sign punct.OpenBrace)) false object_no_brace m2 (behind_begins false (specifiers.Struct name line column) (place_at line column) o m2 rest h), (o, rest, h, tt, (refl, refl))),
+          ),
+        ),
+      ),
+    )
 plainly (specifiers.Int line column) o ms m2 rest e h = inr (ap (reads_word word.Static) e, inr (ap (reads_word word.Struct) e, (specifiers.Int line column, m2, e, after_type m2 (behind_begins false (specifiers.Int line column) (place_at line column) o m2 rest h), (o, rest, h, tt, (refl, refl)))))
 plainly (specifiers.Long second int line column) o ms m2 rest e h =
     inr (ap (reads_word word.Static) e.1, inr (ap (reads_word word.Struct) e.1, (specifiers.Long second int line column, m2, e, after_type m2 (behind_begins false (specifiers.Long second int line column) (place_at line column) o m2 rest h), (o, rest, h, tt, (refl, refl)))))
@@ -242,8 +444,34 @@ statically s at o ms m1 m2 rest e hs h = inl (ap (reads_word word.Static) e, (tt
 chooses_outer : Chooses phrase.outer
 chooses_outer (structure name []) ms rest (m1, (at, es), (m2, en, (m3, (p3, e3), (m5, hf, (m6, (p4, e4), (p5, e5)))))) ends = absurd hf
 chooses_outer (structure name (f ∷ fs)) ms rest (m1, (at, es), (m2, en, (m3, (p3, e3), (m5, (m4, hf, hm), (m6, (p4, e4), (p5, e5)))))) ends =
-    inr (ap (reads_word word.Static) es, inl (ap (reads_word word.Struct) es, (tt, at, m1, es, (name.text, place_at name.line name.column, m2, en, inl (ap (sees punct.OpenBrace) e3, (tt, p3, m3, e3,
-    (f, m4, hf, tt, (f ∷ fs, m5, (fs, refl, hm), ap (sees punct.CloseBrace) e4, (tt, p4, m6, e4, (tt, p5, rest, e5, (refl, refl)))))))))))
+    inr (
+      ap (reads_word word.Static) es,
+      inl (
+        ap (reads_word word.Struct) es,
+        (
+          tt,
+          at,
+          m1,
+          es,
+          (
+            name.text,
+            place_at name.line name.column,
+            m2,
+            en,
+            inl (
+              ap (sees punct.OpenBrace) e3,
+              (
+                tt,
+                p3,
+                m3,
+                e3,
+                (f, m4, hf, tt, (f ∷ fs, m5, (fs, refl, hm), ap (sees punct.CloseBrace) e4, (tt, p4, m6, e4, (tt, p5, rest, e5, (refl, refl))))),
+              ),
+            ),
+          ),
+        ),
+      ),
+    )
 chooses_outer (function true s n name xs c) ms rest (m1, (at, e), (m2, hs, h)) ends = statically s at (function true s n name xs c) ms m1 m2 rest e hs (inl (n, name, xs, c, refl, h))
 chooses_outer (function false s n name xs c) ms rest (m1, e, (m2, hs, h)) ends = plainly s (function false s n name xs c) ms m2 rest (subst (λ z. OfSpecifier 0 s z m2) (sym e) hs) (inl (n, name, xs, c, refl, h))
 chooses_outer (objects true s os at) ms rest (m1, e, (m2, hs, h)) ends = statically s at (objects true s os at) ms m1 m2 rest e hs (inr (os, refl, h))

@@ -1,6 +1,5 @@
 -- The parser reads phrases of the grammar, and stops only where none goes on.
-use Rattle.std.proofs.Common.{◌≡◌, ◌⊎◌, inl, inr, ℕ, zero, suc, ◌+◌, ◌≤◌, Bool, true, false, List, [], ◌∷◌, ◌++◌, refl, sym, ap, arith}
-use Rattle.c_parser.specs.Marks.{Lexeme, Mark}
+use Rattle.std.proofs.Common.{inl, inr, ℕ, zero, suc, ◌≤◌}
 use Rattle.c_parser.specs.Phrase.{Phrase, TreeOf}
 use Rattle.c_parser.specs.Parse.{Rule, ret, one, heads, choose, Outcome, Got, Stuck, Spent, Parser, token, outer_head, run}
 use Rattle.c_parser.specs.Parse as rule

@@ -1,5 +1,5 @@
 -- What a rule reads is a phrase of the grammar.
-use Rattle.std.proofs.Common.{◌≡◌, ◌⊎◌, inl, inr, ℕ, zero, suc, ◌+◌, ◌≤◌, ◌<◌, Bool, true, false, cond, ◌&&◌, List, [], ◌∷◌, ◌++◌, Option, Some, None, refl, sym, ◌∙◌, ap, subst, append_assoc, append-nil, arith}
+use Rattle.std.proofs.Common.{◌≡◌, inl, inr, ℕ, zero, suc, ◌+◌, ◌≤◌, Bool, true, false, cond, ◌&&◌, List, [], ◌∷◌, ◌++◌, Option, None, refl, sym, ◌∙◌, ap, subst, append_assoc, append-nil, arith}
 use Rattle.c_lexer.specs.declared.token.Kind.TheVariants as kind
 use Rattle.c_lexer.specs.declared.token.Punct.TheVariants as punct
 use Rattle.c_lexer.specs.declared.token.Word.TheVariants as word
@@ -9,17 +9,16 @@ use Rattle.c_tree.specs.declared.ctype.Specifier.TheVariants as specifiers
 use Rattle.c_tree.specs.declared.expr.PrefixOp.{PrefixOp}
 use Rattle.c_tree.specs.declared.expr.PrefixOp.TheVariants as prefix_op
 use Rattle.c_tree.specs.declared.program.Param.{Param}
-use Rattle.c_tree.specs.declared.program.Params.{Params}
 use Rattle.c_tree.specs.declared.program.Params.TheVariants as params_of
-use Rattle.c_tree.specs.Tree.{Place, place_at, Exp, comma, assign, conditional, binary, prefix, sizeof_exp, sizeof_type, cast, index, member, arrow, post_increment, post_decrement, named, call, number, letter, text, null, paren, listed, Declared, declared, Init, braces, listed_inits, Object, plain, initialised, Statement, branch, branch_else, Part, part_declares, part_does, listed_parts, Code, Fields, Outer, structure, function, objects}
+use Rattle.c_tree.specs.Tree.{Place, place_at, Exp, comma, named, call, number, letter, text, null, paren, listed, Declared, declared, Init, listed_inits, Object, Statement, branch, branch_else, part_declares, part_does, listed_parts, Outer}
 use Rattle.c_tree.specs.Kinds.{p, w}
-use Rattle.c_parser.specs.Grammar.{specifier_place, first_place, binds, is_cast, operators_in, postfixes_in, OfMaybeName, ends_open, is_void, is_nameless, is_void_alone, OfName, OfSpecifier, OfStars, OfExp, OfExps, OfRaisingStars, OfLengths, OfDeclared, OfInit, OfInits, OfObject, OfObjects, OfStatement, OfParts, OfParam, OfMoreParams, OfParams, OfAllDeclared, OfAllFields, OfOuter}
+use Rattle.c_parser.specs.Grammar.{specifier_place, first_place, binds, postfixes_in, OfMaybeName, ends_open, is_void, is_nameless, is_void_alone, OfSpecifier, OfStars, OfExp, OfExps, OfRaisingStars, OfLengths, OfDeclared, OfInit, OfInits, OfObject, OfObjects, OfStatement, OfParts, OfParam, OfMoreParams, OfParams, OfAllDeclared, OfAllFields, OfOuter}
 use Rattle.c_parser.specs.Marks.{Mark, mark, own, other, ◌>>◌, maybe}
 use Rattle.c_parser.specs.Phrase as phrase
 use Rattle.c_parser.specs.Phrase.{Phrase, TreeOf, Head, function_head, object_head, Initials, initials}
 use Rattle.c_parser.specs.Parse.{sign, key, a_prefix, kind_of, is_of, Rule, ret, one, heads, choose}
 use Rattle.c_parser.specs.Parse as rule
-use Rattle.c_parser.specs.Rules.{name_of, rules, braces_behind, else_rule, behind_head, params_from}
+use Rattle.c_parser.specs.Rules.{name_of, rules, braces_behind, behind_head, params_from}
 use Rattle.c_parser.proofs.Language.{link, by_index, by_member, by_arrow, by_increment, by_decrement, is_atom, open_mark, starts_open, OfHead, Of, Lang, Holds}
 use Rattle.c_parser.proofs.Grouping.{no_operators, no_cast, of_chained, of_postfixed}
 
@@ -108,7 +107,7 @@ head_holds is_static s at ms m1 (function_head n x there) k =
 head_holds is_static s at ms m1 (object_head n x there) k =
     λ es m2 j o m3 g os m4 i v p2 m5 e2.
     let d : OfDeclared 0 (declared n (name_of x there) es) ms m2 =
-        (k.0, k.1, (m1, subst (λ z. own (kind.Name x) there z k.0 m1) (zero_plus n) k.2, subst (λ z. OfLengths z es m1 m2) (zero_plus n) (subst (λ z. OfLengths n z m1 m2) (sym j.1) j.2))) in
+    (k.0, k.1, (m1, subst (λ z. own (kind.Name x) there z k.0 m1) (zero_plus n) k.2, subst (λ z. OfLengths z es m1 m2) (zero_plus n) (subst (λ z. OfLengths n z m1 m2) (sym j.1) j.2))) in
     inr (os, refl, (m4, subst (λ z. OfObjects 0 z ms m4) (sym i.1) (m3, join_object 0 (declared n (name_of x there) es) o ms m2 m3 d g, i.2), (p2, e2)))
 
 outer_static : (s : Specifier) (at : Place) (o : Outer) (ms m1 m2 m3 : List Mark) → ms ≡ mark (w word.Static) at 0 ∷ m1 → OfSpecifier 0 s m1 m2 → Of (phrase.outer_behind true s at) o m2 m3 → OfOuter o ms m3
@@ -165,7 +164,7 @@ sound (phrase.unary_plain l) ms = (
       λ u m2 h. (ap starts_open e, omega arith, refl, ((h.1, h.2), (m1, e, h.3))),
     ),
     λ a m1 h all m2 k. let b = of_postfixed k.0 l l a all ms m1 m2 (atom_postfixes a h.0 l) (atom_binds a h.0) h.1 k.1 in
-    (atom_not_open l a ms m1 h.0 h.1, omega (arith, b.0), no_cast all b.0, b.1),
+        (atom_not_open l a ms m1 h.0 h.1, omega (arith, b.0), no_cast all b.0, b.1),
   ),
 )
 sound (phrase.opened l there) ms = (λ t m1 h v p2 m2 e a m3 k. (omega arith, (k.0, (ms, refl, (m1, h, (m2, (p2, e), k.1))))), λ r m1 h. (h.0, h.2))

@@ -1,27 +1,18 @@
 -- The rules of declarations, statements and what stands outermost choose what the grammar has.
-use Rattle.std.proofs.Common.{◌≡◌, ◌⊎◌, inl, inr, ℕ, zero, suc, ◌+◌, ◌≤◌, ◌<◌, Bool, true, false, cond, ◌&&◌, List, [], ◌∷◌, ◌++◌, Option, Some, None, refl, sym, ◌∙◌, ap, subst, append_assoc, append-nil, arith}
+use Rattle.std.proofs.Common.{◌≡◌, inl, inr, ℕ, zero, suc, ◌+◌, ◌≤◌, Bool, true, false, List, [], ◌∷◌, Option, Some, None, refl, sym, ◌∙◌, ap, subst, append_assoc, append-nil, arith}
 use Rattle.c_lexer.specs.declared.token.Kind.{Kind}
 use Rattle.c_lexer.specs.declared.token.Kind.TheVariants as kind
-use Rattle.c_lexer.specs.declared.token.Punct.{Punct}
 use Rattle.c_lexer.specs.declared.token.Punct.TheVariants as punct
 use Rattle.c_lexer.specs.declared.token.Word.TheVariants as word
-use Rattle.c_tree.specs.declared.name.Name.{Name}
-use Rattle.c_tree.specs.declared.ctype.Specifier.{Specifier}
-use Rattle.c_tree.specs.declared.ctype.Specifier.TheVariants as specifiers
-use Rattle.c_tree.specs.declared.program.Param.{Param}
-use Rattle.c_tree.specs.declared.program.Params.{Params}
-use Rattle.c_tree.specs.declared.program.Params.TheVariants as params_of
-use Rattle.c_tree.specs.Tree.{Place, place_at, Exp, Declared, declared, Init, value, braces, mutex_start, cond_start, Inits, no_init, and_init, listed_inits, Object, plain, initialised, Declares, declares, Start, start_declares, start_computes, Statement, block, compute, break_at, continue_at, gives, branch, branch_else, while_loop, do_loop, for_loop, Parts, no_part, and_declares, and_does, Part, part_declares, part_does, listed_parts, Code, defined, prototype, Fields, fields, Outer, structure, function, objects}
-use Rattle.c_tree.specs.Kinds.{p, w}
-use Rattle.c_parser.specs.Marks.{Mark, mark, erase, own, other, ◌>>◌, maybe}
-use Rattle.c_parser.specs.Grammar.{specifier_place, first_place, binds, ends_open, is_void, is_nameless, is_void_alone, OfName, OfSpecifier, OfStars, OfExp, OfMaybe, OfRaisingStars, OfLengths, OfDeclared, OfInit, OfInits, OfMoreInits, OfObject, OfMoreObjects, OfObjects, OfDeclares, OfStart, OfStatement, OfParts, OfMaybeName, OfParam, OfMoreParams, OfParams, OfCode, OfMoreDeclared, OfFields, OfMoreFields, OfOuter, OfProgram}
+use Rattle.c_tree.specs.Tree.{place_at, Exp, Declared, declared, Init, value, braces, mutex_start, cond_start, Inits, no_init, and_init, listed_inits, Object, plain, initialised, Declares, declares, start_declares, start_computes, Statement, block, compute, break_at, continue_at, gives, branch, branch_else, while_loop, do_loop, for_loop, Parts, no_part, and_declares, and_does, Part, part_declares, part_does, listed_parts}
+use Rattle.c_tree.specs.Kinds.{p}
+use Rattle.c_parser.specs.Marks.{Mark, mark, other, maybe}
+use Rattle.c_parser.specs.Grammar.{OfMaybe, OfRaisingStars, OfDeclared, OfInit, OfMoreInits, OfObject, OfMoreObjects, OfObjects, OfDeclares, OfStatement, OfParts}
 use Rattle.c_parser.specs.Phrase as phrase
 use Rattle.c_parser.specs.Phrase.{Phrase, TreeOf, Head, function_head, object_head, Initials, initials}
-use Rattle.c_parser.specs.Parse.{sign, key, a_name, is_of, is_type, follows_declarator, ret, choose}
-use Rattle.c_parser.specs.Rules.{rules, name_of, params_from, else_rule}
-use Rattle.c_parser.proofs.Language.{OfHead, Of}
-use Rattle.c_parser.proofs.Ends.{joins, joins_next, next_is, sees, reads_word, AfterType, AfterParam, EndsAt, HeadEndsAt, Chosen, by_joins, by_test, joins_test, no_comma, no_equals, no_bracket, begins_exp, exp_begins, not_begun, not_open_brace, not_close_brace, not_break, not_continue, not_return, not_if, not_while, not_do, not_for, not_pthread_mutex_initializer, not_pthread_cond_initializer, not_type, not_semicolon}
-use Rattle.c_parser.proofs.Expressions.{Chooses, looks, joins_at, one_of_more, none_of_more, chooses_specifier, chooses_stars, before_stars, zero_plus, type_begins, chooses_type, chooses_expression, chooses_more, chooses_assignment, chooses_conditional, chooses_operands, chooses_chain, chooses_unary, chooses_unary_plain, chooses_enclosed, chooses_opened, chooses_atom, chooses_postfix, chooses_arguments, chooses_maybe}
+use Rattle.c_parser.specs.Parse.{sign, key, is_of, is_type}
+use Rattle.c_parser.proofs.Ends.{joins, joins_next, next_is, sees, reads_word, AfterType, by_joins, by_test, joins_test, no_comma, no_equals, no_bracket, begins_exp, exp_begins, not_begun, not_open_brace, not_close_brace, not_pthread_mutex_initializer, not_pthread_cond_initializer, not_type}
+use Rattle.c_parser.proofs.Expressions.{Chooses, joins_at, one_of_more, none_of_more, zero_plus, type_begins}
 
 -- ---- declarators
 
@@ -39,7 +30,6 @@ same_level l = omega arith
 pub chooses_declarator : (l : ℕ) → Chooses (phrase.declarator l)
 chooses_declarator l (declared n name es) ms rest (m1, hs, (m2, en, hl)) ends =
     (n, m1, (n, zero_plus n, subst (λ z. OfRaisingStars z n ms m1) (same_level l) hs), ap (sees punct.Star) en, (name.text, place_at name.line name.column, m2, en, (es, rest, (es, refl, hl), ends, (refl, refl))))
-
 
 pub chooses_lengths : (l : ℕ) (es : List Exp) → Chooses (phrase.lengths l es)
 chooses_lengths l es all ms rest ([], e, h) ends = inr (ap (sees punct.OpenBracket) h ∙ by_joins 4 (is_of (sign punct.OpenBracket)) no_bracket rest (omega (arith, ends)), (none_of_more es all e, h))
@@ -74,16 +64,40 @@ init_not_close l (cond_start at) ms rest h = ap (sees punct.CloseBrace) h
 
 pub chooses_initial : (l : ℕ) → Chooses (phrase.initial l)
 chooses_initial l (value e) ms rest h ends =
-    inr (not_begun (is_of (sign punct.OpenBrace)) not_open_brace (suc l) e ms rest h.1, inr (not_begun (is_of (key word.PthreadMutexInitializer)) not_pthread_mutex_initializer (suc l) e ms rest h.1,
-    inr (not_begun (is_of (key word.PthreadCondInitializer)) not_pthread_cond_initializer (suc l) e ms rest h.1, (e, rest, h, ends, (refl, refl)))))
+    inr (
+      not_begun (is_of (sign punct.OpenBrace)) not_open_brace (suc l) e ms rest h.1,
+      inr (
+        not_begun (is_of (key word.PthreadMutexInitializer)) not_pthread_mutex_initializer (suc l) e ms rest h.1,
+        inr (not_begun (is_of (key word.PthreadCondInitializer)) not_pthread_cond_initializer (suc l) e ms rest h.1, (e, rest, h, ends, (refl, refl))),
+      ),
+    )
 chooses_initial l (mutex_start at) ms rest h ends = inr (ap (sees punct.OpenBrace) h, inl (ap (reads_word word.PthreadMutexInitializer) h, (tt, at, rest, h, (refl, refl))))
 chooses_initial l (cond_start at) ms rest h ends = inr (ap (sees punct.OpenBrace) h, inr (ap (reads_word word.PthreadMutexInitializer) h, inl (ap (reads_word word.PthreadCondInitializer) h, (tt, at, rest, h, (refl, refl)))))
 chooses_initial l (braces no_init trailing at) ms rest (m1, e, (m2, h, (m3, k, (q, ec)))) ends = absurd h
 chooses_initial l (braces (and_init i is) trailing at) ms rest (m1, e, (m2, (m5, hi, hm), (m3, k, (q, ec)))) ends =
     let closes = ap (sees punct.CloseBrace) ec in
-    inl (ap (sees punct.OpenBrace) e, (tt, at, m1, e, (i, m5, hi, before_inits (suc l) is trailing m5 m2 m3 hm k closes,
-    (initials (i ∷ as_inits is) trailing, m3, (as_inits is, trailing, refl, (m2, subst (λ z. OfMoreInits (suc l) z m5 m2) (sym (listed_as is)) hm, k)), closes,
-    (tt, q, rest, ec, (ap (λ z. braces (and_init i z) trailing at) (sym (listed_as is)), refl))))))
+    inl (
+      ap (sees punct.OpenBrace) e,
+      (
+        tt,
+        at,
+        m1,
+        e,
+        (
+          i,
+          m5,
+          hi,
+          before_inits (suc l) is trailing m5 m2 m3 hm k closes,
+          (
+            initials (i ∷ as_inits is) trailing,
+            m3,
+            (as_inits is, trailing, refl, (m2, subst (λ z. OfMoreInits (suc l) z m5 m2) (sym (listed_as is)) hm, k)),
+            closes,
+            (tt, q, rest, ec, (ap (λ z. braces (and_init i z) trailing at) (sym (listed_as is)), refl)),
+          ),
+        ),
+      ),
+    )
 
 close_no_comma : (k : Kind) → is_of (sign punct.CloseBrace) k ≡ true → is_of (sign punct.Comma) k ≡ false
 close_no_comma (kind.Punct punct.Comma) h = cc
@@ -97,8 +111,25 @@ chooses_more_initials l is r ms rest ([], false, e, (m1, h, k)) ends =
     let d : ms ≡ rest = h ∙ k in
     inr (ap (sees punct.Comma) d ∙ by_test (is_of (sign punct.CloseBrace)) (is_of (sign punct.Comma)) false close_no_comma rest ends, (e ∙ ap (λ z. initials z false) (append-nil is), d))
 chooses_more_initials l is r ms rest (i ∷ js, trailing, e, (m1, (m2, (at, ec), (m3, hi, hm)), k)) ends =
-    inl (ap (sees punct.Comma) ec, (tt, at, m2, ec, inr (init_not_close l i m2 m3 hi, (i, m3, hi, before_inits l (listed_inits js) trailing m3 m1 rest hm k ends,
-    (r, rest, (js, trailing, e ∙ ap (λ z. initials z trailing) (sym (append_assoc is (i ∷ []) js)), (m1, hm, k)), ends, (refl, refl))))))
+    inl (
+      ap (sees punct.Comma) ec,
+      (
+        tt,
+        at,
+        m2,
+        ec,
+        inr (
+          init_not_close l i m2 m3 hi,
+          (
+            i,
+            m3,
+            hi,
+            before_inits l (listed_inits js) trailing m3 m1 rest hm k ends,
+            (r, rest, (js, trailing, e ∙ ap (λ z. initials z trailing) (sym (append_assoc is (i ∷ []) js)), (m1, hm, k)), ends, (refl, refl)),
+          ),
+        ),
+      ),
+    )
 
 -- ---- objects
 
@@ -267,5 +298,10 @@ chooses_parts l ps all ms rest (part_declares d ∷ qs, e, (m1, h, hm)) ends =
     inr (by_test is_type (is_of (sign punct.CloseBrace)) false type_no_close ms begins, inl (begins, (d, m1, h, tt, (all, rest, (qs, one_of_more ps (part_declares d) qs all e, hm), ends, (refl, refl)))))
 chooses_parts l ps all ms rest (part_does s ∷ qs, e, (m1, h, hm)) ends =
     let begins = statement_begins l s ms m1 h in
-    inr (by_test begins_statement (is_of (sign punct.CloseBrace)) false statement_no_close ms begins, inr (by_test begins_statement is_type false statement_no_type ms begins,
-    (s, m1, h, (λ _. parts_no_else l qs m1 rest hm ends), (all, rest, (qs, one_of_more ps (part_does s) qs all e, hm), ends, (refl, refl)))))
+    inr (
+      by_test begins_statement (is_of (sign punct.CloseBrace)) false statement_no_close ms begins,
+      inr (
+        by_test begins_statement is_type false statement_no_type ms begins,
+        (s, m1, h, (λ _. parts_no_else l qs m1 rest hm ends), (all, rest, (qs, one_of_more ps (part_does s) qs all e, hm), ends, (refl, refl))),
+      ),
+    )

@@ -1,10 +1,10 @@
 -- An expression of the grammar as the operators that are read one after another.
-use Rattle.std.proofs.Common.{◌≡◌, ◌⊎◌, inl, inr, ℕ, zero, suc, ◌+◌, ◌≤◌, ◌<◌, Bool, true, false, cond, List, [], ◌∷◌, ◌++◌, length, refl, sym, ◌∙◌, ap, subst, arith, nat_lt, length-append}
+use Rattle.std.proofs.Common.{◌≡◌, ◌⊎◌, inl, inr, ℕ, suc, ◌+◌, ◌≤◌, ◌<◌, Bool, true, false, cond, List, [], ◌∷◌, ◌++◌, length, refl, sym, ◌∙◌, ap, subst, arith, nat_lt, length-append}
 use Rattle.std.proofs.lemmas.Bool.Decides.{nat_tests}
 use Rattle.c_tree.specs.declared.expr.BinaryOp.{BinaryOp}
-use Rattle.c_tree.specs.Tree.{Place, Exp, comma, assign, conditional, binary, prefix, sizeof_exp, sizeof_type, cast, index, member, arrow, post_increment, post_decrement, named, call, number, letter, text, null, paren}
+use Rattle.c_tree.specs.Tree.{Place, Exp, comma, assign, conditional, binary, index, member, arrow, post_increment, post_decrement, named, call, number, letter, text, null, paren}
 use Rattle.c_tree.specs.Kinds.{p, binary_punct}
-use Rattle.c_parser.specs.Marks.{Mark, mark, own, ◌>>◌, provided, Beginning}
+use Rattle.c_parser.specs.Marks.{Mark, own, ◌>>◌, provided, Beginning}
 use Rattle.c_parser.specs.Grammar.{tightness, binds, operators_in, postfixes_in, OfExp}
 use Rattle.c_parser.specs.Rules.{push}
 use Rattle.c_parser.proofs.Language.{Link, link, Chained, Postfix, by_index, by_member, by_arrow, by_increment, by_decrement, applied, OfPostfix, Postfixed, is_atom}

@@ -1,11 +1,11 @@
 -- What holds of each parser, and goes over from its parts to the whole.
-use Rattle.std.proofs.Common.{◌≡◌, ℕ, zero, suc, ◌+◌, Bool, true, false, cond, List, [], ◌∷◌, ◌++◌, length, Option, Some, None, is_some, refl, sym, ◌∙◌, ap, subst, append_assoc, append-nil, ◌≤◌, ◌<◌, arith, length-append, nat_le}
+use Rattle.std.proofs.Common.{◌≡◌, ℕ, Bool, true, false, cond, List, [], ◌∷◌, ◌++◌, Option, Some, None, refl, sym, ◌∙◌, ap, subst, append_assoc, ◌≤◌, ◌<◌, arith, nat_le}
 use Rattle.std.proofs.lemmas.Bool.Decides.{nat_tests}
 use Rattle.c_lexer.specs.declared.token.Kind.{Kind}
 use Rattle.c_tree.specs.Tree.{Place, place_at}
-use Rattle.c_parser.specs.Marks.{Lexeme, lexeme, Mark, mark, erase, AllLow}
+use Rattle.c_parser.specs.Marks.{Lexeme, Mark, mark, erase, AllLow}
 use Rattle.c_parser.specs.Parse.{Class, Value, kind_of, grab, Fault, Syntax, Nesting, Outcome, Got, Stuck, Spent, Parser, and_then, ◌>>=◌, taken, token, passes}
-use Rattle.c_parser.proofs.Tokens.{grabbed, grabs, example}
+use Rattle.c_parser.proofs.Tokens.{grabbed, example}
 
 -- the two begin with the same token, or are both at the end
 abbrev pub SameHead : List Lexeme → List Lexeme → Type 0

@@ -11,9 +11,8 @@ use Rattle.c_tree.specs.declared.expr.BinaryOp.{BinaryOp}
 use Rattle.c_tree.specs.declared.program.Param.{Param}
 use Rattle.c_tree.specs.declared.program.Params.{Params}
 use Rattle.c_tree.specs.declared.program.Params.TheVariants as params_of
-use Rattle.c_tree.specs.Tree.{Place, Exp, comma, assign, conditional, binary, prefix, sizeof_exp, sizeof_type, cast, index, member, arrow, post_increment, post_decrement, named, call, number, letter, text, null, paren, Exps, listed, Declared, declared, Init, value, braces, mutex_start, cond_start, listed_inits, Object, plain, initialised, Declares, declares, Start, start_declares, start_computes, Statement, block, compute, break_at, continue_at, gives, branch, branch_else, while_loop, do_loop, for_loop, Part, part_declares, part_does, listed_parts, Code, defined, prototype, Fields, fields, Outer, structure, function, objects}
+use Rattle.c_tree.specs.Tree.{Place, Exp, comma, assign, conditional, binary, prefix, sizeof_exp, sizeof_type, cast, index, member, arrow, post_increment, post_decrement, named, call, number, letter, text, null, paren, listed, Declared, declared, Init, value, braces, mutex_start, cond_start, listed_inits, Object, plain, initialised, Declares, declares, Start, start_declares, start_computes, Statement, block, compute, break_at, continue_at, gives, branch, branch_else, while_loop, do_loop, for_loop, Part, part_declares, part_does, listed_parts, Code, defined, prototype, Fields, fields, Outer, structure, function, objects}
 use Rattle.c_parser.specs.Grammar.{specifier_place, tightness, first_place, ends_open, is_void_alone}
-use Rattle.c_parser.specs.Marks.{Lexeme}
 use Rattle.c_parser.specs.Phrase as phrase
 use Rattle.c_parser.specs.Phrase.{Phrase, TreeOf, Head, function_head, object_head, Initials, initials}
 use Rattle.c_parser.specs.Parse.{Class, sign, key, a_name, a_number, a_letter, a_text, a_prefix, a_binary, an_assign, is_of, is_type, Rule, ret, one, heads, choose, Outcome, Spent, Parser, run}
