@@ -1,12 +1,11 @@
 -- What a sound running thread's next step asks of its numbers, and that it stays sound.
-use Rattle.std.proofs.Common.{◌≡◌, ℕ, ◌-◌, ◌<◌, ◌≤◌, ◌^◌, ◌+◌, Bool, true, false, refl, ℤ, pos, subst, sym, ap, ◌∙◌, arith, length, Some, slice_get, List}
+use Rattle.std.proofs.Common.{◌≡◌, ℕ, ◌<◌, false, refl, ℤ, subst, sym, ap, ◌∙◌, arith}
 use Rattle.sync_objects.specs.Setup.{SetupView, IsWithinLimits}
 use Rattle.flow_code.specs.declared.code.Code.{Code}
 use Rattle.flow_code.specs.declared.thread.Due.{Due}
-use Rattle.flow_code.specs.Threads.{Thread, Frame, instrs_in}
+use Rattle.flow_code.specs.Threads.{Thread}
 use Rattle.flow_code.specs.Next.{due_of, after_due, stepped, gave_up, stopped, shut, has_ended, most_entries, most_revokes}
 use Rattle.flow_code.specs.Settle.{IsRunnable}
-use Rattle.flow_code.specs.Ranges.{InRange}
 use Rattle.flow_code.proofs.Ranges.{stepped_in_range, gave_up_in_range, stopped_in_range, shut_in_range, count_fits, arena_fits}
 use Rattle.flow_code.proofs.Counts.{stepped_is}
 use Rattle.core_run.specs.Flows.{Fits, IsSoundFlow}

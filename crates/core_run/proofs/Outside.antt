@@ -1,11 +1,11 @@
 -- Operations that are made of a thread from outside: revokes, stops and closes.
-use Rattle.std.proofs.Common.{◌≡◌, ℕ, Bool, true, false, List, [], ◌∷◌, Some, None, refl, sym, ap, ◌∙◌, subst, ℤ}
+use Rattle.std.proofs.Common.{◌≡◌, ℕ, Bool, true, false, List, [], Some, None, refl, sym, ap, ◌∙◌}
 use Rattle.std.proofs.lemmas.Option.{get_or_from_slice_get}
 use Rattle.std.specs.Prelude.{slice_get, slice_set, if◌then◌else◌}
 use Rattle.sync_objects.specs.Setup.{SetupView}
 use Rattle.sync_objects.specs.Names.{name_of}
 use Rattle.sync_objects.specs.Words.{number_of}
-use Rattle.sync_objects.specs.Advance.{Advance, NotAllowed as NoRow, Advances, advanced}
+use Rattle.sync_objects.specs.Advance.{NotAllowed as NoRow, advanced}
 use Rattle.sync_objects.specs.declared.entry.Entry.{Entry}
 use Rattle.sync_objects.specs.declared.object.ObjId.{ObjId}
 use Rattle.sync_objects.specs.declared.object.ObjId.TheVariants as object
@@ -21,9 +21,9 @@ use Rattle.core_run.specs.Words.{cells_of, has_object, place_of}
 use Rattle.core_run.specs.Parts.{made_outcome, MadeIs, noted, LacksWord, no_object, no_word, no_row, HasWord}
 use Rattle.core_run.specs.declared.parts.Made.TheVariants as made
 use Rattle.core_run.proofs.Lawful.{effect_revoke, effect_stop, effect_close}
-use Rattle.runs.specs.Labels.{Label, Go, Revoke, Stop, Close, label_of, operation_label}
+use Rattle.runs.specs.Labels.{Go, Revoke, Stop, Close, label_of, operation_label}
 use Rattle.runs.specs.Same.{same_entry}
-use Rattle.runs.specs.Steps.{Effect, Refused, Operates, Change, Outcome, Blocked, Leaves, change_outcome, changed_outcome}
+use Rattle.runs.specs.Steps.{Refused, Operates, Change, Outcome, Blocked, Leaves, change_outcome, changed_outcome}
 use Rattle.runs.proofs.SameEntries.{same_entry-true}
 
 -- an entry of any operation but these three is made by its thread's own step

@@ -7,7 +7,7 @@ use Rattle.flow_code.specs.declared.thread.Action.TheVariants as action
 use Rattle.flow_code.specs.Threads.{Thread}
 use Rattle.flow_code.specs.Next.{action_at}
 use Rattle.flow_code.specs.Settle.{settled}
-use Rattle.core_run.specs.Machine.{Told, machine, effect_of, action_effect}
+use Rattle.core_run.specs.Machine.{Told, effect_of, action_effect}
 use Rattle.core_run.specs.Parts.{OwnOf, OwnIs, own_outcome}
 use Rattle.core_run.specs.declared.parts.Own.{Own}
 use Rattle.core_run.specs.declared.parts.Own.TheVariants as own
@@ -59,9 +59,9 @@ module _ (code code1 : Code) (s s1 : SetupView) (t n0 n1 : ℕ) (told : Told) (t
   pub own_found : (ws ws1 : List ℕ) (th1 : Thread) (b : Action) (o : Own) → a ≡ b → OwnOf code1 s1 t told st b ws ws1 th1 o → OwnIs code s t told ws ws1 th1 o
   own_found ws ws1 th1 b o e h =
       own_is code s t told th st a is settles_here acts_here ws ws1 th1 o
-        (subst (λ z. OwnOf code s t told st z ws ws1 th1 o) (sym e)
-          (subst (λ z. OwnOf code z t told st b ws ws1 th1 o) same_setup
-            (subst (λ z. OwnOf z s1 t told st b ws ws1 th1 o) same_code h)))
+      (subst (λ z. OwnOf code s t told st z ws ws1 th1 o) (sym e)
+      (subst (λ z. OwnOf code z t told st b ws ws1 th1 o) same_setup
+      (subst (λ z. OwnOf z s1 t told st b ws ws1 th1 o) same_code h)))
 
   pub quiet_found : (ws : List ℕ) → a ≡ action.Quiet → own_outcome ws (effect_of code s (Go t) told) ≡ Blocked
   quiet_found ws e = ap (own_outcome ws) (effect_here ∙ ap (action_effect code s t told st) e)
@@ -71,4 +71,3 @@ module _ (code code1 : Code) (s s1 : SetupView) (t n0 n1 : ℕ) (told : Told) (t
 
   pub operate_found : (ws : List ℕ) (o : Op) (obj : ObjId) → a ≡ action.Operate o obj → own_outcome ws (effect_of code s (Go t) told) ≡ Blocked
   operate_found ws o obj e = ap (own_outcome ws) (effect_here ∙ ap (action_effect code s t told st) e) ∙ operation_is_no_own ws (has_object code s obj) _ _
-

@@ -1,11 +1,11 @@
 -- What an operation that comes next does to the words and the thread.
-use Rattle.std.proofs.Common.{◌≡◌, ◌≢◌, ℕ, ◌<◌, ◌≤◌, ◌+◌, ◌-◌, ◌^◌, Bool, true, false, List, [], ◌∷◌, Some, None, Option, refl, sym, ap, ◌∙◌, subst, arith, ℤ}
+use Rattle.std.proofs.Common.{◌≡◌, ℕ, ◌<◌, ◌-◌, ◌^◌, Bool, true, false, List, [], ◌∷◌, Some, None, refl, sym, ap, ◌∙◌, subst, arith, ℤ}
 use Rattle.std.specs.Prelude.{slice_get, slice_set, slice_index, if◌then◌else◌}
 use Rattle.sync_objects.specs.Setup.{SetupView, IsWithinLimits}
-use Rattle.sync_objects.specs.Names.{name_of, kind_of, object_kind, Fits}
+use Rattle.sync_objects.specs.Names.{name_of, kind_of, Fits}
 use Rattle.sync_objects.specs.Sound.{IsSoundWord, IsInRange}
 use Rattle.sync_objects.specs.Words.{number_of}
-use Rattle.sync_objects.specs.Advance.{Advance, NotAllowed as NoRow, Advances, advanced}
+use Rattle.sync_objects.specs.Advance.{NotAllowed as NoRow, Advances, advanced}
 use Rattle.sync_objects.specs.declared.entry.Entry.{Entry}
 use Rattle.sync_objects.specs.declared.object.ObjId.{ObjId}
 use Rattle.sync_objects.specs.declared.operation.Op.{Op}
@@ -16,8 +16,7 @@ use Rattle.flow_code.specs.Threads.{Thread}
 use Rattle.flow_code.specs.Next.{stepped, act_at, action_at}
 use Rattle.flow_code.specs.Settle.{IsRunnable}
 use Rattle.flow_code.proofs.Asked.{own_action}
-use Rattle.core_run.specs.Kept.{AreSound}
-use Rattle.core_run.specs.Machine.{Told, effect_of, action_effect, change_of, operated, entry_of, operation}
+use Rattle.core_run.specs.Machine.{Told, effect_of, action_effect, change_of, operated, entry_of}
 use Rattle.core_run.specs.Words.{cells_of, has_object, place_of}
 use Rattle.core_run.specs.Pieces.{piece_next, piece_at}
 use Rattle.core_run.specs.Parts.{made_outcome, MadeOutcome, MadeIs, is_print, PerformedIs, AreUsable, noted}
@@ -28,7 +27,7 @@ use Rattle.flow_code.specs.Settle.{settled}
 use Rattle.flow_code.specs.declared.thread.Action.{Action}
 use Rattle.std.specs.Prelude.{nat_lt}
 use Rattle.runs.specs.Same.{same_entry}
-use Rattle.runs.specs.Steps.{Effect, Refused, Operates, Loads, Stores, Change, Becomes, NotAllowed, Outcome, Blocked, Leaves, change_outcome, changed_outcome}
+use Rattle.runs.specs.Steps.{Refused, Operates, Loads, Stores, Change, Blocked, Leaves, change_outcome, changed_outcome}
 use Rattle.runs.proofs.SameEntries.{same_entry-refl, same_entry-true}
 use Rattle.std.proofs.lemmas.Option.{get_or_from_slice_get}
 
@@ -187,6 +186,6 @@ module _ (code code1 : Code) (s s1 : SetupView) (n0 n1 : ℕ) (e : Entry) (told 
   pub this_operation : (ws ws1 : List ℕ) (th1 : Thread) (o : Op) (obj : ObjId) (m : Made) → a ≡ action.Operate o obj → same_entry (entry_of e.thread st (name_of o) obj) e ≡ true → PerformedIs code1 s1 e.thread told st o obj ws ws1 th1 m → MadeIs code s told e ws ws1 th1 m
   this_operation ws ws1 th1 o obj m q h p =
       subst (λ z. MadeOutcome code s told e ws ws1 th1 m z) (sym (label_effect ∙ ap (action_effect code s e.thread told st) q))
-        (subst (λ z. MadeOutcome code s told z ws ws1 th1 m (action_effect code s e.thread told st (action.Operate o obj))) (same_entry-true (entry_of e.thread st (name_of o) obj) e h)
-          (subst (λ z. PerformedIs code z e.thread told st o obj ws ws1 th1 m) same_setup
-            (subst (λ z. PerformedIs z s1 e.thread told st o obj ws ws1 th1 m) same_code p)))
+      (subst (λ z. MadeOutcome code s told z ws ws1 th1 m (action_effect code s e.thread told st (action.Operate o obj))) (same_entry-true (entry_of e.thread st (name_of o) obj) e h)
+      (subst (λ z. PerformedIs code z e.thread told st o obj ws ws1 th1 m) same_setup
+      (subst (λ z. PerformedIs z s1 e.thread told st o obj ws ws1 th1 m) same_code p)))

@@ -13,7 +13,7 @@ use Rattle.core_run.specs.Kept.{AreSound}
 use Rattle.flow_code.specs.declared.code.Code.{Code}
 use Rattle.flow_code.specs.declared.thread.Action.{Action}
 use Rattle.flow_code.specs.Threads.{Thread}
-use Rattle.core_run.specs.Machine.{Told, machine, effect_of, action_effect, marked, accessed, operated, entry_of}
+use Rattle.core_run.specs.Machine.{Told, effect_of, action_effect, marked, accessed, operated, entry_of}
 use Rattle.core_run.specs.Words.{cells_of, has_object, place_of}
 use Rattle.sync_objects.specs.Advance.{NotAllowed, Advances, advanced}
 use Rattle.core_run.specs.declared.parts.Own.{Own}

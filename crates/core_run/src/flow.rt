@@ -224,7 +224,12 @@ fn start_phase(code: &Code, thread: u8) -> Phase
 
 impl<'a> Flow<'a> {
     /// Thread `thread` of the code at its start.
-    pub fn new(alloc: Global, code: &'a Code, setup: &'a Setup, thread: u8) -> Result<Flow<'a>, AllocError>
+    pub fn new(
+        alloc: Global,
+        code: &'a Code,
+        setup: &'a Setup,
+        thread: u8,
+    ) -> Result<Flow<'a>, AllocError>
         requires runnable { IsRunnable code.now }
         requires thread { thread < setup.now.slots }
         ensures { IfOk result (λ f. (f.code ≡ code.now) × (f.setup ≡ setup.now) × (f.number ≡ thread) × (f.kept.thread ≡ start_thread code.now setup.now thread)) }

@@ -18,7 +18,7 @@ use sync_objects::{ObjId, Op, Setup, advance};
 
 /// What a thread's own step has come to.
 #[derive(Clone, Copy)]
-pub(crate) enum Own {
+pub enum Own {
     /// None was to be made: the thread operates next, or has ended.
     Stays,
     Marked,
@@ -27,14 +27,20 @@ pub(crate) enum Own {
 
 /// What the operation for an entry has come to.
 #[derive(Drop)]
-pub(crate) enum Made {
+pub enum Made {
     /// It isn't the thread's next one there, or its object doesn't allow it.
     Refused,
     Silent,
     Printed(Bytes),
 }
 
-fn load(flow: &mut Flow, words: &[u64], cells: u32, thread: u8, cell: u32) -> Result<Own, AllocError>
+fn load(
+    flow: &mut Flow,
+    words: &[u64],
+    cells: u32,
+    thread: u8,
+    cell: u32,
+) -> Result<Own, AllocError>
     requires cells { cells ≡ cells_of flow.old.code flow.old.setup }
     requires words { cells ≤ length words.now }
     requires number { flow.old.number ≡ thread }
@@ -60,7 +66,14 @@ fn load(flow: &mut Flow, words: &[u64], cells: u32, thread: u8, cell: u32) -> Re
     Ok(Own::Accessed(access))
 }
 
-fn store(flow: &mut Flow, words: &mut Vec<u64>, cells: u32, thread: u8, cell: u32, value: u64) -> Result<Own, AllocError>
+fn store(
+    flow: &mut Flow,
+    words: &mut Vec<u64>,
+    cells: u32,
+    thread: u8,
+    cell: u32,
+    value: u64,
+) -> Result<Own, AllocError>
     requires cells { cells ≡ cells_of flow.old.code flow.old.setup }
     requires words { cells ≤ length words.old.items }
     requires number { flow.old.number ≡ thread }
@@ -100,8 +113,14 @@ fn mark(flow: &mut Flow, thread: u8) -> Result<Own, AllocError>
     Ok(Own::Marked)
 }
 
-/// One own step of a thread that makes no entry, if its next is one.
-pub(crate) fn own_step(flow: &mut Flow, words: &mut Vec<u64>, cells: u32, thread: u8) -> Result<Own, AllocError>
+/// One own step of a thread that makes no entry, if its next is one: all its quiet steps, and then a load, a store or a
+/// mark. `cells` is how many of the words are cells. After an Err some quiet steps may be made.
+pub fn own_step(
+    flow: &mut Flow,
+    words: &mut Vec<u64>,
+    cells: u32,
+    thread: u8,
+) -> Result<Own, AllocError>
     requires cells { cells ≡ cells_of flow.old.code flow.old.setup }
     requires words { cells ≤ length words.old.items }
     requires number { flow.old.number ≡ thread }
@@ -169,7 +188,14 @@ pub(crate) fn place_of(cells: u32, obj: ObjId) -> usize
 }
 
 // The operation that comes next in a settled thread, if its object allows it there.
-pub(crate) fn perform(flow: &mut Flow, words: &mut Vec<u64>, cells: u32, thread: u8, op: Op, obj: ObjId) -> Result<Made, AllocError>
+pub(crate) fn perform(
+    flow: &mut Flow,
+    words: &mut Vec<u64>,
+    cells: u32,
+    thread: u8,
+    op: Op,
+    obj: ObjId,
+) -> Result<Made, AllocError>
     requires runnable { IsRunnable flow.old.code }
     requires limits { IsWithinLimits flow.old.setup }
     requires cells { cells ≡ cells_of flow.old.code flow.old.setup }

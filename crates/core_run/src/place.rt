@@ -96,7 +96,5 @@ pub(crate) fn arena_start(code: &Code, setup: &Setup, thread: u8) -> u32
     ensures value { result ≡ arena_start_of code.now setup.now thread }
     ensures within { IsWithinLimits setup.now }
 {
-    2 * u32::from(setup.slots())
-        + code.globals.len() as u32
-        + u32::from(thread) * setup.cells()
+    2 * u32::from(setup.slots()) + code.globals.len() as u32 + u32::from(thread) * setup.cells()
 }

@@ -44,7 +44,8 @@ fn same_object(a: ObjId, b: ObjId) -> bool
         (ObjId::Mutex(c), ObjId::Mutex(d)) => c == d,
         (ObjId::Cond(c), ObjId::Cond(d)) => c == d,
         (ObjId::Barrier(c), ObjId::Barrier(d)) => c == d,
-        (ObjId::Weak { lock: l, stripe: s }, ObjId::Weak { lock: m, stripe: r }) => l == m && s == r,
+        (ObjId::Weak { lock: l, stripe: s }, ObjId::Weak { lock: m, stripe: r }) => l == m
+            && s == r,
         (ObjId::Slot(k), ObjId::Slot(n)) => k == n,
         (ObjId::Threads, ObjId::Threads) => true,
         (ObjId::Halt, ObjId::Halt) => true,

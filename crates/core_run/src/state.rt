@@ -12,8 +12,8 @@ ghost use Rattle.core_run.specs.Pieces.{piece_at};
 ghost use Rattle.flow_code.specs.Next.{act_at};
 
 use crate::frame::Frame;
-use crate::region::OpenRegion;
 use crate::place::{instr_at, instrs_at, registers_at};
+use crate::region::OpenRegion;
 use flow_code::{Act, Code, Instr, Onward, Phase, Stripe, piece, pointer_at};
 use rr_base::{Bytes, Trap};
 use std::alloc::{AllocError, Global};
@@ -44,9 +44,9 @@ impl Model for ThreadState {
     ghost Value = { Kept };
 
     ghost view = { λ s. record {
-        thread = record { count = s.count; arena = s.arena; entries = s.entries; revokes = s.revokes; printed = s.printed; phase = s.phase; top = s.top; below = s.below.items; stripes = s.stripes.items; regions = s.regions.items };
-        has_place = nat_lt (vec_len s.below) (vec_capacity s.below);
-        registers = vec_capacity s.spare
+      thread = record { count = s.count; arena = s.arena; entries = s.entries; revokes = s.revokes; printed = s.printed; phase = s.phase; top = s.top; below = s.below.items; stripes = s.stripes.items; regions = s.regions.items };
+      has_place = nat_lt (vec_len s.below) (vec_capacity s.below);
+      registers = vec_capacity s.spare;
     } };
 }
 
@@ -85,7 +85,12 @@ impl ThreadState {
             Phase::Running => {
                 let (function, instr) = self.top.place();
                 match instr_at(code, function, instr) {
-                    Some(Instr { act: Act::Call { function, .. }, .. }) => registers_at(code, *function),
+                    Some(
+                        Instr {
+                            act: Act::Call { function, .. },
+                            ..
+                        },
+                    ) => registers_at(code, *function),
                     _ => 0,
                 }
             }
@@ -110,9 +115,16 @@ impl ThreadState {
     {
         let (function, instr) = self.top.place();
         match instr_at(code, function, instr) {
-            Some(Instr { act: Act::Library { call, arguments, .. }, .. }) => {
-                piece(alloc, call, self.top.registers(), arguments.as_slice())
-            }
+            Some(
+                Instr {
+                    act: Act::Library {
+                        call,
+                        arguments,
+                        ..
+                    },
+                    ..
+                },
+            ) => { piece(alloc, call, self.top.registers(), arguments.as_slice()) }
             _ => Ok(Bytes::new(alloc)),
         }
     }
@@ -187,7 +199,8 @@ impl ThreadState {
         requires instr { self.old.thread.top.instr + 1 < 2 ^ 64 }
         ensures { self.new.thread ≡ allocated self.old.thread into site cells }
     {
-        self.top.set_register(into, pointer_at(site, self.arena, cells));
+        self.top
+            .set_register(into, pointer_at(site, self.arena, cells));
         self.top.pass();
         self.arena += cells;
     }
@@ -258,7 +271,12 @@ fn result_register(instr: Option<&Instr>) -> Option<u32>
     ensures { result ≡ result_of (act_in (option_copied instr.entry)) }
 {
     match instr {
-        Some(Instr { act: Act::Call { into, .. }, .. }) => *into,
+        Some(
+            Instr {
+                act: Act::Call { into, .. },
+                ..
+            },
+        ) => *into,
         _ => None,
     }
 }

@@ -1,4 +1,4 @@
-use Rattle.std.proofs.Common.{◌≡◌, ℕ, List, subst, ⊎_elim}
+use Rattle.std.proofs.Common.{ℕ, List, subst, ⊎_elim}
 use Rattle.core_run.specs.Parts.{OwnIs}
 use Rattle.core_run.proofs.PartFacts.{own_found, quiet_found, ended_found, operate_found}
 use Rattle.core_run.proofs.parts.own_step.Goals as goal
@@ -18,9 +18,9 @@ returns-in_ok-own-in-Mark-clause-own c = λ told is.
 pub returns-in-Quiet-clause-own : goal.returns-in-Quiet-clause-own
 returns-in-Quiet-clause-own c = λ told is.
     ⊎_elim
-      (λ q. quiet_found _ _ _ _ _ _ _ told _ _ _ c.settle.ensures.code c.settle.ensures.setup c.settle.ensures.number c.requires.number is c.in_ok-settle.ensures.thread c.next_action.ensures _ q)
-      (λ r. ⊎_elim
-        (λ x. operate_found _ _ _ _ _ _ _ told _ _ _ c.settle.ensures.code c.settle.ensures.setup c.settle.ensures.number c.requires.number is c.in_ok-settle.ensures.thread c.next_action.ensures _ x.0 x.1 x.2)
-        (λ e. ended_found _ _ _ _ _ _ _ told _ _ _ c.settle.ensures.code c.settle.ensures.setup c.settle.ensures.number c.requires.number is c.in_ok-settle.ensures.thread c.next_action.ensures _ e)
-        r)
-      c.in-Quiet.is
+    (λ q. quiet_found _ _ _ _ _ _ _ told _ _ _ c.settle.ensures.code c.settle.ensures.setup c.settle.ensures.number c.requires.number is c.in_ok-settle.ensures.thread c.next_action.ensures _ q)
+    (λ r. ⊎_elim
+    (λ x. operate_found _ _ _ _ _ _ _ told _ _ _ c.settle.ensures.code c.settle.ensures.setup c.settle.ensures.number c.requires.number is c.in_ok-settle.ensures.thread c.next_action.ensures _ x.0 x.1 x.2)
+    (λ e. ended_found _ _ _ _ _ _ _ told _ _ _ c.settle.ensures.code c.settle.ensures.setup c.settle.ensures.number c.requires.number is c.in_ok-settle.ensures.thread c.next_action.ensures _ e)
+    r)
+    c.in-Quiet.is

@@ -1,4 +1,4 @@
-use Rattle.std.proofs.Common.{◌≡◌, ℕ, List, [], ◌∷◌, true, Some, sym, ap, ◌∙◌, rules, to_z, of_z, FitsSigned}
+use Rattle.std.proofs.Common.{◌≡◌, [], ◌∷◌, true, Some, sym, ap, ◌∙◌, rules, to_z, of_z, FitsSigned}
 use Rattle.std.proofs.lemmas.Int.{to_z-of_z}
 use Rattle.std.specs.Prelude.{slice_get, slice_set}
 use mir.Syntax.{w64}
@@ -8,7 +8,6 @@ use Rattle.core_run.specs.Pieces.{piece_next}
 use Rattle.core_run.specs.Words.{has_object, place_of, cells_of}
 use Rattle.core_run.proofs.Performed.{askable_next, range_next, allowed, silent, prints}
 use Rattle.core_run.proofs.parts.perform.Goals as goal
-
 
 pub advance-requires-clause-range : goal.advance-requires-clause-range
 advance-requires-clause-range c = range_next _ _ _ _ _ _ c.requires.runnable c.requires.limits c.requires.next

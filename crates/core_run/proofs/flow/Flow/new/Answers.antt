@@ -1,6 +1,5 @@
-use Rattle.std.proofs.Common.{◌≡◌, ap, ◌∙◌}
-use Rattle.flow_code.specs.Threads.{Thread}
-use Rattle.core_run.specs.Machine.{start_thread, no_frame}
+use Rattle.std.proofs.Common.{◌≡◌}
+use Rattle.core_run.specs.Machine.{start_thread}
 use Rattle.core_run.proofs.FlowFacts.{sound_begun}
 use Rattle.core_run.proofs.flow.Flow.new.Goals as goal
 

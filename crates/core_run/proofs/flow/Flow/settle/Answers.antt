@@ -1,4 +1,4 @@
-use Rattle.std.proofs.Common.{◌≡◌, sym, ◌∙◌}
+use Rattle.std.proofs.Common.{sym, ◌∙◌}
 use Rattle.flow_code.proofs.Settle.{settled_end}
 use Rattle.core_run.proofs.flow.Flow.settle.Goals as goal
 

@@ -1,9 +1,9 @@
-use Rattle.std.proofs.Common.{◌≡◌, true, false, sym, ap, ◌∙◌}
+use Rattle.std.proofs.Common.{◌≡◌, true, false, sym, ◌∙◌}
 use Rattle.sync_objects.specs.Names.{name_of}
 use Rattle.runs.specs.Same.{same_entry}
 use Rattle.core_run.specs.Machine.{entry_of}
 use Rattle.core_run.proofs.Performed.{not_operating, other_operation, this_operation}
-use Rattle.core_run.proofs.make.make_own.Goals as goal
+use Rattle.core_run.proofs.making.make_own.Goals as goal
 
 pub returns-in-Load-clause-made : goal.returns-in-Load-clause-made
 returns-in-Load-clause-made c = λ told is. not_operating _ _ _ _ _ _ c.args.entry told _ _ _ c.settle.ensures.code c.settle.ensures.setup c.settle.ensures.number c.requires.number is c.in_ok-settle.ensures.thread c.next_action.ensures c.requires.label _ (λ o obj e. let clash = sym c.in-Load.is ∙ e in cc)

@@ -1,15 +1,15 @@
-use Rattle.std.proofs.Common.{◌≡◌, ℕ, List, true, false, sym, ap, ◌∙◌, subst}
+use Rattle.std.proofs.Common.{◌≡◌, ℕ, List, true, false, ap, ◌∙◌, subst}
 use Rattle.std.specs.Prelude.{slice_set}
 use Rattle.sync_objects.specs.Names.{name_of}
 use Rattle.sync_objects.specs.declared.object.ObjId.TheVariants as object
 use Rattle.sync_objects.specs.declared.operation.Op.TheVariants as op
 use Rattle.flow_code.specs.Next.{shut}
 use Rattle.runs.specs.Same.{same_entry}
-use Rattle.core_run.specs.Machine.{Told, entry_of, may_close}
+use Rattle.core_run.specs.Machine.{entry_of, may_close}
 use Rattle.core_run.specs.Words.{cells_of, place_of}
 use Rattle.core_run.specs.Parts.{LacksWord, HasWord}
 use Rattle.core_run.proofs.Outside.{forbidden, other_entry_than, lacking, making, close_effect}
-use Rattle.core_run.proofs.make.close.Goals as goal
+use Rattle.core_run.proofs.making.close.Goals as goal
 
 pub returns-then-not-may_close-clause-made : goal.returns-then-not-may_close-clause-made
 returns-then-not-may_close-clause-made c = λ told is.

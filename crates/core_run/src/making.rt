@@ -12,14 +12,19 @@ ghost use Rattle.runs.specs.Labels.{Go, Revoke, Stop, Close, label_of};
 ghost use Rattle.std.specs.Prelude.{slice_set};
 
 use crate::flow::Flow;
-use crate::parts::{Made, perform, place_of, has_object, word_at};
+use crate::parts::{Made, has_object, perform, place_of, word_at};
 use crate::same::same_entry;
 use flow_code::Action;
 use std::alloc::AllocError;
 use sync_objects::{Entry, ObjId, Op, OpName, advance};
 
 // The entry's operation as the thread's own next one.
-fn make_own(flow: &mut Flow, words: &mut Vec<u64>, cells: u32, entry: Entry) -> Result<Made, AllocError>
+fn make_own(
+    flow: &mut Flow,
+    words: &mut Vec<u64>,
+    cells: u32,
+    entry: Entry,
+) -> Result<Made, AllocError>
     requires runnable { IsRunnable flow.old.code }
     requires limits { IsWithinLimits flow.old.setup }
     requires cells { cells ≡ cells_of flow.old.code flow.old.setup }
@@ -77,7 +82,14 @@ fn may_close(flow: &Flow) -> bool
 }
 
 // The word after an operation on the object, if it is one of the machine's and the operation is allowed there.
-fn advanced_word(flow: &Flow, words: &[u64], cells: u32, thread: u8, op: Op, obj: ObjId) -> Option<u64>
+fn advanced_word(
+    flow: &Flow,
+    words: &[u64],
+    cells: u32,
+    thread: u8,
+    op: Op,
+    obj: ObjId,
+) -> Option<u64>
     requires cells { cells ≡ cells_of flow.now.code flow.now.setup }
     requires thread { thread < 16 }
     requires range { IsInRange op }
@@ -106,7 +118,14 @@ fn set_word(words: &mut Vec<u64>, place: usize, word: u64)
 }
 
 // The stripe is revoked, if the thread holds it.
-fn revoke(flow: &mut Flow, words: &mut Vec<u64>, cells: u32, entry: Entry, lock: u16, stripe: u8) -> Made
+fn revoke(
+    flow: &mut Flow,
+    words: &mut Vec<u64>,
+    cells: u32,
+    entry: Entry,
+    lock: u16,
+    stripe: u8,
+) -> Made
     requires cells { cells ≡ cells_of flow.old.code flow.old.setup }
     requires thread { entry.thread < 16 }
     requires label { label_of entry ≡ Revoke entry.thread lock stripe }
@@ -128,7 +147,14 @@ fn revoke(flow: &mut Flow, words: &mut Vec<u64>, cells: u32, entry: Entry, lock:
     if !same_entry(own, entry) {
         return Made::Refused;
     }
-    let Some(next) = advanced_word(flow, words, cells, entry.thread, Op::Revoke, ObjId::Weak { lock, stripe }) else {
+    let Some(next) = advanced_word(
+        flow,
+        words,
+        cells,
+        entry.thread,
+        Op::Revoke,
+        ObjId::Weak { lock, stripe },
+    ) else {
         return Made::Refused;
     };
     flow.give_up(lock, stripe);
@@ -190,7 +216,14 @@ fn close(flow: &mut Flow, words: &mut Vec<u64>, cells: u32, entry: Entry) -> Mad
     if !same_entry(own, entry) {
         return Made::Refused;
     }
-    let Some(next) = advanced_word(flow, words, cells, entry.thread, Op::Close, ObjId::Slot(entry.thread)) else {
+    let Some(next) = advanced_word(
+        flow,
+        words,
+        cells,
+        entry.thread,
+        Op::Close,
+        ObjId::Slot(entry.thread),
+    ) else {
         return Made::Refused;
     };
     flow.shut();
@@ -198,8 +231,15 @@ fn close(flow: &mut Flow, words: &mut Vec<u64>, cells: u32, entry: Entry) -> Mad
     Made::Silent
 }
 
-/// The operation that makes the entry, if it is allowed.
-pub(crate) fn make(flow: &mut Flow, words: &mut Vec<u64>, cells: u32, entry: Entry) -> Result<Made, AllocError>
+/// The operation that makes the entry, if it is allowed: a revoke, stop or close at the thread as it stands, and any
+/// other one as the thread's next after its quiet steps. `cells` is how many of the words are cells. After an Err some
+/// quiet steps may be made.
+pub fn make_entry(
+    flow: &mut Flow,
+    words: &mut Vec<u64>,
+    cells: u32,
+    entry: Entry,
+) -> Result<Made, AllocError>
     requires runnable { IsRunnable flow.old.code }
     requires limits { IsWithinLimits flow.old.setup }
     requires cells { cells ≡ cells_of flow.old.code flow.old.setup }

@@ -1,9 +1,9 @@
-use Rattle.std.proofs.Common.{◌≡◌, true, Some, sym, ap, ◌∙◌}
+use Rattle.std.proofs.Common.{◌≡◌, true, Some}
 use Rattle.std.specs.Prelude.{slice_get}
 use Rattle.core_run.specs.Words.{has_object, place_of, cells_of}
 use Rattle.core_run.specs.Parts.{no_row}
 use Rattle.core_run.proofs.Performed.{askable}
-use Rattle.core_run.proofs.make.advanced_word.Goals as goal
+use Rattle.core_run.proofs.making.advanced_word.Goals as goal
 
 pub advance-requires-clause-number : goal.advance-requires-clause-number
 advance-requires-clause-number c =
