@@ -1,0 +1,6 @@
+pub mod Answers
+pub mod Body
+pub mod Draft
+pub mod Letters
+pub mod Names
+pub mod Thin

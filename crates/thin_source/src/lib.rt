@@ -1,0 +1,15 @@
+//! The code of a source in a small language: whole numbers and mutexes shared by the threads that `main` starts.
+//! It stands on `c_lexer` and `flow_code`, until a reader of the whole language takes its place. It promises that
+//! `read_thin` gives exactly the code that the definition gives these tokens, and refuses them where it gives none.
+#![tactic(auto)]
+
+mod body;
+mod cells;
+mod draft;
+mod fault;
+mod form;
+mod letter;
+mod names;
+mod place;
+
+pub use fault::ThinFault;
