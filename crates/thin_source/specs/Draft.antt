@@ -10,7 +10,7 @@ use Rattle.c_lexer.specs.declared.token.Token.{Token}
 use Rattle.flow_code.specs.declared.act.LibraryCall.TheVariants as call
 use Rattle.flow_code.specs.declared.code.Code.{Code}
 use Rattle.flow_code.specs.declared.code.Function.{Function}
-use Rattle.flow_code.specs.Values.{word, fits}
+use Rattle.flow_code.specs.Values.{word, fits, is_zero}
 use Rattle.thin_source.specs.declared.body.Body.{Body}
 use Rattle.thin_source.specs.declared.cells.Cells.{Cells}
 use Rattle.thin_source.specs.declared.draft.Draft.{Draft}
@@ -49,15 +49,18 @@ phase_behind _ _ = None
 
 -- ---- declarations
 
+abbrev pub is_declared : List Token → ℕ → List ℕ → Bool
+is_declared ts at names = is_some (index_of ts at names)
+
 -- the name may be declared for the whole program: nothing there has it, and the library hasn't
-abbrev pub is_free : List Token → ℕ → Draft → Bool
+unfoldable pub is_free : List Token → ℕ → Draft → Bool
 is_free ts at d =
-    not (is_library_name (name_at ts at)) && not (is_some (index_of ts at d.cells.names)) && not (is_some (index_of ts at d.roots))
-    && not (is_some (index_of ts at d.threads))
+    not (is_library_name (name_at ts at)) && not (is_declared ts at d.cells.names) && not (is_declared ts at d.roots)
+    && not (is_declared ts at d.threads)
 
 -- and no formal has it
 unfoldable pub is_new : List Token → ℕ → Draft → Bool
-is_new ts at d = is_free ts at d && not (is_some (index_of ts at d.formals))
+is_new ts at d = is_free ts at d && not (is_declared ts at d.formals)
 
 -- an object of one cell
 abbrev pub site : Text → CellKind → Place → Site
@@ -84,9 +87,12 @@ abbrev pub word_of : Option ℤ → Option ℕ
 word_of None = None
 word_of (Some z) = Some (word z)
 
+abbrev pub negated : ℤ → Option ℕ
+negated z = if fits (pos 0 -ℤ z) then Some (word (pos 0 -ℤ z)) else None
+
 abbrev pub word_below : Option ℤ → Option ℕ
 word_below None = None
-word_below (Some z) = if fits (pos 0 -ℤ z) then Some (word (pos 0 -ℤ z)) else None
+word_below (Some z) = negated z
 
 abbrev pub with_global_as : Variable → List Token → ℕ → Draft → Option Draft
 with_global_as variable.Int ts at d = with_global ts (at + 1) cell.Whole (Some 0) d
@@ -94,10 +100,10 @@ with_global_as variable.IntFrom ts at d = with_global ts (at + 1) cell.Whole (wo
 with_global_as variable.IntBelow ts at d = with_global ts (at + 1) cell.Whole (word_below (number_at ts (at + 4))) d
 with_global_as variable.Mutex ts at d = with_global ts (at + 1) cell.Mutex (Some 0) d
 
--- the name of the site of a variable of `main`
+-- the name of the site of a variable of `main`: 64 is `@`, and 58 is `:`
 abbrev pub local_name : Text → Place → Text
 local_name name place =
-    codes "main." ++ name ++ codes "@" ++ signed_decimal (pos place.line) ++ codes ":" ++ signed_decimal (pos place.column)
+    codes "main." ++ name ++ 64 ∷ signed_decimal (pos place.line) ++ 58 ∷ signed_decimal (pos place.column)
 
 -- `pthread_t t;`
 unfoldable pub with_thread : List Token → ℕ → Draft → Option Draft
@@ -135,10 +141,10 @@ with_join ts at d =
 
 -- ---- functions
 
-abbrev pub function : List Token → ℕ → Bool → ℕ → Body → Function
-function ts at gives_pointer formals b = record {
-  name = name_at ts at;
-  line = (place_at ts at).line;
+abbrev pub function : Text → ℕ → Bool → ℕ → Body → Function
+function name line gives_pointer formals b = record {
+  name = name;
+  line = line;
   formals = formals;
   registers = length b.pointers;
   pointers = b.pointers;
@@ -163,15 +169,19 @@ with_root ts at d =
     })
     else None
 
-abbrev pub with_end : Bool → ℕ → List Token → ℕ → Draft → Draft
-with_end gives_pointer formals ts at d = record d {
-  functions = d.functions ++ function ts d.name gives_pointer formals (returned gives_pointer (place_at ts (at + 1)) (place_at ts at) d.body) ∷ [];
-  body = empty;
-}
+-- `int main(void) {`
+abbrev pub with_main : ℕ → Draft → Draft
+with_main at d = record d { name = at + 1; body = empty }
 
-abbrev pub is_zero : Option ℤ → Bool
-is_zero (Some (pos n)) = not (nat_lt 0 n)
-is_zero _ = false
+-- the end of a function, as its name, whether it gives a pointer, and its number of formals say
+abbrev pub with_end : Text → Bool → ℕ → List Token → ℕ → Draft → Draft
+with_end name gives_pointer formals ts at d =
+    let b = returned gives_pointer (place_at ts (at + 1)) (place_at ts at) d.body in
+    record d { functions = d.functions ++ function name (place_at ts d.name).line gives_pointer formals b ∷ []; body = empty }
+
+abbrev pub is_zero_in : Option ℤ → Bool
+is_zero_in None = false
+is_zero_in (Some z) = is_zero z
 
 -- each holds
 abbrev pub all_of : List Bool → Bool
@@ -180,7 +190,7 @@ all_of (b ∷ bs) = if b then all_of bs else false
 
 -- `return 0; }`: each `pthread_t` stands in some `pthread_create`
 abbrev pub with_main_end : List Token → ℕ → Draft → Option Draft
-with_main_end ts at d = if is_zero (number_at ts (at + 1)) && all_of d.created then Some (with_end false 0 ts at d) else None
+with_main_end ts at d = if is_zero_in (number_at ts (at + 1)) && all_of d.created then Some (with_end (codes "main") false 0 ts at d) else None
 
 -- ---- lines
 
@@ -192,8 +202,8 @@ with_body d (Some b) = Some (record d { body = b })
 abbrev pub with_line : Form → List Token → ℕ → Draft → Option Draft
 with_line (form.Variable g) ts at d = with_global_as g ts at d
 with_line form.Root ts at d = with_root ts at d
-with_line form.RootEnd ts at d = Some (with_end true 1 ts at d)
-with_line form.Main ts at d = Some (record d { name = at + 1; body = empty })
+with_line form.RootEnd ts at d = Some (with_end (name_at ts d.name) true 1 ts at d)
+with_line form.Main ts at d = Some (with_main at d)
 with_line form.Thread ts at d = with_thread ts at d
 with_line (form.Step s) ts at d = with_body d (done_by s ts d.cells at d.body)
 with_line form.Create ts at d = with_create ts at d

@@ -1,6 +1,6 @@
 -- The code of a source in the small language. Its tokens are cut into lines, each the first form that fits, and each line
 -- does its part: it declares a name, begins or ends a function, or adds instructions to the one that is open.
-use Rattle.std.specs.Prelude.{ℕ, zero, suc, ◌+◌, ◌-◌, List, [], ◌∷◌, Option, Some, None}
+use Rattle.std.specs.Prelude.{ℕ, ◌+◌, ◌-◌, nat_lt, if◌then◌else◌, List, [], ◌∷◌, Option, Some, None}
 use Rattle.c_lexer.specs.Bytes.{Text}
 use Rattle.c_lexer.specs.declared.token.Token.{Token}
 use Rattle.flow_code.specs.declared.code.Code.{Code}
@@ -35,12 +35,8 @@ cut_off (cut.Line f n) ts at d =
     and_then (phase_behind f d.phase) (λ p. with_line f ts at (record d { left = n - 1; phase = p }))
 
 -- at one letter: the next of its line, or else the first of a new line
-abbrev pub passed_by : ℕ → List Token → ℕ → Text → Draft → Option Draft
-passed_by zero ts at letters d = cut_off (form_at letters) ts at d
-passed_by (suc left) ts at letters d = Some (record d { left = left })
-
 unfoldable pub passed : List Token → ℕ → Text → Draft → Option Draft
-passed ts at letters d = passed_by d.left ts at letters d
+passed ts at letters d = if nat_lt 0 d.left then Some (record d { left = d.left - 1 }) else cut_off (form_at letters) ts at d
 
 -- what these letters make of a draft, where the first of them is the letter of the token at this position
 abbrev pub drafted : List Token → ℕ → Text → Draft → Option Draft

@@ -2,6 +2,7 @@
 ghost use Rattle.std.specs.Prelude.{◌≡◌, ◌+◌, ◌<◌, ◌^◌, IfOk, OnOk};
 ghost use Rattle.thin_source.specs.Answers.{Gives};
 ghost use Rattle.thin_source.specs.Body as spec;
+ghost use Rattle.thin_source.specs.Draft.{empty};
 
 use crate::cells::Cells;
 use crate::fault::ThinFault;
@@ -14,7 +15,7 @@ use rr_base::{List, PtrWord};
 use std::alloc::{AllocError, Global};
 
 /// Whether each register is a pointer, and the instructions.
-#[derive(Debug, Drop)]
+#[derive(Drop)]
 pub struct Body {
     pub pointers: List<bool>,
     pub instrs: List<Instr>,
@@ -32,6 +33,15 @@ pub fn narrow(n: usize) -> Result<u32, AllocError>
 }
 
 impl Body {
+    pub fn new(alloc: Global) -> Body
+        ensures { result ≡ empty }
+    {
+        Body {
+            pointers: List::new(alloc),
+            instrs: List::new(alloc),
+        }
+    }
+
     /// The register that is free next.
     pub fn fresh(&self) -> Result<u32, AllocError>
         ensures { IfOk result (λ r. r ≡ spec.fresh self.now) }
@@ -65,20 +75,28 @@ impl Body {
         ensures { OnOk result (self.new ≡ spec.constant pointer place value self.old) }
     {
         let into = self.fresh()?;
-        self.then_makes(pointer, place, Act::Compute {
-            into,
-            work: Work::Constant(value),
-        })
+        self.then_makes(
+            pointer,
+            place,
+            Act::Compute {
+                into,
+                work: Work::Constant(value),
+            },
+        )
     }
 
     pub fn address(&mut self, place: Place, address: PtrWord) -> Result<(), AllocError>
         ensures { OnOk result (self.new ≡ spec.address place address self.old) }
     {
         let into = self.fresh()?;
-        self.then_makes(true, place, Act::Compute {
-            into,
-            work: Work::Address(address),
-        })
+        self.then_makes(
+            true,
+            place,
+            Act::Compute {
+                into,
+                work: Work::Address(address),
+            },
+        )
     }
 
     pub fn load(&mut self, place: Place, through: u32) -> Result<(), AllocError>
@@ -98,10 +116,14 @@ impl Body {
         ensures { OnOk result (self.new ≡ spec.combined op place left right self.old) }
     {
         let into = self.fresh()?;
-        self.then_makes(false, place, Act::Compute {
-            into,
-            work: Work::Binary { op, left, right },
-        })
+        self.then_makes(
+            false,
+            place,
+            Act::Compute {
+                into,
+                work: Work::Binary { op, left, right },
+            },
+        )
     }
 
     fn store(&mut self, place: Place, through: u32, from: u32) -> Result<(), AllocError>
@@ -118,11 +140,14 @@ impl Body {
     ) -> Result<(), AllocError>
         ensures { OnOk result (self.new ≡ spec.library place call arguments self.old) }
     {
-        self.then_does(place, Act::Library {
-            call,
-            arguments,
-            into: None,
-        })
+        self.then_does(
+            place,
+            Act::Library {
+                call,
+                arguments,
+                into: None,
+            },
+        )
     }
 
     /// The object of a `pthread_t`.
@@ -130,11 +155,15 @@ impl Body {
         ensures { OnOk result (self.new ≡ spec.object place site self.old) }
     {
         let into = self.fresh()?;
-        self.then_makes(true, place, Act::Alloc {
-            into,
-            site,
-            size: None,
-        })
+        self.then_makes(
+            true,
+            place,
+            Act::Alloc {
+                into,
+                site,
+                size: None,
+            },
+        )
     }
 
     /// A return of 0 or of the null pointer.
@@ -148,12 +177,7 @@ impl Body {
 }
 
 #[tactic(auto, unfolding(crate::specs::Body::variable))]
-fn variable(
-    tokens: &[Token],
-    cells: &Cells,
-    at: usize,
-    mut body: Body,
-) -> Result<Body, ThinFault>
+fn variable(tokens: &[Token], cells: &Cells, at: usize, mut body: Body) -> Result<Body, ThinFault>
     ensures { Gives result (spec.variable tokens.now cells.now at body) }
 {
     let Some(address) = global_at(false, tokens, cells, at) else {
@@ -256,7 +280,11 @@ fn printed(
     let mut body = variable(tokens, cells, at + 4, body)?;
     let arguments = List::from_slice(alloc, &[body.last()?])?;
     let format = List::from_slice(alloc, &[Piece::Number, Piece::Byte(10)])?;
-    body.library(place_at(tokens, at), LibraryCall::Print { format }, arguments)?;
+    body.library(
+        place_at(tokens, at),
+        LibraryCall::Print { format },
+        arguments,
+    )?;
     Ok(body)
 }
 

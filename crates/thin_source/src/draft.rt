@@ -4,7 +4,7 @@ use flow_code::Function;
 use rr_base::{List, Site};
 
 /// How far a source has been read.
-#[derive(Clone, Copy, Debug, PartialEq, Eq)]
+#[derive(Clone, Copy)]
 pub enum Phase {
     /// Among the variables at the front.
     Globals,
@@ -19,7 +19,7 @@ pub enum Phase {
 }
 
 /// What was made of a source so far. Names are positions of tokens.
-#[derive(Debug, Drop)]
+#[derive(Drop)]
 pub struct Draft {
     /// How many tokens of the last line are still to be passed.
     pub left: usize,

@@ -1,5 +1,5 @@
 /// A variable of the whole program.
-#[derive(Clone, Copy, Debug, PartialEq, Eq)]
+#[derive(Clone, Copy)]
 pub enum Variable {
     /// `int x;`
     Int,
@@ -12,7 +12,7 @@ pub enum Variable {
 }
 
 /// What a function does.
-#[derive(Clone, Copy, Debug, PartialEq, Eq)]
+#[derive(Clone, Copy)]
 pub enum Step {
     /// `x = a;`
     Move,
@@ -26,7 +26,7 @@ pub enum Step {
 }
 
 /// A line of a source.
-#[derive(Clone, Copy, Debug, PartialEq, Eq)]
+#[derive(Clone, Copy)]
 pub enum Form {
     Variable(Variable),
     /// `void *f(void *p) {`
@@ -45,7 +45,7 @@ pub enum Form {
 }
 
 /// What a source begins with.
-#[derive(Clone, Copy, Debug, PartialEq, Eq)]
+#[derive(Clone, Copy)]
 pub enum Cut {
     /// A line of so many tokens.
     Line(Form, usize),

@@ -1,5 +1,5 @@
 // The letters of tokens, and the forms of lines as letters.
-ghost use Rattle.std.specs.Prelude.{◌≡◌, map, IfOk};
+ghost use Rattle.std.specs.Prelude.{◌≡◌, length, map, IfOk};
 ghost use Rattle.thin_source.specs.Letters as spec;
 
 use crate::form::{Cut, Form, Step, Variable};
@@ -120,7 +120,8 @@ fn letter_of(kind: &Kind) -> u8
 
 /// The letters of all tokens.
 pub fn letters_of(alloc: Global, tokens: &[Token]) -> Result<Bytes, AllocError>
-    ensures { IfOk result (λ letters. letters ≡ spec.letters_of tokens.now) }
+    ensures value { IfOk result (λ letters. letters ≡ spec.letters_of tokens.now) }
+    ensures len { IfOk result (λ letters. length letters ≡ length tokens.now) }
 {
     let mut letters = Bytes::new(alloc);
     for token in tokens {

@@ -5,11 +5,15 @@
 
 mod body;
 mod cells;
+mod declare;
 mod draft;
 mod fault;
 mod form;
 mod letter;
+mod line;
 mod names;
 mod place;
+mod read;
 
 pub use fault::ThinFault;
+pub use read::read_thin;
