@@ -9,6 +9,7 @@ mod declare;
 mod draft;
 mod fault;
 mod form;
+mod law;
 mod letter;
 mod line;
 mod names;
@@ -16,4 +17,5 @@ mod place;
 mod read;
 
 pub use fault::ThinFault;
+pub use law::{law_plain, law_runnable};
 pub use read::read_thin;
