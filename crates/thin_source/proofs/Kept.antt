@@ -180,7 +180,7 @@ join_held n ts at d held =
     let b1 = load (place_at ts (at + 2)) t d.body in
     let b2 = constant true (place_at ts (at + 4)) (pos 0) b1 in
     body_held n d (library (place_at ts at) call.Join (fresh d.body ∷ fresh b1 ∷ []) b2) held
-      (library_held (place_at ts at) call.Join (fresh d.body ∷ fresh b1 ∷ []) b2 tt (constant_held true (place_at ts (at + 4)) (pos 0) b1 (load_held (place_at ts (at + 2)) t d.body held.body))))
+    (library_held (place_at ts at) call.Join (fresh d.body ∷ fresh b1 ∷ []) b2 tt (constant_held true (place_at ts (at + 4)) (pos 0) b1 (load_held (place_at ts (at + 2)) t d.body held.body))))
 
 -- ---- functions
 
@@ -359,27 +359,31 @@ Fine code = IsRunnable code × IsPlain code
 
 code_by_held : (p : Phase) (d : Draft) (n : ℕ) → n ≤ 2 ^ 20 → Kept n d → HasMain p d.functions → IfSome (code_by p d) Fine
 code_by_held phase.Done d n few held main = (
-    record {
-      jumps = λ f k. function_sound (slice_get d.functions f) k (all_get IsPlainFunction d.functions f held.functions);
-      few_globals = omega (arith, held.words, held.sites);
-      few_functions = omega (arith, held.count, few);
-    },
-    record {
-      locks = refl;
-      regions = λ f. no_regions (slice_get d.functions f) (all_get IsPlainFunction d.functions f held.functions);
-      main = main;
-    })
+  record {
+    jumps = λ f k. function_sound (slice_get d.functions f) k (all_get IsPlainFunction d.functions f held.functions);
+    few_globals = omega (arith, held.words, held.sites);
+    few_functions = omega (arith, held.count, few);
+  },
+  record {
+    locks = refl;
+    regions = λ f. no_regions (slice_get d.functions f) (all_get IsPlainFunction d.functions f held.functions);
+    main = main;
+  },
+)
 code_by_held _ d n few held main = tt
 
 started : Good 0 start
-started = (record {
+started = (
+  record {
     body = none_plain IsPlainInstr;
     functions = none_plain IsPlainFunction;
     roots = omega arith;
     count = omega arith;
     words = omega arith;
     sites = omega arith;
-  }, tt)
+  },
+  tt,
+)
 
 thin_held : (ts : List Token) → length ts ≤ 2 ^ 20 → IfSome (thin_code ts) Fine
 unfolding thin_code

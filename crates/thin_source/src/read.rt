@@ -1,6 +1,8 @@
 // The whole reading.
-ghost use Rattle.std.specs.Prelude.{◌≡◌, ◌+◌, ◌<◌, ◌≤◌, ◌^◌, length};
+ghost use Rattle.std.specs.Prelude.{◌≡◌, ◌+◌, ◌<◌, ◌≤◌, ◌^◌, length, IfOk};
+ghost use Rattle.flow_code.specs.Settle.{IsRunnable};
 ghost use Rattle.thin_source.specs.Answers.{Gives};
+ghost use Rattle.thin_source.specs.Laws.{IsPlain};
 ghost use Rattle.thin_source.specs.Thin as spec;
 
 use crate::body::Body;
@@ -114,13 +116,25 @@ fn code_of(alloc: Global, draft: Draft) -> Result<Code, ThinFault>
     }
 }
 
-/// The code of these tokens, where they are a source of the small language. It is NotThin exactly where they aren't.
 #[tactic(auto, unfolding(crate::specs::Thin::thin_code))]
+fn found(alloc: Global, tokens: &[Token]) -> Result<Code, ThinFault>
+    requires { length tokens.now ≤ 2 ^ 20 }
+    ensures { Gives result (spec.thin_code tokens.now) }
+{
+    let letters = letters_of(alloc, tokens)?;
+    let draft = drafted(alloc, tokens, letters.as_slice())?;
+    code_of(alloc, draft)
+}
+
+/// The code of these tokens, where they are a source of the small language. It is NotThin exactly where they aren't.
+#[tactic(auto, using(crate::proofs::Kept::runnable_of, crate::proofs::Kept::plain_of))]
 pub fn read_thin(alloc: Global, tokens: &List<Token>) -> Result<Code, ThinFault>
     requires { length tokens.now ≤ 2 ^ 20 }
     ensures code { Gives result (spec.thin_code tokens.now) }
+    // Its quiet steps end, and its cells and functions have numbers.
+    ensures runnable { IfOk result IsRunnable }
+    // It has no weak locks and no regions, and it has a `main`.
+    ensures plain { IfOk result IsPlain }
 {
-    let letters = letters_of(alloc, tokens.as_slice())?;
-    let draft = drafted(alloc, tokens.as_slice(), letters.as_slice())?;
-    code_of(alloc, draft)
+    found(alloc, tokens.as_slice())
 }
