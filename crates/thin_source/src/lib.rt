@@ -15,6 +15,8 @@ mod line;
 mod names;
 mod place;
 mod read;
+#[cfg(test)]
+mod tests;
 
 pub use fault::ThinFault;
 pub use law::{law_plain, law_runnable};
