@@ -1,6 +1,6 @@
 -- Every draft of at most 2 ^ 20 tokens makes a code that can be run.
-use Rattle.std.proofs.Common.{rules, arith, ap, sym, ◌∙◌, ◌≡◌, ℕ, zero, suc, ◌+◌, ◌-◌, ◌<◌, ◌≤◌, ◌^◌, Bool, true, false, List, [], ◌∷◌, ◌++◌, length, Option, Some, None, get_or, ◌⊎◌, inl, inr, refl}
-use Rattle.std.specs.Prelude.{All, IfSome, slice_get, slice_index_or, nat_lt, if◌then◌else◌, pos, ◌&&◌, map, codes, Result, Ok, Err, IfOk}
+use Rattle.std.proofs.Common.{arith, ap, ◌∙◌, ◌≡◌, ℕ, ◌+◌, ◌-◌, ◌<◌, ◌≤◌, ◌^◌, Bool, true, false, List, [], ◌∷◌, ◌++◌, length, Option, Some, None, get_or, ◌⊎◌, inl, inr, refl}
+use Rattle.std.specs.Prelude.{All, IfSome, slice_get, nat_lt, if◌then◌else◌, pos, ◌&&◌, codes, Result, Ok, Err, IfOk}
 use Rattle.std.proofs.lemmas.Bool.{ltb-true}
 use Rattle.std.proofs.lemmas.List.{length_push, length-map, get_or_push}
 use Rattle.std.proofs.lemmas.List.Elements.{All-push, All-get_or}
@@ -29,10 +29,9 @@ use Rattle.thin_source.specs.declared.form.Cut.{Cut}
 use Rattle.thin_source.specs.declared.form.Cut.TheVariants as cut
 use Rattle.thin_source.specs.declared.form.Variable.{Variable}
 use Rattle.thin_source.specs.declared.form.Variable.TheVariants as variable
-use Rattle.thin_source.specs.declared.place.Place.{Place}
-use Rattle.thin_source.specs.Answers.{and_then, Gives}
+use Rattle.thin_source.specs.Answers.{Gives}
 use Rattle.thin_source.specs.Body.{fresh, constant, load, library, object, returned, done_by}
-use Rattle.thin_source.specs.Draft.{phase_behind, with_global, with_global_as, with_thread, with_create, with_join, with_root, with_end, with_main, with_main_end, with_body, with_line, empty, function, site, local_name, word_of, word_below, is_new, is_free, is_zero_in, all_of}
+use Rattle.thin_source.specs.Draft.{phase_behind, with_global, with_global_as, with_thread, with_create, with_join, with_root, with_end, with_main_end, with_body, with_line, empty, function, site, local_name, word_of, word_below, is_new, is_free, is_zero_in, all_of}
 use Rattle.thin_source.specs.Laws.{IsPlain, regions_in, CodesAreRunnable, CodesArePlain}
 use Rattle.thin_source.specs.Letters.{letters_of, form_at}
 use Rattle.thin_source.specs.Names.{site_behind, index_of, place_at, name_at, number_at}

@@ -1,7 +1,7 @@
 -- What each line keeps of a draft, so that its code can be run.
-use Rattle.std.proofs.Common.{rules, arith, ap, sym, ◌∙◌, ◌≡◌, ℕ, zero, suc, ◌+◌, ◌-◌, ◌<◌, ◌≤◌, ◌^◌, Bool, true, false, List, [], ◌∷◌, ◌++◌, length, Option, Some, None}
-use Rattle.std.specs.Prelude.{All, IfSome, slice_get, nat_lt, if◌then◌else◌, ℤ, pos}
-use Rattle.std.proofs.lemmas.List.Elements.{All-push, All-get_or}
+use Rattle.std.proofs.Common.{arith, ◌≡◌, ℕ, ◌+◌, ◌<◌, Bool, true, false, List, [], ◌∷◌, length, Option, Some, None}
+use Rattle.std.specs.Prelude.{All, IfSome, if◌then◌else◌, ℤ, pos}
+use Rattle.std.proofs.lemmas.List.Elements.{All-push}
 use Rattle.std.specs.Str.{bytes_eq}
 use Rattle.c_lexer.specs.Bytes.{Text}
 use Rattle.c_lexer.specs.declared.token.Token.{Token}

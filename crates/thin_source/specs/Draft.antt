@@ -1,5 +1,5 @@
 -- What is made of a source, line by line.
-use Rattle.std.specs.Prelude.{ℕ, ◌+◌, nat_lt, Bool, true, false, not, ◌&&◌, if◌then◌else◌, List, [], ◌∷◌, ◌++◌, length, Option, Some, None, is_some, ℤ, pos, negsuc, ◌-ℤ◌, codes, slice_set}
+use Rattle.std.specs.Prelude.{ℕ, ◌+◌, Bool, true, false, not, ◌&&◌, if◌then◌else◌, List, [], ◌∷◌, ◌++◌, length, Option, Some, None, is_some, ℤ, pos, ◌-ℤ◌, codes, slice_set}
 use Rattle.std.specs.Fmt.{signed_decimal}
 use Rattle.rr_base.specs.declared.layout.CellKind.{CellKind}
 use Rattle.rr_base.specs.declared.layout.CellKind.TheVariants as cell
@@ -8,11 +8,9 @@ use Rattle.c_lexer.specs.Bytes.{Text}
 use Rattle.c_lexer.specs.Tables.{is_library_name}
 use Rattle.c_lexer.specs.declared.token.Token.{Token}
 use Rattle.flow_code.specs.declared.act.LibraryCall.TheVariants as call
-use Rattle.flow_code.specs.declared.code.Code.{Code}
 use Rattle.flow_code.specs.declared.code.Function.{Function}
 use Rattle.flow_code.specs.Values.{word, fits, is_zero}
 use Rattle.thin_source.specs.declared.body.Body.{Body}
-use Rattle.thin_source.specs.declared.cells.Cells.{Cells}
 use Rattle.thin_source.specs.declared.draft.Draft.{Draft}
 use Rattle.thin_source.specs.declared.draft.Phase.{Phase}
 use Rattle.thin_source.specs.declared.draft.Phase.TheVariants as phase

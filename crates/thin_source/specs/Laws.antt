@@ -1,5 +1,5 @@
 -- What holds of each code of the small language.
-use Rattle.std.specs.Prelude.{◌≡◌, ℕ, ◌≤◌, ◌^◌, Bool, true, List, [], length, Option, Some, None, slice_get}
+use Rattle.std.specs.Prelude.{◌≡◌, ℕ, ◌≤◌, ◌^◌, true, List, [], length, Option, Some, None, slice_get}
 use Rattle.c_lexer.specs.declared.token.Token.{Token}
 use Rattle.flow_code.specs.declared.code.Code.{Code}
 use Rattle.flow_code.specs.declared.code.Function.{Function}

@@ -1,5 +1,5 @@
 -- What tokens tell, by their positions, and the names that a source has declared, each by the position of its token.
-use Rattle.std.specs.Prelude.{ℕ, zero, suc, ◌+◌, nat_lt, Bool, true, false, if◌then◌else◌, List, [], ◌∷◌, Option, Some, None, is_some, ℤ, pos, slice_get}
+use Rattle.std.specs.Prelude.{ℕ, ◌+◌, nat_lt, Bool, true, false, if◌then◌else◌, List, [], ◌∷◌, Option, Some, None, ℤ, slice_get}
 use Rattle.std.specs.Str.{bytes_eq}
 use Rattle.rr_base.specs.Words.{pack}
 use Rattle.rr_base.specs.declared.layout.CellKind.{CellKind}
