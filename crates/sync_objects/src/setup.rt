@@ -38,6 +38,7 @@ impl Setup {
         }
     }
 
+    /// The number of slots. That the setup is within its limits is told here too.
     pub fn slots(&self) -> u8
         ensures value { result ≡ self.now.slots }
         ensures within { IsWithinLimits self.now }
@@ -59,8 +60,10 @@ impl Setup {
         self.limit
     }
 
+    /// The input. That the setup is within its limits is told here too.
     pub fn input(&self) -> &Bytes
-        ensures { result.now ≡ self.now.input }
+        ensures value { result.now ≡ self.now.input }
+        ensures within { IsWithinLimits self.now }
     {
         &self.input
     }

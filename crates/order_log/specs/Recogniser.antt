@@ -1,0 +1,159 @@
+-- Reading line by line, as the code does it. What it comes to is said in Reading.antt: here the steps only have names.
+use Rattle.std.specs.Prelude.{◌≡◌, ℕ, zero, suc, ◌+◌, min, Bool, true, false, ◌&&◌, ◌==◌, nat_lt, nat_le, if◌then◌else◌, List, [], ◌∷◌, ◌++◌, length, slice_index, ◌<◌, count_by, codes, Option, Some, None, option_and_then, Result, Ok, Err}
+use Rattle.std.specs.Str.{bytes_eq}
+use Rattle.facts.specs.declared.profile.Profile.{Profile}
+use Rattle.facts.specs.declared.profile.Profile.TheVariants as profile
+use Rattle.facts.specs.Profile.{Text, Pair}
+use Rattle.sync_objects.specs.declared.entry.Entry.{Entry}
+use Rattle.sync_objects.specs.declared.object.ObjId.{ObjId}
+use Rattle.sync_objects.specs.declared.object.ObjId.TheVariants as object
+use Rattle.sync_objects.specs.declared.operation.OpName.{OpName}
+use Rattle.sync_objects.specs.Names.{is_ending}
+use Rattle.sync_objects.specs.Setup.{SetupView}
+use Rattle.order_log.specs.declared.fault.LogFault.{LogFault}
+use Rattle.order_log.specs.declared.fault.LogFault.TheVariants.{LogSyntax, LogLimit, OutOfMemory}
+use Rattle.order_log.specs.Log.{LogView, last_count, is_ending_of, is_other_of}
+use Rattle.order_log.specs.Reading.{lines_of}
+use Rattle.order_log.specs.Line.{after_word, number_in, pair_in, hex_in, entry_in}
+
+infixl 10 ◌>>=◌
+abbrev pub ◌>>=◌ : {A B : Type 0} → Result A LogFault → (A → Result B LogFault) → Result B LogFault
+(Ok x) >>= f = f x
+(Err e) >>= f = Err e
+
+-- what a function returned, seen by view, is what reading gives, unless memory ran out
+abbrev pub Fails : {Y : Type 0} → LogFault → Result Y LogFault → Type 0
+Fails (LogSyntax number) read = read ≡ Err (LogSyntax number)
+Fails (LogLimit number) read = read ≡ Err (LogLimit number)
+Fails OutOfMemory read = Unit {0}
+
+abbrev pub Gives : {X Y : Type 0} → (X → Y) → Result X LogFault → Result Y LogFault → Type 0
+Gives view (Ok x) read = read ≡ Ok (view x)
+Gives view (Err e) read = Fails e read
+
+-- ---- lines that are left
+
+abbrev pub kept : ℕ → List Text → Text → Text → Text
+kept b [] bs rest = b ∷ bs
+kept b (line ∷ lines) bs rest = rest
+
+-- what stands behind the last newline
+abbrev pub unfinished_of : Text → Text
+unfinished_of [] = []
+unfinished_of (b ∷ bs) = if b == 10 then unfinished_of bs else kept b (lines_of bs) bs (unfinished_of bs)
+
+-- the number of the next line, the whole lines from it on, and what stands behind them
+pub record Lines : Type 0 where
+  pub at : ℕ
+  pub whole : List Text
+  pub rest : Text
+
+abbrev pub lines_in : ℕ → Text → Lines
+lines_in at bytes = record { at = at; whole = lines_of bytes; rest = unfinished_of bytes }
+
+abbrev pub next : ℕ → ℕ
+next at = min (at + 1) 4294967295
+
+abbrev pub first_of : ℕ → List Text → Text → Result (Text × Lines) LogFault
+first_of at [] rest = Err (LogSyntax at)
+first_of at (line ∷ lines) rest = Ok (line, record { at = next at; whole = lines; rest = rest })
+
+abbrev pub next_line : Lines → Result (Text × Lines) LogFault
+next_line l = first_of l.at l.whole l.rest
+
+-- what was found in the line of this number
+abbrev pub found_at : {A : Type 0} → ℕ → Option A → Result A LogFault
+found_at at None = Err (LogSyntax at)
+found_at at (Some x) = Ok x
+
+-- ---- the head
+
+unfoldable pub first_line : Lines → Result Lines LogFault
+first_line l = do
+  line ← next_line l
+  if bytes_eq line.0 (codes "chimera log 1") then Ok line.1 else Err (LogSyntax l.at)
+
+-- a word and a number from low to high
+unfoldable pub numbered : Text → ℕ → ℕ → Lines → Result (ℕ × Lines) LogFault
+numbered word low high l = do
+  line ← next_line l
+  n ← found_at l.at (option_and_then number_in (after_word word line.0))
+  if nat_le low n && nat_le n high then Ok (n, line.1) else Err (LogLimit l.at)
+
+-- so many pairs, behind those that were read
+abbrev pub pairs_from : ℕ → List Pair → Lines → Result (List Pair × Lines) LogFault
+pairs_from zero ps l = Ok (ps, l)
+pairs_from (suc left) ps l = next_line l >>= λ line. found_at l.at (pair_in ps line.0) >>= λ p. pairs_from left (ps ++ p ∷ []) line.1
+
+abbrev pub as_profile : List Pair × Lines → Profile × Lines
+as_profile x = (profile.Pairs x.0, x.1)
+
+unfoldable pub profile_at : Lines → Result (Profile × Lines) LogFault
+profile_at l = do
+  line ← next_line l
+  if bytes_eq line.0 (codes "profile all") then Ok (profile.All, line.1)
+      else found_at l.at (option_and_then number_in (after_word (codes "profile ") line.0)) >>= λ n. pairs_from n [] line.1 >>= λ x. Ok (as_profile x)
+
+-- the digits of so many bytes
+unfoldable pub input_at : ℕ → Lines → Result (List ℕ × Lines) LogFault
+input_at size l = do
+  line ← next_line l
+  bytes ← found_at l.at (hex_in size line.0)
+  Ok (bytes, line.1)
+
+-- ---- entries
+
+abbrev pub is_object_within : ℕ → ObjId → Bool
+is_object_within slots (object.Mutex cell) = nat_lt cell 4194304
+is_object_within slots (object.Cond cell) = nat_lt cell 4194304
+is_object_within slots (object.Barrier cell) = nat_lt cell 4194304
+is_object_within slots (object.Weak lock stripe) = nat_le lock 65471 && nat_le stripe 7
+is_object_within slots (object.Slot slot) = nat_lt slot slots
+is_object_within slots object.Threads = true
+is_object_within slots object.Halt = true
+is_object_within slots object.Input = true
+is_object_within slots object.Output = true
+
+abbrev pub is_entry_within : SetupView → Entry → Bool
+is_entry_within s e = nat_lt e.thread s.slots && (nat_le e.count (last_count s.limit e.op) && is_object_within s.slots e.obj)
+
+-- the thread may have one more such entry
+abbrev pub has_room : Bool → ℕ → List Entry → Bool
+has_room true thread es = nat_lt (count_by (is_ending_of thread) es) 6
+has_room false thread es = nat_lt (count_by (is_other_of thread) es) 1048576
+
+abbrev pub may_follow : SetupView → List Entry → Entry → Bool
+may_follow s es e = is_entry_within s e && has_room (is_ending e.op) e.thread es
+
+abbrev pub ended : List Entry → ℕ → Text → Result (List Entry) LogFault
+ended es at [] = Ok es
+ended es at (b ∷ bs) = Err (LogSyntax at)
+
+-- the entries to the end, behind those that were read
+abbrev pub entries_from : SetupView → List Entry → ℕ → List Text → Text → Result (List Entry) LogFault
+entries_from s es at [] rest = ended es at rest
+entries_from s es at (line ∷ lines) rest = found_at at (entry_in line) >>= λ e. if may_follow s es e then entries_from s (es ++ e ∷ []) (next at) lines rest else Err (LogLimit at)
+
+abbrev pub entries_at : SetupView → Lines → Result (List Entry) LogFault
+entries_at s l = entries_from s [] l.at l.whole l.rest
+
+-- ---- the whole
+
+unfoldable pub log_at : Lines → Result LogView LogFault
+log_at l = do
+  first ← first_line l
+  slots ← numbered (codes "slots ") 1 16 first
+  cells ← numbered (codes "cells ") 1024 131072 slots.1
+  limit ← numbered (codes "limit ") 1 67108864 cells.1
+  profile ← profile_at limit.1
+  size ← numbered (codes "input ") 0 1048576 profile.1
+  input ← input_at size.0 size.1
+  entries ← entries_at (record { slots = slots.0; cells = cells.0; limit = limit.0; input = input.0 }) input.1
+  Ok (record { setup = record { slots = slots.0; cells = cells.0; limit = limit.0; input = input.0 }; profile = profile.0; entries = entries })
+
+-- ---- counting
+
+-- the counts are those of these entries
+pub record AreCounted (others endings : List ℕ) (es : List Entry) : Type 0 where
+  pub of_others : (thread : ℕ) → thread < 16 → slice_index others thread ≡ count_by (is_other_of thread) es
+  pub of_endings : (thread : ℕ) → thread < 16 → slice_index endings thread ≡ count_by (is_ending_of thread) es

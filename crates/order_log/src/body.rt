@@ -1,0 +1,102 @@
+// The entries of a log, and their limits.
+
+ghost use Rattle.std.specs.Prelude.{◌≡◌, ◌<◌, ◌+◌, ◌∷◌, ◌++◌, [], List, IsTrue, length, nat_lt, slice_index, slice_set};
+ghost use Rattle.sync_objects.specs.declared.entry.Entry.{Entry};
+ghost use Rattle.sync_objects.specs.Setup.{IsWithinLimits};
+ghost use Rattle.order_log.specs.Log.{last_count};
+ghost use Rattle.order_log.specs.Recogniser as recogniser;
+ghost use Rattle.order_log.specs.Recogniser.{AreCounted, Gives, lines_in};
+
+use crate::entry::entry_in;
+use crate::fault::LogFault;
+use crate::reader::{Reader, next_line};
+use rr_base::List;
+use std::alloc::Global;
+use sync_objects::{Entry, ObjId, OpName, Setup};
+
+/// How many entries of either sort each thread has.
+#[derive(Drop)]
+struct Counts {
+    others: [u32; 16],
+    endings: [u32; 16],
+}
+
+fn is_object_within(slots: u8, obj: ObjId) -> bool
+    ensures { result ≡ recogniser.is_object_within slots obj }
+{
+    match obj {
+        ObjId::Mutex(cell) | ObjId::Cond(cell) | ObjId::Barrier(cell) => cell < 4_194_304,
+        ObjId::Weak { lock, stripe } => lock <= 65_471 && stripe <= 7,
+        ObjId::Slot(slot) => slot < slots,
+        ObjId::Threads | ObjId::Halt | ObjId::Input | ObjId::Output => true,
+    }
+}
+
+// The greatest count of an entry: an ending one may stand behind the last event.
+fn greatest_count(limit: u32, op: OpName) -> u32
+    requires { limit < 67108865 }
+    ensures { result ≡ last_count limit op }
+{
+    if op.is_ending() { limit + 1 } else { limit }
+}
+
+fn is_within(setup: &Setup, entry: &Entry) -> bool
+    ensures value { result ≡ recogniser.is_entry_within setup.now entry.now }
+    ensures thread { IsTrue result → entry.now.thread < 16 }
+{
+    let slots = setup.slots();
+    let last = greatest_count(setup.limit(), entry.op);
+    entry.thread < slots && entry.count <= last && is_object_within(slots, entry.obj)
+}
+
+// Counts one entry more of a thread, where it has fewer than the most.
+fn takes(counts: &mut [u32], thread: u8, most: u32) -> bool
+    requires { thread < length counts.old }
+    ensures room { result ≡ nat_lt (slice_index counts.old thread) most }
+    ensures taken { IsTrue result → counts.new ≡ slice_set counts.old thread (slice_index counts.old thread + 1) }
+{
+    let count = &mut counts[thread as usize];
+    if *count >= most {
+        return false;
+    }
+    *count += 1;
+    true
+}
+
+// Whether the entry is within the limits behind those that are counted. It is then counted too.
+fn may_follow(setup: &Setup, counts: &mut Counts, entry: &Entry) -> bool
+    ensures value { (es : List Entry) → AreCounted counts.old.others counts.old.endings es → result ≡ recogniser.may_follow setup.now es entry.now }
+    ensures counted { (es : List Entry) → AreCounted counts.old.others counts.old.endings es → IsTrue result → AreCounted counts.new.others counts.new.endings (es ++ entry.now ∷ []) }
+{
+    if !is_within(setup, entry) {
+        return false;
+    }
+    if entry.op.is_ending() {
+        takes(&mut counts.endings, entry.thread, 6)
+    } else {
+        takes(&mut counts.others, entry.thread, 1_048_576)
+    }
+}
+
+/// The entries of a log, to the end of the text.
+pub fn entries(alloc: Global, reader: &mut Reader, setup: &Setup) -> Result<List<Entry>, LogFault>
+    requires { IsWithinLimits setup.now }
+    ensures { Gives (λ es. es) result (recogniser.entries_at setup.now (lines_in reader.old.line reader.old.bytes.now)) }
+{
+    let mut found = List::new(alloc);
+    let mut counts = Counts {
+        others: [0; 16],
+        endings: [0; 16],
+    };
+    while !reader.bytes.is_empty() {
+        let at = reader.line;
+        let Some(entry) = entry_in(next_line(reader)?) else {
+            return Err(LogFault::LogSyntax(at));
+        };
+        if !may_follow(setup, &mut counts, &entry) {
+            return Err(LogFault::LogLimit(at));
+        }
+        found.push(entry)?;
+    }
+    Ok(found)
+}

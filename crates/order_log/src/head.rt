@@ -1,0 +1,82 @@
+// The lines of a log before its entries.
+
+ghost use Rattle.std.specs.Prelude.{◌≡◌, ◌≤◌, ◌<◌, ◌*◌, ◌+◌, ◌-◌, ◌^◌, min, codes, option_map, option_and_then, Ok, length};
+ghost use Rattle.order_log.specs.Line as line;
+ghost use Rattle.order_log.specs.Recogniser as recogniser;
+ghost use Rattle.order_log.specs.Recogniser.{Gives, lines_in};
+
+use crate::fault::LogFault;
+use crate::hex::bytes_in;
+use crate::pairs::function_pairs;
+use crate::part::{after_word, number};
+use crate::reader::{Reader, next_line};
+use facts::Profile;
+use rr_base::Bytes;
+use std::alloc::Global;
+
+/// The first line, which tells what the text is.
+#[tactic(auto, unfolding(crate::specs::Recogniser::first_line))]
+pub fn first_line(reader: &mut Reader) -> Result<(), LogFault>
+    ensures { Gives (λ _. lines_in reader.new.line reader.new.bytes.now) result (recogniser.first_line (lines_in reader.old.line reader.old.bytes.now)) }
+{
+    let at = reader.line;
+    if next_line(reader)? != b"chimera log 1".as_slice() {
+        return Err(LogFault::LogSyntax(at));
+    }
+    Ok(())
+}
+
+/// The number behind a word, alone in its line, where it is from `low` to `high`.
+#[tactic(auto, unfolding(crate::specs::Recogniser::numbered))]
+pub fn numbered(reader: &mut Reader, word: &[u8], low: u32, high: u32) -> Result<u32, LogFault>
+    ensures { Gives (λ n. (n, lines_in reader.new.line reader.new.bytes.now)) result (recogniser.numbered word.now low high (lines_in reader.old.line reader.old.bytes.now)) }
+{
+    let at = reader.line;
+    let line = next_line(reader)?;
+    let Some(n) = number_behind(word, line) else {
+        return Err(LogFault::LogSyntax(at));
+    };
+    if n < u64::from(low) || u64::from(high) < n {
+        return Err(LogFault::LogLimit(at));
+    }
+    Ok(n as u32)
+}
+
+fn number_behind(word: &[u8], text: &[u8]) -> Option<u64>
+    ensures { result ≡ option_map line.capped (option_and_then line.number_in (line.after_word word.now text.now)) }
+{
+    number(after_word(word, text)?)
+}
+
+/// The profile: its line, and a line for each of its pairs.
+#[tactic(auto, unfolding(crate::specs::Recogniser::profile_at))]
+pub fn profile(alloc: Global, reader: &mut Reader) -> Result<Profile, LogFault>
+    ensures { Gives (λ p. (p, lines_in reader.new.line reader.new.bytes.now)) result (recogniser.profile_at (lines_in reader.old.line reader.old.bytes.now)) }
+{
+    let at = reader.line;
+    let line = next_line(reader)?;
+    if line == b"profile all".as_slice() {
+        return Ok(Profile::All);
+    }
+    let Some(count) = number_behind(b"profile ", line) else {
+        return Err(LogFault::LogSyntax(at));
+    };
+    Ok(Profile::Pairs(function_pairs(alloc, reader, count)?))
+}
+
+/// The line of so many bytes in hexadecimal digits.
+#[tactic(auto, unfolding(crate::specs::Recogniser::input_at))]
+pub fn input(alloc: Global, reader: &mut Reader, size: u32) -> Result<Bytes, LogFault>
+    requires { size ≤ 1048576 }
+    ensures { Gives (λ bytes. (bytes, lines_in reader.new.line reader.new.bytes.now)) result (recogniser.input_at size (lines_in reader.old.line reader.old.bytes.now)) }
+{
+    let at = reader.line;
+    let line = next_line(reader)?;
+    if line.len() != 2 * size as usize {
+        return Err(LogFault::LogSyntax(at));
+    }
+    match bytes_in(alloc, line)? {
+        Some(bytes) => Ok(bytes),
+        None => Err(LogFault::LogSyntax(at)),
+    }
+}

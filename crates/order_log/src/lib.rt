@@ -1,0 +1,27 @@
+//! The text of a log, both ways. It stands on `rr_base`, `sync_objects` and `facts`. What is written of a log is read
+//! back as that log, nothing else is read, and each refusal names the first line that spoils the text.
+#![tactic(auto)]
+
+mod body;
+mod entry;
+mod fault;
+mod head;
+mod hex;
+mod laws;
+mod log;
+mod operation;
+mod pairs;
+mod part;
+mod read;
+mod reader;
+mod write;
+
+pub use fault::LogFault;
+pub use laws::law_one_text;
+pub use log::Log;
+pub use part::is_name;
+pub use read::read_log;
+pub use write::write_log;
+
+#[cfg(test)]
+mod tests;

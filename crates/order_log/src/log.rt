@@ -1,0 +1,76 @@
+ghost use Rattle.std.specs.Prelude.{◌≡◌, ◌<◌, ◌≤◌, length};
+ghost use Rattle.std.specs.List.{AllByRecursion};
+ghost use Rattle.sync_objects.specs.Names.{Fits};
+ghost use Rattle.order_log.specs.Log.{AreWithin, HasNames, LogView};
+
+use facts::Profile;
+use rr_base::List;
+use std::marker::Model;
+use sync_objects::{Entry, Setup};
+
+/// The log of a run: what the run was set up with, the functions that it took for parallel, and its operations in
+/// their order. Each operation fits its object, the functions' names are names, and all is within the limits: threads
+/// and slots are below the setup's slots, cells below 2^22, locks at most 65,471 and stripes at most 7, counts at most
+/// the setup's limit (an ending entry's one more), and a thread has at most 1,048,576 entries that aren't ending ones
+/// and 6 that are.
+#[derive(Debug, Drop)]
+pub struct Log {
+    setup: Setup,
+    profile: Profile,
+    entries: List<Entry>,
+}
+
+impl Model for Log {
+    ghost use Rattle.order_log.specs.Log.{LogView, IsLog, KeepsLimits};
+
+    ghost Value = { LogView };
+
+    ghost view = { λ l. record { setup = l.setup; profile = l.profile; entries = l.entries } };
+
+    ghost invariant = { λ l. IsLog (record { setup = l.setup; profile = l.profile; entries = l.entries }) × KeepsLimits (record { setup = l.setup; profile = l.profile; entries = l.entries }) };
+}
+
+// The numbers in a slice of bytes are bytes.
+fn law_bytes(bytes: &[u8])
+    ensures { AllByRecursion (λ b. b < 256) bytes.now }
+{}
+
+impl Log {
+    pub fn new(setup: Setup, profile: Profile, entries: List<Entry>) -> Log
+        requires names { HasNames profile }
+        requires fitting { AllByRecursion (λ e. Fits e.op e.obj) entries }
+        requires within { AreWithin setup entries }
+        ensures { result ≡ record { setup = setup; profile = profile; entries = entries } }
+    {
+        law_bytes(setup.input().as_slice());
+        Log {
+            setup,
+            profile,
+            entries,
+        }
+    }
+
+    pub fn setup(&self) -> &Setup
+        ensures { result.now ≡ self.now.setup }
+    {
+        &self.setup
+    }
+
+    /// The functions that the run took for parallel. Their names are names of the language.
+    pub fn profile(&self) -> &Profile
+        ensures value { result.now ≡ self.now.profile }
+        ensures names { HasNames self.now.profile }
+    {
+        &self.profile
+    }
+
+    /// The operations in their order.
+    pub fn entries(&self) -> &List<Entry>
+        ensures value { result.now ≡ self.now.entries }
+        ensures fitting { AllByRecursion (λ e. Fits e.op e.obj) self.now.entries }
+        ensures within { AreWithin self.now.setup self.now.entries }
+        ensures few { length self.now.entries ≤ 16777312 }
+    {
+        &self.entries
+    }
+}
