@@ -1,15 +1,16 @@
 -- What a sound running thread's next step asks of its numbers, and that it stays sound.
-use Rattle.std.proofs.Common.{◌≡◌, ℕ, ◌-◌, ◌<◌, ◌≤◌, ◌^◌, ◌+◌, Bool, true, false, refl, ℤ, pos, subst, sym, ap, ◌∙◌, arith, length, Some, slice_get, List}
+use Rattle.std.proofs.Common.{◌≡◌, ℕ, ◌<◌, false, refl, ℤ, subst, sym, ap, ◌∙◌, arith}
 use Rattle.sync_objects.specs.Setup.{SetupView, IsWithinLimits}
 use Rattle.flow_code.specs.declared.code.Code.{Code}
 use Rattle.flow_code.specs.declared.thread.Due.{Due}
-use Rattle.flow_code.specs.Threads.{Thread, Frame, instrs_in}
+use Rattle.flow_code.specs.Threads.{Thread}
 use Rattle.flow_code.specs.Next.{due_of, after_due, stepped, gave_up, stopped, shut, has_ended, most_entries, most_revokes}
 use Rattle.flow_code.specs.Settle.{IsRunnable}
-use Rattle.flow_code.specs.Ranges.{InRange}
 use Rattle.flow_code.proofs.Ranges.{stepped_in_range, gave_up_in_range, stopped_in_range, shut_in_range, count_fits, arena_fits}
 use Rattle.flow_code.proofs.Counts.{stepped_is}
 use Rattle.core_run.specs.Flows.{Fits, IsSoundFlow}
+use Rattle.core_run.specs.Machine.{start_thread}
+use Rattle.core_run.proofs.ThreadRanges.{start_in_range}
 
 pub fits_of : (code : Code) (s : SetupView) (t : ℕ) (th : Thread) → IsSoundFlow code s t th → Fits th
 fits_of code s t th f =
@@ -48,3 +49,13 @@ sound_next code s t th q d answer f e h = subst (IsSoundFlow code s t) (sym (h �
 
 pub next_is : (code : Code) (s : SetupView) (t : ℕ) (th q : Thread) (d : Due) (answer : ℤ) → d ≡ due_of code s t th → q ≡ after_due code s t th d answer → q ≡ stepped code s t th answer
 next_is code s t th q d answer e h = h ∙ sym (stepped_is code s t th d answer (sym e))
+
+-- a thread at its start is sound
+pub sound_start : (code : Code) (s : SetupView) (t : ℕ) → IsRunnable code → IsWithinLimits s → t < s.slots → IsSoundFlow code s t (start_thread code s t)
+sound_start code s t r l n = record { runnable = r; limits = l; number = n; range = start_in_range code s t }
+
+pub sound_given_up : (code : Code) (s : SetupView) (t : ℕ) (th q : Thread) (lock stripe : ℕ) → IsSoundFlow code s t th → th.entries < most_entries → th.revokes < most_revokes → q ≡ gave_up th lock stripe → IsSoundFlow code s t q
+sound_given_up code s t th q lock stripe f e r h = subst (IsSoundFlow code s t) (sym h) (sound_give_up code s t th lock stripe e r f)
+
+pub sound_begun : (code : Code) (s : SetupView) (t : ℕ) (th : Thread) → IsRunnable code → IsWithinLimits s → t < s.slots → th ≡ start_thread code s t → IsSoundFlow code s t th
+sound_begun code s t th r l n h = subst (IsSoundFlow code s t) (sym h) (sound_start code s t r l n)

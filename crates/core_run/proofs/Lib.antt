@@ -8,3 +8,6 @@ pub mod SoundWords
 pub mod ThreadRanges
 pub mod Told
 pub mod WholeRuns
+pub mod PartFacts
+pub mod Performed
+pub mod Outside

@@ -1,5 +1,5 @@
 -- What an operation does to its thread, unless it takes an owed stripe again.
-use Rattle.std.proofs.Common.{◌≡◌, ℕ, Bool, true, false, refl, ℤ, subst}
+use Rattle.std.proofs.Common.{◌≡◌, ℕ, true, false, refl, ℤ, subst}
 use Rattle.sync_objects.specs.Setup.{SetupView}
 use Rattle.sync_objects.specs.declared.object.ObjId.{ObjId}
 use Rattle.sync_objects.specs.declared.operation.Op.{Op}

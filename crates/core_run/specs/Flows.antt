@@ -1,6 +1,6 @@
 -- A running thread as the interpreter shows it: its code, its setup, its number, its state, and whether it has room for a
 -- step more.
-use Rattle.std.specs.Prelude.{ℕ, ◌<◌, ◌^◌, nat_le, ◌&&◌, Bool, true, false, Option, Some, None, slice_get}
+use Rattle.std.specs.Prelude.{ℕ, ◌<◌, ◌^◌, nat_le, ◌&&◌, Bool, true, false, Option, Some, slice_get}
 use Rattle.sync_objects.specs.Setup.{SetupView, IsWithinLimits}
 use Rattle.flow_code.specs.Ranges.{InRange}
 use Rattle.flow_code.specs.Settle.{IsRunnable}

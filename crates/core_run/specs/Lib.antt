@@ -3,6 +3,7 @@ pub mod Flows
 pub mod Histories
 pub mod Kept
 pub mod Machine
+pub mod Parts
 pub mod Pieces
 pub mod Walks
 pub mod Words

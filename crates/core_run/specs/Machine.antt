@@ -1,5 +1,5 @@
 -- The machine of a code and a setup: what each label does with a thread, and the state at the start.
-use Rattle.std.specs.Prelude.{ℕ, zero, suc, ◌+◌, ◌^◌, nat_lt, ◌&&◌, Bool, true, false, not, if◌then◌else◌, ℤ, pos, List, [], ◌∷◌, ◌++◌, position, unwrap_or, Some}
+use Rattle.std.specs.Prelude.{ℕ, zero, suc, ◌+◌, nat_lt, ◌&&◌, Bool, true, false, not, if◌then◌else◌, ℤ, pos, List, [], ◌∷◌, ◌++◌, position, unwrap_or, Some}
 use Rattle.sync_objects.specs.Setup.{SetupView}
 use Rattle.sync_objects.specs.Words.{number_of}
 use Rattle.sync_objects.specs.Names.{name_of}

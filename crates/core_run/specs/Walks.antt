@@ -1,5 +1,5 @@
 -- The walk of a list of entries: one thread goes at a time, up to each entry in turn; and what it comes to.
-use Rattle.std.specs.Prelude.{◌≡◌, ℕ, suc, ◌+◌, ◌*◌, ◌<◌, ◌^◌, ◌==◌, nat_le, ◌&&◌, Bool, true, false, if◌then◌else◌, ℤ, pos, negsuc, List, [], ◌∷◌, ◌++◌, length, take, drop, filter, ◌⊎◌, Option, Some, None, slice_get}
+use Rattle.std.specs.Prelude.{◌≡◌, ℕ, ◌+◌, ◌<◌, ◌==◌, nat_le, ◌&&◌, Bool, true, false, if◌then◌else◌, ℤ, pos, negsuc, List, [], ◌∷◌, ◌++◌, length, take, drop, filter, ◌⊎◌, Option, Some, None, slice_get}
 use Rattle.std.specs.List.{filter_map, flat_map}
 use Rattle.sync_objects.specs.Setup.{SetupView}
 use Rattle.sync_objects.specs.declared.entry.Entry.{Entry}
@@ -14,7 +14,7 @@ use Rattle.core_run.specs.declared.outcome.Walk.TheVariants as walk
 use Rattle.core_run.specs.Endings.{ending_of, trap_of}
 use Rattle.core_run.specs.Machine.{Told, machine, start_state}
 use Rattle.runs.specs.Steps.{State, AllEnded}
-use Rattle.runs.specs.Walk.{part} 
+use Rattle.runs.specs.Walk.{part}
 use Rattle.runs.specs.Walk as solo
 
 -- ---- what is kept of accesses

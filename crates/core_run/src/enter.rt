@@ -48,14 +48,28 @@ impl ThreadState {
         ensures before { result ≡ self.old.thread.top }
     {
         let frame = frame_in(code, function, self.arena, registers);
-        let fitted = fitted_in(code.sites.as_slice(), end, instrs_at(code, function), self.arena);
+        let fitted = fitted_in(
+            code.sites.as_slice(),
+            end,
+            instrs_at(code, function),
+            self.arena,
+        );
         self.arena = fitted.unwrap_or(self.arena);
         self.phase = Phase::Running;
         mem::replace(&mut self.top, frame)
     }
 
     /// Enters a thread's first function, with the words at these registers.
-    pub(crate) fn enter_first(&mut self, alloc: Global, code: &Code, setup: &Setup, thread: u8, function: u32, arguments: &[u32], words: &[u64])
+    pub(crate) fn enter_first(
+        &mut self,
+        alloc: Global,
+        code: &Code,
+        setup: &Setup,
+        thread: u8,
+        function: u32,
+        arguments: &[u32],
+        words: &[u64],
+    )
         requires globals { length code.now.globals ≤ 2 ^ 20 }
         requires thread { thread < setup.now.slots }
         requires room { registers_in (slice_get code.now.functions function) ≤ self.old.registers }
@@ -69,7 +83,15 @@ impl ThreadState {
     }
 
     /// Enters a function that the running frame calls, with its words at these registers.
-    pub(crate) fn call(&mut self, alloc: Global, code: &Code, setup: &Setup, thread: u8, function: u32, arguments: &[u32])
+    pub(crate) fn call(
+        &mut self,
+        alloc: Global,
+        code: &Code,
+        setup: &Setup,
+        thread: u8,
+        function: u32,
+        arguments: &[u32],
+    )
         requires globals { length code.now.globals ≤ 2 ^ 20 }
         requires thread { thread < setup.now.slots }
         requires place { self.old.has_place ≡ true }
@@ -79,7 +101,12 @@ impl ThreadState {
     {
         let end = arena_end(code, setup, thread);
         let spare = mem::replace(&mut self.spare, Vec::new(alloc));
-        let registers = fill(arguments, self.top.registers(), registers_at(code, function), spare);
+        let registers = fill(
+            arguments,
+            self.top.registers(),
+            registers_at(code, function),
+            spare,
+        );
         let mut caller = self.enter(code, end, function, registers);
         caller.count_event(0);
         put(&mut self.below, caller);

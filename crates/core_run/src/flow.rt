@@ -1,16 +1,20 @@
 // The interpreter of one thread.
-ghost use Rattle.std.specs.Prelude.{◌≡◌, ◌<◌, ◌≤◌, ◌^◌, ◌+◌, true, false, OnOk, IfOk, IsTrue};
+ghost use Rattle.std.specs.Prelude.{◌≡◌, ◌<◌, ◌≤◌, ◌^◌, ◌+◌, true, false, OnOk, IfOk, ◌≢◌, length};
 ghost use Rattle.flow_code.specs.Next.{action_at, stepped, gave_up, stopped, shut, has_ended, has_begun, holds as holds_stripe, most_entries, most_revokes};
 ghost use Rattle.flow_code.specs.Settle.{IsRunnable, weight, settled};
 ghost use Rattle.core_run.specs.Flows.{is_ready, needs};
-ghost use Rattle.core_run.specs.Machine.{start_thread};
+ghost use Rattle.core_run.specs.Machine.{start_thread, start_phase as start_phase_of};
+ghost use Rattle.core_run.specs.Pieces.{piece_at};
+ghost use Rattle.flow_code.specs.Next.{act_at};
 ghost use Rattle.core_run.specs.Endings.{ending_of, trap_of};
 
 use crate::due::action_of;
+use crate::next::main_function;
 use crate::outcome::Ending;
+use crate::place::arena_start;
 use crate::state::ThreadState;
 use flow_code::{Action, Code, Phase};
-use rr_base::Trap;
+use rr_base::{Bytes, Trap};
 use std::alloc::{AllocError, Global};
 use std::marker::Model;
 use sync_objects::Setup;
@@ -76,6 +80,20 @@ impl<'a> Flow<'a> {
         self.state.holds(lock, stripe)
     }
 
+    /// The code that the thread runs.
+    pub fn code(&self) -> &'a Code
+        ensures { result.now ≡ self.now.code }
+    {
+        self.code
+    }
+
+    /// The setup under which it runs.
+    pub fn setup(&self) -> &'a Setup
+        ensures { result.now ≡ self.now.setup }
+    {
+        self.setup
+    }
+
     /// How many events the thread has made.
     pub fn count(&self) -> u32
         ensures { result ≡ self.now.kept.thread.count }
@@ -133,5 +151,98 @@ impl<'a> Flow<'a> {
             Phase::Trapped { kind, line } => Some((kind, line)),
             _ => None,
         }
+    }
+
+    /// All quiet steps. After an Err some of them are made.
+    pub fn settle(&mut self) -> Result<(), AllocError>
+        ensures code { self.new.code ≡ self.old.code }
+        ensures setup { self.new.setup ≡ self.old.setup }
+        ensures number { self.new.number ≡ self.old.number }
+        ensures thread { OnOk result (self.new.kept.thread ≡ settled self.old.code self.old.setup self.old.number self.old.kept.thread) }
+        ensures quiet { OnOk result (action_at self.new.code self.new.setup self.new.number self.new.kept.thread ≢ Action.Quiet) }
+    {
+        while let Action::Quiet = self.next_action() {
+            self.reserve()?;
+            self.take_answer(0);
+        }
+        Ok(())
+    }
+
+    /// What a revoke of a stripe that the thread holds does to it.
+    pub fn give_up(&mut self, lock: u16, stripe: u8)
+        requires entries { self.old.kept.thread.entries < most_entries }
+        requires revokes { self.old.kept.thread.revokes < most_revokes }
+        ensures code { self.new.code ≡ self.old.code }
+        ensures setup { self.new.setup ≡ self.old.setup }
+        ensures number { self.new.number ≡ self.old.number }
+        ensures thread { self.new.kept.thread ≡ gave_up self.old.kept.thread lock stripe }
+    {
+        self.state.give_up(lock, stripe);
+    }
+
+    /// What a stop does to the thread.
+    pub fn stop(&mut self)
+        requires { has_ended self.old.kept.thread.phase ≡ false }
+        ensures code { self.new.code ≡ self.old.code }
+        ensures setup { self.new.setup ≡ self.old.setup }
+        ensures number { self.new.number ≡ self.old.number }
+        ensures thread { self.new.kept.thread ≡ stopped self.old.kept.thread }
+    {
+        self.state.stop();
+    }
+
+    /// What a close of the thread's slot does to it.
+    pub fn shut(&mut self)
+        requires { has_ended self.old.kept.thread.phase ≡ false }
+        ensures code { self.new.code ≡ self.old.code }
+        ensures setup { self.new.setup ≡ self.old.setup }
+        ensures number { self.new.number ≡ self.old.number }
+        ensures thread { self.new.kept.thread ≡ shut self.old.kept.thread }
+    {
+        self.state.shut();
+    }
+
+    /// The bytes that the call at which the thread stands prints.
+    pub fn piece(&self) -> Result<Bytes, AllocError>
+        ensures { IfOk result (λ bytes. bytes ≡ piece_at (act_at self.now.code self.now.kept.thread.top) self.now.kept.thread.top.registers) }
+    {
+        self.state.piece(self.alloc, self.code)
+    }
+}
+
+// Thread 0 has begun at the start, and all others are fresh.
+fn start_phase(code: &Code, thread: u8) -> Phase
+    requires { length code.now.functions ≤ 2 ^ 20 }
+    ensures { result ≡ start_phase_of code.now thread }
+{
+    if thread == 0 {
+        Phase::Begun(main_function(code))
+    } else {
+        Phase::Fresh
+    }
+}
+
+impl<'a> Flow<'a> {
+    /// Thread `thread` of the code at its start.
+    pub fn new(
+        alloc: Global,
+        code: &'a Code,
+        setup: &'a Setup,
+        thread: u8,
+    ) -> Result<Flow<'a>, AllocError>
+        requires runnable { IsRunnable code.now }
+        requires thread { thread < setup.now.slots }
+        ensures { IfOk result (λ f. (f.code ≡ code.now) × (f.setup ≡ setup.now) × (f.number ≡ thread) × (f.kept.thread ≡ start_thread code.now setup.now thread)) }
+    {
+        let arena = arena_start(code, setup, thread);
+        let mut state = ThreadState::start(alloc, start_phase(code, thread), arena);
+        state.reserve(code)?;
+        Ok(Flow {
+            alloc,
+            code,
+            setup,
+            thread,
+            state,
+        })
     }
 }

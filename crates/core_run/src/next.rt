@@ -7,17 +7,22 @@ ghost use Rattle.flow_code.specs.Next.{quiet_unless as quiet_unless_of, load_due
 ghost use Rattle.flow_code.specs.Pointers.{resolved as resolved_of};
 ghost use Rattle.flow_code.specs.Works.{register as register_of, is_pointer as is_pointer_of};
 ghost use Rattle.flow_code.specs.declared.act.Act.TheVariants as act;
-ghost use Rattle.std.specs.Prelude.{Some, None};
+ghost use Rattle.std.specs.Prelude.{Some, None, position, IfSome};
+ghost use Rattle.core_run.specs.Machine.{main_of};
 
 use crate::due::{first_owed, limited, listed, owing};
 use crate::place::{arena_end, function_at, instr_at, instrs_at, pointers_at};
 use crate::state::ThreadState;
-use flow_code::{Act, Caller, Code, Due, LibraryCall, Phase, compute, fitted_in, is_main, is_pointer, library_due, number, register, resolved, size_of};
+use flow_code::{
+    Act, Caller, Code, Due, Function, LibraryCall, Phase, compute, fitted_in, is_main, is_pointer,
+    library_due, number, register, resolved, size_of,
+};
 use rr_base::{CellKind, Trap};
 use sync_objects::{ObjId, Op, Setup};
 
 // The most frames of a thread, and the most entries that aren't ending ones.
 const MOST_FRAMES: usize = 1000;
+
 const MOST_ENTRIES: u32 = 1 << 20;
 
 fn quiet_unless(value: Result<u64, Trap>) -> Due
@@ -50,7 +55,11 @@ fn store_due(cell: Result<u32, Trap>, value: u64) -> Due
 fn access_kind(is_pointer: bool) -> CellKind
     ensures { result ≡ access_kind_of is_pointer }
 {
-    if is_pointer { CellKind::Pointer } else { CellKind::Whole }
+    if is_pointer {
+        CellKind::Pointer
+    } else {
+        CellKind::Whole
+    }
 }
 
 // Whether `malloc` can give so many cells, of a site whose objects have `unit` cells.
@@ -115,6 +124,24 @@ pub(crate) fn is_main_function(code: &Code, function: u32) -> bool
     }
 }
 
+fn main_place(functions: &[Function]) -> Option<usize>
+    ensures value { result ≡ position (λ f. is_main_in (Some f)) functions.now }
+    ensures within { IfSome result (λ k. k < length functions.now) }
+{
+    functions.iter().position(|f| is_main(f.name.as_slice()))
+}
+
+// The function `main`.
+pub(crate) fn main_function(code: &Code) -> u32
+    requires { length code.now.functions ≤ 2 ^ 20 }
+    ensures { result ≡ main_of code.now }
+{
+    match main_place(code.functions.as_slice()) {
+        Some(k) => k as u32,
+        None => 0,
+    }
+}
+
 // The word of the register, or 0 where there is none.
 pub(crate) fn value_of(registers: &[u64], value: Option<u32>) -> u64
     ensures { result ≡ value_of_register registers.now value }
@@ -139,7 +166,12 @@ impl ThreadState {
             return Due::Trap(Trap::Depth);
         }
         let end = arena_end(code, setup, thread);
-        match fitted_in(code.sites.as_slice(), end, instrs_at(code, function), self.arena) {
+        match fitted_in(
+            code.sites.as_slice(),
+            end,
+            instrs_at(code, function),
+            self.arena,
+        ) {
             Some(_) => Due::Mark,
             None => Due::Trap(Trap::ArenaFull),
         }
@@ -156,7 +188,14 @@ impl ThreadState {
         end_due(is_main_function(code, function), thread, made, value)
     }
 
-    fn call_due(&self, code: &Code, setup: &Setup, thread: u8, call: &LibraryCall, arguments: &[u32]) -> Due
+    fn call_due(
+        &self,
+        code: &Code,
+        setup: &Setup,
+        thread: u8,
+        call: &LibraryCall,
+        arguments: &[u32],
+    ) -> Due
         ensures { result ≡ act_due_of code.now setup.now thread self.now.thread (Some (act.Library call.now arguments.now None)) }
     {
         let caller = Caller::new(code.sites.as_slice(), setup, thread, self.printed);
@@ -169,7 +208,11 @@ impl ThreadState {
     {
         let (function, _) = self.top.place();
         let kind = access_kind(is_pointer(pointers_at(code, function), other));
-        resolved(code.sites.as_slice(), register(self.top.registers(), through), kind)
+        resolved(
+            code.sites.as_slice(),
+            register(self.top.registers(), through),
+            kind,
+        )
     }
 
     fn act_due(&self, code: &Code, setup: &Setup, thread: u8, act: &Act) -> Due
@@ -182,26 +225,48 @@ impl ThreadState {
         let sites = code.sites.as_slice();
         match act {
             Act::Compute { into: _, work } => {
-                quiet_unless(compute(setup.slots(), sites, pointers_at(code, function), registers, work))
+                quiet_unless(compute(
+                    setup.slots(),
+                    sites,
+                    pointers_at(code, function),
+                    registers,
+                    work,
+                ))
             }
-            Act::Alloc { into: _, site, size } => match size {
+            Act::Alloc {
+                into: _,
+                site,
+                size,
+            } => match size {
                 None => Due::Quiet,
                 Some(r) => {
                     let end = arena_end(code, setup, thread);
-                    malloc_due(size_of(sites, *site), self.arena, end, number(register(registers, *r)))
+                    malloc_due(
+                        size_of(sites, *site),
+                        self.arena,
+                        end,
+                        number(register(registers, *r)),
+                    )
                 }
             },
             Act::LoadCell { into, through } => load_due(self.access_due(code, *through, *into)),
             Act::StoreCell { through, from } => {
-                store_due(self.access_due(code, *through, *from), register(registers, *from))
+                store_due(
+                    self.access_due(code, *through, *from),
+                    register(registers, *from),
+                )
             }
             Act::Mark => Due::Mark,
-            Act::Call { function, arguments: _, into: _ } => {
-                self.enter_due(code, setup, thread, self.below.len() + 1, *function)
-            }
-            Act::Library { call, arguments, into: _ } => {
-                self.call_due(code, setup, thread, call, arguments.as_slice())
-            }
+            Act::Call {
+                function,
+                arguments: _,
+                into: _,
+            } => { self.enter_due(code, setup, thread, self.below.len() + 1, *function) }
+            Act::Library {
+                call,
+                arguments,
+                into: _,
+            } => { self.call_due(code, setup, thread, call, arguments.as_slice()) }
             Act::Return { value } => self.return_due(code, thread, value_of(registers, *value)),
             Act::Jump { to: _ } | Act::Branch { .. } | Act::Take(_) | Act::Give(_) => Due::Quiet,
         }
@@ -226,7 +291,10 @@ impl ThreadState {
                     }
                 }
             }
-            Phase::Loaded { function, argument: _ } => self.enter_due(code, setup, thread, 0, function),
+            Phase::Loaded {
+                function,
+                argument: _,
+            } => self.enter_due(code, setup, thread, 0, function),
             Phase::Running => {
                 let (function, instr) = self.top.place();
                 match instr_at(code, function, instr) {
@@ -234,7 +302,8 @@ impl ThreadState {
                     None => Due::Nothing,
                 }
             }
-            Phase::Ended | Phase::Halted | Phase::Trapped { .. } | Phase::Stopped | Phase::Closed => Due::Nothing,
+            Phase::Ended | Phase::Halted | Phase::Trapped { .. } | Phase::Stopped | Phase::Closed =>
+                Due::Nothing,
         }
     }
 
@@ -244,7 +313,13 @@ impl ThreadState {
         requires thread { thread < setup.now.slots }
         ensures { result ≡ due_of code.now setup.now thread self.now.thread }
     {
-        let due = limited(setup.limit() <= self.count, self.phase_due(code, setup, thread));
-        listed(MOST_ENTRIES <= self.entries, owing(first_owed(&self.stripes), due))
+        let due = limited(
+            setup.limit() <= self.count,
+            self.phase_due(code, setup, thread),
+        );
+        listed(
+            MOST_ENTRIES <= self.entries,
+            owing(first_owed(&self.stripes), due),
+        )
     }
 }

@@ -1,7 +1,8 @@
 // Where a thread stands in its code.
 ghost use Rattle.std.specs.Prelude.{◌≡◌, ◌<◌, ◌^◌, ◌+◌, ◌*◌, ◌≤◌, length, slice_get, IfSome};
 ghost use Rattle.std.specs.Option.{option_copied};
-ghost use Rattle.flow_code.specs.Threads.{instr_in, arena_end as arena_end_of, line_of_function, line_in, is_main as is_main_of, registers_in, instrs_in};
+ghost use Rattle.sync_objects.specs.Setup.{IsWithinLimits};
+ghost use Rattle.flow_code.specs.Threads.{instr_in, arena_end as arena_end_of, arena_start as arena_start_of, line_of_function, line_in, is_main as is_main_of, registers_in, instrs_in};
 ghost use Rattle.flow_code.specs.Next.{pointers_in};
 
 use flow_code::{Code, Function, Instr};
@@ -86,4 +87,14 @@ pub(crate) fn arena_end(code: &Code, setup: &Setup, thread: u8) -> u32
         + code.globals.len() as u32
         + u32::from(thread) * setup.cells()
         + setup.cells()
+}
+
+// The first cell of the arena of a thread.
+pub(crate) fn arena_start(code: &Code, setup: &Setup, thread: u8) -> u32
+    requires globals { length code.now.globals ≤ 2 ^ 20 }
+    requires thread { thread < setup.now.slots }
+    ensures value { result ≡ arena_start_of code.now setup.now thread }
+    ensures within { IsWithinLimits setup.now }
+{
+    2 * u32::from(setup.slots()) + code.globals.len() as u32 + u32::from(thread) * setup.cells()
 }

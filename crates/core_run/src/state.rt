@@ -7,13 +7,15 @@ ghost use Rattle.flow_code.specs.Threads.{Frame as FrameView, instrs_in};
 ghost use Rattle.std.specs.Option.{option_copied};
 ghost use Rattle.core_run.specs.Flows.{Kept, is_ready, needs};
 ghost use Rattle.core_run.specs.Machine.{no_frame};
-ghost use Rattle.std.specs.Prelude.{OnOk};
+ghost use Rattle.std.specs.Prelude.{OnOk, IfOk};
+ghost use Rattle.core_run.specs.Pieces.{piece_at};
+ghost use Rattle.flow_code.specs.Next.{act_at};
 
 use crate::frame::Frame;
-use crate::region::OpenRegion;
 use crate::place::{instr_at, instrs_at, registers_at};
-use flow_code::{Act, Code, Instr, Onward, Phase, Stripe, pointer_at};
-use rr_base::Trap;
+use crate::region::OpenRegion;
+use flow_code::{Act, Code, Instr, Onward, Phase, Stripe, piece, pointer_at};
+use rr_base::{Bytes, Trap};
 use std::alloc::{AllocError, Global};
 use std::marker::Model;
 use sync_objects::Op;
@@ -42,9 +44,9 @@ impl Model for ThreadState {
     ghost Value = { Kept };
 
     ghost view = { λ s. record {
-        thread = record { count = s.count; arena = s.arena; entries = s.entries; revokes = s.revokes; printed = s.printed; phase = s.phase; top = s.top; below = s.below.items; stripes = s.stripes.items; regions = s.regions.items };
-        has_place = nat_lt (vec_len s.below) (vec_capacity s.below);
-        registers = vec_capacity s.spare
+      thread = record { count = s.count; arena = s.arena; entries = s.entries; revokes = s.revokes; printed = s.printed; phase = s.phase; top = s.top; below = s.below.items; stripes = s.stripes.items; regions = s.regions.items };
+      has_place = nat_lt (vec_len s.below) (vec_capacity s.below);
+      registers = vec_capacity s.spare;
     } };
 }
 
@@ -83,7 +85,12 @@ impl ThreadState {
             Phase::Running => {
                 let (function, instr) = self.top.place();
                 match instr_at(code, function, instr) {
-                    Some(Instr { act: Act::Call { function, .. }, .. }) => registers_at(code, *function),
+                    Some(
+                        Instr {
+                            act: Act::Call { function, .. },
+                            ..
+                        },
+                    ) => registers_at(code, *function),
                     _ => 0,
                 }
             }
@@ -100,6 +107,26 @@ impl ThreadState {
         let needed = self.needed(code);
         self.spare.clear();
         self.spare.reserve(needed as usize)
+    }
+
+    // The bytes that the call at which the thread stands prints.
+    pub(crate) fn piece(&self, alloc: Global, code: &Code) -> Result<Bytes, AllocError>
+        ensures { IfOk result (λ bytes. bytes ≡ piece_at (act_at code.now self.now.thread.top) self.now.thread.top.registers) }
+    {
+        let (function, instr) = self.top.place();
+        match instr_at(code, function, instr) {
+            Some(
+                Instr {
+                    act: Act::Library {
+                        call,
+                        arguments,
+                        ..
+                    },
+                    ..
+                },
+            ) => { piece(alloc, call, self.top.registers(), arguments.as_slice()) }
+            _ => Ok(Bytes::new(alloc)),
+        }
     }
 
     // Puts a result into a register, and goes on.
@@ -172,7 +199,8 @@ impl ThreadState {
         requires instr { self.old.thread.top.instr + 1 < 2 ^ 64 }
         ensures { self.new.thread ≡ allocated self.old.thread into site cells }
     {
-        self.top.set_register(into, pointer_at(site, self.arena, cells));
+        self.top
+            .set_register(into, pointer_at(site, self.arena, cells));
         self.top.pass();
         self.arena += cells;
     }
@@ -243,7 +271,12 @@ fn result_register(instr: Option<&Instr>) -> Option<u32>
     ensures { result ≡ result_of (act_in (option_copied instr.entry)) }
 {
     match instr {
-        Some(Instr { act: Act::Call { into, .. }, .. }) => *into,
+        Some(
+            Instr {
+                act: Act::Call { into, .. },
+                ..
+            },
+        ) => *into,
         _ => None,
     }
 }

@@ -13,7 +13,10 @@ ghost use Rattle.flow_code.specs.declared.act.Act.TheVariants as act;
 use crate::next::{cells_in, is_main_function, value_of};
 use crate::place::{instr_at, line_at, line_at_function, pointers_at};
 use crate::state::ThreadState;
-use flow_code::{Act, Caller, Code, Due, LibraryCall, Phase, compute, count_in, library_onward, Work, number, piece_len, register, word};
+use flow_code::{
+    Act, Caller, Code, Due, LibraryCall, Phase, Work, compute, count_in, library_onward, number,
+    piece_len, register, word,
+};
 use rr_base::Trap;
 use std::alloc::Global;
 use sync_objects::{Op, Setup};
@@ -44,7 +47,16 @@ impl ThreadState {
         }
     }
 
-    fn take_call(&mut self, code: &Code, setup: &Setup, thread: u8, call: &LibraryCall, arguments: &[u32], into: Option<u32>, answer: i64)
+    fn take_call(
+        &mut self,
+        code: &Code,
+        setup: &Setup,
+        thread: u8,
+        call: &LibraryCall,
+        arguments: &[u32],
+        into: Option<u32>,
+        answer: i64,
+    )
         requires instr { self.old.thread.top.instr + 1 < 2 ^ 64 }
         requires made { (act_after code.now setup.now thread self.old.thread (Some (act.Library call.now arguments.now into)) answer).top.made < 2 ^ 8 }
         requires printed { (act_after code.now setup.now thread self.old.thread (Some (act.Library call.now arguments.now into)) answer).printed < 2 ^ 32 }
@@ -52,7 +64,15 @@ impl ThreadState {
     {
         let caller = Caller::new(code.sites.as_slice(), setup, thread, self.printed);
         let (made, kept) = self.top.events();
-        let onward = library_onward(&caller, call, self.top.registers(), arguments, made, kept, answer);
+        let onward = library_onward(
+            &caller,
+            call,
+            self.top.registers(),
+            arguments,
+            made,
+            kept,
+            answer,
+        );
         self.printed += piece_len(call, self.top.registers(), arguments) as u32;
         self.go_onward(into, onward);
     }
@@ -63,7 +83,13 @@ impl ThreadState {
     {
         let (function, _) = self.top.place();
         let pointers = pointers_at(code, function);
-        let value = compute(setup.slots(), code.sites.as_slice(), pointers, self.top.registers(), work);
+        let value = compute(
+            setup.slots(),
+            code.sites.as_slice(),
+            pointers,
+            self.top.registers(),
+            work,
+        );
         self.compute(into, value);
     }
 
@@ -91,7 +117,15 @@ impl ThreadState {
         self.top.jump(branch_to(value, then_at, else_at));
     }
 
-    fn take_act(&mut self, alloc: Global, code: &Code, setup: &Setup, thread: u8, act: &Act, answer: i64)
+    fn take_act(
+        &mut self,
+        alloc: Global,
+        code: &Code,
+        setup: &Setup,
+        thread: u8,
+        act: &Act,
+        answer: i64,
+    )
         requires globals { length code.now.globals ≤ 2 ^ 20 }
         requires thread { thread < setup.now.slots }
         requires place { self.old.has_place ≡ true }
@@ -105,23 +139,51 @@ impl ThreadState {
         ensures { self.new.thread ≡ act_after code.now setup.now thread self.old.thread (Some act.now) answer }
     {
         match act {
-            Act::Call { function, arguments, into: _ } => {
+            Act::Call {
+                function,
+                arguments,
+                into: _,
+            } => {
                 self.call(alloc, code, setup, thread, *function, arguments.as_slice());
             }
-            Act::Library { call, arguments, into } => {
-                self.take_call(code, setup, thread, call, arguments.as_slice(), *into, answer);
+            Act::Library {
+                call,
+                arguments,
+                into,
+            } => {
+                self.take_call(
+                    code,
+                    setup,
+                    thread,
+                    call,
+                    arguments.as_slice(),
+                    *into,
+                    answer,
+                );
             }
             Act::Return { value } => {
                 let value = value_of(self.top.registers(), *value);
                 self.take_return(code, value);
             }
             Act::Compute { into, work } => self.take_work(code, setup, *into, work),
-            Act::Alloc { into: _, site: _, size: None } => self.pass(),
-            Act::Alloc { into, site, size: Some(size) } => self.take_alloc(*into, *site, *size),
+            Act::Alloc {
+                into: _,
+                site: _,
+                size: None,
+            } => self.pass(),
+            Act::Alloc {
+                into,
+                site,
+                size: Some(size),
+            } => self.take_alloc(*into, *site, *size),
             Act::LoadCell { into, through: _ } => self.take_load(*into, answer),
             Act::StoreCell { .. } | Act::Mark | Act::Take(_) | Act::Give(_) => self.pass(),
             Act::Jump { to } => self.top.jump(*to),
-            Act::Branch { on, then_at, else_at } => self.take_branch(*on, *then_at, *else_at),
+            Act::Branch {
+                on,
+                then_at,
+                else_at,
+            } => self.take_branch(*on, *then_at, *else_at),
         }
     }
 
@@ -159,7 +221,8 @@ impl ThreadState {
                     self.take_act(alloc, code, setup, thread, &instr.act, answer);
                 }
             }
-            Phase::Ended | Phase::Halted | Phase::Trapped { .. } | Phase::Stopped | Phase::Closed => {}
+            Phase::Ended | Phase::Halted | Phase::Trapped { .. } | Phase::Stopped | Phase::Closed =>
+                {}
         }
     }
 
@@ -168,7 +231,9 @@ impl ThreadState {
         ensures { result ≡ line_of_phase code.now self.now.thread.phase self.now.thread.top }
     {
         match self.phase {
-            Phase::Begun(function) | Phase::Loaded { function, .. } => line_at_function(code, function),
+            Phase::Begun(function) | Phase::Loaded { function, .. } => line_at_function(
+                code, function,
+            ),
             _ => {
                 let (function, instr) = self.top.place();
                 line_at(code, function, instr)
@@ -199,7 +264,15 @@ impl ThreadState {
     }
 
     /// What becomes of the thread by what is due, with its answer.
-    pub(crate) fn step(&mut self, alloc: Global, code: &Code, setup: &Setup, thread: u8, due: Due, answer: i64)
+    pub(crate) fn step(
+        &mut self,
+        alloc: Global,
+        code: &Code,
+        setup: &Setup,
+        thread: u8,
+        due: Due,
+        answer: i64,
+    )
         requires globals { length code.now.globals ≤ 2 ^ 20 }
         requires thread { thread < setup.now.slots }
         requires place { self.old.has_place ≡ true }

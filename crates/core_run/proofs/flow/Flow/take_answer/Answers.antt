@@ -31,7 +31,7 @@ returns-clause-falls c =
     let q = c.step.new.self.thread in
     let a = to_z w64 (of_z w64 c.args.answer) in
     subst (λ (r : Running). action_at r.code r.setup r.number r.kept.thread ≡ action.Quiet → weight code setup t q < weight r.code r.setup r.number r.kept.thread) c.self.view_is
-      (λ h. weight_taken code setup t th q a c.self.invariant.runnable (next_is code setup t th q c.due-due.result a c.due-due.ensures c.step.ensures) h)
+    (λ h. weight_taken code setup t th q a c.self.invariant.runnable (next_is code setup t th q c.due-due.result a c.due-due.ensures c.step.ensures) h)
 
 pub returns-clause-same : goal.returns-clause-same
 returns-clause-same c =
@@ -42,4 +42,4 @@ returns-clause-same c =
     let q = c.step.new.self.thread in
     let a = to_z w64 (of_z w64 c.args.answer) in
     subst (λ (r : Running). action_at r.code r.setup r.number r.kept.thread ≡ action.Quiet → settled code setup t q ≡ settled r.code r.setup r.number r.kept.thread) c.self.view_is
-      (λ h. settled_taken code setup t th q a c.self.invariant.runnable (next_is code setup t th q c.due-due.result a c.due-due.ensures c.step.ensures) h)
+    (λ h. settled_taken code setup t th q a c.self.invariant.runnable (next_is code setup t th q c.due-due.result a c.due-due.ensures c.step.ensures) h)

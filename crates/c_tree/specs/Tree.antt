@@ -1,0 +1,132 @@
+-- The syntax tree as plain data. The types of the crate show as these: a list of trees of the same kind is data of its
+-- own, and a line and a column are one place.
+use Rattle.std.specs.Prelude.{ℕ, ℤ, Bool, List, [], ◌∷◌, Option}
+use Rattle.c_tree.specs.declared.name.Name.{Name}
+use Rattle.c_tree.specs.declared.ctype.Specifier.{Specifier}
+use Rattle.c_tree.specs.declared.ctype.CType.{CType}
+use Rattle.c_tree.specs.declared.expr.PrefixOp.{PrefixOp}
+use Rattle.c_tree.specs.declared.expr.BinaryOp.{BinaryOp}
+use Rattle.c_tree.specs.declared.expr.AssignOp.{AssignOp}
+use Rattle.c_tree.specs.declared.program.Params.{Params}
+
+-- line and column, from 1
+pub record Place : Type 0 where
+  pub line : ℕ
+  pub column : ℕ
+
+abbrev pub place_at : ℕ → ℕ → Place
+place_at line column = record { line = line; column = column }
+
+mutual
+  -- expressions, with the place of the own token last
+  pub data Exp : Type 0 where
+    comma : Exp → Exps → Place → Exp
+    assign : Exp → AssignOp → Exp → Place → Exp
+    conditional : Exp → Exp → Exp → Place → Exp
+    binary : Exp → BinaryOp → Exp → Place → Exp
+    prefix : PrefixOp → Exp → Place → Exp
+    sizeof_exp : Exp → Place → Exp
+    sizeof_type : CType → Place → Exp
+    cast : CType → Exp → Place → Exp
+    index : Exp → Exp → Place → Exp
+    member : Exp → Name → Place → Exp
+    arrow : Exp → Name → Place → Exp
+    post_increment : Exp → Place → Exp
+    post_decrement : Exp → Place → Exp
+    named : List ℕ → Place → Exp
+    call : List ℕ → Exps → Place → Exp
+    number : ℤ → Place → Exp
+    letter : ℕ → Place → Exp
+    text : List ℕ → Place → Exp
+    null : Place → Exp
+    paren : Exp → Place → Exp
+
+  pub data Exps : Type 0 where
+    no_exp : Exps
+    and_exp : Exp → Exps → Exps
+
+-- stars, the name, the lengths of the arrays
+pub data Declared : Type 0 where
+  declared : ℕ → Name → List Exp → Declared
+
+mutual
+  pub data Init : Type 0 where
+    value : Exp → Init
+    -- and whether a comma stands before the closing brace
+    braces : Inits → Bool → Place → Init
+    mutex_start : Place → Init
+    cond_start : Place → Init
+
+  pub data Inits : Type 0 where
+    no_init : Inits
+    and_init : Init → Inits → Inits
+
+-- one declared object
+pub data Object : Type 0 where
+  plain : Declared → Object
+  initialised : Declared → Init → Place → Object
+
+pub data Declares : Type 0 where
+  declares : Specifier → List Object → Place → Declares
+
+-- how a `for` begins
+pub data Start : Type 0 where
+  start_declares : Declares → Start
+  start_computes : Option Exp → Start
+
+mutual
+  pub data Statement : Type 0 where
+    block : Parts → Place → Statement
+    compute : Option Exp → Place → Statement
+    break_at : Place → Statement
+    continue_at : Place → Statement
+    gives : Option Exp → Place → Statement
+    branch : Exp → Statement → Place → Statement
+    branch_else : Exp → Statement → Statement → Place → Statement
+    while_loop : Exp → Statement → Place → Statement
+    do_loop : Statement → Exp → Place → Statement
+    for_loop : Start → Option Exp → Option Exp → Statement → Place → Statement
+
+  -- what stands in a block
+  pub data Parts : Type 0 where
+    no_part : Parts
+    and_declares : Declares → Parts → Parts
+    and_does : Statement → Parts → Parts
+
+-- what follows the parameters of a function
+pub data Code : Type 0 where
+  defined : Parts → Place → Code
+  prototype : Code
+
+-- members of one specifier
+pub data Fields : Type 0 where
+  fields : Specifier → List Declared → Place → Fields
+
+pub data Outer : Type 0 where
+  structure : Name → List Fields → Outer
+  -- whether `static` stands before it, the specifier, stars, the name
+  function : Bool → Specifier → ℕ → Name → Params → Code → Outer
+  objects : Bool → Specifier → List Object → Place → Outer
+
+-- ---- lists of trees
+
+abbrev pub listed : List Exp → Exps
+listed [] = no_exp
+listed (e ∷ es) = and_exp e (listed es)
+
+abbrev pub listed_inits : List Init → Inits
+listed_inits [] = no_init
+listed_inits (i ∷ is) = and_init i (listed_inits is)
+
+-- one thing in a block
+pub data Part : Type 0 where
+  part_declares : Declares → Part
+  part_does : Statement → Part
+
+abbrev pub with_part : Part → Parts → Parts
+with_part (part_declares d) ps = and_declares d ps
+with_part (part_does s) ps = and_does s ps
+
+abbrev pub listed_parts : List Part → Parts
+listed_parts [] = no_part
+listed_parts (p ∷ ps) = with_part p (listed_parts ps)

@@ -1,0 +1,57 @@
+use crate::ctype::Specifier;
+use crate::expr::Expr;
+use crate::name::Name;
+use rr_base::List;
+
+/// So many stars, a name, and the length of each array (C99 6.7.5). Its place is that of the name.
+#[derive(Drop)]
+pub struct Declarator {
+    pub stars: usize,
+    pub name: Name,
+    pub lengths: List<Expr>,
+}
+
+/// What a declared object starts as (C99 6.7.8).
+#[derive(Drop)]
+pub enum Initial {
+    Value(Expr),
+    /// One or more in braces, with or without a comma behind the last.
+    Braces {
+        parts: List<Initial>,
+        comma: bool,
+        line: u32,
+        column: u32,
+    },
+    /// `PTHREAD_MUTEX_INITIALIZER`
+    Mutex {
+        line: u32,
+        column: u32,
+    },
+    /// `PTHREAD_COND_INITIALIZER`
+    Cond {
+        line: u32,
+        column: u32,
+    },
+}
+
+/// One of the objects of a declaration.
+#[derive(Drop)]
+pub enum Item {
+    Plain(Declarator),
+    /// At the `=`.
+    Initialised {
+        declarator: Declarator,
+        initial: Initial,
+        line: u32,
+        column: u32,
+    },
+}
+
+/// A declaration in a block (C99 6.7), with one item or more, at its first token.
+#[derive(Drop)]
+pub struct Declaration {
+    pub specifier: Specifier,
+    pub items: List<Item>,
+    pub line: u32,
+    pub column: u32,
+}
