@@ -1,0 +1,51 @@
+-- What the program tells by each of its answers: its exit status and its text. Each line ends with a newline, and
+-- numbers are in decimal.
+use Rattle.std.specs.Prelude.{ℕ, List, ◌++◌, codes, decimal}
+use Rattle.rr_base.specs.Traps.{trap_number}
+use Rattle.rr_base.specs.declared.trap.Trap.{Trap}
+use Rattle.answers.specs.declared.answer.Part.{Part}
+use Rattle.answers.specs.declared.answer.Part.TheVariants as part
+use Rattle.answers.specs.declared.answer.Answer.{Answer}
+use Rattle.answers.specs.declared.answer.Answer.TheVariants as answer
+
+abbrev pub status_of : Answer → ℕ
+status_of (answer.Done out) = 0
+status_of answer.Usage = 1
+status_of (answer.SourceRefused number line column) = 2
+status_of (answer.Trapped out kind thread line) = 3
+status_of (answer.LogRefused number line) = 4
+status_of (answer.WrongEntry at) = 5
+status_of (answer.TooLarge what) = 11
+
+-- `source refused 7 3 12`
+abbrev pub source_refused : (number line column : ℕ) → List ℕ
+source_refused number line column = codes "source refused " ++ decimal number ++ codes " " ++ decimal line ++ codes " " ++ decimal column ++ codes "\n"
+
+-- `log refused 23 4`
+abbrev pub log_refused : (number line : ℕ) → List ℕ
+log_refused number line = codes "log refused " ++ decimal number ++ codes " " ++ decimal line ++ codes "\n"
+
+-- `trap 9 thread 0 line 2`
+abbrev pub trap_line : (kind : Trap) → (thread line : ℕ) → List ℕ
+trap_line kind thread line = codes "trap " ++ decimal (trap_number kind) ++ codes " thread " ++ decimal thread ++ codes " line " ++ decimal line ++ codes "\n"
+
+-- `wrong entry 5`
+abbrev pub wrong_entry : ℕ → List ℕ
+wrong_entry at = codes "wrong entry " ++ decimal at ++ codes "\n"
+
+abbrev pub too_large : Part → List ℕ
+too_large part.Source = codes "too large source\n"
+too_large part.Log = codes "too large log\n"
+
+abbrev pub text_of : Answer → List ℕ
+text_of (answer.Done out) = out
+text_of answer.Usage = codes "usage\n"
+text_of (answer.SourceRefused number line column) = source_refused number line column
+text_of (answer.Trapped out kind thread line) = out ++ trap_line kind thread line
+text_of (answer.LogRefused number line) = log_refused number line
+text_of (answer.WrongEntry at) = wrong_entry at
+text_of (answer.TooLarge what) = too_large what
+
+-- what is told where the shelf fails
+abbrev pub shelf_fault : List ℕ
+shelf_fault = codes "shelf fault\n"

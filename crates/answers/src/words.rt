@@ -1,0 +1,40 @@
+// The words of a command line.
+
+ghost use Rattle.std.specs.Prelude.{◌≡◌, map, string_bytes, option_map};
+ghost use Rattle.answers.specs.Jobs as spec;
+
+/// What is asked for.
+#[derive(Clone, Copy, Debug)]
+pub enum Job<'a> {
+    /// A run of the source of one name by the log of another.
+    Replay { source: &'a str, log: &'a str },
+}
+
+fn is_name(word: &str) -> bool
+    ensures { result ≡ spec.is_name word.now }
+{
+    match word.as_bytes() {
+        [] => false,
+        [first, ..] => *first != b'-',
+    }
+}
+
+fn replay_of<'a>(command: &str, source: &'a str, log: &'a str) -> Option<Job<'a>>
+    ensures { option_map spec.told result ≡ spec.replay_of command.now source.now log.now }
+{
+    if command == "replay" && is_name(source) && is_name(log) {
+        Some(Job::Replay { source, log })
+    } else {
+        None
+    }
+}
+
+/// The job that the words behind the program's name are, where they are one.
+pub fn job_of(words: &[String]) -> Option<Job<'_>>
+    ensures { option_map spec.told result ≡ spec.job_of (map string_bytes words.now) }
+{
+    match words {
+        [command, source, log] => replay_of(command, source, log),
+        _ => None,
+    }
+}
