@@ -12,6 +12,7 @@ use Rattle.sync_objects.specs.Names.{is_ending}
 use Rattle.sync_objects.specs.Setup.{SetupView}
 use Rattle.order_log.specs.declared.fault.LogFault.{LogFault}
 use Rattle.order_log.specs.declared.fault.LogFault.TheVariants.{LogSyntax, LogLimit, OutOfMemory}
+use Rattle.order_log.specs.declared.reader.Reader.{Reader}
 use Rattle.order_log.specs.Log.{LogView, last_count, is_ending_of, is_other_of}
 use Rattle.order_log.specs.Reading.{lines_of}
 use Rattle.order_log.specs.Line.{after_word, number_in, pair_in, hex_in, entry_in}
@@ -50,6 +51,10 @@ pub record Lines : Type 0 where
 
 abbrev pub lines_in : ℕ → Text → Lines
 lines_in at bytes = record { at = at; whole = lines_of bytes; rest = unfinished_of bytes }
+
+-- the lines that a reader has left
+abbrev pub left : Reader → Lines
+left r = lines_in r.line r.bytes.now
 
 abbrev pub next : ℕ → ℕ
 next at = min (at + 1) 4294967295
