@@ -1,25 +1,24 @@
 -- Whatever the lines so far say can be completed to a log, and to one within the limits where they are within them.
-use Rattle.std.proofs.Common.{◌≡◌, ℕ, zero, suc, ◌+◌, ◌<◌, ◌≤◌, Bool, true, false, cond, List, [], ◌∷◌, ◌++◌, length, map, replicate, Option, Some, None, refl, sym, ap, subst, ◌∙◌, arith, append_assoc}
-use Rattle.std.specs.Prelude.{codes, IsTrue, nat_lt, ◌||◌}
+use Rattle.std.proofs.Common.{◌≡◌, ℕ, zero, suc, true, List, [], ◌∷◌, ◌++◌, replicate, Some, refl, sym, ap, ◌∙◌, arith, append_assoc}
+use Rattle.std.specs.Prelude.{codes, IsTrue, nat_lt}
 use Rattle.std.specs.List.{AllByRecursion}
 use Rattle.std.specs.Option.{option_map}
 use Rattle.std.specs.declared.cmp.Ordering.{Ordering}
 use Rattle.std.specs.declared.cmp.Ordering.TheVariants.{Less, Equal, Greater}
 use Rattle.std.specs.Ordering.{nat_cmp, ordering_then, is_le, is_lt}
-use Rattle.std.specs.Cmp.Lexicographic.{slice_cmp}
-use Rattle.std.proofs.lemmas.Bool.{le-ltb, eq-eqb, cond-true, cond-false, or_left}
+use Rattle.std.proofs.lemmas.Bool.{le-ltb, eq-eqb, cond-true, cond-false}
 use Rattle.std.proofs.lemmas.List.{append-nil, length-replicate}
 use Rattle.facts.specs.declared.profile.Profile.{Profile}
 use Rattle.facts.specs.declared.profile.Profile.TheVariants as profile
-use Rattle.facts.specs.Profile.{Text, Pair, text_order, pair_order, IsLesserFirst}
+use Rattle.facts.specs.Profile.{Text, Pair, text_order}
 use Rattle.order_log.specs.Names.{continues_name, IsName}
-use Rattle.order_log.specs.Log.{LogView, IsNamePair, HasNames, IsLog, KeepsLimits}
+use Rattle.order_log.specs.Log.{LogView, IsNamePair, IsLog, KeepsLimits}
 use Rattle.order_log.specs.Text.{number_text, hex_text, pair_line, log_lines}
-use Rattle.order_log.specs.Line.{pair_in, hex_in, ends_before}
+use Rattle.order_log.specs.Line.{hex_in, ends_before}
 use Rattle.order_log.proofs.Heads.{AreBytes, pair_again, hex_again}
 use Rattle.order_log.proofs.Lists.{All-append}
 use Rattle.order_log.proofs.Machine.{Numbers, Part, Bare, Headed, Slotted, Celled, Limited, Pairing, Profiled, Sized, Whole, paired, view_of, taken}
-use Rattle.order_log.proofs.Said.{said, Fine, Kept, Adds, adds}
+use Rattle.order_log.proofs.Said.{said, Fine, Kept, adds}
 use Rattle.order_log.proofs.Walks.{number_taken}
 
 -- ---- a later pair

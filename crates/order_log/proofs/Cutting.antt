@@ -1,16 +1,14 @@
 -- A text cut into its lines, and put together again.
-use Rattle.std.proofs.Common.{◌≡◌, ℕ, zero, suc, ◌+◌, ◌<◌, ◌≤◌, Bool, true, false, cond, eqb, List, [], ◌∷◌, ◌++◌, length, take, Option, Some, None, Result, Ok, Err, refl, sym, ap, subst, ◌∙◌, arith, append_assoc}
-use Rattle.std.specs.List.{AllByRecursion, flat_map}
-use Rattle.std.proofs.lemmas.Bool.{eqb-true, eq-eqb, cond-true, cond-false}
-use Rattle.std.proofs.lemmas.List.{append-nil}
-use Rattle.std.proofs.lemmas.List.Concat.{flat_map-append}
+use Rattle.std.proofs.Common.{◌≡◌, ℕ, Bool, true, false, cond, eqb, List, [], ◌∷◌, ◌++◌, Some, None, Ok, Err, refl, sym, ap, ◌∙◌, append_assoc}
+use Rattle.std.specs.List.{AllByRecursion}
+use Rattle.std.proofs.lemmas.Bool.{eqb-true, cond-false}
 use Rattle.facts.specs.Profile.{Text}
 use Rattle.order_log.specs.Text.{text_of}
 use Rattle.order_log.specs.Reading.{onto_first, lines_of}
 use Rattle.order_log.specs.Line.{cut}
 use Rattle.order_log.specs.Recogniser.{kept, unfinished_of, lines_in, next, first_of, next_line}
 use Rattle.order_log.specs.declared.fault.LogFault.TheVariants.{LogSyntax}
-use Rattle.order_log.proofs.Parts.{Free, Cuts, cut_is, cut_free}
+use Rattle.order_log.proofs.Parts.{Free, cut_is, cut_free}
 
 -- lines without a newline in them
 abbrev pub AreLines : List Text → Type 0

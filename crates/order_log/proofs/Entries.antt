@@ -1,10 +1,10 @@
 -- An entry that is read is the entry that was written, and only its one line is read.
-use Rattle.std.proofs.Common.{◌≡◌, ℕ, zero, suc, ◌<◌, Bool, true, false, cond, eqb, List, [], ◌∷◌, ◌++◌, length, map, Option, Some, None, refl, sym, ap, subst, ◌∙◌, arith, append_assoc, inl, inr, ⊎_elim}
+use Rattle.std.proofs.Common.{◌≡◌, ℕ, ◌<◌, Bool, true, false, cond, eqb, List, [], ◌∷◌, ◌++◌, length, Option, Some, None, refl, sym, ap, subst, ◌∙◌, arith, append_assoc, inl, inr, ⊎_elim}
 use Rattle.std.specs.Prelude.{codes, not, ◌&&◌, ◌⊎◌}
 use Rattle.std.specs.List.{AllByRecursion, list_all}
-use Rattle.std.specs.Option.{option_map, option_and_then}
+use Rattle.std.specs.Option.{option_map}
 use Rattle.std.specs.Str.{bytes_eq}
-use Rattle.std.proofs.lemmas.Bool.{eqb-true, eq-eqb, ne_eqb, cond-true, cond-false, and_parts}
+use Rattle.std.proofs.lemmas.Bool.{eqb-true, eq-eqb, ne_eqb, and_parts}
 use Rattle.std.proofs.lemmas.List.{nil_from_length}
 use Rattle.std.proofs.lemmas.Option.{none-some, same_Some, cond_some}
 use Rattle.std.proofs.lemmas.Slice.Eq.{bytes_eq-Decides}
@@ -21,7 +21,7 @@ use Rattle.order_log.specs.Operations.{op_text}
 use Rattle.order_log.specs.Text.{number_text, object_text, entry_line}
 use Rattle.order_log.specs.Line.{◌>>=◌, cut, number_in, op_among, op_rows, weak_in, lone_object, object_by, object_in, kind_number, fits, entry_in}
 use Rattle.order_log.proofs.Numbers.{number_in-number_text, number_text-number_in}
-use Rattle.order_log.proofs.Parts.{Free, Free-append, Free-number_text, cut_at, Cuts, cut_is}
+use Rattle.order_log.proofs.Parts.{Free, Free-append, Free-number_text, cut_at, cut_is}
 
 -- ---- steps that may find nothing
 

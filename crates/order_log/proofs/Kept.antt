@@ -1,22 +1,15 @@
 -- What each part of a log that is read keeps.
-use Rattle.std.proofs.Common.{◌≡◌, ℕ, zero, suc, ◌+◌, ◌<◌, ◌≤◌, Bool, true, false, cond, List, [], ◌∷◌, ◌++◌, length, Option, Some, None, Result, Ok, Err, refl, sym, ap, subst, ◌∙◌, arith}
-use Rattle.std.specs.Prelude.{codes, nat_le, ◌&&◌, count_by}
-use Rattle.std.specs.List.{AllByRecursion}
+use Rattle.std.proofs.Common.{◌≡◌, ℕ, ◌≤◌, Bool, true, false, cond, List, length, Option, Some, None, Result, Ok, Err, refl, sym, ap, subst, ◌∙◌, arith}
+use Rattle.std.specs.Prelude.{nat_le, ◌&&◌}
 use Rattle.std.specs.Option.{option_and_then}
-use Rattle.std.specs.Str.{bytes_eq}
 use Rattle.std.proofs.lemmas.Bool.{and_parts, leb-true}
-use Rattle.facts.specs.declared.profile.Profile.{Profile}
-use Rattle.facts.specs.declared.profile.Profile.TheVariants as profile
-use Rattle.facts.specs.Profile.{Text, Pair}
-use Rattle.sync_objects.specs.declared.entry.Entry.{Entry}
-use Rattle.sync_objects.specs.Names.{Fits, is_ending}
-use Rattle.sync_objects.specs.Setup.{SetupView, IsWithinLimits}
+use Rattle.facts.specs.Profile.{Text}
 use Rattle.order_log.specs.declared.fault.LogFault.{LogFault}
 use Rattle.order_log.specs.declared.fault.LogFault.TheVariants.{LogSyntax, LogLimit, OutOfMemory}
-use Rattle.order_log.specs.Log.{LogView, IsLog, KeepsLimits, HasNames, AreWithin, IsEntryWithin, is_other_of, is_ending_of}
-use Rattle.order_log.specs.Line.{after_word, number_in, hex_in, entry_in}
+use Rattle.order_log.specs.Log.{LogView, IsLog, KeepsLimits}
+use Rattle.order_log.specs.Line.{after_word, number_in, hex_in}
 use Rattle.order_log.specs.Reading.{IsAnswer, UnlessMemory}
-use Rattle.order_log.specs.Recogniser.{◌>>=◌, Fails, Gives, Lines, lines_in, next, next_line, found_at, numbered, pairs_from, as_profile, profile_at, input_at, may_follow, is_entry_within, has_room, ended, entries_from, entries_at, log_at}
+use Rattle.order_log.specs.Recogniser.{◌>>=◌, Gives, Lines, lines_in, next_line, found_at, numbered, input_at, log_at}
 use Rattle.order_log.proofs.Heads.{hex_is}
 use Rattle.order_log.proofs.Only.{log_at-right, log_at-only}
 

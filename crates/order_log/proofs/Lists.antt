@@ -1,10 +1,9 @@
 -- Facts of each item, of lists that are joined; pairs that ascend.
-use Rattle.std.proofs.Common.{◌≡◌, ℕ, zero, suc, ◌+◌, ◌<◌, ◌≤◌, Bool, true, false, cond, List, [], ◌∷◌, ◌++◌, length, refl, sym, ap, ◌∙◌, arith}
+use Rattle.std.proofs.Common.{◌≡◌, ◌+◌, ◌≤◌, Bool, true, cond, List, [], ◌∷◌, ◌++◌, refl, arith}
 use Rattle.std.specs.Prelude.{count_by}
-use Rattle.std.specs.List.{AllByRecursion, sum_by}
-use Rattle.std.specs.Ordering.{is_lt}
+use Rattle.std.specs.List.{AllByRecursion}
 use Rattle.std.proofs.lemmas.List.Sums.{sum_by-append, sum_by_push, sum_by-cons}
-use Rattle.facts.specs.Profile.{Pair, pair_order, ComesBefore, AreAscending}
+use Rattle.facts.specs.Profile.{Pair, AreAscending}
 use Rattle.order_log.specs.Line.{ends_before}
 
 pub All-append : {X : Type 0} (P : X → Type 0) (xs ys : List X) → AllByRecursion P xs → AllByRecursion P ys → AllByRecursion P (xs ++ ys)

@@ -1,5 +1,5 @@
 -- The steps of the loops.
-use Rattle.std.proofs.Common.{◌≡◌, ℕ, zero, suc, ◌+◌, ◌-◌, ◌<◌, ◌≤◌, min, Bool, true, false, cond, List, [], ◌∷◌, ◌++◌, length, Option, Some, None, Result, Ok, Err, refl, sym, ap, subst, ◌∙◌, arith, ⊎_elim}
+use Rattle.std.proofs.Common.{◌≡◌, ℕ, zero, suc, ◌-◌, ◌<◌, ◌≤◌, Bool, true, false, cond, List, [], ◌∷◌, ◌++◌, length, Option, Some, None, Result, Ok, refl, sym, ap, subst, ◌∙◌, arith, ⊎_elim}
 use Rattle.std.specs.Prelude.{◌==◌, IsTrue}
 use Rattle.std.specs.Str.{IsUtf8, IsAscii}
 use Rattle.std.proofs.lemmas.Str.{IsUtf8-from_ascii}
@@ -13,7 +13,6 @@ use Rattle.facts.specs.Profile.{Text, Pair, pair_order, AreAscending, IsLesserFi
 use Rattle.order_log.specs.Names.{begins_name, continues_name, IsName}
 use Rattle.order_log.specs.Log.{IsNamePair}
 use Rattle.order_log.specs.declared.fault.LogFault.{LogFault}
-use Rattle.order_log.specs.declared.fault.LogFault.TheVariants.{LogSyntax, LogLimit}
 use Rattle.order_log.specs.Reading.{onto_first, lines_of}
 use Rattle.order_log.specs.Line.{ends_before, pair_in, capped}
 use Rattle.order_log.specs.Recogniser.{◌>>=◌, Lines, next_line, found_at, pairs_from, lines_in, next, unfinished_of}

@@ -1,6 +1,6 @@
 -- A log read as a machine reads it, line by line: what the lines so far say, and one line more.
-use Rattle.std.proofs.Common.{◌≡◌, ℕ, zero, suc, ◌+◌, ◌<◌, ◌≤◌, Bool, true, false, cond, List, [], ◌∷◌, ◌++◌, length, map, Option, Some, None, Result, Ok, Err, refl, sym, ap, ◌∙◌, arith}
-use Rattle.std.specs.Prelude.{codes, not, nat_le, ◌&&◌, ◌||◌}
+use Rattle.std.proofs.Common.{◌≡◌, ℕ, zero, suc, Bool, true, false, cond, List, [], ◌∷◌, ◌++◌, Option, Some, None, Result, Ok, Err, refl, sym, ap, ◌∙◌}
+use Rattle.std.specs.Prelude.{codes, nat_le, ◌&&◌}
 use Rattle.std.specs.Option.{option_map, option_and_then}
 use Rattle.std.specs.Str.{bytes_eq}
 use Rattle.facts.specs.declared.profile.Profile.{Profile}
@@ -12,7 +12,7 @@ use Rattle.order_log.specs.declared.fault.LogFault.{LogFault}
 use Rattle.order_log.specs.declared.fault.LogFault.TheVariants.{LogSyntax, LogLimit}
 use Rattle.order_log.specs.Log.{LogView}
 use Rattle.order_log.specs.Line.{after_word, number_in, pair_in, hex_in, entry_in}
-use Rattle.order_log.specs.Recogniser.{◌>>=◌, Lines, next, first_of, next_line, found_at, first_line, numbered, pairs_from, as_profile, profile_at, input_at, may_follow, ended, entries_from, entries_at, log_at}
+use Rattle.order_log.specs.Recogniser.{◌>>=◌, Lines, next, found_at, first_line, numbered, pairs_from, as_profile, profile_at, input_at, may_follow, entries_from, log_at}
 
 pub record Numbers : Type 0 where
   pub slots : ℕ

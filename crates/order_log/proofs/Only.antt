@@ -1,8 +1,7 @@
 -- There is one right answer.
-use Rattle.std.proofs.Common.{◌≡◌, ℕ, zero, suc, ◌+◌, ◌<◌, ◌≤◌, min, Bool, true, false, List, [], ◌∷◌, ◌++◌, length, take, drop, Option, Some, Result, Ok, Err, refl, sym, ap, subst, ◌∙◌, arith, append_assoc, inl, inr, ⊎_elim}
-use Rattle.std.specs.Prelude.{◌⊎◌}
+use Rattle.std.proofs.Common.{◌≡◌, ℕ, ◌+◌, ◌≤◌, false, List, [], ◌∷◌, ◌++◌, length, take, drop, Some, Result, Ok, Err, refl, sym, ap, subst, ◌∙◌, arith, append_assoc, ⊎_elim}
 use Rattle.std.proofs.lemmas.Bool.{cases_order}
-use Rattle.std.proofs.lemmas.List.{append-nil, take-append-drop, take-take}
+use Rattle.std.proofs.lemmas.List.{take-append-drop, take-take}
 use Rattle.std.proofs.lemmas.List.Concat.{flat_map-append}
 use Rattle.std.proofs.lemmas.Option.{same_Some}
 use Rattle.facts.specs.Profile.{Text}
@@ -10,9 +9,9 @@ use Rattle.order_log.specs.declared.fault.LogFault.{LogFault}
 use Rattle.order_log.specs.declared.fault.LogFault.TheVariants.{LogSyntax, LogLimit, OutOfMemory}
 use Rattle.order_log.specs.Log.{LogView, IsLog, KeepsLimits}
 use Rattle.order_log.specs.Text.{log_lines, text_of, log_text}
-use Rattle.order_log.specs.Reading.{lines_of, BeginsWith, BeginLog, BeginLimitedLog, IsSoundUpTo, IsSyntaxFault, IsLimitFault, shown, IsFirstAt, IsAnswer, UnlessMemory}
-use Rattle.order_log.specs.Recogniser.{Gives, Lines, lines_in, log_at, unfinished_of}
-use Rattle.order_log.proofs.Machine.{Part, Bare, Headed, Slotted, Celled, Limited, Pairing, Profiled, Sized, Whole, view_of, run, log_at-run}
+use Rattle.order_log.specs.Reading.{lines_of, BeginsWith, IsSoundUpTo, IsSyntaxFault, IsLimitFault, shown, IsFirstAt, IsAnswer}
+use Rattle.order_log.specs.Recogniser.{lines_in, log_at}
+use Rattle.order_log.proofs.Machine.{Part, Bare, Headed, Slotted, Celled, Limited, Pairing, Profiled, Sized, Whole, view_of, log_at-run}
 use Rattle.order_log.proofs.Walks.{walk, whole, whole_walk}
 use Rattle.order_log.proofs.Right.{cut_log, begins_with, LeadsTo-start, run_right}
 

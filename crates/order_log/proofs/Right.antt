@@ -1,8 +1,8 @@
 -- What the machine answers is the right answer.
-use Rattle.std.proofs.Common.{◌≡◌, ◌≢◌, ℕ, zero, suc, ◌+◌, ◌<◌, ◌≤◌, min, Bool, true, false, cond, List, [], ◌∷◌, ◌++◌, length, map, take, Option, Some, None, Result, Ok, Err, refl, sym, ap, subst, ◌∙◌, arith, append_assoc, inl, inr, ⊎_elim}
-use Rattle.std.specs.Prelude.{codes, not, ◌||◌, ◌⊎◌}
-use Rattle.std.specs.List.{AllByRecursion, flat_map}
-use Rattle.std.proofs.lemmas.List.{append-nil, length-append, take_at, append_cancel_left}
+use Rattle.std.proofs.Common.{◌≡◌, ℕ, ◌+◌, ◌≤◌, Bool, true, false, cond, List, [], ◌∷◌, ◌++◌, length, map, take, Some, None, Result, Ok, Err, refl, sym, ap, subst, ◌∙◌, arith, append_assoc, inl, inr, ⊎_elim}
+use Rattle.std.specs.Prelude.{codes, ◌||◌, ◌⊎◌}
+use Rattle.std.specs.List.{AllByRecursion}
+use Rattle.std.proofs.lemmas.List.{append-nil, length-append, take_at}
 use Rattle.std.proofs.lemmas.List.Concat.{flat_map-append}
 use Rattle.std.proofs.lemmas.Option.{none-some, same_Some}
 use Rattle.facts.specs.declared.profile.Profile.{Profile}
@@ -12,18 +12,18 @@ use Rattle.sync_objects.specs.declared.entry.Entry.{Entry}
 use Rattle.order_log.specs.declared.fault.LogFault.{LogFault}
 use Rattle.order_log.specs.declared.fault.LogFault.TheVariants.{LogSyntax, LogLimit}
 use Rattle.order_log.specs.Log.{LogView, IsNamePair, HasNames, IsLog, KeepsLimits}
-use Rattle.order_log.specs.Text.{number_text, hex_text, entry_line, pair_line, profile_lines, head_lines, log_lines, text_of, log_text}
-use Rattle.order_log.specs.Reading.{lines_of, BeginsWith, BeginLog, BeginLimitedLog, IsSoundUpTo, IsSyntaxFault, IsLimitFault, shown, IsFirstAt, IsAnswer}
+use Rattle.order_log.specs.Text.{number_text, hex_text, entry_line, pair_line, profile_lines, log_lines, text_of, log_text}
+use Rattle.order_log.specs.Reading.{lines_of, BeginsWith, BeginLog, BeginLimitedLog, IsSoundUpTo, shown, IsAnswer}
 use Rattle.order_log.specs.Recogniser.{next, unfinished_of}
 use Rattle.order_log.proofs.Parts.{Free, Free-append, Free-number_text}
 use Rattle.order_log.proofs.Entries.{Free-entry_line}
 use Rattle.order_log.proofs.Heads.{Free-pair_line, Free-hex_text}
 use Rattle.order_log.proofs.Lists.{All-append, All_front}
 use Rattle.order_log.proofs.Cutting.{AreLines, lines_of-text_of, unfinished_of-text_of, AreLines-lines_of, text_of-lines_of}
-use Rattle.order_log.proofs.Machine.{Numbers, Part, Bare, Headed, Slotted, Celled, Limited, Pairing, Profiled, Sized, Whole, view_of, Step, taken, finish, goes, run}
-use Rattle.order_log.proofs.Said.{said, Fine, Kept, Adds, adds}
+use Rattle.order_log.proofs.Machine.{Part, Bare, Headed, Slotted, Celled, Limited, Pairing, Profiled, Sized, Whole, view_of, Step, taken, finish, goes, run}
+use Rattle.order_log.proofs.Said.{said, Fine, Kept, adds}
 use Rattle.order_log.proofs.Walks.{walks, walk, walk_rest, loosely, whole, whole_walk}
-use Rattle.order_log.proofs.Completes.{Completed, completed}
+use Rattle.order_log.proofs.Completes.{completed}
 
 -- ---- the lines of a log have no newline in them
 

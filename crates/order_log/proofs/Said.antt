@@ -1,31 +1,30 @@
 -- What the machine keeps: its part says the lines so far, and can be completed to a log.
-use Rattle.std.proofs.Common.{◌≡◌, ℕ, zero, suc, ◌+◌, ◌<◌, ◌≤◌, Bool, true, false, cond, eqb, ltb, leb, List, [], ◌∷◌, ◌++◌, length, map, replicate, Option, Some, None, refl, sym, ap, subst, ◌∙◌, arith, append_assoc, inl, inr, ⊎_elim}
-use Rattle.std.specs.Prelude.{codes, not, nat_le, nat_lt, ◌&&◌, ◌||◌, ◌⊎◌, count_by}
-use Rattle.std.specs.List.{AllByRecursion}
+use Rattle.std.proofs.Common.{◌≡◌, ℕ, zero, suc, ◌+◌, ◌<◌, ◌≤◌, Bool, true, false, cond, eqb, List, [], ◌∷◌, ◌++◌, length, map, Some, None, refl, sym, ap, subst, ◌∙◌, arith, append_assoc, ⊎_elim}
+use Rattle.std.specs.Prelude.{codes, not, nat_le, nat_lt, ◌&&◌, count_by}
 use Rattle.std.specs.Option.{option_map, option_and_then}
 use Rattle.std.specs.Str.{bytes_eq}
 use Rattle.std.proofs.lemmas.Bool.{and_parts, leb-true, ltb-true, eqb-true}
 use Rattle.std.proofs.lemmas.List.{append-nil, length-append, map-append}
-use Rattle.std.proofs.lemmas.Option.{none-some, same_Some, cond_some}
+use Rattle.std.proofs.lemmas.Option.{same_Some, cond_some}
 use Rattle.std.proofs.lemmas.Slice.Eq.{bytes_eq-Decides}
 use Rattle.facts.specs.declared.profile.Profile.{Profile}
 use Rattle.facts.specs.declared.profile.Profile.TheVariants as profile
-use Rattle.facts.specs.Profile.{Text, Pair, AreAscending}
+use Rattle.facts.specs.Profile.{Text, Pair}
 use Rattle.sync_objects.specs.declared.entry.Entry.{Entry}
 use Rattle.sync_objects.specs.declared.object.ObjId.{ObjId}
 use Rattle.sync_objects.specs.declared.object.ObjId.TheVariants as object
 use Rattle.sync_objects.specs.Names.{Fits, is_ending}
-use Rattle.sync_objects.specs.Setup.{SetupView, IsWithinLimits}
-use Rattle.order_log.specs.Log.{LogView, IsNamePair, HasNames, IsLog, IsObjectWithin, last_count, IsEntryWithin, is_ending_of, is_other_of, KeepsLimits}
+use Rattle.sync_objects.specs.Setup.{SetupView}
+use Rattle.order_log.specs.Log.{IsNamePair, HasNames, IsLog, IsObjectWithin, last_count, IsEntryWithin, is_ending_of, is_other_of, KeepsLimits}
 use Rattle.order_log.specs.Text.{number_text, hex_text, entry_line, pair_line, profile_lines, log_lines}
-use Rattle.order_log.specs.Line.{after_word, number_in, pair_in, hex_in, entry_in, ends_before}
+use Rattle.order_log.specs.Line.{after_word, number_in, pair_in, hex_in, entry_in}
 use Rattle.order_log.specs.Recogniser.{is_object_within, is_entry_within, has_room, may_follow}
 use Rattle.order_log.proofs.Numbers.{number_text-number_in}
 use Rattle.order_log.proofs.Parts.{after_word_is}
-use Rattle.order_log.proofs.Entries.{bind_some, map_some, chosen, IsEntryLine, entry_is}
-use Rattle.order_log.proofs.Heads.{IsPairLine, pair_is, AreBytes, IsHexLine, hex_is}
+use Rattle.order_log.proofs.Entries.{bind_some, map_some, chosen, entry_is}
+use Rattle.order_log.proofs.Heads.{pair_is, hex_is}
 use Rattle.order_log.proofs.Lists.{All-append, count_push, AreAscending-push}
-use Rattle.order_log.proofs.Machine.{Numbers, Part, Bare, Headed, Slotted, Celled, Limited, Pairing, Profiled, Sized, Whole, paired, setup_of, view_of, Step, number_step, count_step, taken}
+use Rattle.order_log.proofs.Machine.{Numbers, Part, Bare, Headed, Slotted, Celled, Limited, Pairing, Profiled, Sized, Whole, paired, setup_of, view_of, number_step, count_step, taken}
 
 -- ---- the lines so far
 

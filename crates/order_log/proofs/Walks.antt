@@ -1,5 +1,5 @@
 -- The machine goes over the lines of each log, to its end.
-use Rattle.std.proofs.Common.{◌≡◌, ℕ, zero, suc, ◌+◌, ◌<◌, ◌≤◌, Bool, true, false, cond, List, [], ◌∷◌, ◌++◌, length, map, Option, Some, None, refl, sym, ap, subst, ◌∙◌, arith, append_assoc}
+use Rattle.std.proofs.Common.{◌≡◌, ℕ, ◌≤◌, Bool, true, false, cond, List, [], ◌∷◌, ◌++◌, length, map, Option, Some, None, refl, sym, ap, subst, ◌∙◌, arith, append_assoc}
 use Rattle.std.specs.Prelude.{codes, not, nat_le, nat_lt, ◌&&◌, ◌||◌, count_by}
 use Rattle.std.specs.List.{AllByRecursion}
 use Rattle.std.specs.Option.{option_map, option_and_then}
@@ -18,7 +18,7 @@ use Rattle.sync_objects.specs.Names.{Fits, is_ending}
 use Rattle.sync_objects.specs.Setup.{SetupView}
 use Rattle.order_log.specs.Log.{LogView, IsNamePair, HasNames, IsLog, IsObjectWithin, last_count, IsEntryWithin, is_ending_of, is_other_of, KeepsLimits}
 use Rattle.order_log.specs.Text.{number_text, hex_text, entry_line, pair_line, profile_lines, log_lines}
-use Rattle.order_log.specs.Line.{after_word, number_in, pair_in, hex_in, entry_in, ends_before}
+use Rattle.order_log.specs.Line.{number_in}
 use Rattle.order_log.specs.Recogniser.{is_object_within, is_entry_within, has_room, may_follow}
 use Rattle.order_log.proofs.Numbers.{number_in-number_text}
 use Rattle.order_log.proofs.Parts.{after_word_at}

@@ -1,13 +1,12 @@
 -- A text that is written part by part.
-use Rattle.std.proofs.Common.{◌≡◌, ℕ, zero, suc, ◌+◌, ◌^◌, ◌<◌, List, [], ◌∷◌, ◌++◌, length, map, refl, sym, ap, ◌∙◌, arith, append_assoc}
+use Rattle.std.proofs.Common.{◌≡◌, ℕ, zero, suc, ◌^◌, ◌<◌, List, [], ◌∷◌, ◌++◌, length, map, sym, ◌∙◌, arith, append_assoc}
 use Rattle.std.proofs.lemmas.List.{append-nil}
 use Rattle.std.specs.Prelude.{codes, decimal}
-use Rattle.std.specs.Int.Digits.{digits_of}
 use Rattle.std.proofs.lemmas.List.Concat.{flat_map-append}
 use Rattle.std.proofs.lemmas.Fmt.{decimal_digit, decimal-digits_of}
 use Rattle.facts.specs.Profile.{Text}
 use Rattle.order_log.specs.Log.{LogView}
-use Rattle.order_log.specs.Text.{number_text, hex_text, entry_line, profile_lines, log_lines, text_of, log_text}
+use Rattle.order_log.specs.Text.{number_text, hex_text, entry_line, profile_lines, text_of, log_text}
 use Rattle.order_log.proofs.Numbers.{number_text_some}
 
 pub decimal-number_text : (n : ℕ) → n < 2 ^ 64 → decimal n ≡ number_text n

@@ -1,5 +1,5 @@
 -- What a log says, and the limits that are kept by each log that is read or written.
-use Rattle.std.specs.Prelude.{ℕ, ◌+◌, ◌<◌, ◌≤◌, Bool, not, ◌&&◌, ◌==◌, if◌then◌else◌, List, [], count_by}
+use Rattle.std.specs.Prelude.{ℕ, ◌+◌, ◌<◌, ◌≤◌, Bool, not, ◌&&◌, ◌==◌, if◌then◌else◌, List, count_by}
 use Rattle.std.specs.List.{AllByRecursion}
 use Rattle.facts.specs.declared.profile.Profile.{Profile}
 use Rattle.facts.specs.declared.profile.Profile.TheVariants as profile

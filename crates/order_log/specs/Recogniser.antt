@@ -1,5 +1,5 @@
 -- Reading line by line, as the code does it. What it comes to is said in Reading.antt: here the steps only have names.
-use Rattle.std.specs.Prelude.{◌≡◌, ℕ, zero, suc, ◌+◌, min, Bool, true, false, ◌&&◌, ◌==◌, nat_lt, nat_le, if◌then◌else◌, List, [], ◌∷◌, ◌++◌, length, slice_index, ◌<◌, count_by, codes, Option, Some, None, option_and_then, Result, Ok, Err}
+use Rattle.std.specs.Prelude.{◌≡◌, ℕ, zero, suc, ◌+◌, min, Bool, true, false, ◌&&◌, ◌==◌, nat_lt, nat_le, if◌then◌else◌, List, [], ◌∷◌, ◌++◌, slice_index, ◌<◌, count_by, codes, Option, Some, None, option_and_then, Result, Ok, Err}
 use Rattle.std.specs.Str.{bytes_eq}
 use Rattle.facts.specs.declared.profile.Profile.{Profile}
 use Rattle.facts.specs.declared.profile.Profile.TheVariants as profile
@@ -7,11 +7,11 @@ use Rattle.facts.specs.Profile.{Text, Pair}
 use Rattle.sync_objects.specs.declared.entry.Entry.{Entry}
 use Rattle.sync_objects.specs.declared.object.ObjId.{ObjId}
 use Rattle.sync_objects.specs.declared.object.ObjId.TheVariants as object
-use Rattle.sync_objects.specs.declared.operation.OpName.{OpName}
 use Rattle.sync_objects.specs.Names.{is_ending}
 use Rattle.sync_objects.specs.Setup.{SetupView}
 use Rattle.order_log.specs.declared.fault.LogFault.{LogFault}
 use Rattle.order_log.specs.declared.fault.LogFault.TheVariants.{LogSyntax, LogLimit, OutOfMemory}
+use Rattle.order_log.specs.declared.reader.Reader.{Reader}
 use Rattle.order_log.specs.Log.{LogView, last_count, is_ending_of, is_other_of}
 use Rattle.order_log.specs.Reading.{lines_of}
 use Rattle.order_log.specs.Line.{after_word, number_in, pair_in, hex_in, entry_in}
@@ -50,6 +50,10 @@ pub record Lines : Type 0 where
 
 abbrev pub lines_in : ℕ → Text → Lines
 lines_in at bytes = record { at = at; whole = lines_of bytes; rest = unfinished_of bytes }
+
+-- the lines that a reader has left
+abbrev pub left : Reader → Lines
+left r = lines_in r.line r.bytes.now
 
 abbrev pub next : ℕ → ℕ
 next at = min (at + 1) 4294967295

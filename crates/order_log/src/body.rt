@@ -5,7 +5,7 @@ ghost use Rattle.sync_objects.specs.declared.entry.Entry.{Entry};
 ghost use Rattle.sync_objects.specs.Setup.{IsWithinLimits};
 ghost use Rattle.order_log.specs.Log.{last_count};
 ghost use Rattle.order_log.specs.Recogniser as recogniser;
-ghost use Rattle.order_log.specs.Recogniser.{AreCounted, Gives, lines_in};
+ghost use Rattle.order_log.specs.Recogniser.{AreCounted, Gives, left};
 
 use crate::entry::entry_in;
 use crate::fault::LogFault;
@@ -53,7 +53,8 @@ fn is_within(setup: &Setup, entry: &Entry) -> bool
 fn takes(counts: &mut [u32], thread: u8, most: u32) -> bool
     requires { thread < length counts.old }
     ensures room { result ≡ nat_lt (slice_index counts.old thread) most }
-    ensures taken { IsTrue result → counts.new ≡ slice_set counts.old thread (slice_index counts.old thread + 1) }
+    ensures taken { IsTrue result
+        → counts.new ≡ slice_set counts.old thread (slice_index counts.old thread + 1) }
 {
     let count = &mut counts[thread as usize];
     if *count >= most {
@@ -65,8 +66,10 @@ fn takes(counts: &mut [u32], thread: u8, most: u32) -> bool
 
 // Whether the entry is within the limits behind those that are counted. It is then counted too.
 fn may_follow(setup: &Setup, counts: &mut Counts, entry: &Entry) -> bool
-    ensures value { (es : List Entry) → AreCounted counts.old.others counts.old.endings es → result ≡ recogniser.may_follow setup.now es entry.now }
-    ensures counted { (es : List Entry) → AreCounted counts.old.others counts.old.endings es → IsTrue result → AreCounted counts.new.others counts.new.endings (es ++ entry.now ∷ []) }
+    ensures value { (es : List Entry) → AreCounted counts.old.others counts.old.endings es
+        → result ≡ recogniser.may_follow setup.now es entry.now }
+    ensures counted { (es : List Entry) → AreCounted counts.old.others counts.old.endings es → IsTrue result
+        → AreCounted counts.new.others counts.new.endings (es ++ entry.now ∷ []) }
 {
     if !is_within(setup, entry) {
         return false;
@@ -81,7 +84,8 @@ fn may_follow(setup: &Setup, counts: &mut Counts, entry: &Entry) -> bool
 /// The entries of a log, to the end of the text.
 pub fn entries(alloc: Global, reader: &mut Reader, setup: &Setup) -> Result<List<Entry>, LogFault>
     requires { IsWithinLimits setup.now }
-    ensures { Gives (λ es. es) result (recogniser.entries_at setup.now (lines_in reader.old.line reader.old.bytes.now)) }
+    ensures { Gives (λ es. es) result
+        (recogniser.entries_at setup.now (left reader.old)) }
 {
     let mut found = List::new(alloc);
     let mut counts = Counts {

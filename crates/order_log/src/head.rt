@@ -3,7 +3,7 @@
 ghost use Rattle.std.specs.Prelude.{◌≡◌, ◌≤◌, ◌<◌, ◌*◌, ◌+◌, ◌-◌, ◌^◌, min, codes, option_map, option_and_then, Ok, length};
 ghost use Rattle.order_log.specs.Line as line;
 ghost use Rattle.order_log.specs.Recogniser as recogniser;
-ghost use Rattle.order_log.specs.Recogniser.{Gives, lines_in};
+ghost use Rattle.order_log.specs.Recogniser.{Gives, left};
 
 use crate::fault::LogFault;
 use crate::hex::bytes_in;
@@ -17,7 +17,8 @@ use std::alloc::Global;
 /// The first line, which tells what the text is.
 #[tactic(auto, unfolding(crate::specs::Recogniser::first_line))]
 pub fn first_line(reader: &mut Reader) -> Result<(), LogFault>
-    ensures { Gives (λ _. lines_in reader.new.line reader.new.bytes.now) result (recogniser.first_line (lines_in reader.old.line reader.old.bytes.now)) }
+    ensures { Gives (λ _. left reader.new) result
+        (recogniser.first_line (left reader.old)) }
 {
     let at = reader.line;
     if next_line(reader)? != b"chimera log 1".as_slice() {
@@ -29,7 +30,8 @@ pub fn first_line(reader: &mut Reader) -> Result<(), LogFault>
 /// The number behind a word, alone in its line, where it is from `low` to `high`.
 #[tactic(auto, unfolding(crate::specs::Recogniser::numbered))]
 pub fn numbered(reader: &mut Reader, word: &[u8], low: u32, high: u32) -> Result<u32, LogFault>
-    ensures { Gives (λ n. (n, lines_in reader.new.line reader.new.bytes.now)) result (recogniser.numbered word.now low high (lines_in reader.old.line reader.old.bytes.now)) }
+    ensures { Gives (λ n. (n, left reader.new)) result
+        (recogniser.numbered word.now low high (left reader.old)) }
 {
     let at = reader.line;
     let line = next_line(reader)?;
@@ -51,7 +53,8 @@ fn number_behind(word: &[u8], text: &[u8]) -> Option<u64>
 /// The profile: its line, and a line for each of its pairs.
 #[tactic(auto, unfolding(crate::specs::Recogniser::profile_at))]
 pub fn profile(alloc: Global, reader: &mut Reader) -> Result<Profile, LogFault>
-    ensures { Gives (λ p. (p, lines_in reader.new.line reader.new.bytes.now)) result (recogniser.profile_at (lines_in reader.old.line reader.old.bytes.now)) }
+    ensures { Gives (λ p. (p, left reader.new)) result
+        (recogniser.profile_at (left reader.old)) }
 {
     let at = reader.line;
     let line = next_line(reader)?;
@@ -68,7 +71,8 @@ pub fn profile(alloc: Global, reader: &mut Reader) -> Result<Profile, LogFault>
 #[tactic(auto, unfolding(crate::specs::Recogniser::input_at))]
 pub fn input(alloc: Global, reader: &mut Reader, size: u32) -> Result<Bytes, LogFault>
     requires { size ≤ 1048576 }
-    ensures { Gives (λ bytes. (bytes, lines_in reader.new.line reader.new.bytes.now)) result (recogniser.input_at size (lines_in reader.old.line reader.old.bytes.now)) }
+    ensures { Gives (λ bytes. (bytes, left reader.new)) result
+        (recogniser.input_at size (left reader.old)) }
 {
     let at = reader.line;
     let line = next_line(reader)?;

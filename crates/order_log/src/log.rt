@@ -8,11 +8,13 @@ use rr_base::List;
 use std::marker::Model;
 use sync_objects::{Entry, Setup};
 
-/// The log of a run: what the run was set up with, the functions that it took for parallel, and its operations in
-/// their order. Each operation fits its object, the functions' names are names, and all is within the limits: threads
-/// and slots are below the setup's slots, cells below 2^22, locks at most 65,471 and stripes at most 7, counts at most
-/// the setup's limit (an ending entry's one more), and a thread has at most 1,048,576 entries that aren't ending ones
-/// and 6 that are.
+/// The log of a run: what it was set up with, the functions that it took for parallel, and its operations in
+/// their order. Each operation fits its object, the functions' names are names of the language, and:
+///
+/// - threads and slots are below the setup's slots, cells below 2^22;
+/// - a lock is at most 65,471, a stripe at most 7;
+/// - a count is at most the setup's limit, that of an ending entry one more;
+/// - a thread has at most 6 ending entries, and at most 1,048,576 others.
 #[derive(Debug, Drop)]
 pub struct Log {
     setup: Setup,
@@ -27,7 +29,7 @@ impl Model for Log {
 
     ghost view = { λ l. record { setup = l.setup; profile = l.profile; entries = l.entries } };
 
-    ghost invariant = { λ l. IsLog (record { setup = l.setup; profile = l.profile; entries = l.entries }) × KeepsLimits (record { setup = l.setup; profile = l.profile; entries = l.entries }) };
+    ghost invariant = { λ l. let v : LogView = record { setup = l.setup; profile = l.profile; entries = l.entries } in IsLog v × KeepsLimits v };
 }
 
 // The numbers in a slice of bytes are bytes.

@@ -3,10 +3,10 @@
 ghost use Rattle.std.specs.Prelude.{◌≡◌, ℕ, [], option_map};
 ghost use Rattle.order_log.specs.Line as line;
 ghost use Rattle.order_log.specs.Recogniser as recogniser;
-ghost use Rattle.order_log.specs.Recogniser.{Gives, lines_in};
+ghost use Rattle.order_log.specs.Recogniser.{Gives, left};
 
 use crate::fault::LogFault;
-use crate::part::{after_word, cut, has_name};
+use crate::part::{after_word, cut, spells_name};
 use crate::reader::{Reader, next_line};
 use facts::FunctionPairs;
 use rr_base::{Bytes, List};
@@ -32,7 +32,7 @@ fn pair_in<'a>(before: &[(Bytes, Bytes)], text: &'a [u8]) -> Option<(&'a [u8], &
 {
     let (first, second) = cut(after_word(b"pair ", text)?, b' ')?;
     let in_order = first.cmp(&second).is_le() && ends_before(before, first, second);
-    if !has_name(first) || !has_name(second) || !in_order {
+    if !spells_name(first) || !spells_name(second) || !in_order {
         return None;
     }
     Some((first, second))
@@ -40,7 +40,8 @@ fn pair_in<'a>(before: &[(Bytes, Bytes)], text: &'a [u8]) -> Option<(&'a [u8], &
 
 // So many pairs, one a line.
 fn pairs(alloc: Global, reader: &mut Reader, count: u64) -> Result<List<(Bytes, Bytes)>, LogFault>
-    ensures { Gives (λ ps. (ps, lines_in reader.new.line reader.new.bytes.now)) result (recogniser.pairs_from count [] (lines_in reader.old.line reader.old.bytes.now)) }
+    ensures { Gives (λ ps. (ps, left reader.new)) result
+        (recogniser.pairs_from count [] (left reader.old)) }
 {
     let mut found = List::new(alloc);
     let mut left = count;
@@ -65,7 +66,8 @@ pub fn function_pairs(
     reader: &mut Reader,
     count: u64,
 ) -> Result<FunctionPairs, LogFault>
-    ensures { (n : ℕ) → count ≡ line.capped n → Gives (λ ps. (ps, lines_in reader.new.line reader.new.bytes.now)) result (recogniser.pairs_from n [] (lines_in reader.old.line reader.old.bytes.now)) }
+    ensures { (n : ℕ) → count ≡ line.capped n → Gives (λ ps. (ps, left reader.new)) result
+        (recogniser.pairs_from n [] (left reader.old)) }
 {
     let _left = reader.bytes.len();
     Ok(FunctionPairs::new(pairs(alloc, reader, count)?))

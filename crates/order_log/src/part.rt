@@ -69,8 +69,8 @@ fn continues(text: &[u8]) -> bool
     text.iter().all(|b| can_continue(*b))
 }
 
-/// Whether the text is a name.
-pub fn has_name(text: &[u8]) -> bool
+/// Whether the text is a name, as a test that computes.
+pub fn spells_name(text: &[u8]) -> bool
     ensures { result ≡ line.is_name text.now }
 {
     match text {
@@ -79,10 +79,10 @@ pub fn has_name(text: &[u8]) -> bool
     }
 }
 
-/// Whether the text is a name of the language: a letter or `_`, and then letters, digits and `_`. Words and
-/// refused words of the language are names too.
+/// Whether the text is a name of the language: a letter or `_`, and then letters, digits and `_`. The
+/// language's own words are names too.
 pub fn is_name(text: &[u8]) -> bool
     ensures { IsTrue result ↔ IsName text.now }
 {
-    has_name(text)
+    spells_name(text)
 }

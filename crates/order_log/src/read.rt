@@ -33,18 +33,20 @@ fn log_in(alloc: Global, bytes: &[u8]) -> Result<Log, LogFault>
     Ok(Log::new(setup, profile, entries))
 }
 
-/// The log whose text the bytes are. A refusal tells the first line that spoils them: `LogSyntax` where no log has the
-/// lines up to it, or where it is missing or unfinished, and `LogLimit` where a log has them, but none within the
-/// limits.
+/// The log whose text the bytes are. A refusal tells the first line that spoils them: `LogSyntax` where no
+/// log's text begins with the lines up to it, or where it is missing or unfinished, and `LogLimit` where
+/// some log's does, but none within the limits.
 pub fn read_log(alloc: Global, bytes: &[u8]) -> Result<Log, LogFault>
     // The answer is right.
     ensures answer { UnlessMemory result (IsAnswer bytes.now result) }
 
     // No other is.
-    ensures only { (other : Result LogView LogFault) → IsAnswer bytes.now other → UnlessMemory result (result ≡ other) }
+    ensures only { (other : Result LogView LogFault) → IsAnswer bytes.now other
+        → UnlessMemory result (result ≡ other) }
 
     // The text of a log is read as that log.
-    ensures again { (v : LogView) → IsLog v → KeepsLimits v → bytes.now ≡ log_text v → UnlessMemory result (result ≡ Ok v) }
+    ensures again { (v : LogView) → IsLog v → KeepsLimits v → bytes.now ≡ log_text v
+        → UnlessMemory result (result ≡ Ok v) }
 {
     log_in(alloc, bytes)
 }

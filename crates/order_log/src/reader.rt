@@ -2,7 +2,7 @@
 
 ghost use Rattle.std.specs.Prelude.{◌≡◌};
 ghost use Rattle.order_log.specs.Recogniser as recogniser;
-ghost use Rattle.order_log.specs.Recogniser.{Gives, lines_in};
+ghost use Rattle.order_log.specs.Recogniser.{Gives, left};
 
 use crate::fault::LogFault;
 use crate::part::cut;
@@ -16,7 +16,8 @@ pub struct Reader<'a> {
 
 /// The next line without its newline. Without a newline it is a fault.
 pub fn next_line<'a>(reader: &mut Reader<'a>) -> Result<&'a [u8], LogFault>
-    ensures { Gives (λ line. (line.now, lines_in reader.new.line reader.new.bytes.now)) result (recogniser.next_line (lines_in reader.old.line reader.old.bytes.now)) }
+    ensures { Gives (λ line. (line.now, left reader.new)) result
+        (recogniser.next_line (left reader.old)) }
 {
     let Some((line, rest)) = cut(reader.bytes, b'\n') else {
         return Err(LogFault::LogSyntax(reader.line));

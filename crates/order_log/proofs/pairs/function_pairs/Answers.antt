@@ -1,6 +1,5 @@
-use Rattle.std.proofs.Common.{◌≡◌, ℕ, [], Result, Ok, sym, ap, subst, ◌∙◌, arith}
+use Rattle.std.proofs.Common.{[], Ok, sym, ap, subst, ◌∙◌, arith}
 use Rattle.std.proofs.lemmas.Result.{err_from_is_err_and}
-use Rattle.facts.specs.Profile.{Pair}
 use Rattle.order_log.specs.Recogniser.{Fails, lines_in, pairs_from}
 use Rattle.order_log.proofs.Loops.{pairs_from-capped, pairs_are_right}
 use Rattle.order_log.proofs.pairs.function_pairs.Goals as goal

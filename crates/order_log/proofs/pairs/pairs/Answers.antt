@@ -1,4 +1,4 @@
-use Rattle.std.proofs.Common.{◌-◌, ◌<◌, List, [], ◌∷◌, ◌++◌, ap, ◌∙◌, arith}
+use Rattle.std.proofs.Common.{◌-◌, List, [], ◌∷◌, ◌++◌, ap, ◌∙◌, arith}
 use Rattle.facts.specs.Profile.{Pair}
 use Rattle.order_log.specs.Line.{pair_in}
 use Rattle.order_log.specs.Recogniser.{lines_in, pairs_from}

@@ -3,4 +3,4 @@ use Rattle.order_log.proofs.Parts.{is_name-true, IsName-is_name}
 use Rattle.order_log.proofs.part.is_name.Goals as goal
 
 pub returns : goal.returns
-returns c = (λ e. is_name-true c.args.text.now (sym c.has_name.ensures ∙ e), λ h. c.has_name.ensures ∙ IsName-is_name c.args.text.now h)
+returns c = (λ e. is_name-true c.args.text.now (sym c.spells_name.ensures ∙ e), λ h. c.spells_name.ensures ∙ IsName-is_name c.args.text.now h)
