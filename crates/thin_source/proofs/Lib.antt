@@ -1,0 +1,2 @@
+mod Sound
+pub mod Kept
