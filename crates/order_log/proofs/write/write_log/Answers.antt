@@ -16,8 +16,8 @@ pub returns : goal.returns
 returns c =
     let setup = c.setup-setup.ensures in
     let slots = c.from.ensures ∙ c.slots.ensures.value ∙ ap (λ (s : SetupView). s.slots) setup in
-    let cells = c.from-2.ensures ∙ c.cells.ensures ∙ ap (λ (s : SetupView). s.cells) setup in
-    let limit = c.from-3.ensures ∙ c.limit.ensures ∙ ap (λ (s : SetupView). s.limit) setup in
+    let cells = c.from-2.ensures ∙ c.cells.ensures.value ∙ ap (λ (s : SetupView). s.cells) setup in
+    let limit = c.from-3.ensures ∙ c.limit.ensures.value ∙ ap (λ (s : SetupView). s.limit) setup in
     let size = c.len.ensures ∙ ap length (c.input.ensures.value ∙ ap (λ (s : SetupView). s.input) setup) in
     let input = c.as_slice.ensures ∙ c.input-2.ensures.value ∙ ap (λ (s : SetupView). s.input) setup in
     let entries = c.as_slice-2.ensures ∙ c.entries.ensures.value in
