@@ -11,3 +11,4 @@ pub mod WholeRuns
 pub mod PartFacts
 pub mod Performed
 pub mod Outside
+pub mod Walked
