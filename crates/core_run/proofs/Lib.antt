@@ -12,3 +12,6 @@ pub mod PartFacts
 pub mod Performed
 pub mod Outside
 pub mod Walked
+pub mod WalkSteps
+pub mod Leaving
+pub mod EntryParts

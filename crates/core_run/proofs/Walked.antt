@@ -1,6 +1,6 @@
 -- Steps of running threads over words are steps of the state that they show.
-use Rattle.std.proofs.Common.{◌≡◌, ◌≢◌, ℕ, zero, suc, ◌+◌, ◌-◌, ◌<◌, ◌≤◌, Bool, true, false, List, [], ◌∷◌, ◌++◌, length, map, take, drop, Option, Some, None, refl, sym, ap, ◌∙◌, subst, arith, ℤ, pos, nat_lt, ◌&&◌, append_assoc}
-use Rattle.std.specs.Prelude.{slice_get, slice_set, slice_index, if◌then◌else◌, filter}
+use Rattle.std.proofs.Common.{◌≡◌, ℕ, zero, suc, ◌+◌, ◌<◌, ◌≤◌, Bool, true, false, List, [], ◌∷◌, ◌++◌, length, map, take, drop, Option, Some, None, refl, sym, ap, ◌∙◌, subst, arith, nat_lt, ◌&&◌}
+use Rattle.std.specs.Prelude.{slice_get, slice_set, if◌then◌else◌, filter}
 use Rattle.std.specs.Option.{option_map, option_and_then}
 use Rattle.std.proofs.lemmas.List.{map-set, take-append-le, length-take, take_all, append-nil, length-append}
 use Rattle.std.proofs.lemmas.List.Elements.{filter-append}
@@ -16,15 +16,14 @@ use Rattle.core_run.specs.declared.access.Formula.{Formula}
 use Rattle.core_run.specs.Flows.{Running}
 use Rattle.core_run.specs.Machine.{Told, machine, effect_of, marked, accessed, operated}
 use Rattle.core_run.specs.Words.{cells_of, place_of}
-use Rattle.core_run.specs.Walks.{meets, most_reads, kept_reads, pieces_of, joined, printed_between}
+use Rattle.core_run.specs.Walks.{meets, most_reads, kept_reads, pieces_of, joined}
 use Rattle.core_run.specs.Parts.{own_outcome, made_outcome, OwnIs, MadeIs}
-use Rattle.core_run.specs.declared.parts.Own.{Own}
 use Rattle.core_run.specs.declared.parts.Own.TheVariants as own
 use Rattle.core_run.specs.declared.parts.Made.TheVariants as made_case
 use Rattle.core_run.specs.Shown.{running_thread, told_thread, RunAll, IsShown, with_read, StepsTo, MakesTo}
-use Rattle.runs.specs.Labels.{Label, Go, label_thread, label_of}
+use Rattle.runs.specs.Labels.{Go, label_thread, label_of}
 use Rattle.runs.specs.Same.{same_entry}
-use Rattle.runs.specs.Steps.{State, Effect, Refused, Marks, Loads, Stores, Operates, Change, Becomes, Outcome, Blocked, Leaves, change_outcome, outcome, with_thread, step_of_thread, stepped, entry_of_thread, effect_entry, added}
+use Rattle.runs.specs.Steps.{State, Effect, Refused, Marks, Loads, Stores, Operates, Blocked, Leaves, change_outcome, outcome, with_thread, step_of_thread, stepped, entry_of_thread, effect_entry, added}
 use Rattle.runs.specs.Walk.{if_nothing, if_only, alone, made}
 use Rattle.runs.proofs.Apart.{thread_of_label}
 
@@ -227,9 +226,9 @@ module _ (code : Code) (s : SetupView) (f : Formula) (e : Entry) (st : State Tol
         makes = makes code s e st entry_here.told entry_at ws1 told1 o ∙ ap (λ z. Some (record { words = ws1; threads = slice_set st.threads z told1 })) (sym label_is);
         shown = shown_after f flows words ws1 reads reads st e.thread r1 entry_here.told told1 shown entry_here.at refl (same_reads f flows words reads st e.thread entry_here.told told1 shown entry_here.at refl);
         prints =
-          ap joined (sym (drop_own entry_here.told.pieces printed))
-          ∙ ap (λ z. joined (drop (length entry_here.told.pieces) (pieces_of z))) (sym (slice_get-set_same st.threads e.thread told1 entry_here.told entry_here.at))
-          ∙ ap (λ z. joined (drop (length (pieces_of z)) (pieces_of (slice_get (slice_set st.threads e.thread told1) e.thread)))) (sym entry_here.at);
+            ap joined (sym (drop_own entry_here.told.pieces printed))
+            ∙ ap (λ z. joined (drop (length entry_here.told.pieces) (pieces_of z))) (sym (slice_get-set_same st.threads e.thread told1 entry_here.told entry_here.at))
+            ∙ ap (λ z. joined (drop (length (pieces_of z)) (pieces_of (slice_get (slice_set st.threads e.thread told1) e.thread)))) (sym entry_here.at);
       }
 
   pub refused_entry : (ws1 : List ℕ) → ((told : Told) → told.thread ≡ r.kept.thread → MadeIs code s told e words ws1 r1.kept.thread made_case.Refused) → made (machine code s) e st ≡ None

@@ -1,5 +1,5 @@
 -- The state of the machine that running threads, words and kept reads show.
-use Rattle.std.specs.Prelude.{◌≡◌, ℕ, suc, ◌+◌, nat_lt, ◌&&◌, Bool, true, false, Option, if◌then◌else◌, List, [], ◌∷◌, ◌++◌, length, map, Some, None, slice_get}
+use Rattle.std.specs.Prelude.{◌≡◌, ℕ, suc, ◌+◌, nat_lt, ◌&&◌, Bool, true, false, if◌then◌else◌, List, [], ◌∷◌, ◌++◌, length, map, Some, None, slice_get}
 use Rattle.sync_objects.specs.Setup.{SetupView}
 use Rattle.flow_code.specs.declared.code.Code.{Code}
 use Rattle.flow_code.specs.Threads.{Thread}
@@ -11,7 +11,7 @@ use Rattle.core_run.specs.Machine.{Told, machine}
 use Rattle.core_run.specs.Walks.{meets, most_reads, kept_reads, pieces_of, printed_between}
 use Rattle.runs.specs.Labels.{Go}
 use Rattle.runs.specs.Steps.{State, stepped, added}
-use Rattle.runs.specs.Walk.{alone, made}
+use Rattle.runs.specs.Walk.{alone, made, part}
 
 abbrev pub running_thread : Running → Thread
 running_thread r = r.kept.thread
@@ -70,3 +70,14 @@ pub record MakesTo (code : Code) (s : SetupView) (f : Formula) (e : Entry) (st :
 abbrev pub EntryStep : Code → SetupView → Formula → Entry → State Told → List Running → List ℕ → List (List Access) → List ℕ → List ℕ → Bool → Type 0
 EntryStep code s f e st flows words reads before after true = (printed : List ℕ) × (after ≡ before ++ printed) × MakesTo code s f e st flows words reads printed
 EntryStep code s f e st flows words reads before after false = made (machine code s) e st ≡ None
+
+-- the part of an entry, in which its thread goes alone and makes it, and what it has printed
+pub record PartTo (code : Code) (s : SetupView) (f : Formula) (e : Entry) (st : State Told) (flows : List Running) (words : List ℕ) (reads : List (List Access)) (printed : List ℕ) : Type 0 where
+  pub next : State Told
+  pub parts : part (machine code s) e st ≡ Some next
+  pub shown : IsShown f flows words reads next
+  pub prints : printed ≡ printed_between e.thread st next
+
+abbrev pub PartStep : Code → SetupView → Formula → Entry → State Told → List Running → List ℕ → List (List Access) → List ℕ → List ℕ → Bool → Type 0
+PartStep code s f e st flows words reads before after true = (printed : List ℕ) × (after ≡ before ++ printed) × PartTo code s f e st flows words reads printed
+PartStep code s f e st flows words reads before after false = part (machine code s) e st ≡ None
