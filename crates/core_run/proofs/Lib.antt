@@ -11,3 +11,7 @@ pub mod WholeRuns
 pub mod PartFacts
 pub mod Performed
 pub mod Outside
+pub mod Walked
+pub mod WalkSteps
+pub mod Leaving
+pub mod EntryParts

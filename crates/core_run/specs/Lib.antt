@@ -5,5 +5,6 @@ pub mod Kept
 pub mod Machine
 pub mod Parts
 pub mod Pieces
+pub mod Shown
 pub mod Walks
 pub mod Words

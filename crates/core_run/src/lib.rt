@@ -15,10 +15,12 @@ mod next;
 mod outcome;
 mod parts;
 mod place;
+mod reads;
 mod region;
 mod same;
 mod state;
 mod step;
+mod walker;
 
 pub use access::{Access, Formula};
 pub use flow::Flow;
@@ -28,3 +30,4 @@ pub use making::make_entry;
 pub use outcome::{Ending, Walk};
 pub use parts::{Made, Own, own_step};
 pub use sync_objects::{Entry, Noted, Setup};
+pub use walker::make_part;

@@ -1,0 +1,83 @@
+-- The state of the machine that running threads, words and kept reads show.
+use Rattle.std.specs.Prelude.{◌≡◌, ℕ, suc, ◌+◌, nat_lt, ◌&&◌, Bool, true, false, if◌then◌else◌, List, [], ◌∷◌, ◌++◌, length, map, Some, None, slice_get}
+use Rattle.sync_objects.specs.Setup.{SetupView}
+use Rattle.flow_code.specs.declared.code.Code.{Code}
+use Rattle.flow_code.specs.Threads.{Thread}
+use Rattle.core_run.specs.declared.access.Access.{Access}
+use Rattle.core_run.specs.declared.access.Formula.{Formula}
+use Rattle.core_run.specs.Flows.{Running}
+use Rattle.sync_objects.specs.declared.entry.Entry.{Entry}
+use Rattle.core_run.specs.Machine.{Told, machine}
+use Rattle.core_run.specs.Walks.{meets, most_reads, kept_reads, pieces_of, printed_between}
+use Rattle.runs.specs.Labels.{Go}
+use Rattle.runs.specs.Steps.{State, stepped, added}
+use Rattle.runs.specs.Walk.{alone, made, part}
+
+abbrev pub running_thread : Running → Thread
+running_thread r = r.kept.thread
+
+abbrev pub told_thread : Told → Thread
+told_thread told = told.thread
+
+-- the threads run the code under the setup, as threads number k and on
+abbrev pub RunAll : Code → SetupView → ℕ → List Running → Type 0
+RunAll code s k [] = Unit {0}
+RunAll code s k (r ∷ rs) = (r.code ≡ code) × (r.setup ≡ s) × (r.number ≡ k) × RunAll code s (k + 1) rs
+
+-- the words are the state's, the running threads are its threads, and of each thread the first accesses that meet the
+-- formula are kept
+pub record IsShown (f : Formula) (flows : List Running) (words : List ℕ) (reads : List (List Access)) (st : State Told) : Type 0 where
+  pub words_are : words ≡ st.words
+  pub threads_are : map running_thread flows ≡ map told_thread st.threads
+  pub reads_are : reads ≡ map (kept_reads f) st.threads
+
+-- what is kept after one access more
+abbrev pub with_read : Formula → List Access → Access → List Access
+with_read f xs a = if meets f a && nat_lt (length xs) most_reads then xs ++ a ∷ [] else xs
+
+-- ---- what the walk's parts have come to, from a state that was shown
+
+-- one own step of thread t, which adds no entry
+pub record StepsTo (code : Code) (s : SetupView) (f : Formula) (t : ℕ) (st : State Told) (flows : List Running) (words : List ℕ) (reads : List (List Access)) : Type 0 where
+  pub next : State Told
+  pub steps : stepped (machine code s) st (Go t) ≡ Some next
+  pub adds : added (machine code s) st (Go t) ≡ []
+  pub shown : IsShown f flows words reads next
+  pub same_pieces : pieces_of (slice_get next.threads t) ≡ pieces_of (slice_get st.threads t)
+
+abbrev pub OwnStep : Code → SetupView → Formula → ℕ → State Told → List Running → List ℕ → List (List Access) → Bool → Type 0
+OwnStep code s f t st flows words reads true = StepsTo code s f t st flows words reads
+OwnStep code s f t st flows words reads false = (n : ℕ) → alone (machine code s) (suc n) t st ≡ None
+
+-- so many own steps of thread t
+pub record GoesTo (code : Code) (s : SetupView) (f : Formula) (n t : ℕ) (st : State Told) (flows : List Running) (words : List ℕ) (reads : List (List Access)) : Type 0 where
+  pub next : State Told
+  pub goes : alone (machine code s) n t st ≡ Some next
+  pub shown : IsShown f flows words reads next
+  pub same_pieces : pieces_of (slice_get next.threads t) ≡ pieces_of (slice_get st.threads t)
+
+abbrev pub OwnSteps : Code → SetupView → Formula → ℕ → ℕ → State Told → List Running → List ℕ → List (List Access) → Bool → Type 0
+OwnSteps code s f n t st flows words reads true = GoesTo code s f n t st flows words reads
+OwnSteps code s f n t st flows words reads false = alone (machine code s) n t st ≡ None
+
+-- the operation of an entry, which may have printed
+pub record MakesTo (code : Code) (s : SetupView) (f : Formula) (e : Entry) (st : State Told) (flows : List Running) (words : List ℕ) (reads : List (List Access)) (printed : List ℕ) : Type 0 where
+  pub next : State Told
+  pub makes : made (machine code s) e st ≡ Some next
+  pub shown : IsShown f flows words reads next
+  pub prints : printed ≡ printed_between e.thread st next
+
+abbrev pub EntryStep : Code → SetupView → Formula → Entry → State Told → List Running → List ℕ → List (List Access) → List ℕ → List ℕ → Bool → Type 0
+EntryStep code s f e st flows words reads before after true = (printed : List ℕ) × (after ≡ before ++ printed) × MakesTo code s f e st flows words reads printed
+EntryStep code s f e st flows words reads before after false = made (machine code s) e st ≡ None
+
+-- the part of an entry, in which its thread goes alone and makes it, and what it has printed
+pub record PartTo (code : Code) (s : SetupView) (f : Formula) (e : Entry) (st : State Told) (flows : List Running) (words : List ℕ) (reads : List (List Access)) (printed : List ℕ) : Type 0 where
+  pub next : State Told
+  pub parts : part (machine code s) e st ≡ Some next
+  pub shown : IsShown f flows words reads next
+  pub prints : printed ≡ printed_between e.thread st next
+
+abbrev pub PartStep : Code → SetupView → Formula → Entry → State Told → List Running → List ℕ → List (List Access) → List ℕ → List ℕ → Bool → Type 0
+PartStep code s f e st flows words reads before after true = (printed : List ℕ) × (after ≡ before ++ printed) × PartTo code s f e st flows words reads printed
+PartStep code s f e st flows words reads before after false = part (machine code s) e st ≡ None
