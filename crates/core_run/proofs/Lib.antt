@@ -15,3 +15,5 @@ pub mod Walked
 pub mod WalkSteps
 pub mod Leaving
 pub mod EntryParts
+pub mod Starting
+pub mod WalkLoop

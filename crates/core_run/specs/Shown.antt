@@ -7,8 +7,14 @@ use Rattle.core_run.specs.declared.access.Access.{Access}
 use Rattle.core_run.specs.declared.access.Formula.{Formula}
 use Rattle.core_run.specs.Flows.{Running}
 use Rattle.sync_objects.specs.declared.entry.Entry.{Entry}
-use Rattle.core_run.specs.Machine.{Told, machine}
-use Rattle.core_run.specs.Walks.{meets, most_reads, kept_reads, pieces_of, printed_between}
+use Rattle.core_run.specs.Machine.{Told, machine, start_state}
+use Rattle.core_run.specs.Walks.{meets, most_reads, kept_reads, pieces_of, printed_between, Trapping, NoTrap, TrapOf, trap_or}
+use Rattle.core_run.specs.Endings.{ending_of, trap_of}
+use Rattle.core_run.specs.declared.outcome.Ending.{Ending}
+use Rattle.flow_code.specs.Next.{has_ended}
+use Rattle.std.specs.List.{filter_map, flat_map}
+use Rattle.core_run.specs.declared.outcome.Walk.{Walk}
+use Rattle.core_run.specs.declared.outcome.Walk.TheVariants as walk
 use Rattle.runs.specs.Labels.{Go}
 use Rattle.runs.specs.Steps.{State, stepped, added}
 use Rattle.runs.specs.Walk.{alone, made, part}
@@ -81,3 +87,29 @@ pub record PartTo (code : Code) (s : SetupView) (f : Formula) (e : Entry) (st : 
 abbrev pub PartStep : Code → SetupView → Formula → Entry → State Told → List Running → List ℕ → List (List Access) → List ℕ → List ℕ → Bool → Type 0
 PartStep code s f e st flows words reads before after true = (printed : List ℕ) × (after ≡ before ++ printed) × PartTo code s f e st flows words reads printed
 PartStep code s f e st flows words reads before after false = part (machine code s) e st ≡ None
+
+-- ---- the start
+
+-- the running threads are those of the start
+pub record AreStarted (code : Code) (s : SetupView) (flows : List Running) : Type 0 where
+  pub all : RunAll code s 0 flows
+  pub threads : map running_thread flows ≡ map told_thread (start_state code s).threads
+
+-- ---- the end
+
+abbrev pub all_ended : List Running → Bool
+all_ended [] = true
+all_ended (r ∷ rs) = has_ended r.kept.thread.phase && all_ended rs
+
+abbrev pub endings : List Running → List Ending
+endings rs = filter_map (λ r. ending_of r.kept.thread.phase) rs
+
+abbrev pub trap_from : ℕ → List Running → Trapping
+trap_from t [] = NoTrap
+trap_from t (r ∷ rs) = trap_or t (trap_of r.kept.thread.phase) (trap_from (t + 1) rs)
+
+-- what is shown of these threads, accesses and bytes
+abbrev pub ShownAs : List Running → List (List Access) → List ℕ → Walk → Type 0
+ShownAs flows reads out (walk.Done o r e) = (o ≡ out) × (r ≡ flat_map (λ xs. xs) reads) × (e ≡ endings flows) × (trap_from 0 flows ≡ NoTrap)
+ShownAs flows reads out (walk.Trapped kind thread line o r e) = (o ≡ out) × (r ≡ flat_map (λ xs. xs) reads) × (e ≡ endings flows) × (trap_from 0 flows ≡ TrapOf thread kind line)
+ShownAs flows reads out (walk.Wrong at) = ⊥

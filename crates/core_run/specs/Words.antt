@@ -52,13 +52,17 @@ start_globals slots (k ∷ ks) (w ∷ ws) = start_global slots k w ∷ start_glo
 abbrev pub start_cells : Code → SetupView → List ℕ
 start_cells code s = replicate (2 * s.slots) 0 ++ start_globals s.slots code.global_kinds code.globals ++ replicate (s.slots * s.cells) 0
 
--- the words of the objects at the start; a mutex, a condition, a barrier, an idle slot and a stripe have the word 0
-abbrev pub start_objects : Code → SetupView → List ℕ
-start_objects code s =
-    replicate (3 * cells_of code s) 0
+-- the words of the objects at the start, for so many cells and locks; a mutex, a condition, a barrier, an idle slot and a
+-- stripe have the word 0
+abbrev pub objects_from : ℕ → ℕ → List ℕ
+objects_from cells locks =
+    replicate (3 * cells) 0
     ++ start_word (object.Slot 0) ∷ replicate 15 0
     ++ start_word object.Threads ∷ start_word object.Halt ∷ start_word object.Input ∷ start_word object.Output ∷ []
-    ++ replicate (8 * length code.locks) 0
+    ++ replicate (8 * locks) 0
+
+abbrev pub start_objects : Code → SetupView → List ℕ
+start_objects code s = objects_from (cells_of code s) (length code.locks)
 
 abbrev pub start_words : Code → SetupView → List ℕ
 start_words code s = start_cells code s ++ start_objects code s

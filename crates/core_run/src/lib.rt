@@ -7,6 +7,7 @@
 mod access;
 mod due;
 mod enter;
+mod finish;
 mod flow;
 mod frame;
 mod laws;
@@ -18,9 +19,11 @@ mod place;
 mod reads;
 mod region;
 mod same;
+mod start;
 mod state;
 mod step;
 mod walker;
+mod walking;
 
 pub use access::{Access, Formula};
 pub use flow::Flow;
@@ -29,5 +32,7 @@ pub use laws::{law_converge, law_kept, law_machine, law_merges, law_written_merg
 pub use making::make_entry;
 pub use outcome::{Ending, Walk};
 pub use parts::{Made, Own, own_step};
+pub use start::{start_flows, start_words};
 pub use sync_objects::{Entry, Noted, Setup};
 pub use walker::make_part;
+pub use walking::walk;
