@@ -1,14 +1,14 @@
 -- The start, thread by thread and word by word.
-use Rattle.std.proofs.Common.{◌≡◌, ℕ, zero, suc, ◌+◌, ◌*◌, List, [], ◌∷◌, ◌++◌, length, map, refl, sym, ap, ◌∙◌, arith, append_assoc}
+use Rattle.std.proofs.Common.{◌≡◌, ℕ, zero, suc, ◌+◌, ◌*◌, List, [], ◌∷◌, ◌++◌, length, map, sym, ap, ◌∙◌, arith, append_assoc}
 use Rattle.std.specs.Prelude.{replicate}
-use Rattle.std.proofs.lemmas.List.{map-append, append-nil}
+use Rattle.std.proofs.lemmas.List.{map-append}
 use Rattle.sync_objects.specs.Setup.{SetupView}
 use Rattle.flow_code.specs.declared.code.Code.{Code}
 use Rattle.core_run.specs.Flows.{Running}
 use Rattle.sync_objects.specs.Start.{start_word}
 use Rattle.sync_objects.specs.declared.object.ObjId.TheVariants as object
 use Rattle.core_run.specs.Words.{objects_from}
-use Rattle.core_run.specs.Machine.{Told, start_thread, start_told, start_threads_from}
+use Rattle.core_run.specs.Machine.{start_thread, start_told, start_threads_from}
 use Rattle.core_run.specs.Shown.{running_thread, told_thread, RunAll}
 
 pub run_all_push : (code : Code) (s : SetupView) (k : ℕ) (rs : List Running) (r : Running) → RunAll code s k rs → r.code ≡ code → r.setup ≡ s → r.number ≡ k + length rs → RunAll code s k (rs ++ r ∷ [])

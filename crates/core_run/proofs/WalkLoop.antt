@@ -1,6 +1,6 @@
 -- The walk between two entries, and its end.
-use Rattle.std.proofs.Common.{◌≡◌, ◌≢◌, ℕ, zero, suc, ◌+◌, ◌<◌, ◌≤◌, ◌^◌, ◌-◌, Bool, true, false, List, [], ◌∷◌, ◌++◌, length, map, take, drop, Option, Some, None, refl, sym, ap, ◌∙◌, subst, arith, append_assoc}
-use Rattle.std.specs.Prelude.{slice_get, replicate, ◌⊎◌, ◌&&◌}
+use Rattle.std.proofs.Common.{◌≡◌, ℕ, zero, suc, ◌+◌, ◌≤◌, ◌^◌, ◌-◌, Bool, true, false, List, [], ◌∷◌, ◌++◌, length, map, take, drop, Option, Some, None, refl, sym, ap, ◌∙◌, subst, arith, append_assoc}
+use Rattle.std.specs.Prelude.{slice_get, replicate, ◌&&◌}
 use Rattle.std.specs.Option.{option_and_then}
 use Rattle.std.specs.List.{filter_map, flat_map}
 use Rattle.std.proofs.lemmas.List.{append-nil, length-append, length-map}
@@ -18,17 +18,16 @@ use Rattle.core_run.specs.declared.outcome.Walk.TheVariants as walk_case
 use Rattle.core_run.specs.Endings.{ending_of, trap_of}
 use Rattle.core_run.specs.Flows.{Running}
 use Rattle.core_run.specs.Kept.{IsKept}
-use Rattle.core_run.specs.Machine.{Told, machine, start_state, start_threads_from, start_told}
+use Rattle.core_run.specs.Machine.{Told, machine, start_state, start_threads_from}
 use Rattle.core_run.specs.Parts.{AreUsable}
-use Rattle.core_run.specs.Walks.{kept_reads, most_reads, meets, printed_between, walk_of, out_of, out_on, IsWhole, IsRefusedAt, IsUnfinished, Shows, WalkIs, first_trap, trap_or, Trapping, NoTrap}
+use Rattle.core_run.specs.Walks.{kept_reads, printed_between, walk_of, out_of, out_on, IsWhole, IsRefusedAt, IsUnfinished, Shows, WalkIs, first_trap, trap_or}
 use Rattle.core_run.specs.Words.{cells_of, start_words}
 use Rattle.core_run.specs.Shown.{running_thread, told_thread, RunAll, IsShown, PartStep, AreStarted, all_ended, endings, trap_from, ShownAs}
 use Rattle.core_run.proofs.Beginnings.{length-start_words}
 use Rattle.core_run.proofs.Reached.{kept}
 use Rattle.core_run.proofs.SoundWords.{sound_more}
-use Rattle.runs.specs.Steps.{State, Reaches, AllEnded}
+use Rattle.runs.specs.Steps.{State, Reaches}
 use Rattle.runs.specs.Walk.{part, IsSoloRun}
-use Rattle.runs.specs.Walk as solo
 use Rattle.runs.proofs.Solo.{solo_of_walk, walk-append}
 use Rattle.runs.proofs.Kept.{reaches_more, reaches_step}
 

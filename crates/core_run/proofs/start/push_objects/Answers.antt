@@ -1,5 +1,4 @@
-use Rattle.std.proofs.Common.{◌≡◌, ◌++◌, ◌∷◌, [], ◌*◌}
-use Rattle.std.specs.Prelude.{replicate}
+use Rattle.std.proofs.Common.{◌≡◌, ◌++◌, ◌∷◌, []}
 use Rattle.sync_objects.specs.Start.{start_word}
 use Rattle.sync_objects.specs.declared.object.ObjId.TheVariants as object
 use Rattle.core_run.proofs.Starting.{objects_in}

@@ -1,6 +1,5 @@
-use Rattle.std.proofs.Common.{◌≡◌, ◌∙◌, ◌+◌, ◌∷◌, ◌++◌, [], sym, subst, ap, arith, length, map}
-use Rattle.core_run.specs.Machine.{start_threads_from}
-use Rattle.core_run.specs.Shown.{RunAll, running_thread, told_thread}
+use Rattle.std.proofs.Common.{◌≡◌, ◌∙◌, ◌∷◌, ◌++◌, [], sym, subst, ap, arith, map}
+use Rattle.core_run.specs.Shown.{RunAll, running_thread}
 use Rattle.core_run.proofs.Starting.{run_all_push, threads_push}
 use Rattle.core_run.proofs.start.start_flows.Goals as goal
 

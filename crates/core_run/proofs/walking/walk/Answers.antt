@@ -1,10 +1,10 @@
-use Rattle.std.proofs.Common.{◌≡◌, ◌∙◌, ◌≤◌, ◌<◌, ◌+◌, ◌*◌, inl, inr, sym, ap, subst, arith, true, false, [], length, None}
+use Rattle.std.proofs.Common.{◌≡◌, ◌∙◌, ◌≤◌, ◌+◌, ◌*◌, inl, inr, sym, ap, subst, arith, [], length}
 use Rattle.std.specs.Prelude.{replicate}
 use Rattle.core_run.specs.Walks.{WalkIs}
 use Rattle.core_run.specs.Words.{cells_of}
 use Rattle.core_run.specs.Shown.{PartStep, all_ended, ShownAs}
 use Rattle.std.proofs.lemmas.Result.{IfOk-weaker}
-use Rattle.core_run.proofs.WalkLoop.{Walked, rest_is, walked_as, walked_start, walked_more, walked_wrong, walked_usable, walked_threads, walked_reads, walked_len, no_rest, walked_unfinished, walked_done}
+use Rattle.core_run.proofs.WalkLoop.{Walked, rest_is, walked_as, walked_start, walked_more, walked_wrong, walked_usable, walked_threads, walked_len, no_rest, walked_unfinished, walked_done}
 use Rattle.core_run.proofs.walking.walk.Goals as goal
 
 pub loop-at-init : goal.loop-at-init

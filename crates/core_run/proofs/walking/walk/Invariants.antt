@@ -1,4 +1,4 @@
-use Rattle.std.proofs.Common.{◌≡◌, ◌≤◌, ◌-◌, drop, length}
+use Rattle.std.proofs.Common.{◌≤◌, ◌-◌, drop, length}
 use Rattle.core_run.proofs.WalkLoop.{Walked}
 use Rattle.core_run.proofs.walking.walk.Given as goal
 
