@@ -1,0 +1,270 @@
+ghost use Rattle.std.specs.Prelude.{◌<◌};
+
+use crate::top::chimera;
+use rr_base::{Bytes, List, MemShelf, MemSink, SoundSource};
+use std::alloc::{AllocError, Global};
+use std::process::Abort;
+use std::test::Fail;
+
+const BANK: &str = "#include <pthread.h>
+#include <stdio.h>
+pthread_mutex_t m = PTHREAD_MUTEX_INITIALIZER;
+int a = 100;
+int b = 0;
+void *pay(void *p) {
+pthread_mutex_lock(&m);
+a = a - 10;
+b = b + 10;
+pthread_mutex_unlock(&m);
+return NULL; }
+int main(void) {
+pthread_t t; pthread_t u;
+pthread_create(&t, NULL, pay, NULL);
+pthread_create(&u, NULL, pay, NULL);
+pthread_join(t, NULL); pthread_join(u, NULL);
+pthread_mutex_lock(&m);
+printf(\"%d\\n\", b);
+pthread_mutex_unlock(&m);
+return 0; }
+";
+
+const FIRST: &str = "chimera log 1\n";
+
+const SLOTS_1: &str = "slots 1\ncells 16384\nlimit 16777216\nprofile all\ninput 0\n\n";
+
+const SLOTS_2: &str = "slots 2\ncells 16384\nlimit 16777216\nprofile all\ninput 0\n\n";
+
+const SLOTS_8: &str = "slots 8\ncells 16384\nlimit 16777216\nprofile all\ninput 0\n\n";
+
+// The bank's entries at positions 0 to 3, 4, 5, 6, 7 to 23, and 24.
+const STARTS: &str = "0 1 draw T\n0 4 start s1\n0 5 draw T\n0 8 start s2\n";
+
+const BEGIN: &str = "1 0 begin s1\n";
+
+const LOCK: &str = "1 3 lock m16\n";
+
+const UNLOCK: &str = "1 8 unlock m16\n";
+
+const GOES_ON: &str =
+    "1 10 end s1\n0 10 join s1\n1 11 leave T\n2 0 begin s2\n2 3 lock m16\n2 8 unlock m16\n\
+2 10 end s2\n0 12 join s2\n0 13 lock m16\n0 15 print O\n0 16 unlock m16\n0 17 halt H\n2 11 leave T\n\
+3 0 close s3\n4 0 close s4\n5 0 close s5\n6 0 close s6\n";
+
+const LAST: &str = "7 0 close s7\n";
+
+const MISUSE: &str = "pthread_mutex_t m;\nint main(void) { pthread_mutex_unlock(&m); return 0; }\n";
+
+// A thread traps while `main` holds a lock and waits for it.
+const HELD: &str = "#include <pthread.h>
+pthread_mutex_t m;
+int x = 1;
+void *f(void *p) {
+x = x + 9223372036854775807;
+return NULL; }
+int main(void) {
+pthread_t a;
+pthread_mutex_lock(&m);
+pthread_create(&a, NULL, f, NULL);
+pthread_join(a, NULL);
+return 0; }
+";
+
+const SUM: &str =
+    "#include <stdio.h>\nint x;\nint main(void) { x = 1 + 2; printf(\"%d\\n\", x); return 0; }\n";
+
+// A source, the parts of a log, and what is told of them: the text and the status.
+static RUNS: [(&str, &[&str], &str, u8); 11] = [
+    (
+        BANK,
+        &[FIRST, SLOTS_8, STARTS, BEGIN, LOCK, UNLOCK, GOES_ON, LAST],
+        "20\n",
+        0,
+    ),
+    (
+        BANK,
+        &[FIRST, SLOTS_8, STARTS, BEGIN, UNLOCK, LOCK, GOES_ON, LAST],
+        "wrong entry 5\n",
+        5,
+    ),
+    (
+        BANK,
+        &[
+            FIRST,
+            SLOTS_8,
+            STARTS,
+            "1 1 begin s1\n",
+            UNLOCK,
+            LOCK,
+            GOES_ON,
+            LAST,
+        ],
+        "wrong entry 4\n",
+        5,
+    ),
+    (BANK, &[FIRST], "log refused 23 2\n", 4),
+    (
+        BANK,
+        &[FIRST, SLOTS_8, STARTS, BEGIN, LOCK, "1 8 unl"],
+        "log refused 23 14\n",
+        4,
+    ),
+    (
+        BANK,
+        &[FIRST, SLOTS_8, STARTS, BEGIN, LOCK, UNLOCK, GOES_ON],
+        "wrong entry 24\n",
+        5,
+    ),
+    (BANK, &[FIRST, SLOTS_8], "wrong entry 0\n", 5),
+    (
+        MISUSE,
+        &[FIRST, SLOTS_1, "0 1 unlock m2\n0 2 trap H\n"],
+        "trap 9 thread 0 line 2\n",
+        3,
+    ),
+    (
+        HELD,
+        &[
+            FIRST,
+            SLOTS_2,
+            "0 1 lock m4\n0 2 draw T\n0 5 start s1\n1 0 begin s1\n1 4 trap H\n0 7 stop H\n",
+        ],
+        "trap 2 thread 1 line 5\n",
+        3,
+    ),
+    (
+        SUM,
+        &[FIRST, SLOTS_1, "0 3 print O\n0 4 halt H\n"],
+        "3\n",
+        0,
+    ),
+    (
+        SUM,
+        &[FIRST, SLOTS_1, "0 3 print O\n"],
+        "wrong entry 1\n",
+        5,
+    ),
+];
+
+// Words that are no job.
+static NO_JOBS: [&[&str]; 5] = [
+    &[],
+    &["record", "a"],
+    &["record", "a", "b", "--slots", "08"],
+    &["replay", "a", "b", "--"],
+    &["replay", "a", "-b"],
+];
+
+fn joined(alloc: Global, parts: &[&str]) -> Result<Bytes, AllocError> {
+    let mut text = List::new(alloc);
+    for part in parts {
+        text.extend_from_slice(part.as_bytes())?;
+    }
+    Ok(text)
+}
+
+// A shelf of a source `a` and a log `b`.
+fn shelf_of(alloc: Global, source: Bytes, log: Bytes) -> Result<MemShelf, AllocError> {
+    let mut files = List::new(alloc);
+    files.push((List::from_slice(alloc, b"a")?, source))?;
+    files.push((List::from_slice(alloc, b"b")?, log))?;
+    Ok(MemShelf::new(files, List::new(alloc)))
+}
+
+// A sink that takes a byte a call and fails at these calls.
+fn sink_of(alloc: Global, fails: &[u64]) -> Result<MemSink, AllocError> {
+    let fails = List::from_slice(alloc, fails)?;
+    Ok(MemSink::new(List::new(alloc), fails, 1))
+}
+
+// Calls with these words over a sink that fails at these calls, and compares what is told.
+fn check(
+    rt: &impl Abort,
+    alloc: Global,
+    words: &[&str],
+    fails: &[u64],
+    shelf: &mut MemShelf,
+    want: (&str, u8),
+) -> Result<(), Fail> {
+    let mut owned = Vec::new(alloc);
+    for word in words {
+        owned.push(String::from_str(alloc, word)?)?;
+    }
+    let mut input = SoundSource::sound(List::new(alloc));
+    let mut out = sink_of(alloc, fails)?;
+    let status = chimera(alloc, owned.as_slice(), &mut input, &mut out, shelf);
+    let (text, wanted) = want;
+    assert_eq!(rt; out.bytes().as_slice(), text.as_bytes());
+    assert_eq!(rt; status, wanted);
+    Ok(())
+}
+
+static REPLAY: [&str; 3] = ["replay", "a", "b"];
+
+fn check_no_jobs(rt: &impl Abort, alloc: Global) -> Result<(), Fail> {
+    for words in NO_JOBS {
+        let mut shelf = shelf_of(alloc, List::new(alloc), List::new(alloc))?;
+        check(rt, alloc, words, &[], &mut shelf, ("usage\n", 1))?;
+    }
+    Ok(())
+}
+
+// No file of that name, a source of one byte more than it may have, and a sink that fails at once and after one byte.
+fn check_outside(rt: &impl Abort, alloc: Global) -> Result<(), Fail> {
+    let large = List::from_vec(vec![in alloc; b' '; 1_048_577]?);
+    let mut shelf = shelf_of(alloc, large, List::new(alloc))?;
+    let missing = ["replay", "c", "b"];
+    check(rt, alloc, &missing, &[], &mut shelf, ("shelf fault\n", 9))?;
+    check(
+        rt,
+        alloc,
+        &REPLAY,
+        &[],
+        &mut shelf,
+        ("too large source\n", 11),
+    )?;
+    let mut shelf = shelf_of(alloc, joined(alloc, &[BANK])?, joined(alloc, RUNS[0].1)?)?;
+    check(rt, alloc, &REPLAY, &[0], &mut shelf, ("", 8))?;
+    check(rt, alloc, &REPLAY, &[1], &mut shelf, ("2", 8))
+}
+
+fn check_runs(rt: &impl Abort, alloc: Global) -> Result<(), Fail> {
+    for (source, log, text, status) in RUNS {
+        let mut shelf = shelf_of(alloc, joined(alloc, &[source])?, joined(alloc, log)?)?;
+        check(rt, alloc, &REPLAY, &[], &mut shelf, (text, status))?;
+    }
+    Ok(())
+}
+
+// What is told of a log's front part that is no log yet, or one that stops too early: its head has seven lines.
+fn cut_answer(alloc: Global, front: &[u8]) -> Result<(String, u8), AllocError> {
+    let lines = front.iter().filter(|byte| **byte == b'\n').count();
+    if lines >= 7 && front.last() == Some(&b'\n') {
+        Ok((format!(in alloc; "wrong entry {}\n", lines - 7)?, 5))
+    } else {
+        Ok((format!(in alloc; "log refused 23 {}\n", lines + 1)?, 4))
+    }
+}
+
+// Each front part of the bank's log, byte by byte: none but the whole runs to the end.
+fn check_front_parts(rt: &impl Abort, alloc: Global) -> Result<(), Fail> {
+    let whole = joined(alloc, RUNS[0].1)?;
+    for end in 0..whole.len() {
+        let front = &whole.as_slice()[..end];
+        let (text, status) = cut_answer(alloc, front)?;
+        let mut shelf = shelf_of(
+            alloc,
+            joined(alloc, &[BANK])?,
+            List::from_slice(alloc, front)?,
+        )?;
+        check(rt, alloc, &REPLAY, &[], &mut shelf, (&text, status))?;
+    }
+    Ok(())
+}
+
+#[test]
+fn tells_the_rows(rt: HostRuntime) -> Result<(), Fail> {
+    check_no_jobs(&rt, rt.alloc())?;
+    check_outside(&rt, rt.alloc())?;
+    check_runs(&rt, rt.alloc())?;
+    check_front_parts(&rt, rt.alloc())
+}
