@@ -1,6 +1,6 @@
 -- The addresses of globals in a code: in its instructions, and in the start words of its pointer cells. A site of which
 -- the code has an address is a global one.
-use Rattle.std.specs.Prelude.{ℕ, ◌+◌, ◌==◌, nat_le, ◌&&◌, ◌||◌, Bool, true, false, not, if◌then◌else◌, List, [], ◌∷◌, length, drop, Option, Some, None, is_some}
+use Rattle.std.specs.Prelude.{ℕ, ◌+◌, ◌==◌, nat_le, ◌&&◌, ◌||◌, Bool, true, false, if◌then◌else◌, List, [], ◌∷◌, length, drop, Option, Some, None, is_some}
 use Rattle.std.specs.List.{list_all}
 use Rattle.rr_base.specs.Words.{site_of, base_of, length_of}
 use Rattle.rr_base.specs.declared.layout.CellKind.{CellKind}
@@ -11,7 +11,6 @@ use Rattle.flow_code.specs.declared.act.Act.TheVariants as act
 use Rattle.flow_code.specs.declared.act.Instr.{Instr}
 use Rattle.flow_code.specs.declared.code.Code.{Code}
 use Rattle.flow_code.specs.declared.code.Function.{Function}
-use Rattle.flow_code.specs.declared.work.Work.{Work}
 use Rattle.flow_code.specs.declared.work.Work.TheVariants as work
 use Rattle.flow_code.specs.Pointers.{same_kind}
 use Rattle.flow_code.specs.Kinds.{is_address}

@@ -1,5 +1,5 @@
 -- Which codes are valid.
-use Rattle.std.specs.Prelude.{ℕ, ◌%◌, ◌^◌, ◌==◌, nat_le, ◌&&◌, Bool, false, not, if◌then◌else◌, List, [], ◌∷◌, length, Some}
+use Rattle.std.specs.Prelude.{ℕ, ◌%◌, ◌^◌, ◌==◌, nat_le, ◌&&◌, ◌||◌, Bool, not, List, length, count_by, Some}
 use Rattle.std.specs.List.{list_all}
 use Rattle.rr_base.specs.declared.layout.Layout.{Layout}
 use Rattle.rr_base.specs.declared.layout.Site.{Site}
@@ -47,20 +47,22 @@ all_locks_fit code locks = list_all (lock_fits code) locks
 abbrev pub is_main_function : Function → Bool
 is_main_function f = is_main_in (Some f)
 
-abbrev pub are_no_mains : List Function → Bool
-are_no_mains fs = list_all (λ f. not (is_main_function f)) fs
+abbrev pub mains_in : List Function → ℕ
+mains_in fs = count_by is_main_function fs
+
+abbrev pub mains_have_no_formals : List Function → Bool
+mains_have_no_formals fs = list_all (λ f. not (is_main_function f) || (f.formals == 0)) fs
 
 -- exactly one function is `main`, and it has no formals (C99 5.1.2.2.1)
 abbrev pub has_one_main : List Function → Bool
-has_one_main [] = false
-has_one_main (f ∷ fs) = if is_main_function f then (f.formals == 0) && are_no_mains fs else has_one_main fs
+has_one_main fs = (mains_in fs == 1) && mains_have_no_formals fs
 
 abbrev pub is_within_limits : Code → Bool
 is_within_limits code = nat_le (length code.functions) (2 ^ 20) && nat_le (length code.sites) 1023 && nat_le (length code.globals) (2 ^ 20)
 
-abbrev pub has_valid_parts : Code → Bool
-has_valid_parts code = sites_fit code.sites && all_locks_fit code code.locks && has_one_main code.functions && functions_fit code code.functions
-
--- a code of which all of this holds is valid
+-- a code is valid where it is within the limits; the cells of each site have kinds; each weak lock has a site and 1 or 8
+-- stripes; one function is `main`; what each function names is there, each register is used as the kind that it is, and
+-- control stays in the function (Kinds.antt, Order.antt, Regions.antt); and the global cells belong to the sites of which
+-- there are addresses (Addresses.antt)
 abbrev pub is_valid : Code → Bool
-is_valid code = is_within_limits code && has_valid_parts code && globals_fit code
+is_valid code = is_within_limits code && sites_fit code.sites && all_locks_fit code code.locks && has_one_main code.functions && functions_fit code code.functions && globals_fit code

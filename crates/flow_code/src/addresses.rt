@@ -26,13 +26,7 @@ fn address_at(kind: CellKind, word: u64) -> Option<u64>
     ensures { result ≡ spec.address_at kind word }
 {
     match kind {
-        CellKind::Pointer => {
-            if word == 0 {
-                None
-            } else {
-                Some(word)
-            }
-        }
+        CellKind::Pointer => { if word == 0 { None } else { Some(word) } }
         CellKind::Whole | CellKind::Mutex | CellKind::Cond | CellKind::Barrier => None,
     }
 }
@@ -136,7 +130,9 @@ fn agrees(word: u64, address: Option<u64>) -> bool
 fn instrs_agree(word: u64, instrs: &[Instr]) -> bool
     ensures { result ≡ spec.instrs_agree word instrs.now }
 {
-    instrs.iter().all(|instr| agrees(word, address_in(&instr.act)))
+    instrs
+        .iter()
+        .all(|instr| agrees(word, address_in(&instr.act)))
 }
 
 fn words_agree(word: u64, kinds: &[CellKind], words: &[u64]) -> bool
@@ -206,7 +202,10 @@ fn cells_fit(code: &Code, site: &Site, word: u64) -> bool
     ensures { result ≡ spec.cells_fit code.now site.now word }
 {
     begin_with(
-        kinds_from(code.global_kinds.as_slice(), PtrWord::from_word(word).base()),
+        kinds_from(
+            code.global_kinds.as_slice(),
+            PtrWord::from_word(word).base(),
+        ),
         site.layout.kinds.as_slice(),
     )
 }

@@ -21,6 +21,8 @@ mod regions;
 mod tests;
 mod thread;
 mod valid;
+#[cfg(test)]
+mod valid_tests;
 mod work;
 mod works;
 

@@ -46,7 +46,9 @@ fn ascend(numbers: &[u16]) -> bool
 fn are_locks(code: &Code, locks: &[u16]) -> bool
     ensures { result ≡ spec.are_locks code.now locks.now }
 {
-    locks.iter().all(|lock| usize::from(*lock) < code.locks.len())
+    locks
+        .iter()
+        .all(|lock| usize::from(*lock) < code.locks.len())
 }
 
 fn locks_fit(code: &Code, locks: &[u16]) -> bool

@@ -1,5 +1,6 @@
 // Which codes are valid.
-ghost use Rattle.std.specs.Prelude.{◌≡◌, ◌≤◌, length};
+ghost use Rattle.std.specs.Prelude.{◌≡◌, true};
+ghost use Rattle.flow_code.specs.Settle.{IsRunnable};
 ghost use Rattle.flow_code.specs.Valid as spec;
 
 use crate::act::Instr;
@@ -38,8 +39,7 @@ fn all_locks_fit(code: &Code, locks: &[LockInfo]) -> bool
 fn registers_fit(function: &Function) -> bool
     ensures { result ≡ spec.registers_fit function.now }
 {
-    function.formals <= function.registers
-        && function.pointers.len() == function.registers as usize
+    function.formals <= function.registers && function.pointers.len() == function.registers as usize
 }
 
 fn acts_fit(code: &Code, function: &Function, instrs: &[Instr]) -> bool
@@ -88,24 +88,29 @@ fn is_main_function(function: &Function) -> bool
     is_main(function.name.as_slice())
 }
 
-fn are_no_mains(functions: &[Function]) -> bool
-    ensures { result ≡ spec.are_no_mains functions.now }
+fn mains_in(functions: &[Function]) -> usize
+    ensures { result ≡ spec.mains_in functions.now }
 {
-    functions.iter().all(|function| !is_main_function(function))
+    let mut mains = 0;
+    for function in functions {
+        if is_main_function(function) {
+            mains += 1;
+        }
+    }
+    mains
+}
+
+fn mains_have_no_formals(functions: &[Function]) -> bool
+    ensures { result ≡ spec.mains_have_no_formals functions.now }
+{
+    functions.iter().all(|function| !is_main_function(function) || function.formals == 0)
 }
 
 // Whether exactly one function is `main`, and it has no formals (C99 5.1.2.2.1).
 fn has_one_main(functions: &[Function]) -> bool
     ensures { result ≡ spec.has_one_main functions.now }
 {
-    let mut rest = functions;
-    while let [function, more @ ..] = rest {
-        if is_main_function(function) {
-            return function.formals == 0 && are_no_mains(more);
-        }
-        rest = more;
-    }
-    false
+    mains_in(functions) == 1 && mains_have_no_formals(functions)
 }
 
 fn is_within_limits(code: &Code) -> bool
@@ -114,18 +119,21 @@ fn is_within_limits(code: &Code) -> bool
     code.functions.len() <= 1 << 20 && code.sites.len() <= 1023 && code.globals.len() <= 1 << 20
 }
 
-fn has_valid_parts(code: &Code) -> bool
-    ensures { result ≡ spec.has_valid_parts code.now }
+fn conditions_hold(code: &Code) -> bool
+    ensures { result ≡ spec.is_valid code.now }
 {
-    sites_fit(code.sites.as_slice())
+    is_within_limits(code)
+        && sites_fit(code.sites.as_slice())
         && all_locks_fit(code, code.locks.as_slice())
         && has_one_main(code.functions.as_slice())
         && functions_fit(code, code.functions.as_slice())
+        && globals_fit(code)
 }
 
 /// Whether the code is valid. It takes no memory.
 pub fn is_valid(code: &Code) -> bool
-    ensures { result ≡ spec.is_valid code.now }
+    ensures value { result ≡ spec.is_valid code.now }
+    ensures runnable { result ≡ true → IsRunnable code.now }
 {
-    is_within_limits(code) && has_valid_parts(code) && globals_fit(code)
+    conditions_hold(code)
 }
