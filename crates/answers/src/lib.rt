@@ -7,6 +7,8 @@ mod adapters;
 mod answer;
 mod files;
 mod telling;
+#[cfg(test)]
+mod tests;
 mod words;
 
 pub use adapters::{FileShelf, InSource, OutSink};

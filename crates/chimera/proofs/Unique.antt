@@ -11,7 +11,7 @@ use Rattle.core_run.specs.declared.access.Formula.{Formula}
 use Rattle.core_run.specs.declared.outcome.Walk.{Walk}
 use Rattle.core_run.specs.declared.outcome.Walk.TheVariants as walk
 use Rattle.core_run.specs.Machine.{Told, machine, start_state}
-use Rattle.core_run.specs.Walks.{first_trap, Trapping, NoTrap, TrapOf, walk_of, WalkIs, IsWhole, IsRefusedAt, IsUnfinished}
+use Rattle.core_run.specs.Walks.{first_trap, TrapOf, walk_of, WalkIs, IsWhole, IsRefusedAt, IsUnfinished}
 use Rattle.flow_code.specs.declared.code.Code.{Code}
 use Rattle.c_lexer.specs.declared.fault.LexFault.{LexFault}
 use Rattle.c_lexer.specs.declared.token.Token.{Token}
@@ -19,15 +19,13 @@ use Rattle.order_log.specs.declared.fault.LogFault.{LogFault}
 use Rattle.order_log.specs.declared.fault.LogFault.TheVariants.{LogSyntax, LogLimit, OutOfMemory}
 use Rattle.order_log.specs.Log.{LogView}
 use Rattle.order_log.proofs.Only.{log_at-only}
-use Rattle.rr_base.specs.Files.{Files}
 use Rattle.c_lexer.specs.Tokens.{tokens_of}
-use Rattle.answers.specs.Jobs.{Asked}
 use Rattle.answers.specs.Jobs.Asked.{Replay}
 use Rattle.answers.specs.declared.answer.Part.{Part}
 use Rattle.answers.specs.declared.answer.Part.TheVariants as part
 use Rattle.answers.specs.declared.answer.Answer.{Answer}
 use Rattle.answers.specs.declared.answer.Answer.TheVariants as answer
-use Rattle.chimera.specs.Replays.{no_reads, answer_of, Walks, IsByCode, refusal_of, IsByTokens, IsByLog, Replays, IsOfFile, IsAnswer, OneAnswer}
+use Rattle.chimera.specs.Replays.{no_reads, answer_of, IsByCode, IsByTokens, IsByLog, Replays, IsOfFile, OneAnswer}
 use Rattle.thin_source.specs.Thin.{thin_code}
 
 same_some : {A : Type 0} (x y : A) → Some x ≡ Some y → x ≡ y

@@ -9,5 +9,6 @@ pub mod Printed
 pub mod Prints
 pub mod Quietly
 pub mod Ranges
+pub mod Runnable
 pub mod Settle
 pub mod Shapes

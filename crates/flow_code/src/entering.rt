@@ -29,7 +29,7 @@ pub fn size_of(sites: &[Site], site: u16) -> u32
 }
 
 // The register and the site of the instruction's object, if it makes one at the entry.
-fn object_in(act: &Act) -> Option<(u32, u16)>
+pub(crate) fn object_in(act: &Act) -> Option<(u32, u16)>
     ensures { MatchOption result (spec.object_of act.now ≡ None) (λ it. spec.object_of act.now ≡ Some (spec.object it.0 it.1)) }
 {
     match act {

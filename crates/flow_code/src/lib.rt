@@ -4,18 +4,25 @@
 #![tactic(auto)]
 
 mod act;
+mod addresses;
 mod caller;
 mod code;
 mod entering;
 mod evaluate;
+mod kinds;
 mod library;
 mod onward;
+mod order;
 mod pointers;
 mod printing;
 mod region;
+mod regions;
 #[cfg(test)]
 mod tests;
 mod thread;
+mod valid;
+#[cfg(test)]
+mod valid_tests;
 mod work;
 mod works;
 
@@ -35,5 +42,6 @@ pub use pointers::{
 pub use printing::{piece, piece_len};
 pub use region::{Base, Bound, Region, Span};
 pub use thread::{Action, Due, Onward, Phase, Stripe};
+pub use valid::is_valid;
 pub use work::{BinaryOp, Work};
 pub use works::{compute, is_pointer, register, set_register};
