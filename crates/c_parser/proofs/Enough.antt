@@ -47,7 +47,7 @@ record Shrinks (env : (n : Phrase) → Parser (TreeOf n)) : Type 0 where
   no_more : (n : Phrase) (us : List Lexeme) (a : TreeOf n) (rest : List Lexeme) → env n us ≡ Got a rest → length rest ≤ length us
   fewer : (n : Phrase) (us : List Lexeme) (a : TreeOf n) (rest : List Lexeme) → env n us ≡ Got a rest → eats n ≡ true → length rest < length us
 
-token_fewer : (limit : ℕ) (c : Class) (l : ℕ) (us : List Lexeme) (a : Value c × Place) (rest : List Lexeme) → token limit c l us ≡ Got a rest → length rest < length us
+pub token_fewer : (limit : ℕ) (c : Class) (l : ℕ) (us : List Lexeme) (a : Value c × Place) (rest : List Lexeme) → token limit c l us ≡ Got a rest → length rest < length us
 token_fewer limit c l [] a rest e = cc
 token_fewer limit c l (t ∷ ts) a rest e = by (grab c t.kind) (nat_le l limit) refl e
   where

@@ -2,6 +2,9 @@ pub mod Tokens
 pub mod Works
 pub mod Language
 pub mod Enough
+pub mod Steps
+pub mod Singles
+pub mod Turns
 pub mod Examples
 pub mod Heads
 pub mod Grouping
@@ -15,3 +18,7 @@ pub mod Outermost
 pub mod Complete
 pub mod Exactly
 pub mod Prints
+pub mod Answering
+pub mod HeadSteps
+pub mod Behind
+pub mod Rounds

@@ -83,7 +83,7 @@ atom_postfixes _ h l = cc
 
 -- ---- where a rule goes by what was read
 
-braces_hold : (l : ℕ) (i : Init) (at : Place) (ms m1 m2 m3 : List Mark) → ms ≡ mark (p punct.OpenBrace) at (suc l) ∷ m1 → OfInit (suc l) i m1 m2 → (r : Initials) → Of (phrase.more_initials (suc l) (i ∷ [])) r m2 m3 → Holds (braces_behind l r at) m3 (λ x rest. OfInit l x ms rest)
+braces_hold : (l : ℕ) (i : Init) (at : Place) (ms m1 m2 m3 : List Mark) → ms ≡ mark (p punct.OpenBrace) at (suc l) ∷ m1 → OfInit (suc l) i m1 m2 → (r : Initials) → Of (phrase.more_initials (suc l) (i ∷ [])) r m2 m3 → Holds (braces_behind (suc l) r at) m3 (λ x rest. OfInit l x ms rest)
 braces_hold l i at ms m1 m2 m3 e h (initials is trailing) k =
     λ v p2 m4 e2. let these : i ∷ k.0 ≡ is = cc in let comma : k.1 ≡ trailing = cc in
     (m1, e, (k.3.0, subst (λ z. OfInits (suc l) (listed_inits z) m1 k.3.0) these (m2, h, k.3.1), (m3, subst (λ z. maybe z (other (p punct.Comma) (suc l)) k.3.0 m3) comma k.3.2, (p2, e2))))

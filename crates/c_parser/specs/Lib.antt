@@ -4,3 +4,9 @@ pub mod Phrase
 pub mod Parse
 pub mod Rules
 pub mod Exact
+pub mod Gives
+pub mod Faults
+pub mod Answers
+pub mod Heads
+pub mod Simple
+pub mod ForHeads

@@ -43,13 +43,17 @@ push left op e at = binary left op e at
 
 -- ---- types
 
+-- behind the first `long`
+abbrev pub long_rule : ℕ → Place → Rule Specifier
+long_rule l at =
+    on_word word.Long
+    (word_rule word.Long l (λ _. on_word word.Int (word_rule word.Int l (λ _. ret (specifiers.Long true true at.line at.column))) (ret (specifiers.Long true false at.line at.column))))
+    (on_word word.Int (word_rule word.Int l (λ _. ret (specifiers.Long false true at.line at.column))) (ret (specifiers.Long false false at.line at.column)))
+
 abbrev pub specifier_rule : ℕ → Rule Specifier
 specifier_rule l =
     on_word word.Int (word_rule word.Int l (λ at. ret (specifiers.Int at.line at.column)))
-    (on_word word.Long (word_rule word.Long l (λ at.
-    on_word word.Long
-    (word_rule word.Long l (λ _. on_word word.Int (word_rule word.Int l (λ _. ret (specifiers.Long true true at.line at.column))) (ret (specifiers.Long true false at.line at.column))))
-    (on_word word.Int (word_rule word.Int l (λ _. ret (specifiers.Long false true at.line at.column))) (ret (specifiers.Long false false at.line at.column)))))
+    (on_word word.Long (word_rule word.Long l (λ at. long_rule l at))
     (on_word word.Void (word_rule word.Void l (λ at. ret (specifiers.Void at.line at.column)))
     (on_word word.Struct (word_rule word.Struct l (λ at. one a_name l (λ x there. ret (specifiers.Struct (name_of x there) at.line at.column))))
     (on_word word.PthreadT (word_rule word.PthreadT l (λ at. ret (specifiers.PthreadT at.line at.column)))
@@ -94,17 +98,20 @@ chain_rule l left =
 abbrev pub unary_rule : ℕ → Rule Exp
 unary_rule l = on_punct punct.OpenParen (punct_rule punct.OpenParen (suc l) (λ at. rule.call (phrase.opened l at) (λ e. ret e))) (rule.call (phrase.unary_plain l) (λ e. ret e))
 
-abbrev pub unary_plain_rule : ℕ → Rule Exp
-unary_plain_rule l =
-    choose (is_of a_prefix) (one a_prefix (suc l) (λ op at. rule.call (phrase.unary (suc l)) (λ e. ret (prefix op e at))))
-    (on_word word.Sizeof
-    (word_rule word.Sizeof (suc l) (λ at.
+-- behind the word, which stands one level above l
+abbrev pub sizeof_rule : ℕ → Place → Rule Exp
+sizeof_rule l at =
     on_punct punct.OpenParen
     (punct_rule punct.OpenParen (suc (suc l)) (λ there.
     choose is_type
     (rule.call (phrase.type_name (suc (suc l))) (λ t. punct_rule punct.CloseParen (suc (suc l)) (λ _. ret (sizeof_type t at))))
     (rule.call (phrase.enclosed (suc l) there) (λ e. ret (sizeof_exp e at)))))
-    (rule.call (phrase.unary_plain (suc l)) (λ e. ret (sizeof_exp e at)))))
+    (rule.call (phrase.unary_plain (suc l)) (λ e. ret (sizeof_exp e at)))
+
+abbrev pub unary_plain_rule : ℕ → Rule Exp
+unary_plain_rule l =
+    choose (is_of a_prefix) (one a_prefix (suc l) (λ op at. rule.call (phrase.unary (suc l)) (λ e. ret (prefix op e at))))
+    (on_word word.Sizeof (word_rule word.Sizeof (suc l) (λ at. sizeof_rule l at))
     (rule.call (phrase.atom l) (λ e. rule.call (phrase.postfix l e) (λ all. ret all))))
 
 abbrev pub opened_rule : ℕ → Place → Rule Exp
@@ -160,12 +167,16 @@ lengths_rule l es =
     (ret es)
 
 abbrev pub braces_behind : ℕ → Initials → Place → Rule Init
-braces_behind l (initials is trailing) at = punct_rule punct.CloseBrace (suc l) (λ _. ret (braces (listed_inits is) trailing at))
+braces_behind l (initials is trailing) at = punct_rule punct.CloseBrace l (λ _. ret (braces (listed_inits is) trailing at))
+
+-- behind the opening brace, at its level
+abbrev pub braces_rule : ℕ → Place → Rule Init
+braces_rule l at = rule.call (phrase.initial l) (λ i. rule.call (phrase.more_initials l (i ∷ [])) (λ is. braces_behind l is at))
 
 abbrev pub initial_rule : ℕ → Rule Init
 initial_rule l =
     on_punct punct.OpenBrace
-    (punct_rule punct.OpenBrace (suc l) (λ at. rule.call (phrase.initial (suc l)) (λ i. rule.call (phrase.more_initials (suc l) (i ∷ [])) (λ is. braces_behind l is at))))
+    (punct_rule punct.OpenBrace (suc l) (λ at. braces_rule (suc l) at))
     (on_word word.PthreadMutexInitializer (word_rule word.PthreadMutexInitializer (suc l) (λ at. ret (mutex_start at)))
     (on_word word.PthreadCondInitializer (word_rule word.PthreadCondInitializer (suc l) (λ at. ret (cond_start at)))
     (rule.call (phrase.assignment (suc l)) (λ e. ret (value e)))))
@@ -199,7 +210,7 @@ start_rule l =
     (rule.call (phrase.maybe_expression l punct.Semicolon) (λ e. punct_rule punct.Semicolon l (λ _. ret (start_computes e))))
 
 -- the expression of an `if` or its kin, in its parentheses
-abbrev pub tested : ℕ → (Exp → Rule Statement) → Rule Statement
+abbrev pub tested : {A : Type 0} → ℕ → (Exp → Rule A) → Rule A
 tested l f = punct_rule punct.OpenParen l (λ _. rule.call (phrase.expression l) (λ e. punct_rule punct.CloseParen l (λ _. f e)))
 
 -- An `else` behind a statement with an open end has been read with it.
@@ -208,6 +219,24 @@ else_rule l e a at =
     if ends_open a then ret (branch e a at)
     else on_word word.Else (word_rule word.Else l (λ _. rule.call (phrase.statement l) (λ b. ret (branch_else e a b at)))) (ret (branch e a at))
 
+abbrev pub test_rule : ℕ → Rule Exp
+test_rule l = tested l (λ e. ret e)
+
+-- how a `for` begins, up to its statement
+pub record ForHead : Type 0 where
+  pub start : Start
+  pub test : Option Exp
+  pub next : Option Exp
+
+abbrev pub for_head : Start → Option Exp → Option Exp → ForHead
+for_head s test next = record { start = s; test = test; next = next }
+
+abbrev pub for_head_rule : ℕ → Rule ForHead
+for_head_rule l =
+    punct_rule punct.OpenParen l (λ _. rule.call (phrase.start l) (λ s.
+    rule.call (phrase.maybe_expression l punct.Semicolon) (λ test. punct_rule punct.Semicolon l (λ _.
+    rule.call (phrase.maybe_expression l punct.CloseParen) (λ next. punct_rule punct.CloseParen l (λ _. ret (for_head s test next)))))))
+
 abbrev pub for_rule : ℕ → Place → Rule Statement
 for_rule l at =
     punct_rule punct.OpenParen l (λ _. rule.call (phrase.start l) (λ s.
@@ -215,29 +244,60 @@ for_rule l at =
     rule.call (phrase.maybe_expression l punct.CloseParen) (λ next. punct_rule punct.CloseParen l (λ _.
     rule.call (phrase.statement l) (λ a. ret (for_loop s test next a at))))))))
 
+-- behind the statement of a `do`
+abbrev pub do_end_rule : ℕ → Rule Exp
+do_end_rule l = word_rule word.While l (λ _. tested l (λ e. punct_rule punct.Semicolon l (λ _. ret e)))
+
 abbrev pub do_rule : ℕ → Place → Rule Statement
 do_rule l at = rule.call (phrase.statement l) (λ a. word_rule word.While l (λ _. tested l (λ e. punct_rule punct.Semicolon l (λ _. ret (do_loop a e at)))))
 
+abbrev pub while_rule : ℕ → Place → Rule Statement
+while_rule l at = tested l (λ e. rule.call (phrase.statement l) (λ a. ret (while_loop e a at)))
+
+abbrev pub if_rule : ℕ → Place → Rule Statement
+if_rule l at = tested l (λ e. rule.call (phrase.statement l) (λ a. else_rule l e a at))
+
+abbrev pub block_rule : ℕ → Place → Rule Statement
+block_rule l at = rule.call (phrase.parts l []) (λ ps. punct_rule punct.CloseBrace l (λ _. ret (block (listed_parts ps) at)))
+
+abbrev pub return_rule : ℕ → Place → Rule Statement
+return_rule l at = rule.call (phrase.maybe_expression l punct.Semicolon) (λ e. punct_rule punct.Semicolon l (λ _. ret (gives e at)))
+
+abbrev pub compute_rule : ℕ → Rule Statement
+compute_rule l = rule.call (phrase.expression l) (λ e. punct_rule punct.Semicolon l (λ _. ret (compute (Some e) (first_place e))))
+
+-- one that begins with the word of a test or a loop, or with none
+abbrev pub control_rule : ℕ → Rule Statement
+control_rule l =
+    on_word word.If (word_rule word.If l (λ at. if_rule l at))
+    (on_word word.While (word_rule word.While l (λ at. while_rule l at))
+    (on_word word.Do (word_rule word.Do l (λ at. do_rule l at))
+    (on_word word.For (word_rule word.For l (λ at. for_rule l at)) (compute_rule l))))
+
+-- one of a semicolon, or that begins with the word of a jump, or else such a one
+abbrev pub simple_rule : ℕ → Rule Statement
+simple_rule l =
+    on_punct punct.Semicolon (punct_rule punct.Semicolon l (λ at. ret (compute None at)))
+    (on_word word.Break (word_rule word.Break l (λ at. punct_rule punct.Semicolon l (λ _. ret (break_at at))))
+    (on_word word.Continue (word_rule word.Continue l (λ at. punct_rule punct.Semicolon l (λ _. ret (continue_at at))))
+    (on_word word.Return (word_rule word.Return l (λ at. return_rule l at)) (control_rule l))))
+
+-- whose first token stands at that level
+abbrev pub inside_rule : ℕ → Rule Statement
+inside_rule l = on_punct punct.OpenBrace (punct_rule punct.OpenBrace l (λ at. block_rule l at)) (simple_rule l)
+
 abbrev pub statement_rule : ℕ → Rule Statement
-statement_rule l =
-    on_punct punct.OpenBrace
-    (punct_rule punct.OpenBrace (suc l) (λ at. rule.call (phrase.parts (suc l) []) (λ ps. punct_rule punct.CloseBrace (suc l) (λ _. ret (block (listed_parts ps) at)))))
-    (on_punct punct.Semicolon (punct_rule punct.Semicolon (suc l) (λ at. ret (compute None at)))
-    (on_word word.Break (word_rule word.Break (suc l) (λ at. punct_rule punct.Semicolon (suc l) (λ _. ret (break_at at))))
-    (on_word word.Continue (word_rule word.Continue (suc l) (λ at. punct_rule punct.Semicolon (suc l) (λ _. ret (continue_at at))))
-    (on_word word.Return
-    (word_rule word.Return (suc l) (λ at. rule.call (phrase.maybe_expression (suc l) punct.Semicolon) (λ e. punct_rule punct.Semicolon (suc l) (λ _. ret (gives e at)))))
-    (on_word word.If (word_rule word.If (suc l) (λ at. tested (suc l) (λ e. rule.call (phrase.statement (suc l)) (λ a. else_rule (suc l) e a at))))
-    (on_word word.While (word_rule word.While (suc l) (λ at. tested (suc l) (λ e. rule.call (phrase.statement (suc l)) (λ a. ret (while_loop e a at)))))
-    (on_word word.Do (word_rule word.Do (suc l) (λ at. do_rule (suc l) at))
-    (on_word word.For (word_rule word.For (suc l) (λ at. for_rule (suc l) at))
-    (rule.call (phrase.expression (suc l)) (λ e. punct_rule punct.Semicolon (suc l) (λ _. ret (compute (Some e) (first_place e)))))))))))))
+statement_rule l = inside_rule (suc l)
 
 abbrev pub parts_rule : ℕ → List Part → Rule (List Part)
 parts_rule l ps =
     on_punct punct.CloseBrace (ret ps)
     (choose is_type (rule.call (phrase.declaration l) (λ d. rule.call (phrase.parts l (ps ++ part_declares d ∷ [])) (λ all. ret all)))
     (rule.call (phrase.statement l) (λ s. rule.call (phrase.parts l (ps ++ part_does s ∷ [])) (λ all. ret all))))
+
+-- one of them
+abbrev pub part_rule : ℕ → Rule Part
+part_rule l = choose is_type (rule.call (phrase.declaration l) (λ d. ret (part_declares d))) (rule.call (phrase.statement l) (λ s. ret (part_does s)))
 
 -- ---- the outermost level
 
@@ -275,14 +335,21 @@ member_rule =
 abbrev pub more_members_rule : List Fields → Rule (List Fields)
 more_members_rule fs = on_punct punct.CloseBrace (ret fs) (rule.call phrase.member (λ f. rule.call (phrase.more_members (fs ++ f ∷ [])) (λ all. ret all)))
 
--- Behind the specifier: whether `static` stands before it, the specifier, and the place of the first token.
-abbrev pub behind_head : Bool → Specifier → Place → Head → Rule Outer
-behind_head is_static s at (function_head n x there) =
-    rule.call phrase.params (λ xs. punct_rule punct.CloseParen 0 (λ _. rule.call phrase.code (λ c. ret (function is_static s n (name_of x there) xs c))))
-behind_head is_static s at (object_head n x there) =
+-- behind the parenthesis of its parameters: whether `static` stands before it, the specifier, stars, the name
+abbrev pub function_rule : Bool → Specifier → ℕ → List ℕ → Place → Rule Outer
+function_rule is_static s n x there = rule.call phrase.params (λ xs. punct_rule punct.CloseParen 0 (λ _. rule.call phrase.code (λ c. ret (function is_static s n (name_of x there) xs c))))
+
+-- behind the name of the first, with the place of the first token before the stars
+abbrev pub objects_rule : Bool → Specifier → Place → ℕ → List ℕ → Place → Rule Outer
+objects_rule is_static s at n x there =
     rule.call (phrase.lengths n []) (λ es.
     rule.call (phrase.object_behind 0 (declared n (name_of x there) es)) (λ o.
     rule.call (phrase.more_objects 0 (o ∷ [])) (λ os. punct_rule punct.Semicolon 0 (λ _. ret (objects is_static s os at)))))
+
+-- Behind the specifier: whether `static` stands before it, the specifier, and the place of the first token.
+abbrev pub behind_head : Bool → Specifier → Place → Head → Rule Outer
+behind_head is_static s at (function_head n x there) = function_rule is_static s n x there
+behind_head is_static s at (object_head n x there) = objects_rule is_static s at n x there
 
 abbrev pub outer_behind_rule : Bool → Specifier → Place → Rule Outer
 outer_behind_rule is_static s at = heads (λ h. behind_head is_static s at h)
@@ -292,13 +359,17 @@ structure_rule x there =
     punct_rule punct.OpenBrace 0 (λ _. rule.call phrase.member (λ f.
     rule.call (phrase.more_members (f ∷ [])) (λ fs. punct_rule punct.CloseBrace 0 (λ _. punct_rule punct.Semicolon 0 (λ _. ret (structure (name_of x there) fs))))))
 
+-- behind the word `struct` at that place: the members of a struct, or a struct's name as a specifier
+abbrev pub behind_struct_rule : Place → Rule Outer
+behind_struct_rule at =
+    one a_name 0 (λ x there.
+    on_punct punct.OpenBrace (structure_rule x there)
+    (rule.call (phrase.outer_behind false (specifiers.Struct (name_of x there) at.line at.column) at) (λ o. ret o)))
+
 abbrev pub outer_rule : Rule Outer
 outer_rule =
     on_word word.Static (word_rule word.Static 0 (λ at. rule.call (phrase.specifier 0) (λ s. rule.call (phrase.outer_behind true s at) (λ o. ret o))))
-    (on_word word.Struct
-    (word_rule word.Struct 0 (λ at. one a_name 0 (λ x there.
-    on_punct punct.OpenBrace (structure_rule x there)
-    (rule.call (phrase.outer_behind false (specifiers.Struct (name_of x there) at.line at.column) at) (λ o. ret o)))))
+    (on_word word.Struct (word_rule word.Struct 0 (λ at. behind_struct_rule at))
     (rule.call (phrase.specifier 0) (λ s. rule.call (phrase.outer_behind false s (specifier_place s)) (λ o. ret o))))
 
 -- to the end of the tokens

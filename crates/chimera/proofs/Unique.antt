@@ -20,12 +20,16 @@ use Rattle.order_log.specs.declared.fault.LogFault.TheVariants.{LogSyntax, LogLi
 use Rattle.order_log.specs.Log.{LogView}
 use Rattle.order_log.proofs.Only.{log_at-only}
 use Rattle.c_lexer.specs.Tokens.{tokens_of}
+use Rattle.c_tree.specs.Tree.{Outer}
+use Rattle.c_parser.specs.Exact.{parsed}
+use Rattle.c_parser.specs.Gives.{limit, lexemes}
+use Rattle.c_parser.specs.Parse.{Outcome, Got, Stuck, Spent}
 use Rattle.answers.specs.Jobs.Asked.{Replay}
 use Rattle.answers.specs.declared.answer.Part.{Part}
 use Rattle.answers.specs.declared.answer.Part.TheVariants as part
 use Rattle.answers.specs.declared.answer.Answer.{Answer}
 use Rattle.answers.specs.declared.answer.Answer.TheVariants as answer
-use Rattle.chimera.specs.Replays.{no_reads, answer_of, IsByCode, IsByTokens, IsByLog, Replays, IsOfFile, OneAnswer}
+use Rattle.chimera.specs.Replays.{no_reads, answer_of, IsByCode, IsByTree, IsByTokens, IsByLog, Replays, IsOfFile, OneAnswer}
 use Rattle.thin_source.specs.Thin.{thin_code}
 
 same_some : {A : Type 0} (x y : A) → Some x ≡ Some y → x ≡ y
@@ -106,8 +110,13 @@ one_code : (log : LogView) (o : Option Code) (a b : Answer) → IsByCode log o a
 one_code log (Some code) a b h g = h.told ∙ one_walk code log.setup log.entries no_reads h.walk g.walk h.is g.is ∙ sym g.told
 one_code log None a b h g = h ∙ sym g
 
+one_by_tree : (log : LogView) (tokens : List Token) (o : Outcome (List Outer)) (a b : Answer) → IsByTree log tokens o a → IsByTree log tokens o b → a ≡ b
+one_by_tree log tokens (Got os rest) a b h g = one_code log (thin_code os) a b h g
+one_by_tree log tokens (Stuck fault rest) a b h g = h ∙ sym g
+one_by_tree log tokens Spent a b h g = absurd h
+
 one_by_tokens : (log : LogView) (r : Result (List Token) LexFault) (a b : Answer) → IsByTokens log r a → IsByTokens log r b → a ≡ b
-one_by_tokens log (Ok tokens) a b h g = one_code log (thin_code tokens) a b h g
+one_by_tokens log (Ok tokens) a b h g = one_by_tree log tokens (parsed limit (lexemes tokens)) a b h g
 one_by_tokens log (Err fault) a b h g = same_some a b (sym h ∙ g)
 
 one_by_log : (source : List ℕ) (r : Result LogView LogFault) (a b : Answer) → IsByLog source r a → IsByLog source r b → a ≡ b

@@ -1,14 +1,19 @@
 // The answer of a source and a log.
 
-ghost use Rattle.std.specs.Prelude.{◌≡◌, ◌≤◌, ◌^◌, Option, Some, None, length, option_map, IfOk, IfSome, MatchResult};
+ghost use Rattle.std.specs.Prelude.{◌≡◌, ◌≤◌, ◌^◌, Option, Some, None, length, option_map, IfOk, IfSome, MatchResult, All};
 ghost use Rattle.rr_base.specs.Faults.{ShelfFaults};
+ghost use Rattle.c_lexer.specs.Spans.{IsPlaced};
+ghost use Rattle.c_tree.specs.View.{program_of};
 ghost use Rattle.flow_code.specs.Settle.{IsRunnable};
+ghost use Rattle.thin_source.specs.Thin.{thin_code};
 ghost use Rattle.answers.specs.Jobs.{Asked};
 ghost use Rattle.answers.specs.Jobs.Asked.{Replay as AskedReplay};
 ghost use Rattle.chimera.specs.Replays as spec;
 
 use answers::{Answer, Part, get_within};
 use c_lexer::{LexFault, Token, tokens};
+use c_parser::{ParseFault, parse};
+use c_tree::Program;
 use core_run::{Formula, Walk, walk};
 use flow_code::Code;
 use order_log::{Log, LogFault, read_log};
@@ -59,11 +64,11 @@ fn by_walk(alloc: Global, code: &Code, log: &Log) -> Result<Answer, AllocError>
     Ok(answer_of(walk))
 }
 
-fn by_tokens(alloc: Global, tokens: &List<Token>, log: &Log) -> Result<Answer, AllocError>
-    requires { length tokens.now ≤ 2 ^ 20 }
-    ensures { IfOk result (spec.IsByTokens log.now (Ok tokens.now)) }
+fn by_tree(alloc: Global, program: &Program, log: &Log) -> Result<Answer, AllocError>
+    requires { length (program_of program.now) ≤ 2 ^ 20 }
+    ensures { IfOk result (spec.IsByCode log.now (thin_code (program_of program.now))) }
 {
-    match read_thin(alloc, tokens) {
+    match read_thin(alloc, program) {
         Ok(code) => by_walk(alloc, &code, log),
         Err(ThinFault::NotThin) => Ok(Answer::SourceRefused {
             number: 20,
@@ -71,6 +76,34 @@ fn by_tokens(alloc: Global, tokens: &List<Token>, log: &Log) -> Result<Answer, A
             column: 1,
         }),
         Err(ThinFault::OutOfMemory) => Err(AllocError),
+    }
+}
+
+// What is told of a fault of the grammar; nothing where memory is wanting.
+fn told_of(fault: ParseFault) -> Option<Answer>
+    ensures { result ≡ spec.told_of fault }
+{
+    let (number, line, column) = match fault {
+        ParseFault::Syntax { line, column } => (7, line, column),
+        ParseFault::Nesting { line, column } => (8, line, column),
+        ParseFault::OutOfProfile { line, column } => (20, line, column),
+        ParseFault::OutOfMemory => return None,
+    };
+    Some(Answer::SourceRefused {
+        number,
+        line,
+        column,
+    })
+}
+
+fn by_tokens(alloc: Global, tokens: &List<Token>, log: &Log) -> Result<Answer, AllocError>
+    requires few { length tokens.now ≤ 2 ^ 20 }
+    requires placed { All IsPlaced tokens.now }
+    ensures { IfOk result (spec.IsByTokens log.now (Ok tokens.now)) }
+{
+    match parse(alloc, tokens) {
+        Ok(program) => by_tree(alloc, &program, log),
+        Err(fault) => told_of(fault).ok_or(AllocError),
     }
 }
 

@@ -145,6 +145,28 @@ static RUNS: [(&str, &[&str], &str, u8); 11] = [
     ),
 ];
 
+// The entries of a program of one thread that only ends.
+const IDLE: &str =
+    "0 1 halt H\n1 0 close s1\n2 0 close s2\n3 0 close s3\n4 0 close s4\n5 0 close s5\n6 0 close s6\n7 0 close s7\n";
+
+// A source, and what is told of it with a log of one thread that only ends: its faults by bytes, by the grammar, and
+// where it isn't of the small language.
+static SOURCES: [(&str, &str, u8); 13] = [
+    ("int main(void){return 0;}", "", 0),
+    ("int @", "source refused 1 1 5\n", 2),
+    ("int x; /*", "source refused 2 1 8\n", 2),
+    ("int x = \"a", "source refused 3 1 9\n", 2),
+    ("int x = '\\q'", "source refused 4 1 10\n", 2),
+    ("int x = 9223372036854775808;", "source refused 5 1 9\n", 2),
+    ("int x;\n#if", "source refused 6 2 1\n", 2),
+    ("int main(void){switch(0){}}", "source refused 20 1 16\n", 2),
+    ("int main(void){return 1;\n", "source refused 7 1 25\n", 2),
+    ("int x int y;", "source refused 7 1 7\n", 2),
+    ("", "source refused 20 1 1\n", 2),
+    ("int main(void){return (0);}", "source refused 20 1 1\n", 2),
+    ("int main(void){return 1;}", "source refused 20 1 1\n", 2),
+];
+
 // Words that are no job.
 static NO_JOBS: [&[&str]; 5] = [
     &[],
@@ -261,10 +283,45 @@ fn check_front_parts(rt: &impl Abort, alloc: Global) -> Result<(), Fail> {
     Ok(())
 }
 
+fn check_sources(rt: &impl Abort, alloc: Global) -> Result<(), Fail> {
+    for (source, text, status) in SOURCES {
+        let log = joined(alloc, &[FIRST, SLOTS_8, IDLE])?;
+        let mut shelf = shelf_of(alloc, joined(alloc, &[source])?, log)?;
+        check(rt, alloc, &REPLAY, &[], &mut shelf, (text, status))?;
+    }
+    Ok(())
+}
+
+// `main` returns 0 in so many parentheses, on one line.
+fn nested(alloc: Global, depth: usize) -> Result<Bytes, AllocError> {
+    let mut text = List::from_slice(alloc, b"int main(void){return ")?;
+    text.extend_from_slice(vec![in alloc; b'('; depth]?.as_slice())?;
+    text.push(b'0')?;
+    text.extend_from_slice(vec![in alloc; b')'; depth]?.as_slice())?;
+    text.extend_from_slice(b";}\n")?;
+    Ok(text)
+}
+
+// One level more than 256, and the last that the grammar takes.
+fn check_levels(rt: &impl Abort, alloc: Global) -> Result<(), Fail> {
+    let rows = [
+        (255, "source refused 8 1 278\n"),
+        (254, "source refused 20 1 1\n"),
+    ];
+    for (depth, text) in rows {
+        let log = joined(alloc, &[FIRST, SLOTS_8, IDLE])?;
+        let mut shelf = shelf_of(alloc, nested(alloc, depth)?, log)?;
+        check(rt, alloc, &REPLAY, &[], &mut shelf, (text, 2))?;
+    }
+    Ok(())
+}
+
 #[test]
 fn tells_the_rows(rt: HostRuntime) -> Result<(), Fail> {
     check_no_jobs(&rt, rt.alloc())?;
     check_outside(&rt, rt.alloc())?;
     check_runs(&rt, rt.alloc())?;
+    check_sources(&rt, rt.alloc())?;
+    check_levels(&rt, rt.alloc())?;
     check_front_parts(&rt, rt.alloc())
 }

@@ -1,94 +1,59 @@
--- Every draft of at most 2 ^ 20 tokens makes a code that can be run.
+-- Every draft of at most 2 ^ 20 pieces makes a code that can be run.
 use Rattle.std.proofs.Common.{arith, ap, ◌∙◌, ◌≡◌, ℕ, ◌+◌, ◌-◌, ◌<◌, ◌≤◌, ◌^◌, Bool, true, false, List, [], ◌∷◌, ◌++◌, length, Option, Some, None, get_or, ◌⊎◌, inl, inr, refl}
-use Rattle.std.specs.Prelude.{All, IfSome, slice_get, nat_lt, if◌then◌else◌, pos, ◌&&◌, codes, Result, Ok, Err, IfOk}
+use Rattle.std.specs.Prelude.{All, IfSome, slice_get, nat_lt, nat_eq, if◌then◌else◌, pos, ◌&&◌, not, codes, Result, Ok, Err, IfOk}
+use Rattle.std.specs.Str.{bytes_eq}
 use Rattle.std.proofs.lemmas.Bool.{ltb-true}
-use Rattle.std.proofs.lemmas.List.{length_push, length-map, get_or_push}
+use Rattle.std.proofs.lemmas.List.{length_push, get_or_push}
 use Rattle.std.proofs.lemmas.List.Elements.{All-push, All-get_or}
 use Rattle.std.proofs.lemmas.Option.{slice_get_cases, slice_get-get_or}
 use Rattle.c_lexer.specs.Bytes.{Text}
-use Rattle.c_lexer.specs.declared.token.Token.{Token}
 use Rattle.rr_base.specs.declared.layout.CellKind.{CellKind}
 use Rattle.rr_base.specs.declared.layout.CellKind.TheVariants as cell
+use Rattle.c_tree.specs.declared.name.Name.{Name}
+use Rattle.c_tree.specs.declared.ctype.Specifier.{Specifier}
+use Rattle.c_tree.specs.declared.expr.AssignOp.{AssignOp}
+use Rattle.c_tree.specs.declared.expr.AssignOp.TheVariants as assign_op
+use Rattle.c_tree.specs.declared.program.Params.{Params}
+use Rattle.c_tree.specs.Tree as tree
+use Rattle.c_tree.specs.Tree.{Exp, Object, Declares, Statement, Part, Outer}
+use Rattle.flow_code.specs.declared.act.LibraryCall.{LibraryCall}
 use Rattle.flow_code.specs.declared.act.LibraryCall.TheVariants as call
+use Rattle.flow_code.specs.declared.act.Piece.TheVariants as piece
 use Rattle.flow_code.specs.declared.act.Act.{Act}
 use Rattle.flow_code.specs.declared.act.Act.TheVariants as act
 use Rattle.flow_code.specs.declared.act.Instr.{Instr}
 use Rattle.flow_code.specs.declared.code.Code.{Code}
 use Rattle.flow_code.specs.declared.code.Function.{Function}
 use Rattle.flow_code.specs.Next.{act_in}
-use Rattle.flow_code.specs.Settle.{IsRunnable, IsSoundAct}
+use Rattle.flow_code.specs.Settle.{IsRunnable, IsSoundAct, IsSoundCall}
 use Rattle.flow_code.specs.Threads.{instrs_in, is_main_in}
+use Rattle.flow_code.specs.Values.{is_zero}
 use Rattle.thin_source.specs.declared.body.Body.{Body}
 use Rattle.thin_source.specs.declared.draft.Draft.{Draft}
 use Rattle.thin_source.specs.declared.draft.Phase.{Phase}
 use Rattle.thin_source.specs.declared.draft.Phase.TheVariants as phase
 use Rattle.thin_source.specs.declared.fault.ThinFault.{ThinFault}
-use Rattle.thin_source.specs.declared.form.Form.{Form}
-use Rattle.thin_source.specs.declared.form.Form.TheVariants as form
-use Rattle.thin_source.specs.declared.form.Cut.{Cut}
-use Rattle.thin_source.specs.declared.form.Cut.TheVariants as cut
-use Rattle.thin_source.specs.declared.form.Variable.{Variable}
-use Rattle.thin_source.specs.declared.form.Variable.TheVariants as variable
-use Rattle.thin_source.specs.Answers.{Gives}
-use Rattle.thin_source.specs.Body.{fresh, constant, load, library, object, returned, done_by}
-use Rattle.thin_source.specs.Draft.{phase_behind, with_global, with_global_as, with_thread, with_create, with_join, with_root, with_end, with_main_end, with_body, with_line, empty, function, site, local_name, word_of, word_below, is_new, is_free, is_zero_in, all_of}
+use Rattle.thin_source.specs.declared.place.Place.{Place}
+use Rattle.thin_source.specs.Answers.{and_then, Gives}
+use Rattle.thin_source.specs.Body.{fresh, last, constant, load, address, library, object, returned, variable, stored}
+use Rattle.thin_source.specs.Draft.{is_free, is_new, site, place_of, with_global, local_name, with_thread, plain_name, with_threads, with_declared, on_mutex, number_printed, printed, thread_in, root_in, created_by, created_with, created, joined_by, joined_with, joined, called, stored_in, assigned_to, assigned, with_expression, with_step, with_part, function, empty, with_end, all_of, main_ends, main_gives, root_gives, with_gives, with_return, with_final, with_last}
 use Rattle.thin_source.specs.Laws.{IsPlain, regions_in, CodesAreRunnable, CodesArePlain}
-use Rattle.thin_source.specs.Letters.{letters_of, form_at}
-use Rattle.thin_source.specs.Names.{site_behind, index_of, place_at, name_at, number_at}
-use Rattle.thin_source.specs.Thin.{start, cut_off, passed, drafted, code_by, code_of, thin_code}
-use Rattle.thin_source.proofs.Sound.{bound, if_held, Any, any, IsPlainAct, IsPlainInstr, IsPlainBody, load_held, constant_held, library_held, object_held, returned_held, done_held, index_held}
-
--- ---- phases
-
-abbrev NotDone : Phase → Type 0
-NotDone phase.Done = ⊥
-NotDone _ = Unit {0}
-
--- only the end of `main` ends a source
-abbrev Ends : Form → Phase → Type 0
-Ends form.MainEnd p = Unit {0}
-Ends _ p = NotDone p
-
-ends : (f : Form) (q : Phase) → IfSome (phase_behind f q) (Ends f)
-ends (form.Variable v) phase.Globals = tt
-ends (form.Variable v) _ = tt
-ends form.Root phase.Globals = tt
-ends form.Root _ = tt
-ends form.RootEnd phase.InRoot = tt
-ends form.RootEnd _ = tt
-ends form.Main phase.Globals = tt
-ends form.Main _ = tt
-ends form.Thread phase.Threads = tt
-ends form.Thread _ = tt
-ends (form.Step s) phase.InRoot = tt
-ends (form.Step s) _ = tt
-ends form.Create phase.Threads = tt
-ends form.Create _ = tt
-ends form.Join phase.Threads = tt
-ends form.Join _ = tt
-ends form.MainEnd phase.Threads = tt
-ends form.MainEnd _ = tt
-
--- behind the end there is a `main`
-abbrev HasMain : Phase → List Function → Type 0
-HasMain phase.Done fs = (f : ℕ) × (is_main_in (slice_get fs f) ≡ true)
-HasMain _ fs = Unit {0}
-
-not_yet : (p : Phase) (fs : List Function) → NotDone p → HasMain p fs
-not_yet phase.Done fs h = absurd h
-not_yet _ fs h = tt
+use Rattle.thin_source.specs.Names.{site_behind, index_of, global_of}
+use Rattle.thin_source.specs.Shapes.{here, exps_in, parts_in, declares_in, name_in, name_place, null_in, addressed_in, prefix_place, is_format, lone, pair, four, object_name, is_thread, is_int, is_nothing, kind_in, start_in, formal_in, computed_in}
+use Rattle.thin_source.specs.Thin.{with_parts, at_front, is_open, with_object, with_objects, is_root_head, is_main_head, in_phase, with_root, with_main, with_function, with_code, with_outer, with_outers, start, code_by, code_of, thin_code}
+use Rattle.thin_source.proofs.Sound.{bound, if_held, Any, any, IsPlainInstr, IsPlainAct, IsPlainBody, load_held, address_held, constant_held, library_held, object_held, returned_held, variable_held, stored_held, index_held}
 
 -- ---- drafts
 
 abbrev IsPlainFunction : Function → Type 0
 IsPlainFunction f = All IsPlainInstr f.instrs × (f.regions ≡ [])
 
--- so many tokens have been read
-record Kept (at : ℕ) (d : Draft) : Type 0 where
+-- at most so many functions that threads start at, and so many whole ones
+record Kept (m n : ℕ) (d : Draft) : Type 0 where
   body : IsPlainBody d.body
   functions : All IsPlainFunction d.functions
-  roots : length d.roots ≤ at
-  count : length d.functions ≤ at
+  roots : length d.roots ≤ m
+  count : length d.functions ≤ n
   words : length d.cells.words ≤ length d.sites
   sites : length d.sites ≤ 1023
 
@@ -102,55 +67,18 @@ site_held k = by (nat_lt k 1023) refl
     by true h = let lt = ltb-true k 1023 h in omega (arith, lt)
     by false h = tt
 
--- ---- declarations
+either : {A : Type 0} (P : A → Type 0) (b : Bool) (o q : Option A) → IfSome o P → IfSome q P → IfSome (if b then o else q) P
+either P true o q h g = h
+either P false o q h g = g
 
-global_held : (n : ℕ) (ts : List Token) (at : ℕ) (kind : CellKind) (o : Option ℕ) (d : Draft) → Kept n d → IfSome (with_global ts at kind o d) (Kept (n + 1))
-global_held n ts at kind o d held = bound Any (Kept (n + 1)) o _ (any o) (λ w _.
-    bound (λ m. length d.sites + 1 ≤ 1023) (Kept (n + 1)) (site_behind (length d.sites)) _ (site_held (length d.sites)) (λ m room.
-    if_held (Kept (n + 1)) (is_new ts at d) (record d {
-      cells = record { names = d.cells.names ++ at ∷ []; words = d.cells.words ++ w ∷ []; kinds = d.cells.kinds ++ kind ∷ [] };
-      sites = d.sites ++ site (name_at ts at) kind (place_at ts at) ∷ [];
-    }) (record {
-      body = held.body;
-      functions = held.functions;
-      roots = omega (arith, held.roots);
-      count = omega (arith, held.count);
-      words = rw (length_push d.cells.words w, length_push d.sites (site (name_at ts at) kind (place_at ts at))) (omega (arith, held.words));
-      sites = rw (length_push d.sites (site (name_at ts at) kind (place_at ts at))) room;
-    })))
+-- the first of the two where the test holds, else nothing
+only : {A : Type 0} (P : A → Type 0) (b : Bool) (o : Option A) → IfSome o P → IfSome (if b then o else None) P
+only P true o h = h
+only P false o h = tt
 
-global_as_held : (n : ℕ) (v : Variable) (ts : List Token) (at : ℕ) (d : Draft) → Kept n d → IfSome (with_global_as v ts at d) (Kept (n + 1))
-global_as_held n variable.Int ts at d held = global_held n ts (at + 1) cell.Whole (Some 0) d held
-global_as_held n variable.IntFrom ts at d held = global_held n ts (at + 1) cell.Whole (word_of (number_at ts (at + 3))) d held
-global_as_held n variable.IntBelow ts at d held = global_held n ts (at + 1) cell.Whole (word_below (number_at ts (at + 4))) d held
-global_as_held n variable.Mutex ts at d held = global_held n ts (at + 1) cell.Mutex (Some 0) d held
-
-thread_held : (n : ℕ) (ts : List Token) (at : ℕ) (d : Draft) → Kept n d → IfSome (with_thread ts at d) (Kept (n + 1))
-unfolding with_thread
-thread_held n ts at d held =
-    let place = place_at ts (at + 1) in
-    let s = site (local_name (name_at ts (at + 1)) place) cell.Whole place in
-    bound (λ m. length d.sites + 1 ≤ 1023) (Kept (n + 1)) (site_behind (length d.sites)) _ (site_held (length d.sites)) (λ m room.
-    if_held (Kept (n + 1)) (is_new ts (at + 1) d) (record d {
-      threads = d.threads ++ (at + 1) ∷ [];
-      created = d.created ++ false ∷ [];
-      sites = d.sites ++ s ∷ [];
-      body = object place m d.body;
-    }) (record {
-      body = object_held place m d.body held.body;
-      functions = held.functions;
-      roots = omega (arith, held.roots);
-      count = omega (arith, held.count);
-      words = rw (length_push d.sites s) (omega (arith, held.words));
-      sites = rw (length_push d.sites s) room;
-    }))
-
--- ---- threads
-
--- the draft with another body
-body_held : (n : ℕ) (d : Draft) (b : Body) → Kept n d → IsPlainBody b → Kept (n + 1) (record d { body = b })
-body_held n d b held plain = record {
-  body = plain;
+later : (m n : ℕ) (d : Draft) → Kept m n d → Kept (m + 1) (n + 1) d
+later m n d held = record {
+  body = held.body;
   functions = held.functions;
   roots = omega (arith, held.roots);
   count = omega (arith, held.count);
@@ -158,173 +86,305 @@ body_held n d b held plain = record {
   sites = held.sites;
 }
 
-create_held : (n : ℕ) (ts : List Token) (at : ℕ) (d : Draft) → n < 2 ^ 20 → Kept n d → IfSome (with_create ts at d) (Kept (n + 1))
-unfolding with_create
-create_held n ts at d few held =
-    let b1 = constant true (place_at ts (at + 9)) (pos 0) d.body in
-    bound Any (Kept (n + 1)) (index_of ts (at + 3) d.threads) _ (any (index_of ts (at + 3) d.threads)) (λ t _.
-    bound (λ f. f < length d.roots) (Kept (n + 1)) (index_of ts (at + 7) d.roots) _ (index_held ts (at + 7) d.roots) (λ f lt. record {
-      body = library_held (place_at ts at) (call.Create f) (t ∷ fresh d.body ∷ []) b1 (omega (arith, lt, held.roots, few)) (constant_held true (place_at ts (at + 9)) (pos 0) d.body held.body);
-      functions = held.functions;
-      roots = omega (arith, held.roots);
-      count = omega (arith, held.count);
-      words = held.words;
-      sites = held.sites;
-    }))
+-- the draft with another body
+body_held : (m n : ℕ) (d : Draft) (b : Body) → Kept m n d → IsPlainBody b → Kept m n (record d { body = b })
+body_held m n d b held plain = record {
+  body = plain;
+  functions = held.functions;
+  roots = held.roots;
+  count = held.count;
+  words = held.words;
+  sites = held.sites;
+}
 
-join_held : (n : ℕ) (ts : List Token) (at : ℕ) (d : Draft) → Kept n d → IfSome (with_join ts at d) (Kept (n + 1))
-unfolding with_join
-join_held n ts at d held =
-    bound Any (Kept (n + 1)) (index_of ts (at + 2) d.threads) _ (any (index_of ts (at + 2) d.threads)) (λ t _.
-    let b1 = load (place_at ts (at + 2)) t d.body in
-    let b2 = constant true (place_at ts (at + 4)) (pos 0) b1 in
-    body_held n d (library (place_at ts at) call.Join (fresh d.body ∷ fresh b1 ∷ []) b2) held
-    (library_held (place_at ts at) call.Join (fresh d.body ∷ fresh b1 ∷ []) b2 tt (constant_held true (place_at ts (at + 4)) (pos 0) b1 (load_held (place_at ts (at + 2)) t d.body held.body))))
+-- ---- declarations
+
+module _ (m n : ℕ) where
+  global_held : (name : Name) (kind : CellKind) (w : ℕ) (d : Draft) → Kept m n d → IfSome (with_global name kind w d) (Kept m n)
+  unfolding with_global
+  global_held name kind w d held =
+      bound (λ k. length d.sites + 1 ≤ 1023) (Kept m n) (site_behind (length d.sites)) _ (site_held (length d.sites)) (λ k room.
+      if_held (Kept m n) (is_new name.text d) (record d {
+        cells = record { names = d.cells.names ++ name.text ∷ []; words = d.cells.words ++ w ∷ []; kinds = d.cells.kinds ++ kind ∷ [] };
+        sites = d.sites ++ site name.text kind (place_of name) ∷ [];
+      }) (record {
+        body = held.body;
+        functions = held.functions;
+        roots = held.roots;
+        count = held.count;
+        words = rw (length_push d.cells.words w, length_push d.sites (site name.text kind (place_of name))) (omega (arith, held.words));
+        sites = rw (length_push d.sites (site name.text kind (place_of name))) room;
+      }))
+
+  thread_held : (name : Name) (d : Draft) → Kept m n d → IfSome (with_thread name d) (Kept m n)
+  unfolding with_thread
+  thread_held name d held =
+      let place = place_of name in
+      let s = site (local_name name.text place) cell.Whole place in
+      bound (λ k. length d.sites + 1 ≤ 1023) (Kept m n) (site_behind (length d.sites)) _ (site_held (length d.sites)) (λ k room.
+      if_held (Kept m n) (is_new name.text d) (record d {
+        threads = d.threads ++ name.text ∷ [];
+        created = d.created ++ false ∷ [];
+        sites = d.sites ++ s ∷ [];
+        body = object place k d.body;
+      }) (record {
+        body = object_held place k d.body held.body;
+        functions = held.functions;
+        roots = held.roots;
+        count = held.count;
+        words = rw (length_push d.sites s) (omega (arith, held.words));
+        sites = rw (length_push d.sites s) room;
+      }))
+
+  threads_held : (s : Specifier) (os : List Object) (d : Draft) → Kept m n d → IfSome (with_threads s os d) (Kept m n)
+  threads_held s os d held = only (Kept m n) (is_thread s) _
+      (bound Any (Kept m n) (lone os) _ (any (lone os)) (λ o _. bound Any (Kept m n) (plain_name o) _ (any (plain_name o)) (λ name _. thread_held name d held)))
+
+  declared_held : (ds : Declares) (d : Draft) → Kept m n d → IfSome (with_declared ds d) (Kept m n)
+  declared_held (tree.declares s os p) d held = threads_held s os d held
+
+  -- ---- calls of the library
+
+  on_mutex_held : (what : LibraryCall) (es : List Exp) (place : Place) (d : Draft) → IsSoundCall what → Kept m n d → IfSome (on_mutex what es place d) (Kept m n)
+  on_mutex_held what es place d sound held =
+      bound Any (Kept m n) (lone es) _ (any (lone es)) (λ e _.
+      bound Any (Kept m n) (addressed_in e) _ (any (addressed_in e)) (λ name _.
+      bound Any (Kept m n) (global_of true name d.cells) _ (any (global_of true name d.cells)) (λ w _.
+      body_held m n d _ held (library_held place what (fresh d.body ∷ []) (address (prefix_place e) w d.body) sound (address_held (prefix_place e) w d.body held.body)))))
+
+  printed_held : (es : List Exp) (place : Place) (d : Draft) → Kept m n d → IfSome (printed es place d) (Kept m n)
+  printed_held es place d held =
+      bound Any (Kept m n) (pair es) _ (any (pair es)) (λ x _.
+      only (Kept m n) (is_format x.0) _
+      (bound Any (Kept m n) (name_in x.1) _ (any (name_in x.1)) (λ name _.
+      bound IsPlainBody (Kept m n) (variable name (name_place x.1) d.cells d.body) _ (variable_held name (name_place x.1) d.cells d.body held.body) (λ b plain.
+      body_held m n d _ held (library_held place (call.Print (piece.Number ∷ piece.Byte 10 ∷ [])) (last b ∷ []) b tt plain)))))
+
+  root_held_in : (attribute f : Exp) (d : Draft) → IfSome (root_in attribute f d) (λ r. r < length d.roots)
+  root_held_in attribute f d =
+      bound Any (λ r. r < length d.roots) (null_in attribute) _ (any (null_in attribute)) (λ _ _.
+      bound Any (λ r. r < length d.roots) (name_in f) _ (any (name_in f)) (λ name _. index_held name d.roots))
+
+  created_held : m ≤ 2 ^ 20 → (es : List Exp) (place : Place) (d : Draft) → Kept m n d → IfSome (created es place d) (Kept m n)
+  created_held few es place d held =
+      bound Any (Kept m n) (four es) _ (any (four es)) (λ x _.
+      bound Any (Kept m n) (thread_in x.0 d) _ (any (thread_in x.0 d)) (λ t _.
+      bound (λ r. r < length d.roots) (Kept m n) (root_in x.1 x.2 d) _ (root_held_in x.1 x.2 d) (λ r lt.
+      bound Any (Kept m n) (null_in x.3) _ (any (null_in x.3)) (λ there _. record {
+        body = library_held place (call.Create r) (t ∷ fresh d.body ∷ []) (constant true there (pos 0) d.body) (omega (arith, lt, held.roots, few)) (constant_held true there (pos 0) d.body held.body);
+        functions = held.functions;
+        roots = held.roots;
+        count = held.count;
+        words = held.words;
+        sites = held.sites;
+      }))))
+
+  joined_held : (es : List Exp) (place : Place) (d : Draft) → Kept m n d → IfSome (joined es place d) (Kept m n)
+  joined_held es place d held =
+      bound Any (Kept m n) (pair es) _ (any (pair es)) (λ x _.
+      bound Any (Kept m n) (name_in x.0) _ (any (name_in x.0)) (λ name _.
+      bound Any (Kept m n) (index_of name d.threads) _ (any (index_of name d.threads)) (λ t _.
+      bound Any (Kept m n) (null_in x.1) _ (any (null_in x.1)) (λ there _.
+      let b = load (name_place x.0) t d.body in
+      body_held m n d _ held (library_held place call.Join (fresh d.body ∷ fresh b ∷ []) (constant true there (pos 0) b) tt
+      (constant_held true there (pos 0) b (load_held (name_place x.0) t d.body held.body)))))))
+
+  called_held : m ≤ 2 ^ 20 → (in_main : Bool) (name : Text) (es : List Exp) (place : Place) (d : Draft) → Kept m n d → IfSome (called in_main name es place d) (Kept m n)
+  unfolding called
+  called_held few in_main name es place d held =
+      either (Kept m n) (bytes_eq name (codes "pthread_mutex_lock")) _ _ (on_mutex_held call.MutexLock es place d tt held)
+      (either (Kept m n) (bytes_eq name (codes "pthread_mutex_unlock")) _ _ (on_mutex_held call.MutexUnlock es place d tt held)
+      (either (Kept m n) (bytes_eq name (codes "printf")) _ _ (printed_held es place d held)
+      (either (Kept m n) (in_main && bytes_eq name (codes "pthread_create")) _ _ (created_held few es place d held)
+      (only (Kept m n) (in_main && bytes_eq name (codes "pthread_join")) _ (joined_held es place d held)))))
+
+  -- ---- steps
+
+  assigned_to_held : (left e : Exp) (place : Place) (d : Draft) → Kept m n d → IfSome (assigned_to left e place d) (Kept m n)
+  assigned_to_held (tree.named name p) e place d held =
+      bound IsPlainBody (Kept m n) (stored name (here p) e place d.cells d.body) _ (stored_held name (here p) e place d.cells d.body held.body) (λ b plain. body_held m n d b held plain)
+  assigned_to_held _ e place d held = tt
+
+  assigned_held : (o : AssignOp) (left e : Exp) (place : Place) (d : Draft) → Kept m n d → IfSome (assigned o left e place d) (Kept m n)
+  assigned_held assign_op.Assign left e place d held = assigned_to_held left e place d held
+  assigned_held _ left e place d held = tt
+
+  expression_held : m ≤ 2 ^ 20 → (in_main : Bool) (e : Exp) (d : Draft) → Kept m n d → IfSome (with_expression in_main e d) (Kept m n)
+  expression_held few in_main (tree.assign left o e p) d held = assigned_held o left e (here p) d held
+  expression_held few in_main (tree.call name es p) d held = called_held few in_main name (exps_in es) (here p) d held
+  expression_held few in_main _ d held = tt
+
+  part_held : m ≤ 2 ^ 20 → (in_main early : Bool) (s : Part) (d : Draft) → Kept m n d → IfSome (with_part in_main early s d) (Kept m n)
+  part_held few in_main early (tree.part_declares ds) d held = only (Kept m n) early _ (declared_held ds d held)
+  part_held few in_main early (tree.part_does s) d held = bound Any (Kept m n) (computed_in s) _ (any (computed_in s)) (λ e _. expression_held few in_main e d held)
 
 -- ---- functions
 
-root_held : (n : ℕ) (ts : List Token) (at : ℕ) (d : Draft) → Kept n d → IfSome (with_root ts at d) (Kept (n + 1))
-unfolding with_root
-root_held n ts at d held = if_held (Kept (n + 1)) (is_new ts (at + 2) d && is_free ts (at + 6) (record d { roots = d.roots ++ (at + 2) ∷ [] })) (record d {
-  roots = d.roots ++ (at + 2) ∷ [];
-  formals = d.formals ++ (at + 6) ∷ [];
-  name = at + 2;
-  body = record { pointers = true ∷ []; instrs = [] };
-}) (record {
-  body = none_plain IsPlainInstr;
-  functions = held.functions;
-  roots = rw (length_push d.roots (at + 2)) (omega (arith, held.roots));
-  count = omega (arith, held.count);
-  words = held.words;
-  sites = held.sites;
-})
+-- the last function has this name
+abbrev EndsBy : Name → Draft → Type 0
+EndsBy name d = (fs : List Function) × (f : Function) × (d.functions ≡ fs ++ f ∷ []) × (f.name ≡ name.text)
 
-end_held : (n : ℕ) (name : Text) (gives : Bool) (formals : ℕ) (ts : List Token) (at : ℕ) (d : Draft) → Kept n d → Kept (n + 1) (with_end name gives formals ts at d)
-end_held n name gives formals ts at d held =
-    let b = returned gives (place_at ts (at + 1)) (place_at ts at) d.body in
-    let f = function name (place_at ts d.name).line gives formals b in
-    record {
-      body = none_plain IsPlainInstr;
-      functions = All-push IsPlainFunction d.functions f held.functions (returned_held gives (place_at ts (at + 1)) (place_at ts at) d.body held.body, refl);
-      roots = omega (arith, held.roots);
-      count = rw (length_push d.functions f) (omega (arith, held.count));
-      words = held.words;
-      sites = held.sites;
-    }
+abbrev Closed : ℕ → ℕ → Name → Draft → Type 0
+Closed m n name d = Kept m (n + 1) d × EndsBy name d
 
-main_end_held : (n : ℕ) (ts : List Token) (at : ℕ) (d : Draft) → Kept n d → IfSome (with_main_end ts at d) (Kept (n + 1))
-main_end_held n ts at d held = if_held (Kept (n + 1)) (is_zero_in (number_at ts (at + 1)) && all_of d.created) (with_end (codes "main") false 0 ts at d) (end_held n (codes "main") false 0 ts at d held)
+end_held : (m n : ℕ) (name : Name) (gives : Bool) (formals : ℕ) (zero_place place : Place) (d : Draft) → Kept m n d → Closed m n name (with_end name gives formals zero_place place d)
+unfolding with_end
+end_held m n name gives formals zero_place place d held =
+    let b = returned gives zero_place place d.body in
+    let f = function name gives formals b in (
+      record {
+        body = none_plain IsPlainInstr;
+        functions = All-push IsPlainFunction d.functions f held.functions (returned_held gives zero_place place d.body held.body, refl);
+        roots = held.roots;
+        count = rw (length_push d.functions f) (omega (arith, held.count));
+        words = held.words;
+        sites = held.sites;
+      },
+      (d.functions, f, refl, refl),
+    )
 
-with_body_held : (n : ℕ) (d : Draft) (o : Option Body) → Kept n d → IfSome o IsPlainBody → IfSome (with_body d o) (Kept (n + 1))
-with_body_held n d None held h = tt
-with_body_held n d (Some b) held h = body_held n d b held h
+main_gives_held : (m n : ℕ) (name : Name) (e : Exp) (place : Place) (d : Draft) → Kept m n d → IfSome (main_gives name e place d) (Closed m n name)
+main_gives_held m n name (tree.number z p) place d held =
+    only (Closed m n name) (is_zero z) _ (if_held (Closed m n name) (all_of d.created) (with_end name false 0 (here p) place d) (end_held m n name false 0 (here p) place d held))
+main_gives_held m n name _ place d held = tt
 
-line_held : (n : ℕ) (f : Form) (ts : List Token) (at : ℕ) (d : Draft) → n < 2 ^ 20 → Kept n d → IfSome (with_line f ts at d) (Kept (n + 1))
-line_held n (form.Variable v) ts at d few held = global_as_held n v ts at d held
-line_held n form.Root ts at d few held = root_held n ts at d held
-line_held n form.RootEnd ts at d few held = end_held n (name_at ts d.name) true 1 ts at d held
-line_held n form.Main ts at d few held = body_held n (record d { name = at + 1 }) empty (record { body = held.body; functions = held.functions; roots = held.roots; count = held.count; words = held.words; sites = held.sites }) (none_plain IsPlainInstr)
-line_held n form.Thread ts at d few held = thread_held n ts at d held
-line_held n (form.Step s) ts at d few held = with_body_held n d (done_by s ts d.cells at d.body) held (done_held s ts d.cells at d.body held.body)
-line_held n form.Create ts at d few held = create_held n ts at d few held
-line_held n form.Join ts at d few held = join_held n ts at d held
-line_held n form.MainEnd ts at d few held = main_end_held n ts at d held
+root_gives_held : (m n : ℕ) (name : Name) (e : Exp) (place : Place) (d : Draft) → Kept m n d → IfSome (root_gives name e place d) (Closed m n name)
+root_gives_held m n name (tree.null p) place d held = end_held m n name true 1 (here p) place d held
+root_gives_held m n name _ place d held = tt
 
--- ---- `main`
+return_held : (m n : ℕ) (name : Name) (in_main : Bool) (o : Option Exp) (place : Place) (d : Draft) → Kept m n d → IfSome (with_return name in_main o place d) (Closed m n name)
+return_held m n name in_main None place d held = tt
+return_held m n name true (Some e) place d held = main_gives_held m n name e place d held
+return_held m n name false (Some e) place d held = root_gives_held m n name e place d held
 
-abbrev EndsWell : Draft → Type 0
-EndsWell d = HasMain d.phase d.functions
+final_held : (m n : ℕ) (name : Name) (in_main : Bool) (s : Statement) (d : Draft) → Kept m n d → IfSome (with_final name in_main s d) (Closed m n name)
+final_held m n name in_main (tree.gives e p) d held = return_held m n name in_main e (here p) d held
+final_held m n name in_main _ d held = tt
+
+last_held : (m n : ℕ) (name : Name) (in_main : Bool) (s : Part) (d : Draft) → Kept m n d → IfSome (with_last name in_main s d) (Closed m n name)
+last_held m n name in_main (tree.part_does s) d held = final_held m n name in_main s d held
+last_held m n name in_main (tree.part_declares ds) d held = tt
+
+parts_held : (m n : ℕ) → m ≤ 2 ^ 20 → (name : Name) (in_main early : Bool) (ps : List Part) (d : Draft) → Kept m n d → IfSome (with_parts name in_main early ps d) (Closed m n name)
+parts_held m n few name in_main early [] d held = tt
+parts_held m n few name in_main early (s ∷ []) d held = last_held m n name in_main s d held
+parts_held m n few name in_main early (s ∷ t ∷ ss) d held =
+    bound (Kept m n) (Closed m n name) (with_part in_main early s d) _ (part_held m n few in_main early s d held)
+    (λ d' held'. parts_held m n few name in_main (early && declares_in s) (t ∷ ss) d' held')
+
+-- ---- the outermost level
+
+-- behind the end there is a `main`
+abbrev HasMain : Phase → List Function → Type 0
+HasMain phase.Done fs = (f : ℕ) × (is_main_in (slice_get fs f) ≡ true)
+HasMain _ fs = Unit {0}
+
+abbrev Good : ℕ → Draft → Type 0
+Good n d = Kept n n d × HasMain d.phase d.functions
 
 -- its name says so
 last_is : (fs : List Function) (f : Function) → slice_get (fs ++ f ∷ []) (length fs) ≡ Some f
 last_is fs f = slice_get-get_or (fs ++ f ∷ []) (length fs) f (rw (length_push fs f) (omega arith)) ∙ ap Some (get_or_push fs f f (length fs) refl)
 
-has_main : (p : Phase) (fs : List Function) (f : Function) → is_main_in (Some f) ≡ true → HasMain p (fs ++ f ∷ [])
-has_main phase.Done fs f h = (length fs, ap is_main_in (last_is fs f) ∙ h)
-has_main _ fs f h = tt
+named_main : (d : Draft) (name : Name) → bytes_eq name.text (codes "main") ≡ true → EndsBy name d → (f : ℕ) × (is_main_in (slice_get d.functions f) ≡ true)
+named_main d name is ends =
+    (length ends.0, ap (λ fs. is_main_in (slice_get fs (length ends.0))) ends.2 ∙ ap is_main_in (last_is ends.0 ends.1) ∙ ap (λ t. bytes_eq t (codes "main")) ends.3 ∙ is)
 
-global_ends : (ts : List Token) (at : ℕ) (kind : CellKind) (o : Option ℕ) (d : Draft) → NotDone d.phase → IfSome (with_global ts at kind o d) EndsWell
-global_ends ts at kind o d h = bound Any EndsWell o _ (any o) (λ w _. bound Any EndsWell (site_behind (length d.sites)) _ (any (site_behind (length d.sites))) (λ m _.
-    if_held EndsWell (is_new ts at d) _ (not_yet d.phase d.functions h)))
+if_so : {A : Type 0} (P : A → Type 0) (b : Bool) (o q : Option A) → (b ≡ true → IfSome o P) → IfSome q P → IfSome (if b then o else q) P
+if_so P true o q h g = h refl
+if_so P false o q h g = g
 
-global_as_ends : (v : Variable) (ts : List Token) (at : ℕ) (d : Draft) → NotDone d.phase → IfSome (with_global_as v ts at d) EndsWell
-global_as_ends variable.Int ts at d h = global_ends ts (at + 1) cell.Whole (Some 0) d h
-global_as_ends variable.IntFrom ts at d h = global_ends ts (at + 1) cell.Whole (word_of (number_at ts (at + 3))) d h
-global_as_ends variable.IntBelow ts at d h = global_ends ts (at + 1) cell.Whole (word_below (number_at ts (at + 4))) d h
-global_as_ends variable.Mutex ts at d h = global_ends ts (at + 1) cell.Mutex (Some 0) d h
+both_so : (a b : Bool) → (a && b) ≡ true → (a ≡ true) × (b ≡ true)
+both_so true true h = (refl, refl)
+both_so true false h = absurd (cc h)
+both_so false b h = absurd (cc h)
 
-root_ends : (ts : List Token) (at : ℕ) (d : Draft) → NotDone d.phase → IfSome (with_root ts at d) EndsWell
+-- where the head is that of `main`, its name is
+main_name : (is_static : Bool) (s : Specifier) (stars : ℕ) (name : Name) (xs : Params) → is_main_head is_static s stars name xs ≡ true → bytes_eq name.text (codes "main") ≡ true
+main_name is_static s stars name xs h =
+    let h1 = both_so (not is_static && is_int s && nat_eq stars 0 && bytes_eq name.text (codes "main")) (is_nothing xs) h in
+    let h2 = both_so (not is_static && is_int s && nat_eq stars 0) (bytes_eq name.text (codes "main")) h1.0 in
+    h2.1
+
+declared_object_held : (n : ℕ) (s : Specifier) (o : Object) (d : Draft) → Kept n n d → IfSome (with_object s o d) (Kept n n)
+declared_object_held n s o d held =
+    bound Any (Kept n n) (kind_in s) _ (any (kind_in s)) (λ kind _.
+    bound Any (Kept n n) (object_name o) _ (any (object_name o)) (λ name _.
+    bound Any (Kept n n) (start_in kind o) _ (any (start_in kind o)) (λ w _. global_held n n name kind w d held)))
+
+phase_held : (m n : ℕ) (p : Phase) (d : Draft) → Kept m n d → Kept m n (record d { phase = p })
+phase_held m n p d held = record {
+  body = held.body;
+  functions = held.functions;
+  roots = held.roots;
+  count = held.count;
+  words = held.words;
+  sites = held.sites;
+}
+
+objects_held : (n : ℕ) (is_static : Bool) (s : Specifier) (os : List Object) (d : Draft) → Kept n n d → IfSome (with_objects is_static s os d) (Good (n + 1))
+objects_held n is_static s os d held = only (Good (n + 1)) (not is_static && at_front d.phase) _
+    (bound Any (Good (n + 1)) (lone os) _ (any (lone os)) (λ o _.
+    bound (Kept n n) (Good (n + 1)) (with_object s o d) _ (declared_object_held n s o d held) (λ d' h. (later n n _ (phase_held n n phase.Globals d' h), tt))))
+
+wider : (n : ℕ) (d : Draft) → Kept n n d → Kept (n + 1) n d
+wider n d held = record {
+  body = held.body;
+  functions = held.functions;
+  roots = omega (arith, held.roots);
+  count = held.count;
+  words = held.words;
+  sites = held.sites;
+}
+
+main_held : (n : ℕ) → n < 2 ^ 20 → (name : Name) (ps : List Part) (d : Draft) → bytes_eq name.text (codes "main") ≡ true → Kept n n d → IfSome (with_main name ps d) (Good (n + 1))
+unfolding with_main
+main_held n few name ps d is held =
+    let d0 : Draft = record d { body = empty } in
+    bound (Closed (n + 1) n name) (Good (n + 1)) (with_parts name true true ps d0) _
+    (parts_held (n + 1) n (omega (arith, few)) name true true ps d0 (wider n d0 (body_held n n d empty held (none_plain IsPlainInstr))))
+    (λ d' h. (phase_held (n + 1) (n + 1) phase.Done d' h.0, named_main d' name is h.1))
+
+root_held : (n : ℕ) → n < 2 ^ 20 → (name formal : Name) (ps : List Part) (d : Draft) → Kept n n d → IfSome (with_root name formal ps d) (Good (n + 1))
 unfolding with_root
-root_ends ts at d h = if_held EndsWell (is_new ts (at + 2) d && is_free ts (at + 6) (record d { roots = d.roots ++ (at + 2) ∷ [] })) _ (not_yet d.phase d.functions h)
+root_held n few name formal ps d held =
+    let d0 : Draft = record d {
+      roots = d.roots ++ name.text ∷ [];
+      formals = d.formals ++ formal.text ∷ [];
+      body = record { pointers = true ∷ []; instrs = [] };
+    } in
+    let held0 : Kept (n + 1) n d0 = record {
+      body = none_plain IsPlainInstr;
+      functions = held.functions;
+      roots = rw (length_push d.roots name.text) (omega (arith, held.roots));
+      count = held.count;
+      words = held.words;
+      sites = held.sites;
+    } in
+    only (Good (n + 1)) (is_new name.text d && is_free formal.text (record d { roots = d.roots ++ name.text ∷ [] })) _
+    (bound (Closed (n + 1) n name) (Good (n + 1)) (with_parts name false false ps d0) _ (parts_held (n + 1) n (omega (arith, few)) name false false ps d0 held0)
+    (λ d' h. (phase_held (n + 1) (n + 1) phase.Functions d' h.0, tt)))
 
-thread_ends : (ts : List Token) (at : ℕ) (d : Draft) → NotDone d.phase → IfSome (with_thread ts at d) EndsWell
-unfolding with_thread
-thread_ends ts at d h = bound Any EndsWell (site_behind (length d.sites)) _ (any (site_behind (length d.sites))) (λ m _.
-    if_held EndsWell (is_new ts (at + 1) d) _ (not_yet d.phase d.functions h))
+function_held : (n : ℕ) → n < 2 ^ 20 → (is_static : Bool) (s : Specifier) (stars : ℕ) (name : Name) (xs : Params) (ps : List Part) (d : Draft) → Kept n n d → IfSome (with_function is_static s stars name xs ps d) (Good (n + 1))
+function_held n few is_static s stars name xs ps d held =
+    only (Good (n + 1)) (is_open d.phase) _
+    (if_so (Good (n + 1)) (is_main_head is_static s stars name xs) _ _ (λ is. main_held n few name ps d (main_name is_static s stars name xs is) held)
+    (only (Good (n + 1)) (is_root_head is_static s stars) _
+    (bound Any (Good (n + 1)) (formal_in xs) _ (any (formal_in xs)) (λ formal _. root_held n few name formal ps d held))))
 
-create_ends : (ts : List Token) (at : ℕ) (d : Draft) → NotDone d.phase → IfSome (with_create ts at d) EndsWell
-unfolding with_create
-create_ends ts at d h = bound Any EndsWell (index_of ts (at + 3) d.threads) _ (any (index_of ts (at + 3) d.threads)) (λ t _.
-    bound Any EndsWell (index_of ts (at + 7) d.roots) _ (any (index_of ts (at + 7) d.roots)) (λ f _. not_yet d.phase d.functions h))
-
-join_ends : (ts : List Token) (at : ℕ) (d : Draft) → NotDone d.phase → IfSome (with_join ts at d) EndsWell
-unfolding with_join
-join_ends ts at d h = bound Any EndsWell (index_of ts (at + 2) d.threads) _ (any (index_of ts (at + 2) d.threads)) (λ t _. not_yet d.phase d.functions h)
-
-body_ends : (d : Draft) (o : Option Body) → NotDone d.phase → IfSome (with_body d o) EndsWell
-body_ends d None h = tt
-body_ends d (Some b) h = not_yet d.phase d.functions h
-
-main_ends : (ts : List Token) (at : ℕ) (d : Draft) → IfSome (with_main_end ts at d) EndsWell
-main_ends ts at d =
-    let b = returned false (place_at ts (at + 1)) (place_at ts at) d.body in
-    if_held EndsWell (is_zero_in (number_at ts (at + 1)) && all_of d.created) (with_end (codes "main") false 0 ts at d) (has_main d.phase d.functions (function (codes "main") (place_at ts d.name).line false 0 b) refl)
-
-line_ends : (f : Form) (ts : List Token) (at : ℕ) (d : Draft) → Ends f d.phase → IfSome (with_line f ts at d) EndsWell
-line_ends (form.Variable v) ts at d h = global_as_ends v ts at d h
-line_ends form.Root ts at d h = root_ends ts at d h
-line_ends form.RootEnd ts at d h = not_yet d.phase _ h
-line_ends form.Main ts at d h = not_yet d.phase _ h
-line_ends form.Thread ts at d h = thread_ends ts at d h
-line_ends (form.Step s) ts at d h = body_ends d (done_by s ts d.cells at d.body) h
-line_ends form.Create ts at d h = create_ends ts at d h
-line_ends form.Join ts at d h = join_ends ts at d h
-line_ends form.MainEnd ts at d h = main_ends ts at d
-
--- ---- whole sources
-
-both : {A : Type 0} (P Q : A → Type 0) (o : Option A) → IfSome o P → IfSome o Q → IfSome o (λ a. P a × Q a)
-both P Q None h g = tt
-both P Q (Some a) h g = (h, g)
-
-either : {A : Type 0} (P : A → Type 0) (b : Bool) (o q : Option A) → IfSome o P → IfSome q P → IfSome (if b then o else q) P
-either P true o q h g = h
-either P false o q h g = g
-
-abbrev Good : ℕ → Draft → Type 0
-Good n d = Kept n d × EndsWell d
-
-cut_held : (n : ℕ) (c : Cut) (ts : List Token) (at : ℕ) (d : Draft) → n < 2 ^ 20 → Good n d → IfSome (cut_off c ts at d) (Good (n + 1))
-cut_held n cut.Nothing ts at d few good = tt
-cut_held n (cut.Line f m) ts at d few good = bound (Ends f) (Good (n + 1)) (phase_behind f d.phase) _ (ends f d.phase) (λ p h.
-    let d' : Draft = record d { left = m - 1; phase = p } in
-    let held : Kept n d' = record { body = good.0.body; functions = good.0.functions; roots = good.0.roots; count = good.0.count; words = good.0.words; sites = good.0.sites } in
-    both (Kept (n + 1)) EndsWell (with_line f ts at d') (line_held n f ts at d' few held) (line_ends f ts at d' h))
-
-later : (n : ℕ) (d : Draft) → Kept n d → Kept (n + 1) (record d { left = d.left - 1 })
-later n d held = record { body = held.body; functions = held.functions; roots = omega (arith, held.roots); count = omega (arith, held.count); words = held.words; sites = held.sites }
-
-passed_held : (n : ℕ) (ts : List Token) (at : ℕ) (letters : Text) (d : Draft) → n < 2 ^ 20 → Good n d → IfSome (passed ts at letters d) (Good (n + 1))
-unfolding passed
-passed_held n ts at letters d few good = either (Good (n + 1)) (nat_lt 0 d.left) (Some (record d { left = d.left - 1 })) (cut_off (form_at letters) ts at d) (later n d good.0, good.1) (cut_held n (form_at letters) ts at d few good)
+outer_held : (n : ℕ) → n < 2 ^ 20 → (o : Outer) (d : Draft) → Kept n n d → IfSome (with_outer o d) (Good (n + 1))
+outer_held n few (tree.structure name fs) d held = tt
+outer_held n few (tree.function is_static s stars name xs (tree.defined ps p)) d held = function_held n few is_static s stars name xs (parts_in ps) d held
+outer_held n few (tree.function is_static s stars name xs tree.prototype) d held = tt
+outer_held n few (tree.objects is_static s os p) d held = objects_held n is_static s os d held
 
 abbrev Whole : Draft → Type 0
 Whole d = (n : ℕ) × (n ≤ 2 ^ 20) × Good n d
 
-drafted_held : (ts : List Token) (at : ℕ) (letters : Text) (d : Draft) → at + length letters ≤ 2 ^ 20 → Good at d → IfSome (drafted ts at letters d) Whole
-drafted_held ts at [] d few good = (at, omega (arith, few), good)
-drafted_held ts at (l ∷ ls) d few good = bound (Good (at + 1)) Whole (passed ts at (l ∷ ls) d) (drafted ts (at + 1) ls) (passed_held at ts at (l ∷ ls) d (omega (arith, few)) good)
-    (λ d' h. drafted_held ts (at + 1) ls d' (omega (arith, few)) h)
+outers_held : (os : List Outer) (n : ℕ) (d : Draft) → n + length os ≤ 2 ^ 20 → Good n d → IfSome (with_outers os d) Whole
+outers_held [] n d few good = (n, omega (arith, few), good)
+outers_held (o ∷ os) n d few good = bound (Good (n + 1)) Whole (with_outer o d) (with_outers os) (outer_held n (omega (arith, few)) o d good.0)
+    (λ d' h. outers_held os (n + 1) d' (omega (arith, few)) h)
 
 -- ---- codes
 
@@ -356,7 +416,7 @@ no_regions (Some f) h = h.1
 abbrev Fine : Code → Type 0
 Fine code = IsRunnable code × IsPlain code
 
-code_by_held : (p : Phase) (d : Draft) (n : ℕ) → n ≤ 2 ^ 20 → Kept n d → HasMain p d.functions → IfSome (code_by p d) Fine
+code_by_held : (p : Phase) (d : Draft) (n : ℕ) → n ≤ 2 ^ 20 → Kept n n d → HasMain p d.functions → IfSome (code_by p d) Fine
 code_by_held phase.Done d n few held main = (
   record {
     jumps = λ f k. function_sound (slice_get d.functions f) k (all_get IsPlainFunction d.functions f held.functions);
@@ -384,24 +444,23 @@ started = (
   tt,
 )
 
-thin_held : (ts : List Token) → length ts ≤ 2 ^ 20 → IfSome (thin_code ts) Fine
+thin_held : (os : List Outer) → length os ≤ 2 ^ 20 → IfSome (thin_code os) Fine
 unfolding thin_code
-thin_held ts few = bound Whole Fine (drafted ts 0 (letters_of ts) start) code_of
-    (drafted_held ts 0 (letters_of ts) start (rw length-map (omega (arith, few))) started)
+thin_held os few = bound Whole Fine (with_outers os start) code_of (outers_held os 0 start (omega (arith, few)) started)
     (λ d w. code_by_held d.phase d w.0 w.1 w.2.0 w.2.1)
 
 pub runnable : CodesAreRunnable
-runnable ts code few e = (rw e at (thin_held ts few)).0
+runnable os code few e = (rw e at (thin_held os few)).0
 
 pub plain : CodesArePlain
-plain ts code few e = (rw e at (thin_held ts few)).1
+plain os code few e = (rw e at (thin_held os few)).1
 
 -- ---- answers
 
-pub runnable_of : (r : Result Code ThinFault) (ts : List Token) → length ts ≤ 2 ^ 20 → Gives r (thin_code ts) → IfOk r IsRunnable
-runnable_of (Ok code) ts few e = runnable ts code few e
-runnable_of (Err fault) ts few e = tt
+pub runnable_of : (r : Result Code ThinFault) (os : List Outer) → length os ≤ 2 ^ 20 → Gives r (thin_code os) → IfOk r IsRunnable
+runnable_of (Ok code) os few e = runnable os code few e
+runnable_of (Err fault) os few e = tt
 
-pub plain_of : (r : Result Code ThinFault) (ts : List Token) → length ts ≤ 2 ^ 20 → Gives r (thin_code ts) → IfOk r IsPlain
-plain_of (Ok code) ts few e = plain ts code few e
-plain_of (Err fault) ts few e = tt
+pub plain_of : (r : Result Code ThinFault) (os : List Outer) → length os ≤ 2 ^ 20 → Gives r (thin_code os) → IfOk r IsPlain
+plain_of (Ok code) os few e = plain os code few e
+plain_of (Err fault) os few e = tt

@@ -1,2 +1,3 @@
 mod Sound
+mod Views
 pub mod Kept

@@ -1,28 +1,26 @@
--- What each line keeps of a draft, so that its code can be run.
+-- What each piece keeps of a draft, so that its code can be run.
 use Rattle.std.proofs.Common.{arith, ◌≡◌, ℕ, ◌+◌, ◌<◌, Bool, true, false, List, [], ◌∷◌, length, Option, Some, None}
 use Rattle.std.specs.Prelude.{All, IfSome, if◌then◌else◌, ℤ, pos}
 use Rattle.std.proofs.lemmas.List.Elements.{All-push}
 use Rattle.std.specs.Str.{bytes_eq}
 use Rattle.c_lexer.specs.Bytes.{Text}
-use Rattle.c_lexer.specs.declared.token.Token.{Token}
+use Rattle.c_tree.specs.declared.expr.BinaryOp.{BinaryOp as TreeOp}
+use Rattle.c_tree.specs.Tree as tree
+use Rattle.c_tree.specs.Tree.{Exp}
 use Rattle.flow_code.specs.declared.act.Act.{Act}
 use Rattle.flow_code.specs.declared.act.Act.TheVariants as act
 use Rattle.flow_code.specs.declared.act.Instr.{Instr}
 use Rattle.flow_code.specs.declared.act.LibraryCall.{LibraryCall}
-use Rattle.flow_code.specs.declared.act.LibraryCall.TheVariants as call
-use Rattle.flow_code.specs.declared.act.Piece.TheVariants as piece
 use Rattle.flow_code.specs.declared.work.BinaryOp.{BinaryOp}
-use Rattle.flow_code.specs.declared.work.BinaryOp.TheVariants as op
 use Rattle.flow_code.specs.declared.work.Work.TheVariants as work
 use Rattle.flow_code.specs.Settle.{IsSoundCall}
 use Rattle.thin_source.specs.declared.body.Body.{Body}
 use Rattle.thin_source.specs.declared.cells.Cells.{Cells}
-use Rattle.thin_source.specs.declared.form.Step.{Step}
-use Rattle.thin_source.specs.declared.form.Step.TheVariants as action
 use Rattle.thin_source.specs.declared.place.Place.{Place}
 use Rattle.thin_source.specs.Answers.{and_then}
-use Rattle.thin_source.specs.Names.{index_from, index_of, name_at, global_at, number_at, place_at}
-use Rattle.thin_source.specs.Body.{instr_at, fresh, last, then_does, then_makes, address, load, constant, combined, store, library, object, returned, variable, operand, operand_by, moved, calculated, on_mutex, printed, done_by}
+use Rattle.thin_source.specs.Names.{index_from, index_of, global_of}
+use Rattle.thin_source.specs.Shapes.{here}
+use Rattle.thin_source.specs.Body.{instr_at, fresh, last, then_does, then_makes, address, load, constant, combined, store, library, object, returned, variable, operand, sum_op, sum, value, stored}
 
 -- ---- answers that may be missing
 
@@ -63,7 +61,7 @@ does place a b h held = All-push IsPlainInstr b.instrs (instr_at place a) held h
 pub makes : (pointer : Bool) (place : Place) (a : Act) (b : Body) → IsPlainAct a → IsPlainBody b → IsPlainBody (then_makes pointer place a b)
 makes pointer place a b h held = All-push IsPlainInstr b.instrs (instr_at place a) held h
 
-address_held : (place : Place) (w : ℕ) (b : Body) → IsPlainBody b → IsPlainBody (address place w b)
+pub address_held : (place : Place) (w : ℕ) (b : Body) → IsPlainBody b → IsPlainBody (address place w b)
 address_held place w b held = makes true place (act.Compute (fresh b) (work.Address w)) b tt held
 
 pub load_held : (place : Place) (through : ℕ) (b : Body) → IsPlainBody b → IsPlainBody (load place through b)
@@ -87,54 +85,37 @@ object_held place site b held = makes true place (act.Alloc (fresh b) site None)
 pub returned_held : (pointer : Bool) (zero_place place : Place) (b : Body) → IsPlainBody b → IsPlainBody (returned pointer zero_place place b)
 returned_held pointer zero_place place b held = does place (act.Return (Some (fresh b))) (constant pointer zero_place (pos 0) b) tt (constant_held pointer zero_place (pos 0) b held)
 
--- ---- steps
+-- ---- values
 
-variable_held : (ts : List Token) (cells : Cells) (at : ℕ) (b : Body) → IsPlainBody b → IfSome (variable ts cells at b) IsPlainBody
+pub variable_held : (name : Text) (place : Place) (cells : Cells) (b : Body) → IsPlainBody b → IfSome (variable name place cells b) IsPlainBody
 unfolding variable
-variable_held ts cells at b held = bound Any IsPlainBody (global_at false ts cells at) _ (any (global_at false ts cells at)) (λ w _.
-    load_held (place_at ts at) (fresh b) (address (place_at ts at) w b) (address_held (place_at ts at) w b held))
+variable_held name place cells b held = bound Any IsPlainBody (global_of false name cells) _ (any (global_of false name cells)) (λ w _.
+    load_held place (fresh b) (address place w b) (address_held place w b held))
 
-operand_by_held : (z : Option ℤ) (ts : List Token) (cells : Cells) (at : ℕ) (b : Body) → IsPlainBody b → IfSome (operand_by z ts cells at b) IsPlainBody
-operand_by_held None ts cells at b held = variable_held ts cells at b held
-operand_by_held (Some z) ts cells at b held = constant_held false (place_at ts at) z b held
+operand_held : (e : Exp) (cells : Cells) (b : Body) → IsPlainBody b → IfSome (operand e cells b) IsPlainBody
+operand_held (tree.named name p) cells b held = variable_held name (here p) cells b held
+operand_held (tree.number z p) cells b held = constant_held false (here p) z b held
+operand_held _ cells b held = tt
 
-operand_held : (ts : List Token) (cells : Cells) (at : ℕ) (b : Body) → IsPlainBody b → IfSome (operand ts cells at b) IsPlainBody
-unfolding operand
-operand_held ts cells at b held = operand_by_held (number_at ts at) ts cells at b held
+sum_held : (left : Exp) (o : TreeOp) (right : Exp) (place : Place) (cells : Cells) (b : Body) → IsPlainBody b → IfSome (sum left o right place cells b) IsPlainBody
+unfolding sum
+sum_held left o right place cells b held = bound Any IsPlainBody (sum_op o) _ (any (sum_op o)) (λ o' _.
+    bound IsPlainBody IsPlainBody (operand left cells b) _ (operand_held left cells b held) (λ b1 held1.
+    bound IsPlainBody IsPlainBody (operand right cells b1) _ (operand_held right cells b1 held1) (λ b2 held2.
+    combined_held o' place (last b1) (last b2) b2 held2)))
 
-moved_held : (ts : List Token) (cells : Cells) (at : ℕ) (b : Body) → IsPlainBody b → IfSome (moved ts cells at b) IsPlainBody
-unfolding moved
-moved_held ts cells at b held = bound Any IsPlainBody (global_at false ts cells at) _ (any (global_at false ts cells at)) (λ w _.
-    let b0 = address (place_at ts at) w b in
-    bound IsPlainBody IsPlainBody (operand ts cells (at + 2) b0) _ (operand_held ts cells (at + 2) b0 (address_held (place_at ts at) w b held)) (λ b1 held1.
-    store_held (place_at ts (at + 1)) (fresh b) (last b1) b1 held1))
+value_held : (e : Exp) (cells : Cells) (b : Body) → IsPlainBody b → IfSome (value e cells b) IsPlainBody
+value_held (tree.binary left o right p) cells b held = sum_held left o right (here p) cells b held
+value_held (tree.named name p) cells b held = variable_held name (here p) cells b held
+value_held (tree.number z p) cells b held = constant_held false (here p) z b held
+value_held _ cells b held = tt
 
-calculated_held : (o : BinaryOp) (ts : List Token) (cells : Cells) (at : ℕ) (b : Body) → IsPlainBody b → IfSome (calculated o ts cells at b) IsPlainBody
-unfolding calculated
-calculated_held o ts cells at b held = bound Any IsPlainBody (global_at false ts cells at) _ (any (global_at false ts cells at)) (λ w _.
-    let b0 = address (place_at ts at) w b in
-    bound IsPlainBody IsPlainBody (operand ts cells (at + 2) b0) _ (operand_held ts cells (at + 2) b0 (address_held (place_at ts at) w b held)) (λ b1 held1.
-    bound IsPlainBody IsPlainBody (operand ts cells (at + 4) b1) _ (operand_held ts cells (at + 4) b1 held1) (λ b2 held2.
-    let b3 = combined o (place_at ts (at + 3)) (last b1) (last b2) b2 in
-    store_held (place_at ts (at + 1)) (fresh b) (fresh b2) b3 (combined_held o (place_at ts (at + 3)) (last b1) (last b2) b2 held2))))
-
-on_mutex_held : (what : LibraryCall) (ts : List Token) (cells : Cells) (at : ℕ) (b : Body) → IsSoundCall what → IsPlainBody b → IfSome (on_mutex what ts cells at b) IsPlainBody
-unfolding on_mutex
-on_mutex_held what ts cells at b sound held = bound Any IsPlainBody (global_at true ts cells (at + 3)) _ (any (global_at true ts cells (at + 3))) (λ w _.
-    library_held (place_at ts at) what (fresh b ∷ []) (address (place_at ts (at + 2)) w b) sound (address_held (place_at ts (at + 2)) w b held))
-
-printed_held : (ts : List Token) (cells : Cells) (at : ℕ) (b : Body) → IsPlainBody b → IfSome (printed ts cells at b) IsPlainBody
-unfolding printed
-printed_held ts cells at b held = bound IsPlainBody IsPlainBody (variable ts cells (at + 4) b) _ (variable_held ts cells (at + 4) b held) (λ b1 held1.
-    library_held (place_at ts at) (call.Print (piece.Number ∷ piece.Byte 10 ∷ [])) (last b1 ∷ []) b1 tt held1)
-
-pub done_held : (s : Step) (ts : List Token) (cells : Cells) (at : ℕ) (b : Body) → IsPlainBody b → IfSome (done_by s ts cells at b) IsPlainBody
-done_held action.Move ts cells at b held = moved_held ts cells at b held
-done_held action.Add ts cells at b held = calculated_held op.Add ts cells at b held
-done_held action.Subtract ts cells at b held = calculated_held op.Subtract ts cells at b held
-done_held action.Lock ts cells at b held = on_mutex_held call.MutexLock ts cells at b tt held
-done_held action.Unlock ts cells at b held = on_mutex_held call.MutexUnlock ts cells at b tt held
-done_held action.Print ts cells at b held = printed_held ts cells at b held
+pub stored_held : (name : Text) (there : Place) (e : Exp) (place : Place) (cells : Cells) (b : Body) → IsPlainBody b → IfSome (stored name there e place cells b) IsPlainBody
+unfolding stored
+stored_held name there e place cells b held = bound Any IsPlainBody (global_of false name cells) _ (any (global_of false name cells)) (λ w _.
+    let b0 = address there w b in
+    bound IsPlainBody IsPlainBody (value e cells b0) _ (value_held e cells b0 (address_held there w b held)) (λ b1 held1.
+    store_held place (fresh b) (last b1) b1 held1))
 
 -- ---- names
 
@@ -142,10 +123,10 @@ if_found : (b : Bool) (k n : ℕ) (o : Option ℕ) → k < n → IfSome o (λ i.
 if_found true k n o h g = h
 if_found false k n o h g = g
 
-found : (ts : List Token) (name : Text) (k : ℕ) (ns : List ℕ) (n : ℕ) → n ≡ k + length ns → IfSome (index_from ts name k ns) (λ i. i < n)
-found ts name k [] n h = tt
-found ts name k (m ∷ ms) n h = if_found (bytes_eq name (name_at ts m)) k n (index_from ts name (k + 1) ms) (omega (arith, h)) (found ts name (k + 1) ms n (omega (arith, h)))
+found : (name : Text) (k : ℕ) (ns : List Text) (n : ℕ) → n ≡ k + length ns → IfSome (index_from name k ns) (λ i. i < n)
+found name k [] n h = tt
+found name k (m ∷ ms) n h = if_found (bytes_eq name m) k n (index_from name (k + 1) ms) (omega (arith, h)) (found name (k + 1) ms n (omega (arith, h)))
 
-pub index_held : (ts : List Token) (at : ℕ) (names : List ℕ) → IfSome (index_of ts at names) (λ i. i < length names)
+pub index_held : (name : Text) (names : List Text) → IfSome (index_of name names) (λ i. i < length names)
 unfolding index_of
-index_held ts at names = found ts (name_at ts at) 0 names (length names) (omega arith)
+index_held name names = found name 0 names (length names) (omega arith)

@@ -1,22 +1,23 @@
 -- The instructions that a step becomes. Each value has a register of its own, the next one that is free.
 use Rattle.std.specs.Prelude.{ℕ, ◌+◌, ◌-◌, Bool, true, false, List, [], ◌∷◌, ◌++◌, length, Option, Some, None, ℤ, pos}
-use Rattle.c_lexer.specs.declared.token.Token.{Token}
+use Rattle.c_lexer.specs.Bytes.{Text}
+use Rattle.c_tree.specs.declared.expr.BinaryOp.{BinaryOp as TreeOp}
+use Rattle.c_tree.specs.declared.expr.BinaryOp.TheVariants as tree_op
+use Rattle.c_tree.specs.Tree as tree
+use Rattle.c_tree.specs.Tree.{Exp}
 use Rattle.flow_code.specs.declared.act.Act.{Act}
 use Rattle.flow_code.specs.declared.act.Act.TheVariants as act
 use Rattle.flow_code.specs.declared.act.Instr.{Instr}
 use Rattle.flow_code.specs.declared.act.LibraryCall.{LibraryCall}
-use Rattle.flow_code.specs.declared.act.LibraryCall.TheVariants as call
-use Rattle.flow_code.specs.declared.act.Piece.TheVariants as piece
 use Rattle.flow_code.specs.declared.work.BinaryOp.{BinaryOp}
 use Rattle.flow_code.specs.declared.work.BinaryOp.TheVariants as op
 use Rattle.flow_code.specs.declared.work.Work.TheVariants as work
 use Rattle.thin_source.specs.declared.body.Body.{Body}
 use Rattle.thin_source.specs.declared.cells.Cells.{Cells}
-use Rattle.thin_source.specs.declared.form.Step.{Step}
-use Rattle.thin_source.specs.declared.form.Step.TheVariants as action
 use Rattle.thin_source.specs.declared.place.Place.{Place}
 use Rattle.thin_source.specs.Answers.{and_then}
-use Rattle.thin_source.specs.Names.{place_at, number_at, global_at}
+use Rattle.thin_source.specs.Names.{global_of}
+use Rattle.thin_source.specs.Shapes.{here}
 
 -- ---- single instructions
 
@@ -64,52 +65,38 @@ object place site b = then_makes true place (act.Alloc (fresh b) site None) b
 abbrev pub returned : Bool → Place → Place → Body → Body
 returned pointer zero_place place b = then_does place (act.Return (Some (fresh b))) (constant pointer zero_place (pos 0) b)
 
--- ---- the steps
+-- ---- values
 
 -- the value of a global at its name
-unfoldable pub variable : List Token → Cells → ℕ → Body → Option Body
-variable ts cells at b =
-    and_then (global_at false ts cells at) (λ w. Some (load (place_at ts at) (fresh b) (address (place_at ts at) w b)))
+unfoldable pub variable : Text → Place → Cells → Body → Option Body
+variable name place cells b = and_then (global_of false name cells) (λ w. Some (load place (fresh b) (address place w b)))
 
--- an operand: a number, or else a name
-abbrev pub operand_by : Option ℤ → List Token → Cells → ℕ → Body → Option Body
-operand_by None ts cells at b = variable ts cells at b
-operand_by (Some z) ts cells at b = Some (constant false (place_at ts at) z b)
+-- a number, or a name
+abbrev pub operand : Exp → Cells → Body → Option Body
+operand (tree.named name p) cells b = variable name (here p) cells b
+operand (tree.number z p) cells b = Some (constant false (here p) z b)
+operand _ cells b = None
 
-unfoldable pub operand : List Token → Cells → ℕ → Body → Option Body
-operand ts cells at b = operand_by (number_at ts at) ts cells at b
+abbrev pub sum_op : TreeOp → Option BinaryOp
+sum_op tree_op.Add = Some op.Add
+sum_op tree_op.Subtract = Some op.Subtract
+sum_op _ = None
 
--- `x = a;`
-unfoldable pub moved : List Token → Cells → ℕ → Body → Option Body
-moved ts cells at b =
-    and_then (global_at false ts cells at) (λ w.
-    and_then (operand ts cells (at + 2) (address (place_at ts at) w b)) (λ b1.
-    Some (store (place_at ts (at + 1)) (fresh b) (last b1) b1)))
+-- `a + b` and `a - b`
+unfoldable pub sum : Exp → TreeOp → Exp → Place → Cells → Body → Option Body
+sum left o right place cells b =
+    and_then (sum_op o) (λ o'.
+    and_then (operand left cells b) (λ b1.
+    and_then (operand right cells b1) (λ b2.
+    Some (combined o' place (last b1) (last b2) b2))))
 
--- `x = a + b;` and `x = a - b;`
-unfoldable pub calculated : BinaryOp → List Token → Cells → ℕ → Body → Option Body
-calculated o ts cells at b =
-    and_then (global_at false ts cells at) (λ w.
-    and_then (operand ts cells (at + 2) (address (place_at ts at) w b)) (λ b1.
-    and_then (operand ts cells (at + 4) b1) (λ b2.
-    Some (store (place_at ts (at + 1)) (fresh b) (fresh b2) (combined o (place_at ts (at + 3)) (last b1) (last b2) b2)))))
+abbrev pub value : Exp → Cells → Body → Option Body
+value (tree.binary left o right p) cells b = sum left o right (here p) cells b
+value e cells b = operand e cells b
 
--- `pthread_mutex_lock(&m);` and `pthread_mutex_unlock(&m);`
-unfoldable pub on_mutex : LibraryCall → List Token → Cells → ℕ → Body → Option Body
-on_mutex what ts cells at b =
-    and_then (global_at true ts cells (at + 3)) (λ w.
-    Some (library (place_at ts at) what (fresh b ∷ []) (address (place_at ts (at + 2)) w b)))
-
--- `printf("%d\n", x);`
-unfoldable pub printed : List Token → Cells → ℕ → Body → Option Body
-printed ts cells at b =
-    and_then (variable ts cells (at + 4) b) (λ b1.
-    Some (library (place_at ts at) (call.Print (piece.Number ∷ piece.Byte 10 ∷ [])) (last b1 ∷ []) b1))
-
-abbrev pub done_by : Step → List Token → Cells → ℕ → Body → Option Body
-done_by action.Move ts cells at b = moved ts cells at b
-done_by action.Add ts cells at b = calculated op.Add ts cells at b
-done_by action.Subtract ts cells at b = calculated op.Subtract ts cells at b
-done_by action.Lock ts cells at b = on_mutex call.MutexLock ts cells at b
-done_by action.Unlock ts cells at b = on_mutex call.MutexUnlock ts cells at b
-done_by action.Print ts cells at b = printed ts cells at b
+-- `name = e`, where the name and the `=` stand there
+unfoldable pub stored : Text → Place → Exp → Place → Cells → Body → Option Body
+stored name there e place cells b =
+    and_then (global_of false name cells) (λ w.
+    and_then (value e cells (address there w b)) (λ b1.
+    Some (store place (fresh b) (last b1) b1)))

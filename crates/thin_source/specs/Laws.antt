@@ -1,6 +1,6 @@
 -- What holds of each code of the small language.
 use Rattle.std.specs.Prelude.{◌≡◌, ℕ, ◌≤◌, ◌^◌, true, List, [], length, Option, Some, None, slice_get}
-use Rattle.c_lexer.specs.declared.token.Token.{Token}
+use Rattle.c_tree.specs.Tree.{Outer}
 use Rattle.flow_code.specs.declared.code.Code.{Code}
 use Rattle.flow_code.specs.declared.code.Function.{Function}
 use Rattle.flow_code.specs.declared.region.Region.{Region}
@@ -18,9 +18,9 @@ pub record IsPlain (code : Code) : Type 0 where
   pub regions : (f : ℕ) → regions_in (slice_get code.functions f) ≡ []
   pub main : (f : ℕ) × (is_main code f ≡ true)
 
--- the code of a source of at most 2 ^ 20 tokens can be run
+-- the code of a tree of at most 2 ^ 20 pieces at the outermost level can be run
 abbrev pub CodesAreRunnable : Type 0
-CodesAreRunnable = (tokens : List Token) (code : Code) → length tokens ≤ 2 ^ 20 → thin_code tokens ≡ Some code → IsRunnable code
+CodesAreRunnable = (os : List Outer) (code : Code) → length os ≤ 2 ^ 20 → thin_code os ≡ Some code → IsRunnable code
 
 abbrev pub CodesArePlain : Type 0
-CodesArePlain = (tokens : List Token) (code : Code) → length tokens ≤ 2 ^ 20 → thin_code tokens ≡ Some code → IsPlain code
+CodesArePlain = (os : List Outer) (code : Code) → length os ≤ 2 ^ 20 → thin_code os ≡ Some code → IsPlain code

@@ -2,6 +2,6 @@ pub mod Answers
 pub mod Body
 pub mod Draft
 pub mod Laws
-pub mod Letters
 pub mod Names
+pub mod Shapes
 pub mod Thin

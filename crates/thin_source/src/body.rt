@@ -3,14 +3,15 @@ ghost use Rattle.std.specs.Prelude.{◌≡◌, ◌+◌, ◌<◌, ◌^◌, IfOk, 
 ghost use Rattle.thin_source.specs.Answers.{Gives};
 ghost use Rattle.thin_source.specs.Body as spec;
 ghost use Rattle.thin_source.specs.Draft.{empty};
+ghost use Rattle.thin_source.specs.Shapes.{here};
+ghost use Rattle.c_tree.specs.View.{exp_of};
 
 use crate::cells::Cells;
 use crate::fault::ThinFault;
-use crate::form::Step;
-use crate::names::{global_at, number_at, place_at};
+use crate::names::global_of;
 use crate::place::Place;
-use c_lexer::Token;
-use flow_code::{Act, BinaryOp, Instr, LibraryCall, Piece, Work};
+use c_tree::{BinaryOp as TreeOp, Expr};
+use flow_code::{Act, BinaryOp, Instr, LibraryCall, Work};
 use rr_base::{List, PtrWord};
 use std::alloc::{AllocError, Global};
 
@@ -176,136 +177,119 @@ impl Body {
     }
 }
 
+/// The value of a global at its name.
 #[tactic(auto, unfolding(crate::specs::Body::variable))]
-fn variable(tokens: &[Token], cells: &Cells, at: usize, mut body: Body) -> Result<Body, ThinFault>
-    ensures { Gives result (spec.variable tokens.now cells.now at body) }
+pub fn variable(name: &[u8], place: Place, cells: &Cells, mut body: Body) -> Result<Body, ThinFault>
+    ensures { Gives result (spec.variable name.now place cells.now body) }
 {
-    let Some(address) = global_at(false, tokens, cells, at) else {
+    let Some(address) = global_of(false, name, cells) else {
         return Err(ThinFault::NotThin);
     };
-    let place = place_at(tokens, at);
     let through = body.fresh()?;
     body.address(place, address)?;
     body.load(place, through)?;
     Ok(body)
 }
 
-#[tactic(auto, unfolding(crate::specs::Body::operand))]
-fn operand(tokens: &[Token], cells: &Cells, at: usize, mut body: Body) -> Result<Body, ThinFault>
-    ensures { Gives result (spec.operand tokens.now cells.now at body) }
+fn operand(expr: &Expr, cells: &Cells, mut body: Body) -> Result<Body, ThinFault>
+    ensures { Gives result (spec.operand (exp_of expr.now) cells.now body) }
 {
-    match number_at(tokens, at) {
-        Some(value) => {
-            body.constant(false, place_at(tokens, at), value)?;
+    match expr {
+        Expr::Name { name, line, column } => {
+            let place = Place {
+                line: *line,
+                column: *column,
+            };
+            variable(name.as_slice(), place, cells, body)
+        }
+        Expr::Number {
+            value,
+            line,
+            column,
+        } => {
+            let place = Place {
+                line: *line,
+                column: *column,
+            };
+            body.constant(false, place, *value)?;
             Ok(body)
         }
-        None => variable(tokens, cells, at, body),
+        _ => Err(ThinFault::NotThin),
     }
 }
 
-#[tactic(auto, unfolding(crate::specs::Body::moved))]
-fn moved(tokens: &[Token], cells: &Cells, at: usize, mut body: Body) -> Result<Body, ThinFault>
-    requires { at < 2 ^ 32 }
-    ensures { Gives result (spec.moved tokens.now cells.now at body) }
+fn sum_op(op: TreeOp) -> Option<BinaryOp>
+    ensures { result ≡ spec.sum_op op }
 {
-    let Some(address) = global_at(false, tokens, cells, at) else {
+    match op {
+        TreeOp::Add => Some(BinaryOp::Add),
+        TreeOp::Subtract => Some(BinaryOp::Subtract),
+        _ => None,
+    }
+}
+
+#[tactic(auto, unfolding(crate::specs::Body::sum))]
+fn sum(
+    left: &Expr,
+    op: TreeOp,
+    right: &Expr,
+    place: Place,
+    cells: &Cells,
+    body: Body,
+) -> Result<Body, ThinFault>
+    ensures { Gives result (spec.sum (exp_of left.now) op (exp_of right.now) place cells.now body) }
+{
+    let Some(op) = sum_op(op) else {
+        return Err(ThinFault::NotThin);
+    };
+    let body = operand(left, cells, body)?;
+    let first = body.last()?;
+    let mut body = operand(right, cells, body)?;
+    let second = body.last()?;
+    body.combined(op, place, first, second)?;
+    Ok(body)
+}
+
+fn value(expr: &Expr, cells: &Cells, body: Body) -> Result<Body, ThinFault>
+    ensures { Gives result (spec.value (exp_of expr.now) cells.now body) }
+{
+    match expr {
+        Expr::Binary {
+            left,
+            op,
+            right,
+            line,
+            column,
+        } => {
+            let place = Place {
+                line: *line,
+                column: *column,
+            };
+            sum(left, *op, right, place, cells, body)
+        }
+        _ => operand(expr, cells, body),
+    }
+}
+
+/// A store of the value in the global of this name, which stands at `there`; the `=` stands at `place`.
+#[tactic(auto, unfolding(crate::specs::Body::stored))]
+pub fn stored(
+    name: &[u8],
+    there: Place,
+    expr: &Expr,
+    place: Place,
+    cells: &Cells,
+    mut body: Body,
+) -> Result<Body, ThinFault>
+    ensures { Gives result (spec.stored name.now there (exp_of expr.now) place cells.now body) }
+{
+    let Some(address) = global_of(false, name, cells) else {
         return Err(ThinFault::NotThin);
     };
     let through = body.fresh()?;
-    body.address(place_at(tokens, at), address)?;
-    let mut body = operand(tokens, cells, at + 2, body)?;
+    body.address(there, address)?;
+    let mut body = value(expr, cells, body)?;
     let from = body.last()?;
-    body.store(place_at(tokens, at + 1), through, from)?;
+    body.store(place, through, from)?;
     Ok(body)
-}
-
-#[tactic(auto, unfolding(crate::specs::Body::calculated))]
-fn calculated(
-    op: BinaryOp,
-    tokens: &[Token],
-    cells: &Cells,
-    at: usize,
-    mut body: Body,
-) -> Result<Body, ThinFault>
-    requires { at < 2 ^ 32 }
-    ensures { Gives result (spec.calculated op tokens.now cells.now at body) }
-{
-    let Some(address) = global_at(false, tokens, cells, at) else {
-        return Err(ThinFault::NotThin);
-    };
-    let through = body.fresh()?;
-    body.address(place_at(tokens, at), address)?;
-    let body = operand(tokens, cells, at + 2, body)?;
-    let left = body.last()?;
-    let mut body = operand(tokens, cells, at + 4, body)?;
-    let right = body.last()?;
-    let from = body.fresh()?;
-    body.combined(op, place_at(tokens, at + 3), left, right)?;
-    body.store(place_at(tokens, at + 1), through, from)?;
-    Ok(body)
-}
-
-#[tactic(auto, unfolding(crate::specs::Body::on_mutex))]
-fn on_mutex(
-    alloc: Global,
-    call: LibraryCall,
-    tokens: &[Token],
-    cells: &Cells,
-    at: usize,
-    mut body: Body,
-) -> Result<Body, ThinFault>
-    requires { at < 2 ^ 32 }
-    ensures { Gives result (spec.on_mutex call tokens.now cells.now at body) }
-{
-    let Some(address) = global_at(true, tokens, cells, at + 3) else {
-        return Err(ThinFault::NotThin);
-    };
-    let arguments = List::from_slice(alloc, &[body.fresh()?])?;
-    body.address(place_at(tokens, at + 2), address)?;
-    body.library(place_at(tokens, at), call, arguments)?;
-    Ok(body)
-}
-
-#[tactic(auto, unfolding(crate::specs::Body::printed))]
-fn printed(
-    alloc: Global,
-    tokens: &[Token],
-    cells: &Cells,
-    at: usize,
-    body: Body,
-) -> Result<Body, ThinFault>
-    requires { at < 2 ^ 32 }
-    ensures { Gives result (spec.printed tokens.now cells.now at body) }
-{
-    let mut body = variable(tokens, cells, at + 4, body)?;
-    let arguments = List::from_slice(alloc, &[body.last()?])?;
-    let format = List::from_slice(alloc, &[Piece::Number, Piece::Byte(10)])?;
-    body.library(
-        place_at(tokens, at),
-        LibraryCall::Print { format },
-        arguments,
-    )?;
-    Ok(body)
-}
-
-/// The body with one step more.
-pub fn done_by(
-    alloc: Global,
-    step: Step,
-    tokens: &[Token],
-    cells: &Cells,
-    at: usize,
-    body: Body,
-) -> Result<Body, ThinFault>
-    requires { at < 2 ^ 32 }
-    ensures { Gives result (spec.done_by step tokens.now cells.now at body) }
-{
-    match step {
-        Step::Move => moved(tokens, cells, at, body),
-        Step::Add => calculated(BinaryOp::Add, tokens, cells, at, body),
-        Step::Subtract => calculated(BinaryOp::Subtract, tokens, cells, at, body),
-        Step::Lock => on_mutex(alloc, LibraryCall::MutexLock, tokens, cells, at, body),
-        Step::Unlock => on_mutex(alloc, LibraryCall::MutexUnlock, tokens, cells, at, body),
-        Step::Print => printed(alloc, tokens, cells, at, body),
-    }
 }

@@ -1,43 +1,45 @@
 // Declarations.
-ghost use Rattle.std.specs.Prelude.{◌≡◌, ◌+◌, ◌<◌, ◌^◌, ◌++◌, pos, IfOk, OnOk};
+ghost use Rattle.std.specs.Prelude.{◌≡◌, ◌+◌, ◌<◌, ◌^◌, ◌++◌, pos, IfOk, OnOk, map, option_map};
 ghost use Rattle.std.specs.Fmt.{signed_decimal};
+ghost use Rattle.c_tree.specs.View.{object_of, declares_of};
 ghost use Rattle.thin_source.specs.Answers.{Gives};
 ghost use Rattle.thin_source.specs.Draft as spec;
 
 use crate::draft::Draft;
 use crate::fault::ThinFault;
-use crate::form::Variable;
-use crate::names::{index_of, name_at, number_at, place_at, site_behind};
+use crate::names::{index_of, site_behind};
 use crate::place::Place;
-use c_lexer::{Token, is_library_name};
-use flow_code::word;
+use crate::shape::{is_thread, lone_item, object_name};
+use c_lexer::is_library_name;
+use c_tree::{Declaration, Item, Name, Specifier};
 use itoa::Buffer;
 use rr_base::{Bytes, CellKind, Layout, List, Site};
 use std::alloc::{AllocError, Global};
 
-fn is_declared(tokens: &[Token], at: usize, names: &[usize]) -> bool
-    ensures { result ≡ spec.is_declared tokens.now at names.now }
+fn is_declared(name: &[u8], names: &[Bytes]) -> bool
+    ensures { result ≡ spec.is_declared name.now names.now }
 {
-    index_of(tokens, at, names).is_some()
+    index_of(name, names).is_some()
 }
 
 /// Whether nothing of the whole program has the name, and the library hasn't.
 #[tactic(auto, unfolding(crate::specs::Draft::is_free))]
-pub fn is_free(tokens: &[Token], at: usize, draft: &Draft) -> bool
-    ensures { result ≡ spec.is_free tokens.now at draft.now }
+pub fn is_free(name: &[u8], draft: &Draft) -> bool
+    ensures { result ≡ spec.is_free name.now draft.now }
 {
-    !is_library_name(name_at(tokens, at))
-        && !is_declared(tokens, at, draft.cells.names.as_slice())
-        && !is_declared(tokens, at, draft.roots.as_slice())
-        && !is_declared(tokens, at, draft.threads.as_slice())
+    !is_library_name(name)
+        && name != b"main".as_slice()
+        && !is_declared(name, draft.cells.names.as_slice())
+        && !is_declared(name, draft.roots.as_slice())
+        && !is_declared(name, draft.threads.as_slice())
 }
 
 /// Whether besides no formal has it.
 #[tactic(auto, unfolding(crate::specs::Draft::is_new))]
-pub fn is_new(tokens: &[Token], at: usize, draft: &Draft) -> bool
-    ensures { result ≡ spec.is_new tokens.now at draft.now }
+pub fn is_new(name: &[u8], draft: &Draft) -> bool
+    ensures { result ≡ spec.is_new name.now draft.now }
 {
-    is_free(tokens, at, draft) && !is_declared(tokens, at, draft.formals.as_slice())
+    is_free(name, draft) && !is_declared(name, draft.formals.as_slice())
 }
 
 fn site(alloc: Global, name: Bytes, kind: CellKind, place: Place) -> Result<Site, AllocError>
@@ -56,82 +58,39 @@ fn site(alloc: Global, name: Bytes, kind: CellKind, place: Place) -> Result<Site
     })
 }
 
-fn with_global(
-    alloc: Global,
-    tokens: &[Token],
-    at: usize,
-    kind: CellKind,
-    start: Option<u64>,
-    mut draft: Draft,
-) -> Result<Draft, ThinFault>
-    ensures { Gives result (spec.with_global tokens.now at kind start draft) }
+fn place_of(name: &Name) -> Place
+    ensures { result ≡ spec.place_of name.now }
 {
-    let Some(start) = start else {
-        return Err(ThinFault::NotThin);
-    };
-    let Some(_) = site_behind(draft.sites.len()) else {
-        return Err(ThinFault::NotThin);
-    };
-    if !is_new(tokens, at, &draft) {
-        return Err(ThinFault::NotThin);
-    }
-    let name = Bytes::from_slice(alloc, name_at(tokens, at))?;
-    let site = site(alloc, name, kind, place_at(tokens, at))?;
-    draft.cells.names.push(at)?;
-    draft.cells.words.push(start)?;
-    draft.cells.kinds.push(kind)?;
-    draft.sites.push(site)?;
-    Ok(draft)
-}
-
-fn word_of(number: Option<i64>) -> Option<u64>
-    ensures { result ≡ spec.word_of number }
-{
-    match number {
-        Some(number) => Some(word(number)),
-        None => None,
-    }
-}
-
-fn negated(number: i64) -> Option<u64>
-    ensures { result ≡ spec.negated number }
-{
-    let negative = number.checked_neg()?;
-    Some(word(negative))
-}
-
-fn word_below(number: Option<i64>) -> Option<u64>
-    ensures { result ≡ spec.word_below number }
-{
-    match number {
-        Some(number) => negated(number),
-        None => None,
+    Place {
+        line: name.line,
+        column: name.column,
     }
 }
 
 /// The draft with a variable of the whole program.
-pub fn with_global_as(
+#[tactic(auto, unfolding(crate::specs::Draft::with_global))]
+pub fn with_global(
     alloc: Global,
-    variable: Variable,
-    tokens: &[Token],
-    at: usize,
-    draft: Draft,
+    name: &Name,
+    kind: CellKind,
+    start: u64,
+    mut draft: Draft,
 ) -> Result<Draft, ThinFault>
-    requires { at < 2 ^ 32 }
-    ensures { Gives result (spec.with_global_as variable tokens.now at draft) }
+    ensures { Gives result (spec.with_global name.now kind start draft) }
 {
-    match variable {
-        Variable::Int => with_global(alloc, tokens, at + 1, CellKind::Whole, Some(0), draft),
-        Variable::IntFrom => {
-            let start = word_of(number_at(tokens, at + 3));
-            with_global(alloc, tokens, at + 1, CellKind::Whole, start, draft)
-        }
-        Variable::IntBelow => {
-            let start = word_below(number_at(tokens, at + 4));
-            with_global(alloc, tokens, at + 1, CellKind::Whole, start, draft)
-        }
-        Variable::Mutex => with_global(alloc, tokens, at + 1, CellKind::Mutex, Some(0), draft),
+    let Some(_) = site_behind(draft.sites.len()) else {
+        return Err(ThinFault::NotThin);
+    };
+    let text = name.text.as_slice();
+    if !is_new(text, &draft) {
+        return Err(ThinFault::NotThin);
     }
+    let site = site(alloc, Bytes::from_slice(alloc, text)?, kind, place_of(name))?;
+    draft.cells.names.push(Bytes::from_slice(alloc, text)?)?;
+    draft.cells.words.push(start)?;
+    draft.cells.kinds.push(kind)?;
+    draft.sites.push(site)?;
+    Ok(draft)
 }
 
 fn push_decimal(text: &mut Bytes, number: u32) -> Result<(), AllocError>
@@ -152,29 +111,72 @@ fn local_name(alloc: Global, name: &[u8], place: Place) -> Result<Bytes, AllocEr
     Ok(text)
 }
 
-/// The draft with a `pthread_t` of `main`.
 #[tactic(auto, unfolding(crate::specs::Draft::with_thread))]
-pub fn with_thread(
-    alloc: Global,
-    tokens: &[Token],
-    at: usize,
-    mut draft: Draft,
-) -> Result<Draft, ThinFault>
-    requires { at < 2 ^ 32 }
-    ensures { Gives result (spec.with_thread tokens.now at draft) }
+fn with_thread(alloc: Global, name: &Name, mut draft: Draft) -> Result<Draft, ThinFault>
+    ensures { Gives result (spec.with_thread name.now draft) }
 {
     let Some(number) = site_behind(draft.sites.len()) else {
         return Err(ThinFault::NotThin);
     };
-    if !is_new(tokens, at + 1, &draft) {
+    let text = name.text.as_slice();
+    if !is_new(text, &draft) {
         return Err(ThinFault::NotThin);
     }
-    let place = place_at(tokens, at + 1);
-    let name = local_name(alloc, name_at(tokens, at + 1), place)?;
-    let site = site(alloc, name, CellKind::Whole, place)?;
-    draft.threads.push(at + 1)?;
+    let place = place_of(name);
+    let site = site(
+        alloc,
+        local_name(alloc, text, place)?,
+        CellKind::Whole,
+        place,
+    )?;
+    draft.threads.push(Bytes::from_slice(alloc, text)?)?;
     draft.created.push(false)?;
     draft.sites.push(site)?;
     draft.body.object(place, number)?;
     Ok(draft)
+}
+
+fn plain_name(item: &Item) -> Option<&Name>
+    ensures { option_map (λ r. r.now) result ≡ spec.plain_name (object_of item.now) }
+{
+    match item {
+        Item::Plain(_) => object_name(item),
+        Item::Initialised { .. } => None,
+    }
+}
+
+fn with_threads(
+    alloc: Global,
+    specifier: &Specifier,
+    items: &[Item],
+    draft: Draft,
+) -> Result<Draft, ThinFault>
+    ensures { Gives result (spec.with_threads specifier.now (map object_of items.now) draft) }
+{
+    if !is_thread(specifier) {
+        return Err(ThinFault::NotThin);
+    }
+    let Some(item) = lone_item(items) else {
+        return Err(ThinFault::NotThin);
+    };
+    match plain_name(item) {
+        Some(name) => with_thread(alloc, name, draft),
+        None => Err(ThinFault::NotThin),
+    }
+}
+
+/// The draft with a `pthread_t` of `main`.
+pub fn with_declared(
+    alloc: Global,
+    declaration: &Declaration,
+    draft: Draft,
+) -> Result<Draft, ThinFault>
+    ensures { Gives result (spec.with_declared (declares_of declaration.now) draft) }
+{
+    with_threads(
+        alloc,
+        &declaration.specifier,
+        declaration.items.as_slice(),
+        draft,
+    )
 }

@@ -1,7 +1,7 @@
 use crate::body::Body;
 use crate::cells::Cells;
 use flow_code::Function;
-use rr_base::{List, Site};
+use rr_base::{Bytes, List, Site};
 
 /// How far a source has been read.
 #[derive(Clone, Copy)]
@@ -10,28 +10,21 @@ pub enum Phase {
     Globals,
     /// Behind a function that isn't `main`.
     Functions,
-    InRoot,
-    /// Among the `pthread_t`s of `main`.
-    Threads,
-    InMain,
     /// Behind `main`.
     Done,
 }
 
-/// What was made of a source so far. Names are positions of tokens.
+/// What was made of a source so far.
 #[derive(Drop)]
 pub struct Draft {
-    /// How many tokens of the last line are still to be passed.
-    pub left: usize,
     pub phase: Phase,
     pub cells: Cells,
-    pub roots: List<usize>,
-    pub threads: List<usize>,
-    pub formals: List<usize>,
+    pub roots: List<Bytes>,
+    pub threads: List<Bytes>,
+    pub formals: List<Bytes>,
     /// Of each `pthread_t`, whether a `pthread_create` names it.
     pub created: List<bool>,
-    /// The name of the function that is open, and what it does so far.
-    pub name: usize,
+    /// What the function that is open does so far.
     pub body: Body,
     pub sites: List<Site>,
     pub functions: List<Function>,

@@ -1,71 +1,18 @@
-// What tokens tell, by their positions, and which declared name one is.
+// Which declared name one is, and the cells of variables.
 ghost use Rattle.std.specs.Prelude.{◌≡◌, ◌+◌, ◌<◌, ◌^◌, length, slice_get};
 ghost use Rattle.thin_source.specs.Names as spec;
 
 use crate::cells::Cells;
-use crate::place::Place;
-use c_lexer::{Kind, Token};
-use rr_base::{CellKind, PtrWord};
+use rr_base::{Bytes, CellKind, PtrWord};
 
-pub fn place_at(tokens: &[Token], at: usize) -> Place
-    ensures { result ≡ spec.place_at tokens.now at }
-{
-    match tokens.get(at) {
-        Some(token) => Place {
-            line: token.line,
-            column: token.column,
-        },
-        None => Place { line: 0, column: 0 },
-    }
-}
-
-fn name_by(kind: &Kind) -> &[u8]
-    ensures { result.now ≡ spec.name_by kind.now }
-{
-    match kind {
-        Kind::Name(name) => name.as_slice(),
-        _ => &[],
-    }
-}
-
-/// The name that the token is, and no bytes where it is none.
-pub fn name_at(tokens: &[Token], at: usize) -> &[u8]
-    ensures { result.now ≡ spec.name_at tokens.now at }
-{
-    match tokens.get(at) {
-        Some(token) => name_by(&token.kind),
-        None => &[],
-    }
-}
-
-fn number_by(kind: &Kind) -> Option<i64>
-    ensures { result ≡ spec.number_by kind.now }
-{
-    match kind {
-        Kind::Number(number) => Some(*number),
-        _ => None,
-    }
-}
-
-/// The number that the token is, if it is one.
-pub fn number_at(tokens: &[Token], at: usize) -> Option<i64>
-    ensures { result ≡ spec.number_at tokens.now at }
-{
-    match tokens.get(at) {
-        Some(token) => number_by(&token.kind),
-        None => None,
-    }
-}
-
-/// Which of the names is that of the token, each name by the position of its token.
+/// Which of the names this one is.
 #[tactic(auto, unfolding(crate::specs::Names::index_of))]
-pub fn index_of(tokens: &[Token], at: usize, mut names: &[usize]) -> Option<usize>
-    ensures { result ≡ spec.index_of tokens.now at names.entry.now }
+pub fn index_of(name: &[u8], mut names: &[Bytes]) -> Option<usize>
+    ensures { result ≡ spec.index_of name.now names.entry.now }
 {
-    let name = name_at(tokens, at);
     let mut k = 0;
     while let [first, rest @ ..] = names {
-        if name == name_at(tokens, *first) {
+        if name == first.as_slice() {
             return Some(k);
         }
         k += 1;
@@ -102,12 +49,12 @@ fn is_of(mutex: bool, kind: Option<CellKind>) -> bool
     }
 }
 
-/// The address of the global that is named at `at`, where it is a mutex, or else a whole number.
-#[tactic(auto, unfolding(crate::specs::Names::global_at))]
-pub fn global_at(mutex: bool, tokens: &[Token], cells: &Cells, at: usize) -> Option<PtrWord>
-    ensures { result ≡ spec.global_at mutex tokens.now cells.now at }
+/// The address of the global of this name, where it is a mutex, or else a whole number.
+#[tactic(auto, unfolding(crate::specs::Names::global_of))]
+pub fn global_of(mutex: bool, name: &[u8], cells: &Cells) -> Option<PtrWord>
+    ensures { result ≡ spec.global_of mutex name.now cells.now }
 {
-    let k = index_of(tokens, at, cells.names.as_slice())?;
+    let k = index_of(name, cells.names.as_slice())?;
     if is_of(mutex, cells.kinds.as_slice().get(k).copied()) {
         address_behind(k)
     } else {

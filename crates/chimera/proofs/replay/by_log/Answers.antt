@@ -5,4 +5,7 @@ use Rattle.chimera.proofs.replay.by_log.Goals as goal
 pub by_tokens-requires : goal.by_tokens-requires
 by_tokens-requires c =
     let few = few_tokens 0 (length c.args.source.now) c.in-Ok.tokens c.in-Ok.ensures.order in
-    omega (arith, c.requires)
+    record {
+      few = omega (arith, few, c.requires);
+      placed = c.in-Ok.ensures.placed;
+    }

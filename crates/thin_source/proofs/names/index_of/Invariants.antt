@@ -1,10 +1,10 @@
 use Rattle.std.proofs.Common.{◌≡◌, ◌+◌, length}
-use Rattle.thin_source.specs.Names.{index_from, name_at}
+use Rattle.thin_source.specs.Names.{index_from}
 use Rattle.thin_source.proofs.names.index_of.Given as goal
 
 abbrev pub invariant-loop-names : goal.invariant-loop-names
 invariant-loop-names l = record {
-  same : index_from l.tokens (name_at l.tokens l.at) l.k l.names ≡ index_from l.tokens (name_at l.tokens l.at) 0 l.initial.names;
+  same : index_from l.name l.k l.names ≡ index_from l.name 0 l.initial.names;
   count : l.k + length l.names ≡ length l.initial.names;
 }
 

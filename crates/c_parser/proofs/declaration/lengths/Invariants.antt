@@ -1,0 +1,16 @@
+use Rattle.std.proofs.Common.{◌≡◌, ◌≤◌, [], map, length}
+use Rattle.c_tree.specs.View.{exp_of}
+use Rattle.c_parser.specs.Gives.{limit, lexemes}
+use Rattle.c_parser.specs.Phrase as phrase
+use Rattle.c_parser.specs.Rules.{read}
+use Rattle.c_parser.proofs.declaration.lengths.Given as goal
+
+-- what is read so far and the rest make the whole
+abbrev pub invariant-loop-found : goal.invariant-loop-found
+invariant-loop-found l = record {
+  read : read limit (phrase.lengths l.above (map exp_of l.found)) (lexemes l.rest) ≡ read limit (phrase.lengths l.level []) (lexemes l.tokens);
+  within : l.above ≤ limit;
+}
+
+abbrev pub decreases-loop-found : goal.decreases-loop-found
+decreases-loop-found l = length l.rest

@@ -1,0 +1,235 @@
+//! Reads declarations (C99 6.7). Each reader is named after its phrase. It takes the level of nesting at which the phrase
+//! stands, and gives the tree and the tokens behind it.
+
+ghost use Rattle.std.specs.Prelude.{◌≡◌, ◌+◌, ◌≤◌, IfOk, [], map};
+ghost use Rattle.c_tree.specs.View.{exp_of, declared_of, init_of, object_of, declares_of};
+ghost use Rattle.c_parser.specs.Gives.{limit, place_of, initials_of, Reads, Follows};
+ghost use Rattle.c_parser.specs.Phrase as phrase;
+ghost use Rattle.c_parser.specs.Rules.{braces_rule};
+
+use crate::expression::{assignment, conditional};
+use crate::make;
+use crate::token::{Place, Stop, begins_with, name, next_punct, next_word, punct};
+use crate::types::{specifier, specifier_place};
+use c_lexer::{Punct, Token, Word};
+use c_tree::{Declaration, Declarator, Expr, Initial, Item};
+use rr_base::List;
+use std::alloc::Global;
+
+// The number of stars, each one level above the one before it.
+#[tactic(auto, using(crate::proofs::Steps::raising_stars_rules))]
+fn raising_stars(level: u32, tokens: &[Token]) -> Result<(u32, &[Token]), Stop<'_>>
+    requires { level ≤ limit }
+    ensures stars { Reads (phrase.raising_stars level 0) (λ n. n) tokens.now result }
+    ensures within { IfOk result (λ x. level + x.0 ≤ limit) }
+{
+    let mut rest = tokens;
+    let mut count = 0;
+    while let Some((_, behind)) = next_punct(rest, Punct::Star, level + count + 1)? {
+        count += 1;
+        rest = behind;
+    }
+    Ok((count, rest))
+}
+
+#[tactic(auto, using(crate::proofs::Steps::declarator_rules))]
+pub(crate) fn declarator(
+    alloc: Global,
+    level: u32,
+    tokens: &[Token],
+) -> Result<(Declarator, &[Token]), Stop<'_>>
+    requires { level ≤ limit }
+    ensures { Reads (phrase.declarator level) (λ d. declared_of d) tokens.now result }
+{
+    let (stars, rest) = raising_stars(level, tokens)?;
+    let (name, rest) = name(alloc, rest, level + stars)?;
+    let (lengths, rest) = lengths(alloc, level + stars, rest)?;
+    let stars = stars as usize;
+    Ok((
+        Declarator {
+            stars,
+            name,
+            lengths,
+        },
+        rest,
+    ))
+}
+
+/// The lengths of arrays in brackets, each pair one level above the one before it.
+#[tactic(auto, using(crate::proofs::Steps::lengths_rules))]
+pub(crate) fn lengths(
+    alloc: Global,
+    level: u32,
+    tokens: &[Token],
+) -> Result<(List<Expr>, &[Token]), Stop<'_>>
+    requires { level ≤ limit }
+    ensures { Reads (phrase.lengths level []) (λ es. map exp_of es) tokens.now result }
+{
+    let mut found = List::new(alloc);
+    let mut rest = tokens;
+    let mut above = level;
+    while let Some((_, behind)) = next_punct(rest, Punct::OpenBracket, above + 1)? {
+        let (e, next) = conditional(alloc, above, behind)?;
+        found.push(e)?;
+        let (_, next) = punct(next, Punct::CloseBracket, above + 1)?;
+        above += 1;
+        rest = next;
+    }
+    Ok((found, rest))
+}
+
+#[cycle(initials)]
+#[tactic(auto, using(crate::proofs::Steps::initial_rules))]
+pub(crate) fn initial(
+    alloc: Global,
+    level: u32,
+    tokens: &[Token],
+) -> Result<(Initial, &[Token]), Stop<'_>>
+    requires { level ≤ limit }
+    ensures { Reads (phrase.initial level) (λ i. init_of i) tokens.now result }
+{
+    if let Some((place, rest)) = next_punct(tokens, Punct::OpenBrace, level + 1)? {
+        return braces(alloc, level + 1, place, rest);
+    }
+    if let Some((Place { line, column }, rest)) = next_word(
+        tokens,
+        Word::PthreadMutexInitializer,
+        level + 1,
+    )? {
+        return Ok((Initial::Mutex { line, column }, rest));
+    }
+    if let Some((Place { line, column }, rest)) = next_word(
+        tokens,
+        Word::PthreadCondInitializer,
+        level + 1,
+    )? {
+        return Ok((Initial::Cond { line, column }, rest));
+    }
+    let (e, rest) = assignment(alloc, level + 1, tokens)?;
+    Ok((Initial::Value(e), rest))
+}
+
+// Behind an opening brace at that place, all at one level.
+#[cycle(initials)]
+fn braces(
+    alloc: Global,
+    level: u32,
+    place: Place,
+    tokens: &[Token],
+) -> Result<(Initial, &[Token]), Stop<'_>>
+    requires { level ≤ limit }
+    ensures { Follows (braces_rule level (place_of place)) (λ i. init_of i) tokens.now result }
+{
+    let (first, rest) = initial(alloc, level, tokens)?;
+    let mut parts = List::new(alloc);
+    parts.push(first)?;
+    let ((parts, comma), rest) = more_initials(alloc, level, parts, rest)?;
+    let (_, rest) = punct(rest, Punct::CloseBrace, level)?;
+    Ok((make::braces(parts, comma, place), rest))
+}
+
+// The initials with a comma before each, behind those that were found, and whether a comma stands behind the last.
+#[cycle(initials)]
+#[tactic(auto, using(crate::proofs::Steps::more_initials_rules))]
+fn more_initials(
+    alloc: Global,
+    level: u32,
+    mut found: List<Initial>,
+    tokens: &[Token],
+) -> Result<((List<Initial>, bool), &[Token]), Stop<'_>>
+    requires { level ≤ limit }
+    ensures { Reads (phrase.more_initials level (map init_of found)) (λ x. initials_of x) tokens.now result }
+{
+    let mut rest = tokens;
+    while let Some((_, behind)) = next_punct(rest, Punct::Comma, level)? {
+        if begins_with(behind, Punct::CloseBrace) {
+            return Ok(((found, true), behind));
+        }
+        let (i, next) = initial(alloc, level, behind)?;
+        found.push(i)?;
+        rest = next;
+    }
+    Ok(((found, false), rest))
+}
+
+#[tactic(auto, using(crate::proofs::Steps::object_rules))]
+fn object(alloc: Global, level: u32, tokens: &[Token]) -> Result<(Item, &[Token]), Stop<'_>>
+    requires { level ≤ limit }
+    ensures { Reads (phrase.object level) (λ o. object_of o) tokens.now result }
+{
+    let (declarator, rest) = declarator(alloc, level, tokens)?;
+    object_behind(alloc, level, declarator, rest)
+}
+
+/// An object behind its declarator.
+#[tactic(auto, using(crate::proofs::Steps::object_behind_rules))]
+pub(crate) fn object_behind(
+    alloc: Global,
+    level: u32,
+    declarator: Declarator,
+    tokens: &[Token],
+) -> Result<(Item, &[Token]), Stop<'_>>
+    requires { level ≤ limit }
+    ensures { Reads (phrase.object_behind level (declared_of declarator)) (λ o. object_of o) tokens.now result }
+{
+    let Some((Place { line, column }, rest)) = next_punct(tokens, Punct::Assign, level)? else {
+        return Ok((Item::Plain(declarator), tokens));
+    };
+    let (initial, rest) = initial(alloc, level, rest)?;
+    Ok((
+        Item::Initialised {
+            declarator,
+            initial,
+            line,
+            column,
+        },
+        rest,
+    ))
+}
+
+/// The objects with a comma before each, behind those that were found.
+#[tactic(auto, using(crate::proofs::Steps::more_objects_rules))]
+pub(crate) fn more_objects(
+    alloc: Global,
+    level: u32,
+    mut found: List<Item>,
+    tokens: &[Token],
+) -> Result<(List<Item>, &[Token]), Stop<'_>>
+    requires { level ≤ limit }
+    ensures { Reads (phrase.more_objects level (map object_of found)) (λ os. map object_of os) tokens.now result }
+{
+    let mut rest = tokens;
+    while let Some((_, behind)) = next_punct(rest, Punct::Comma, level)? {
+        let (item, next) = object(alloc, level, behind)?;
+        found.push(item)?;
+        rest = next;
+    }
+    Ok((found, rest))
+}
+
+#[tactic(auto, using(crate::proofs::Steps::declaration_rules))]
+pub(crate) fn declaration(
+    alloc: Global,
+    level: u32,
+    tokens: &[Token],
+) -> Result<(Declaration, &[Token]), Stop<'_>>
+    requires { level ≤ limit }
+    ensures { Reads (phrase.declaration level) (λ d. declares_of d) tokens.now result }
+{
+    let (specifier, rest) = specifier(alloc, level, tokens)?;
+    let (first, rest) = object(alloc, level, rest)?;
+    let mut items = List::new(alloc);
+    items.push(first)?;
+    let (items, rest) = more_objects(alloc, level, items, rest)?;
+    let (_, rest) = punct(rest, Punct::Semicolon, level)?;
+    let Place { line, column } = specifier_place(&specifier);
+    Ok((
+        Declaration {
+            specifier,
+            items,
+            line,
+            column,
+        },
+        rest,
+    ))
+}

@@ -1,0 +1,383 @@
+//! Reads expressions (C99 6.5). Each reader is named after its phrase. It takes the level of nesting at which the phrase
+//! stands, and gives the tree and the tokens behind it.
+
+ghost use Rattle.std.specs.Prelude.{◌≡◌, ◌≤◌, map};
+ghost use Rattle.c_tree.specs.View.{exp_of, maybe_of};
+ghost use Rattle.c_parser.specs.Gives.{place_of, Reads, Follows};
+ghost use Rattle.c_parser.specs.Grammar.{first_place as spec_first_place};
+ghost use Rattle.c_parser.specs.Phrase as phrase;
+ghost use Rattle.c_parser.specs.Rules.{sizeof_rule};
+
+use crate::make;
+use crate::operator::push;
+use crate::token::{
+    Place, Stop, begins_type, begins_with, name, next_assign, next_binary, next_letter, next_name,
+    next_number, next_prefix, next_punct, next_text, next_word, punct, word,
+};
+use crate::types::type_name;
+use c_lexer::{Punct, Token, Word};
+use c_tree::{Expr, Name};
+use rr_base::List;
+use std::alloc::Global;
+
+/// Where an expression begins.
+pub(crate) fn first_place(e: &Expr) -> Place
+    ensures { place_of result ≡ spec_first_place (exp_of e.now) }
+{
+    match e {
+        Expr::Comma { first, .. } => first_place(first),
+        Expr::Assign { left, .. } | Expr::Binary { left, .. } => first_place(left),
+        Expr::Conditional { test, .. } => first_place(test),
+        Expr::Index { base, .. } | Expr::Member { base, .. } | Expr::Arrow { base, .. } => {
+            first_place(base)
+        }
+        Expr::PostIncrement { operand, .. } | Expr::PostDecrement { operand, .. } => {
+            first_place(operand)
+        }
+        Expr::Prefix { line, column, .. }
+        | Expr::SizeofExpr { line, column, .. }
+        | Expr::SizeofType { line, column, .. }
+        | Expr::Cast { line, column, .. }
+        | Expr::Name { line, column, .. }
+        | Expr::Call { line, column, .. }
+        | Expr::Number { line, column, .. }
+        | Expr::Letter { line, column, .. }
+        | Expr::Text { line, column, .. }
+        | Expr::Null { line, column }
+        | Expr::Paren { line, column, .. } => Place {
+            line: *line,
+            column: *column,
+        },
+    }
+}
+
+#[cycle(read)]
+#[tactic(auto, using(crate::proofs::Steps::expression_rules))]
+pub(crate) fn expression(
+    alloc: Global,
+    level: u32,
+    tokens: &[Token],
+) -> Result<(Expr, &[Token]), Stop<'_>>
+    requires { level ≤ 257 }
+    ensures { Reads (phrase.expression level) (λ e. exp_of e) tokens.now result }
+{
+    let (first, rest) = assignment(alloc, level, tokens)?;
+    let Some((_, behind)) = next_punct(rest, Punct::Comma, level)? else {
+        return Ok((first, rest));
+    };
+    let (second, rest) = assignment(alloc, level, behind)?;
+    let mut others = List::new(alloc);
+    others.push(second)?;
+    let (others, rest) = more(alloc, level, others, rest)?;
+    let place = first_place(&first);
+    Ok((make::comma(alloc, first, others, place)?, rest))
+}
+
+// The assignments with a comma before each, behind those that were found.
+#[cycle(read)]
+#[tactic(auto, using(crate::proofs::Steps::more_rules))]
+fn more(
+    alloc: Global,
+    level: u32,
+    mut found: List<Expr>,
+    tokens: &[Token],
+) -> Result<(List<Expr>, &[Token]), Stop<'_>>
+    requires { level ≤ 257 }
+    ensures { Reads (phrase.more level (map exp_of found)) (λ es. map exp_of es) tokens.now result }
+{
+    let mut rest = tokens;
+    while let Some((_, behind)) = next_punct(rest, Punct::Comma, level)? {
+        let (e, next) = assignment(alloc, level, behind)?;
+        found.push(e)?;
+        rest = next;
+    }
+    Ok((found, rest))
+}
+
+#[cycle(read)]
+#[tactic(auto, using(crate::proofs::Steps::assignment_rules))]
+pub(crate) fn assignment(
+    alloc: Global,
+    level: u32,
+    tokens: &[Token],
+) -> Result<(Expr, &[Token]), Stop<'_>>
+    requires { level ≤ 257 }
+    ensures { Reads (phrase.assignment level) (λ e. exp_of e) tokens.now result }
+{
+    let (left, rest) = conditional(alloc, level, tokens)?;
+    let Some(((op, place), behind)) = next_assign(rest, level + 2)? else {
+        return Ok((left, rest));
+    };
+    let (right, rest) = assignment(alloc, level + 2, behind)?;
+    Ok((make::assign(alloc, left, op, right, place)?, rest))
+}
+
+#[cycle(read)]
+#[tactic(auto, using(crate::proofs::Steps::conditional_part_rules))]
+pub(crate) fn conditional(
+    alloc: Global,
+    level: u32,
+    tokens: &[Token],
+) -> Result<(Expr, &[Token]), Stop<'_>>
+    requires { level ≤ 257 }
+    ensures { Reads (phrase.conditional_part level) (λ e. exp_of e) tokens.now result }
+{
+    let (test, rest) = operands(alloc, level, tokens)?;
+    let Some((place, behind)) = next_punct(rest, Punct::Question, level + 2)? else {
+        return Ok((test, rest));
+    };
+    let (yes, rest) = expression(alloc, level + 2, behind)?;
+    let (_, rest) = punct(rest, Punct::Colon, level + 2)?;
+    let (no, rest) = conditional(alloc, level + 1, rest)?;
+    Ok((make::conditional(alloc, test, yes, no, place)?, rest))
+}
+
+#[cycle(read)]
+#[tactic(auto, using(crate::proofs::Steps::operands_rules))]
+fn operands(alloc: Global, level: u32, tokens: &[Token]) -> Result<(Expr, &[Token]), Stop<'_>>
+    requires { level ≤ 257 }
+    ensures { Reads (phrase.operands level) (λ e. exp_of e) tokens.now result }
+{
+    let (first, rest) = unary(alloc, level, tokens)?;
+    chain(alloc, level, first, rest)
+}
+
+// The operators and operands behind a left operand.
+#[cycle(read)]
+#[tactic(auto, using(crate::proofs::Steps::chain_rules))]
+fn chain(
+    alloc: Global,
+    level: u32,
+    left: Expr,
+    tokens: &[Token],
+) -> Result<(Expr, &[Token]), Stop<'_>>
+    requires { level ≤ 257 }
+    ensures { Reads (phrase.chain level (exp_of left)) (λ e. exp_of e) tokens.now result }
+{
+    let Some(((op, place), behind)) = next_binary(tokens, level + 2)? else {
+        return Ok((left, tokens));
+    };
+    let (operand, rest) = unary(alloc, level + 1, behind)?;
+    let left = push(alloc, left, op, operand, place)?;
+    chain(alloc, level + 1, left, rest)
+}
+
+#[cycle(read)]
+#[tactic(auto, using(crate::proofs::Steps::unary_rules))]
+fn unary(alloc: Global, level: u32, tokens: &[Token]) -> Result<(Expr, &[Token]), Stop<'_>>
+    requires { level ≤ 257 }
+    ensures { Reads (phrase.unary level) (λ e. exp_of e) tokens.now result }
+{
+    match next_punct(tokens, Punct::OpenParen, level + 1)? {
+        Some((place, rest)) => opened(alloc, level, place, rest),
+        None => unary_plain(alloc, level, tokens),
+    }
+}
+
+// One that begins with no parenthesis.
+#[cycle(read)]
+#[tactic(auto, using(crate::proofs::Steps::unary_plain_rules))]
+fn unary_plain(alloc: Global, level: u32, tokens: &[Token]) -> Result<(Expr, &[Token]), Stop<'_>>
+    requires { level ≤ 257 }
+    ensures { Reads (phrase.unary_plain level) (λ e. exp_of e) tokens.now result }
+{
+    if let Some(((op, place), rest)) = next_prefix(tokens, level + 1)? {
+        let (operand, rest) = unary(alloc, level + 1, rest)?;
+        return Ok((make::prefix(alloc, op, operand, place)?, rest));
+    }
+    if let Some((place, rest)) = next_word(tokens, Word::Sizeof, level + 1)? {
+        return sizeof(alloc, level, place, rest);
+    }
+    let (base, rest) = atom(alloc, level, tokens)?;
+    postfix(alloc, level, base, rest)
+}
+
+// Behind the word, which stands at that place and one level above.
+#[cycle(read)]
+fn sizeof(
+    alloc: Global,
+    level: u32,
+    place: Place,
+    tokens: &[Token],
+) -> Result<(Expr, &[Token]), Stop<'_>>
+    requires { level ≤ 256 }
+    ensures { Follows (sizeof_rule level (place_of place)) (λ e. exp_of e) tokens.now result }
+{
+    let Some((there, rest)) = next_punct(tokens, Punct::OpenParen, level + 2)? else {
+        let (operand, rest) = unary_plain(alloc, level + 1, tokens)?;
+        return Ok((make::sizeof_expr(alloc, operand, place)?, rest));
+    };
+    if begins_type(rest) {
+        let (of, rest) = type_name(alloc, level + 2, rest)?;
+        let (_, rest) = punct(rest, Punct::CloseParen, level + 2)?;
+        let Place { line, column } = place;
+        return Ok((Expr::SizeofType { of, line, column }, rest));
+    }
+    let (operand, rest) = enclosed(alloc, level + 1, there, rest)?;
+    Ok((make::sizeof_expr(alloc, operand, place)?, rest))
+}
+
+// Behind a parenthesis at that place: a cast, or an expression and what follows it.
+#[cycle(read)]
+#[tactic(auto, using(crate::proofs::Steps::opened_rules))]
+fn opened(
+    alloc: Global,
+    level: u32,
+    place: Place,
+    tokens: &[Token],
+) -> Result<(Expr, &[Token]), Stop<'_>>
+    requires { level ≤ 256 }
+    ensures { Reads (phrase.opened level (place_of place)) (λ e. exp_of e) tokens.now result }
+{
+    if begins_type(tokens) {
+        let (to, rest) = type_name(alloc, level + 1, tokens)?;
+        let (_, rest) = punct(rest, Punct::CloseParen, level + 1)?;
+        let (operand, rest) = unary(alloc, level + 1, rest)?;
+        return Ok((make::cast(alloc, to, operand, place)?, rest));
+    }
+    enclosed(alloc, level, place, tokens)
+}
+
+#[cycle(read)]
+#[tactic(auto, using(crate::proofs::Steps::enclosed_rules))]
+fn enclosed(
+    alloc: Global,
+    level: u32,
+    place: Place,
+    tokens: &[Token],
+) -> Result<(Expr, &[Token]), Stop<'_>>
+    requires { level ≤ 256 }
+    ensures { Reads (phrase.enclosed level (place_of place)) (λ e. exp_of e) tokens.now result }
+{
+    let (inner, rest) = expression(alloc, level + 1, tokens)?;
+    let (_, rest) = punct(rest, Punct::CloseParen, level + 1)?;
+    let base = make::paren(alloc, inner, place)?;
+    postfix(alloc, level, base, rest)
+}
+
+#[cycle(read)]
+#[tactic(auto, using(crate::proofs::Steps::atom_rules))]
+fn atom(alloc: Global, level: u32, tokens: &[Token]) -> Result<(Expr, &[Token]), Stop<'_>>
+    requires { level ≤ 257 }
+    ensures { Reads (phrase.atom level) (λ e. exp_of e) tokens.now result }
+{
+    if let Some((Name { text, line, column }, rest)) = next_name(alloc, tokens, level + 1)? {
+        let Some((_, behind)) = next_punct(rest, Punct::OpenParen, level + 1)? else {
+            let name = text;
+            return Ok((Expr::Name { name, line, column }, rest));
+        };
+        let (arguments, rest) = arguments(alloc, level + 1, behind)?;
+        return Ok((make::call(text, arguments, Place { line, column }), rest));
+    }
+    if let Some(((value, Place { line, column }), rest)) = next_number(tokens, level + 1)? {
+        return Ok((
+            Expr::Number {
+                value,
+                line,
+                column,
+            },
+            rest,
+        ));
+    }
+    if let Some(((value, Place { line, column }), rest)) = next_letter(tokens, level + 1)? {
+        return Ok((
+            Expr::Letter {
+                value,
+                line,
+                column,
+            },
+            rest,
+        ));
+    }
+    if let Some(((bytes, Place { line, column }), rest)) = next_text(alloc, tokens, level + 1)? {
+        return Ok((
+            Expr::Text {
+                bytes,
+                line,
+                column,
+            },
+            rest,
+        ));
+    }
+    let (Place { line, column }, rest) = word(tokens, Word::Null, level + 1)?;
+    Ok((Expr::Null { line, column }, rest))
+}
+
+// The postfix operators behind a base.
+#[cycle(read)]
+#[tactic(auto, using(crate::proofs::Steps::postfix_rules))]
+fn postfix(
+    alloc: Global,
+    level: u32,
+    base: Expr,
+    tokens: &[Token],
+) -> Result<(Expr, &[Token]), Stop<'_>>
+    requires { level ≤ 257 }
+    ensures { Reads (phrase.postfix level (exp_of base)) (λ e. exp_of e) tokens.now result }
+{
+    if let Some((place, rest)) = next_punct(tokens, Punct::OpenBracket, level + 2)? {
+        let (index, rest) = expression(alloc, level + 2, rest)?;
+        let (_, rest) = punct(rest, Punct::CloseBracket, level + 2)?;
+        let base = make::element(alloc, base, index, place)?;
+        return postfix(alloc, level + 1, base, rest);
+    }
+    if let Some((place, rest)) = next_punct(tokens, Punct::Dot, level + 2)? {
+        let (name, rest) = name(alloc, rest, level + 2)?;
+        let base = make::member(alloc, base, name, place)?;
+        return postfix(alloc, level + 1, base, rest);
+    }
+    if let Some((place, rest)) = next_punct(tokens, Punct::Arrow, level + 2)? {
+        let (name, rest) = name(alloc, rest, level + 2)?;
+        let base = make::arrow(alloc, base, name, place)?;
+        return postfix(alloc, level + 1, base, rest);
+    }
+    if let Some((place, rest)) = next_punct(tokens, Punct::PlusPlus, level + 2)? {
+        let base = make::post_increment(alloc, base, place)?;
+        return postfix(alloc, level + 1, base, rest);
+    }
+    if let Some((place, rest)) = next_punct(tokens, Punct::MinusMinus, level + 2)? {
+        let base = make::post_decrement(alloc, base, place)?;
+        return postfix(alloc, level + 1, base, rest);
+    }
+    Ok((base, tokens))
+}
+
+// Behind a parenthesis, with that which closes them.
+#[cycle(read)]
+#[tactic(auto, using(crate::proofs::Steps::arguments_rules))]
+fn arguments(
+    alloc: Global,
+    level: u32,
+    tokens: &[Token],
+) -> Result<(List<Expr>, &[Token]), Stop<'_>>
+    requires { level ≤ 257 }
+    ensures { Reads (phrase.arguments level) (λ es. map exp_of es) tokens.now result }
+{
+    let mut found = List::new(alloc);
+    if let Some((_, rest)) = next_punct(tokens, Punct::CloseParen, level)? {
+        return Ok((found, rest));
+    }
+    let (first, rest) = assignment(alloc, level, tokens)?;
+    found.push(first)?;
+    let (found, rest) = more(alloc, level, found, rest)?;
+    let (_, rest) = punct(rest, Punct::CloseParen, level)?;
+    Ok((found, rest))
+}
+
+/// An expression, or none before this token.
+#[tactic(auto, using(crate::proofs::Steps::maybe_expression_rules))]
+pub(crate) fn maybe_expression(
+    alloc: Global,
+    level: u32,
+    stop: Punct,
+    tokens: &[Token],
+) -> Result<(Option<Expr>, &[Token]), Stop<'_>>
+    requires { level ≤ 257 }
+    ensures { Reads (phrase.maybe_expression level stop) (λ e. maybe_of e) tokens.now result }
+{
+    if begins_with(tokens, stop) {
+        return Ok((None, tokens));
+    }
+    let (e, rest) = expression(alloc, level, tokens)?;
+    Ok((Some(e), rest))
+}

@@ -1,0 +1,356 @@
+//! Reads what a source consists of (C99 6.9). No level of nesting is open there.
+
+ghost use Rattle.std.specs.Prelude.{◌≡◌, ◌≤◌, [], map};
+ghost use Rattle.c_tree.specs.View.{code_of, declared_of, fields_of, outer_of};
+ghost use Rattle.c_parser.specs.Gives.{limit, place_of, Reads, Follows};
+ghost use Rattle.c_parser.specs.Grammar.{name_place, is_void_alone as spec_is_void_alone};
+ghost use Rattle.c_parser.specs.Phrase as phrase;
+ghost use Rattle.c_parser.specs.Rules as rules;
+
+use crate::declaration::{declarator, lengths, more_objects, object_behind};
+use crate::head::{Head, outer_head};
+use crate::statement::parts;
+use crate::token::{Place, Stop, begins_with, name, next_name, next_punct, next_word, punct};
+use crate::types::{specifier, specifier_place, stars};
+use c_lexer::{Punct, Token, Word};
+use c_tree::{Body, Declarator, External, Member, Name, Param, Params, Specifier};
+use rr_base::List;
+use std::alloc::Global;
+
+// ---- parameters (C99 6.7.5.3)
+
+#[tactic(auto, using(crate::proofs::Steps::param_rules))]
+fn param(alloc: Global, tokens: &[Token]) -> Result<(Param, &[Token]), Stop<'_>>
+    ensures { Reads phrase.param (λ x. x) tokens.now result }
+{
+    let (specifier, rest) = specifier(alloc, 0, tokens)?;
+    param_behind(alloc, specifier, rest)
+}
+
+// Behind the specifier.
+#[tactic(auto, using(crate::proofs::Steps::param_behind_rules))]
+fn param_behind(
+    alloc: Global,
+    specifier: Specifier,
+    tokens: &[Token],
+) -> Result<(Param, &[Token]), Stop<'_>>
+    ensures { Reads (phrase.param_behind specifier) (λ x. x) tokens.now result }
+{
+    let Place { line, column } = specifier_place(&specifier);
+    let (stars, rest) = stars(0, tokens)?;
+    let Some((name, behind)) = next_name(alloc, rest, 0)? else {
+        return Ok((
+            Param {
+                specifier,
+                stars,
+                name: None,
+                line,
+                column,
+            },
+            rest,
+        ));
+    };
+    Ok((
+        Param {
+            specifier,
+            stars,
+            name: Some(name),
+            line,
+            column,
+        },
+        behind,
+    ))
+}
+
+// The parameters with a comma before each, behind those that were found.
+fn more_params(
+    alloc: Global,
+    mut found: List<Param>,
+    tokens: &[Token],
+) -> Result<(List<Param>, &[Token]), Stop<'_>>
+    ensures { Reads (phrase.more_params found) (λ xs. xs) tokens.now result }
+{
+    let mut rest = tokens;
+    'params: while let Some((_, behind)) = next_punct(rest, Punct::Comma, 0)? {
+        let (next, behind) = param(alloc, behind)?;
+        found.push(next)?;
+        rest = behind;
+    }
+    Ok((found, rest))
+}
+
+// The word `void` alone is no parameter.
+fn is_void_alone(params: &[Param]) -> bool
+    ensures { result ≡ spec_is_void_alone params.now }
+{
+    let [only] = params else {
+        return false;
+    };
+    let stars = only.stars;
+    match (&only.specifier, &only.name) {
+        (Specifier::Void { .. }, None) => stars == 0,
+        _ => false,
+    }
+}
+
+fn params_from(found: List<Param>) -> Params
+    ensures { result ≡ rules.params_from found }
+{
+    if is_void_alone(found.as_slice()) {
+        Params::Void
+    } else {
+        Params::Listed(found)
+    }
+}
+
+// Up to the parenthesis that closes them.
+#[tactic(auto, using(crate::proofs::Steps::params_rules))]
+fn params(alloc: Global, tokens: &[Token]) -> Result<(Params, &[Token]), Stop<'_>>
+    ensures { Reads phrase.params (λ x. x) tokens.now result }
+{
+    if begins_with(tokens, Punct::CloseParen) {
+        return Ok((Params::Nothing, tokens));
+    }
+    let (first, rest) = param(alloc, tokens)?;
+    let mut found = List::new(alloc);
+    found.push(first)?;
+    let (found, rest) = more_params(alloc, found, rest)?;
+    Ok((params_from(found), rest))
+}
+
+// ---- functions
+
+// What follows the parameters.
+#[tactic(auto, using(crate::proofs::Steps::code_rules))]
+fn code(alloc: Global, tokens: &[Token]) -> Result<(Body, &[Token]), Stop<'_>>
+    ensures { Reads phrase.code (λ c. code_of c) tokens.now result }
+{
+    if let Some((Place { line, column }, rest)) = next_punct(tokens, Punct::OpenBrace, 0)? {
+        let (parts, rest) = parts(alloc, 0, rest)?;
+        let (_, rest) = punct(rest, Punct::CloseBrace, 0)?;
+        return Ok((
+            Body::Block {
+                parts,
+                line,
+                column,
+            },
+            rest,
+        ));
+    }
+    let (_, rest) = punct(tokens, Punct::Semicolon, 0)?;
+    Ok((Body::Prototype, rest))
+}
+
+// ---- structs (C99 6.7.2.1)
+
+// The declarators with a comma before each, behind those that were found.
+fn more_declared(
+    alloc: Global,
+    mut found: List<Declarator>,
+    tokens: &[Token],
+) -> Result<(List<Declarator>, &[Token]), Stop<'_>>
+    ensures { Reads (phrase.more_declared (map declared_of found)) (λ ds. map declared_of ds) tokens.now result }
+{
+    let mut rest = tokens;
+    'declarators: while let Some((_, behind)) = next_punct(rest, Punct::Comma, 0)? {
+        let (next, behind) = declarator(alloc, 0, behind)?;
+        found.push(next)?;
+        rest = behind;
+    }
+    Ok((found, rest))
+}
+
+#[tactic(auto, using(crate::proofs::Steps::member_rules))]
+fn member(alloc: Global, tokens: &[Token]) -> Result<(Member, &[Token]), Stop<'_>>
+    ensures { Reads phrase.member (λ m. fields_of m) tokens.now result }
+{
+    let (specifier, rest) = specifier(alloc, 0, tokens)?;
+    let (first, rest) = declarator(alloc, 0, rest)?;
+    let mut found = List::new(alloc);
+    found.push(first)?;
+    let (declarators, rest) = more_declared(alloc, found, rest)?;
+    let (_, rest) = punct(rest, Punct::Semicolon, 0)?;
+    let Place { line, column } = specifier_place(&specifier);
+    Ok((
+        Member {
+            specifier,
+            declarators,
+            line,
+            column,
+        },
+        rest,
+    ))
+}
+
+// The members up to the brace that closes them, behind those that were found.
+fn more_members(
+    alloc: Global,
+    mut found: List<Member>,
+    tokens: &[Token],
+) -> Result<(List<Member>, &[Token]), Stop<'_>>
+    ensures { Reads (phrase.more_members (map fields_of found)) (λ fs. map fields_of fs) tokens.now result }
+{
+    let mut rest = tokens;
+    'members: while !begins_with(rest, Punct::CloseBrace) {
+        let (next, behind) = member(alloc, rest)?;
+        found.push(next)?;
+        rest = behind;
+    }
+    Ok((found, rest))
+}
+
+// Behind the name.
+fn structure(alloc: Global, name: Name, tokens: &[Token]) -> Result<(External, &[Token]), Stop<'_>>
+    ensures { Follows (rules.structure_rule name.text (name_place name)) (λ o. outer_of o) tokens.now result }
+{
+    let (_, rest) = punct(tokens, Punct::OpenBrace, 0)?;
+    let (first, rest) = member(alloc, rest)?;
+    let mut found = List::new(alloc);
+    found.push(first)?;
+    let (members, rest) = more_members(alloc, found, rest)?;
+    let (_, rest) = punct(rest, Punct::CloseBrace, 0)?;
+    let (_, rest) = punct(rest, Punct::Semicolon, 0)?;
+    Ok((External::Struct { name, members }, rest))
+}
+
+// ---- functions and objects
+
+// Behind the parenthesis of its parameters.
+fn function(
+    alloc: Global,
+    is_static: bool,
+    specifier: Specifier,
+    stars: usize,
+    name: Name,
+    tokens: &[Token],
+) -> Result<(External, &[Token]), Stop<'_>>
+    ensures { Follows (rules.function_rule is_static specifier stars name.text (name_place name)) (λ o. outer_of o) tokens.now result }
+{
+    let (params, rest) = params(alloc, tokens)?;
+    let (_, rest) = punct(rest, Punct::CloseParen, 0)?;
+    let (body, rest) = code(alloc, rest)?;
+    Ok((
+        External::Function {
+            is_static,
+            specifier,
+            stars,
+            name,
+            params,
+            body,
+        },
+        rest,
+    ))
+}
+
+// Behind the name of the first.
+fn objects(
+    alloc: Global,
+    is_static: bool,
+    specifier: Specifier,
+    place: Place,
+    stars: u32,
+    name: Name,
+    tokens: &[Token],
+) -> Result<(External, &[Token]), Stop<'_>>
+    requires { stars ≤ limit }
+    ensures { Follows (rules.objects_rule is_static specifier (place_of place) stars name.text (name_place name)) (λ o. outer_of o) tokens.now result }
+{
+    let (lengths, rest) = lengths(alloc, stars, tokens)?;
+    let stars = stars as usize;
+    let declarator = Declarator {
+        stars,
+        name,
+        lengths,
+    };
+    let (first, rest) = object_behind(alloc, 0, declarator, rest)?;
+    let mut found = List::new(alloc);
+    found.push(first)?;
+    let (items, rest) = more_objects(alloc, 0, found, rest)?;
+    let (_, rest) = punct(rest, Punct::Semicolon, 0)?;
+    let Place { line, column } = place;
+    Ok((
+        External::Objects {
+            is_static,
+            specifier,
+            items,
+            line,
+            column,
+        },
+        rest,
+    ))
+}
+
+// Behind the specifier. The place is that of the first token.
+#[tactic(auto, using(crate::proofs::Steps::outer_behind_rules))]
+fn outer_behind(
+    alloc: Global,
+    is_static: bool,
+    specifier: Specifier,
+    place: Place,
+    tokens: &[Token],
+) -> Result<(External, &[Token]), Stop<'_>>
+    ensures { Reads (phrase.outer_behind is_static specifier (place_of place)) (λ o. outer_of o) tokens.now result }
+{
+    let (head, rest) = outer_head(alloc, tokens)?;
+    match head {
+        Head::Function { stars, name } => function(alloc, is_static, specifier, stars, name, rest),
+        Head::Object { stars, name } => {
+            objects(alloc, is_static, specifier, place, stars, name, rest)
+        }
+    }
+}
+
+// Behind the word `struct` at that place: a struct's members, or what has its name for a specifier.
+fn behind_struct(
+    alloc: Global,
+    place: Place,
+    tokens: &[Token],
+) -> Result<(External, &[Token]), Stop<'_>>
+    ensures { Follows (rules.behind_struct_rule (place_of place)) (λ o. outer_of o) tokens.now result }
+{
+    let (name, rest) = name(alloc, tokens, 0)?;
+    if begins_with(rest, Punct::OpenBrace) {
+        return structure(alloc, name, rest);
+    }
+    let Place { line, column } = place;
+    outer_behind(
+        alloc,
+        false,
+        Specifier::Struct { name, line, column },
+        place,
+        rest,
+    )
+}
+
+#[tactic(auto, using(crate::proofs::Steps::outer_rules))]
+fn outer(alloc: Global, tokens: &[Token]) -> Result<(External, &[Token]), Stop<'_>>
+    ensures { Reads phrase.outer (λ o. outer_of o) tokens.now result }
+{
+    if let Some((place, rest)) = next_word(tokens, Word::Static, 0)? {
+        let (specifier, rest) = specifier(alloc, 0, rest)?;
+        return outer_behind(alloc, true, specifier, place, rest);
+    }
+    if let Some((place, rest)) = next_word(tokens, Word::Struct, 0)? {
+        return behind_struct(alloc, place, rest);
+    }
+    let (specifier, rest) = specifier(alloc, 0, tokens)?;
+    let place = specifier_place(&specifier);
+    outer_behind(alloc, false, specifier, place, rest)
+}
+
+/// All to the end of the tokens.
+pub(crate) fn program(
+    alloc: Global,
+    tokens: &[Token],
+) -> Result<(List<External>, &[Token]), Stop<'_>>
+    ensures { Reads (phrase.program []) (λ os. map outer_of os) tokens.now result }
+{
+    let mut found = List::new(alloc);
+    let mut rest = tokens;
+    'externals: while !rest.is_empty() {
+        let (next, behind) = outer(alloc, rest)?;
+        found.push(next)?;
+        rest = behind;
+    }
+    Ok((found, rest))
+}

@@ -1,0 +1,32 @@
+ghost use Rattle.std.specs.Prelude.{◌≡◌};
+
+/// The first fault of the tokens of a source, with the line and column at which it stands, both from 1 and counted in
+/// bytes.
+#[derive(Clone, Copy, Debug, PartialEq, Eq)]
+pub enum ParseFault {
+    /// No source has this token behind those before it; or the tokens end here, and no source has just them (C99 6.5 to
+    /// 6.9).
+    Syntax { line: u32, column: u32 },
+    /// The token stands more than 256 levels deep (C99 5.2.4.1).
+    Nesting { line: u32, column: u32 },
+    /// The token is a word of C that this profile refuses.
+    OutOfProfile { line: u32, column: u32 },
+    /// The machine has no memory left for the tree.
+    OutOfMemory,
+}
+
+impl ParseFault {
+    ghost use Rattle.c_parser.specs.Faults.{number_of};
+
+    /// The number by which messages tell the fault; none where memory is wanting.
+    pub fn number(&self) -> Option<u8>
+        ensures { result ≡ number_of self.now }
+    {
+        match self {
+            ParseFault::Syntax { .. } => Some(7),
+            ParseFault::Nesting { .. } => Some(8),
+            ParseFault::OutOfProfile { .. } => Some(20),
+            ParseFault::OutOfMemory => None,
+        }
+    }
+}

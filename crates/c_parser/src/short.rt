@@ -1,0 +1,169 @@
+//! Reads short statements, and how the others begin and end (C99 6.8). None of them holds a statement. Each reader takes the
+//! level of nesting at which it reads, and gives the tree and the tokens behind it.
+
+ghost use Rattle.std.specs.Prelude.{◌≡◌, ◌≤◌};
+ghost use Rattle.c_tree.specs.View.{exp_of, start_of, stmt_of};
+ghost use Rattle.c_parser.specs.ForHeads.{for_head_of as head_of_for};
+ghost use Rattle.c_parser.specs.Gives.{place_of, Reads, Follows};
+ghost use Rattle.c_parser.specs.Phrase as phrase;
+ghost use Rattle.c_parser.specs.Rules as rules;
+ghost use Rattle.c_parser.specs.Simple.{MaySimply};
+
+use crate::declaration::declaration;
+use crate::expression::{expression, first_place, maybe_expression};
+use crate::token::{Place, Stop, begins_type, next_punct, next_word, punct, word};
+use c_lexer::{Punct, Token, Word};
+use c_tree::{Expr, ForStart, Stmt};
+use std::alloc::Global;
+
+// The expression of an `if` or its kin, in its parentheses.
+pub(crate) fn test(
+    alloc: Global,
+    level: u32,
+    tokens: &[Token],
+) -> Result<(Expr, &[Token]), Stop<'_>>
+    requires { level ≤ 256 }
+    ensures { Follows (rules.test_rule level) (λ e. exp_of e) tokens.now result }
+{
+    let (_, rest) = punct(tokens, Punct::OpenParen, level)?;
+    let (test, rest) = expression(alloc, level, rest)?;
+    let (_, rest) = punct(rest, Punct::CloseParen, level)?;
+    Ok((test, rest))
+}
+
+// What follows the statement of a `do`.
+pub(crate) fn do_end(
+    alloc: Global,
+    level: u32,
+    tokens: &[Token],
+) -> Result<(Expr, &[Token]), Stop<'_>>
+    requires { level ≤ 256 }
+    ensures { Follows (rules.do_end_rule level) (λ e. exp_of e) tokens.now result }
+{
+    let (_, rest) = word(tokens, Word::While, level)?;
+    let (_, rest) = punct(rest, Punct::OpenParen, level)?;
+    let (test, rest) = expression(alloc, level, rest)?;
+    let (_, rest) = punct(rest, Punct::CloseParen, level)?;
+    let (_, rest) = punct(rest, Punct::Semicolon, level)?;
+    Ok((test, rest))
+}
+
+/// What stands in the parentheses of a `for`.
+#[derive(Drop)]
+pub(crate) struct ForHead {
+    pub start: ForStart,
+    pub test: Option<Expr>,
+    pub step: Option<Expr>,
+}
+
+// How a `for` begins.
+#[tactic(auto, using(crate::proofs::Steps::start_rules))]
+fn start(alloc: Global, level: u32, tokens: &[Token]) -> Result<(ForStart, &[Token]), Stop<'_>>
+    requires { level ≤ 256 }
+    ensures { Reads (phrase.start level) (λ s. start_of s) tokens.now result }
+{
+    if begins_type(tokens) {
+        let (declaration, rest) = declaration(alloc, level, tokens)?;
+        return Ok((ForStart::Declares(declaration), rest));
+    }
+    let (value, rest) = maybe_expression(alloc, level, Punct::Semicolon, tokens)?;
+    let (_, rest) = punct(rest, Punct::Semicolon, level)?;
+    Ok((ForStart::Computes(value), rest))
+}
+
+pub(crate) fn for_head_of(
+    alloc: Global,
+    level: u32,
+    tokens: &[Token],
+) -> Result<(ForHead, &[Token]), Stop<'_>>
+    requires { level ≤ 256 }
+    ensures { Follows (rules.for_head_rule level) (λ h. head_of_for h) tokens.now result }
+{
+    let (_, rest) = punct(tokens, Punct::OpenParen, level)?;
+    let (start, rest) = start(alloc, level, rest)?;
+    let (test, rest) = maybe_expression(alloc, level, Punct::Semicolon, rest)?;
+    let (_, rest) = punct(rest, Punct::Semicolon, level)?;
+    let (step, rest) = maybe_expression(alloc, level, Punct::CloseParen, rest)?;
+    let (_, rest) = punct(rest, Punct::CloseParen, level)?;
+    Ok((ForHead { start, test, step }, rest))
+}
+
+// What follows `return`.
+fn returned(
+    alloc: Global,
+    level: u32,
+    place: Place,
+    tokens: &[Token],
+) -> Result<(Stmt, &[Token]), Stop<'_>>
+    requires { level ≤ 256 }
+    ensures { Follows (rules.return_rule level (place_of place)) (λ s. stmt_of s) tokens.now result }
+{
+    let Place { line, column } = place;
+    let (value, rest) = maybe_expression(alloc, level, Punct::Semicolon, tokens)?;
+    let (_, rest) = punct(rest, Punct::Semicolon, level)?;
+    Ok((
+        Stmt::Return {
+            value,
+            line,
+            column,
+        },
+        rest,
+    ))
+}
+
+// An expression as a statement.
+pub(crate) fn computed(
+    alloc: Global,
+    level: u32,
+    tokens: &[Token],
+) -> Result<(Stmt, &[Token]), Stop<'_>>
+    requires { level ≤ 257 }
+    ensures { Follows (rules.compute_rule level) (λ s. stmt_of s) tokens.now result }
+{
+    let (value, rest) = expression(alloc, level, tokens)?;
+    let (_, rest) = punct(rest, Punct::Semicolon, level)?;
+    let Place { line, column } = first_place(&value);
+    Ok((
+        Stmt::Expression {
+            value: Some(value),
+            line,
+            column,
+        },
+        rest,
+    ))
+}
+
+/// A statement of a semicolon or a jump; none where it is another one.
+pub(crate) fn simple(
+    alloc: Global,
+    level: u32,
+    tokens: &[Token],
+) -> Result<Option<(Stmt, &[Token])>, Stop<'_>>
+    requires { level ≤ 257 }
+    ensures { MaySimply level tokens.now result }
+{
+    if let Some((Place { line, column }, rest)) = next_punct(tokens, Punct::Semicolon, level)? {
+        let value = None;
+        return Ok(Some((
+            Stmt::Expression {
+                value,
+                line,
+                column,
+            },
+            rest,
+        )));
+    }
+    if let Some((Place { line, column }, rest)) = next_word(tokens, Word::Break, level)? {
+        let (_, rest) = punct(rest, Punct::Semicolon, level)?;
+        return Ok(Some((Stmt::Break { line, column }, rest)));
+    }
+    if let Some((Place { line, column }, rest)) = next_word(tokens, Word::Continue, level)? {
+        let (_, rest) = punct(rest, Punct::Semicolon, level)?;
+        return Ok(Some((Stmt::Continue { line, column }, rest)));
+    }
+    if let Some((place, rest)) = next_word(tokens, Word::Return, level)? {
+        let found = returned(alloc, level, place, rest)?;
+        return Ok(Some(found));
+    }
+    Ok(None)
+}

@@ -1,9 +1,0 @@
-use Rattle.std.proofs.Common.{◌≡◌, length, map}
-use Rattle.thin_source.specs.Letters.{form_in}
-use Rattle.thin_source.proofs.letter.form_in.Given as goal
-
-abbrev pub invariant-loop-table : goal.invariant-loop-table
-invariant-loop-table l = form_in (map (λ e. (e.0.now, e.1)) l.table) l.letters ≡ form_in (map (λ e. (e.0.now, e.1)) l.initial.table) l.letters
-
-abbrev pub decreases-loop-table : goal.decreases-loop-table
-decreases-loop-table l = length l.table
