@@ -1,0 +1,161 @@
+-- What a name means at its place in a source (C99 6.2.1, 6.2.3).
+use Rattle.std.specs.Prelude.{ℕ, ◌+◌, nat_lt, min, Bool, true, false, ◌||◌, if◌then◌else◌, List, [], ◌∷◌, ◌++◌, map, drop, length, replicate, position, slice_get, Option, Some, None, is_some}
+use Rattle.std.specs.Option.{option_map}
+use Rattle.std.specs.Str.{bytes_eq}
+use Rattle.c_lexer.specs.Bytes.{Text}
+use Rattle.c_lexer.specs.Names.{entry_of}
+use Rattle.c_tree.specs.declared.ctype.Specifier.{Specifier}
+use Rattle.c_tree.specs.declared.ctype.Specifier.TheVariants as specifier
+use Rattle.c_tree.specs.declared.ctype.CType.{CType}
+use Rattle.c_types.specs.declared.types.BaseType.{BaseType}
+use Rattle.c_types.specs.declared.types.BaseType.TheVariants as base
+use Rattle.c_types.specs.declared.types.Layer.{Layer}
+use Rattle.c_types.specs.declared.types.Layer.TheVariants as layer
+use Rattle.c_types.specs.declared.types.ObjectType.{ObjectType}
+use Rattle.c_types.specs.declared.names.Signature.{Signature}
+use Rattle.c_types.specs.Types.{size_of_type}
+
+-- a member of a struct. It has no type where its declaration has a fault
+abbrev pub Members : Type 0
+Members = List (Text × Option ObjectType)
+
+-- what an ordinary name is declared as
+pub data Meaning : Type 0 where
+  variable : Option ObjectType → Meaning
+  function_of : Signature → Meaning
+
+abbrev pub Scope : Type 0
+Scope = List (Text × Meaning)
+
+-- what is known at a place of a source
+pub record Known : Type 0 where
+  -- the structs of the whole file, in the order of their definitions; the first ones are defined before the place
+  pub struct_names : List Text
+  pub structs : List Members
+  -- how many cells each of these has
+  pub sizes : List ℕ
+  -- the functions that the file defines anywhere, and those whose definition has begun
+  pub defined : List Text
+  pub begun : List Text
+  -- how many cells the globals have that are declared before the place
+  pub global_cells : ℕ
+  -- what is declared before the place, the innermost scope first, and in each the oldest name first
+  pub scopes : List Scope
+
+-- ---- ordinary names
+
+abbrev pub or_else : {A : Type 0} → Option A → Option A → Option A
+or_else (Some x) other = Some x
+or_else None other = other
+
+-- a use of a name sees its newest declaration in the innermost scope that has one
+abbrev pub seen_in : List Scope → Text → Option Meaning
+seen_in [] name = None
+seen_in (s ∷ ss) name = or_else (entry_of s name) (seen_in ss name)
+
+abbrev pub seen : Known → Text → Option Meaning
+seen known name = seen_in known.scopes name
+
+abbrev pub has_name : List Text → Text → Bool
+has_name [] name = false
+has_name (n ∷ ns) name = bytes_eq name n || has_name ns name
+
+-- ---- types by name
+
+-- a struct's number is that of its definition, which may stand anywhere in the file
+abbrev pub struct_numbered : Known → Text → Option ℕ
+struct_numbered known name = position (λ n. bytes_eq name n) known.struct_names
+
+abbrev pub base_of : Known → Specifier → Option BaseType
+base_of known (specifier.Int line column) = Some base.Int
+base_of known (specifier.Long second int line column) = Some base.Int
+base_of known (specifier.Void line column) = Some base.Void
+base_of known (specifier.Struct name line column) = option_map base.Struct (struct_numbered known name.text)
+base_of known (specifier.PthreadT line column) = Some base.Int
+base_of known (specifier.PthreadMutexT line column) = Some base.Mutex
+base_of known (specifier.PthreadCondT line column) = Some base.Cond
+base_of known (specifier.PthreadBarrierT line column) = Some base.Barrier
+
+-- so many stars behind a base
+abbrev pub starred : ℕ → BaseType → ObjectType
+starred n b = record { layers = replicate n layer.Pointer; base = b }
+
+abbrev pub type_named : Known → CType → Option ObjectType
+type_named known t = option_map (starred t.stars) (base_of known t.specifier)
+
+-- the member of a struct that is defined before the place
+abbrev pub member_among : Option Members → Text → Option (Option ObjectType)
+member_among None name = None
+member_among (Some members) name = entry_of members name
+
+abbrev pub member_of : Known → ℕ → Text → Option (Option ObjectType)
+member_of known k name = member_among (slice_get known.structs k) name
+
+abbrev pub members_of : Option Members → List (Option ObjectType)
+members_of None = []
+members_of (Some members) = map (λ m. m.1) members
+
+-- the member at a position in its struct, counted from 0
+abbrev pub member_at : Known → ℕ → ℕ → Option (Option ObjectType)
+member_at known k i = slice_get (members_of (slice_get known.structs k)) i
+
+-- a type has a size: it isn't Void, nor a struct that is still to be defined, nor an array of these
+abbrev pub is_complete_base : Known → BaseType → Bool
+is_complete_base known base.Int = true
+is_complete_base known base.Void = false
+is_complete_base known (base.Struct k) = nat_lt k (length known.structs)
+is_complete_base known base.Mutex = true
+is_complete_base known base.Cond = true
+is_complete_base known base.Barrier = true
+
+abbrev pub is_complete_layered : Known → List Layer → BaseType → Bool
+is_complete_layered known [] b = is_complete_base known b
+is_complete_layered known (layer.Pointer ∷ ls) b = true
+is_complete_layered known (layer.Array n ∷ ls) b = is_complete_layered known ls b
+
+abbrev pub is_complete : Known → ObjectType → Bool
+is_complete known t = is_complete_layered known t.layers t.base
+
+-- ---- sizes
+
+-- the greatest number of cells that one object may have
+abbrev pub most_cells : ℕ
+most_cells = 65535
+
+-- a number of cells. More than one object may have count as one more than that: what has them is refused
+abbrev pub counted_cells : ℕ → ℕ
+counted_cells n = min n (most_cells + 1)
+
+abbrev pub cells_of_type : Known → ObjectType → ℕ
+cells_of_type known t = counted_cells (size_of_type known.sizes t)
+
+abbrev pub cells_of_some : Known → Option ObjectType → ℕ
+cells_of_some known None = 0
+cells_of_some known (Some t) = cells_of_type known t
+
+-- ---- scopes
+
+abbrev pub innermost : List Scope → Scope
+innermost [] = []
+innermost (s ∷ ss) = s
+
+-- a name is added behind the others, but where it is there the older one stays
+abbrev pub with_name : {A : Type 0} → List (Text × A) → Text → A → List (Text × A)
+with_name es name x = if is_some (entry_of es name) then es else es ++ (name, x) ∷ []
+
+abbrev pub declared_in : List Scope → Text → Meaning → List Scope
+declared_in [] name m = []
+declared_in (s ∷ ss) name m = with_name s name m ∷ ss
+
+abbrev pub declare : Known → Text → Meaning → Known
+declare known name m = record known { scopes = declared_in known.scopes name m }
+
+abbrev pub opened : Known → Known
+opened known = record known { scopes = [] ∷ known.scopes }
+
+abbrev pub closed : Known → Known
+closed known = record known { scopes = drop 1 known.scopes }
+
+-- a name is added behind the others, but where it is there
+abbrev pub with_text : List Text → Text → List Text
+with_text names name = if has_name names name then names else names ++ name ∷ []

@@ -1,0 +1,87 @@
+//! Faults of types with their places, and the first of several.
+ghost use Rattle.std.specs.Prelude.{◌≡◌};
+ghost use Rattle.c_types.specs.Found as spec;
+ghost use Rattle.c_tree.specs.Tree.{place_at};
+
+/// A rule that a source breaks.
+#[derive(Clone, Copy, Debug, PartialEq, Eq)]
+pub enum FaultKind {
+    UnknownName,
+    DuplicateName,
+    TypeMismatch,
+    NotPlace,
+    BadCall,
+    BadRoot,
+    NoMain,
+    ObjectTooLarge,
+    TooManySites,
+    GlobalsTooLarge,
+    NotConstant,
+    OutOfProfile,
+}
+
+impl FaultKind {
+    /// The number by which faults at one place are ordered.
+    pub fn number(self) -> u8
+        ensures { result ≡ spec.number_of self }
+    {
+        match self {
+            FaultKind::UnknownName => 9,
+            FaultKind::DuplicateName => 10,
+            FaultKind::TypeMismatch => 11,
+            FaultKind::NotPlace => 12,
+            FaultKind::BadCall => 13,
+            FaultKind::BadRoot => 14,
+            FaultKind::NoMain => 15,
+            FaultKind::ObjectTooLarge => 16,
+            FaultKind::TooManySites => 17,
+            FaultKind::GlobalsTooLarge => 18,
+            FaultKind::NotConstant => 19,
+            FaultKind::OutOfProfile => 20,
+        }
+    }
+}
+
+/// A fault and its place, line and column from 1.
+#[derive(Clone, Copy, Debug)]
+pub struct Found {
+    pub fault: FaultKind,
+    pub line: u32,
+    pub column: u32,
+}
+
+impl Found {
+    /// Whether it comes before the other: earlier in the text, and at one place by the lower number.
+    fn is_before(self, other: Found) -> bool
+        ensures { result ≡ spec.is_before self other }
+    {
+        if self.line != other.line {
+            return self.line < other.line;
+        }
+        if self.column != other.column {
+            return self.column < other.column;
+        }
+        self.fault.number() < other.fault.number()
+    }
+}
+
+/// Keeps the fault where it comes before the first one that was found so far.
+pub fn note(first: &mut Option<Found>, comes: bool, fault: FaultKind, line: u32, column: u32)
+    ensures { first.new ≡ spec.first_among first.old (spec.where_it_comes comes fault (place_at line column)) }
+{
+    if !comes {
+        return;
+    }
+    let found = Found {
+        fault,
+        line,
+        column,
+    };
+    let is_first = match *first {
+        None => true,
+        Some(other) => found.is_before(other),
+    };
+    if is_first {
+        *first = Some(found);
+    }
+}

@@ -1,0 +1,53 @@
+//! Sources that break no rule.
+ghost use Rattle.std.specs.Prelude.{◌≡◌, None};
+ghost use Rattle.c_tree.specs.View.{program_of};
+ghost use Rattle.c_types.specs.Spots.{program_sites};
+ghost use Rattle.c_types.specs.Whole.{first_fault};
+
+use c_tree::Program;
+use rr_base::{List, Site};
+
+/// A source that breaks no rule of its types and names, and its sites: each global, each local or formal that is kept in
+/// cells, and each `malloc`, in the order of the text.
+#[derive(Drop)]
+pub struct Typed {
+    program: Program,
+    sites: List<Site>,
+    ghost sound: { first_fault (program_of program) ≡ None },
+    ghost own: { sites ≡ program_sites (program_of program) },
+}
+
+impl Typed {
+    ghost use Rattle.c_types.specs.Typed.{program_in, sites_in};
+
+    pub(crate) fn new(program: Program, sites: List<Site>) -> Typed
+        requires sound { first_fault (program_of program) ≡ None }
+        requires own { sites ≡ program_sites (program_of program) }
+        ensures { program_in result ≡ program }
+    {
+        Typed { program, sites }
+    }
+
+    pub fn program(&self) -> &Program
+        ensures value { result.now ≡ program_in self.now }
+        ensures sound { first_fault (program_of result.now) ≡ None }
+    {
+        &self.program
+    }
+
+    /// The sites, the first with number 1.
+    pub fn sites(&self) -> &List<Site>
+        ensures value { result.now ≡ sites_in self.now }
+        ensures own { result.now ≡ program_sites (program_of (program_in self.now)) }
+    {
+        &self.sites
+    }
+
+    pub fn into_program(self) -> Program
+        ensures value { result ≡ program_in self }
+        ensures sound { first_fault (program_of result) ≡ None }
+    {
+        let Typed { program, .. } = self;
+        program
+    }
+}
