@@ -3,7 +3,9 @@ pub mod Counts
 pub mod Examples
 pub mod First
 pub mod Fitting
+pub mod FunctionRows
 pub mod Judged
+pub mod Kept
 pub mod Keyed
 pub mod Lengths
 pub mod Marking

@@ -16,35 +16,35 @@ use Rattle.c_types.specs.Library.{library_named}
 use Rattle.c_types.specs.Addresses.{behind, program_addressed}
 use Rattle.c_types.specs.Spots.{Holder, a_global, a_local, an_allocation, program_spots, kinds_of_structs, layout_by}
 
-abbrev at : ℕ → Place
+abbrev pub at : ℕ → Place
 at column = place_at 1 column
 
-abbrev name_at : List ℕ → ℕ → Name
+abbrev pub name_at : List ℕ → ℕ → Name
 name_at name column = record { text = name; line = 1; column = column }
 
-abbrev plain_at : ℕ → List ℕ → ℕ → List Exp → Object
+abbrev pub plain_at : ℕ → List ℕ → ℕ → List Exp → Object
 plain_at stars name column lengths = plain (declared stars (name_at name column) lengths)
 
-abbrev int : ℕ → Specifier
+abbrev pub int : ℕ → Specifier
 int column = specifier.Int 1 column
 
 abbrev struct_s : ℕ → ℕ → Specifier
 struct_s column name_column = specifier.Struct (name_at (codes "s") name_column) 1 column
 
-abbrev param_at : List ℕ → ℕ → Param
+abbrev pub param_at : List ℕ → ℕ → Param
 param_at name column = record { specifier = int column; stars = 0; name = Some (name_at name column); line = 1; column = column }
 
-abbrev address : Exp → ℕ → Exp
+abbrev pub address : Exp → ℕ → Exp
 address e column = prefix prefix_op.Address e (at column)
 
-abbrev n : List ℕ → ℕ → Exp
+abbrev pub n : List ℕ → ℕ → Exp
 n name column = named name (at column)
 
-abbrev function_at : List ℕ → ℕ → List Param → Parts → Outer
+abbrev pub function_at : List ℕ → ℕ → List Param → Parts → Outer
 function_at name column ps parts = function false (specifier.Void 1 1) 0 (name_at name column) (params.Listed ps) (defined parts (at column))
 
 -- int g; void f(int n) { int a; int b; int *p = &(b); { int b; int v[2]; } p = malloc(sizeof(int)); }
-abbrev first_source : List Outer
+abbrev pub first_source : List Outer
 first_source =
     objects false (int 1) (plain_at 0 (codes "g") 5 [] ∷ []) (at 1)
     ∷ function_at (codes "f") 13 (param_at (codes "n") 19 ∷ []) (
@@ -59,7 +59,7 @@ first_source =
     ∷ []
 
 -- struct s { int a; int *q; }; struct s w[3]; void f(int n) { struct s x; } void h(int m, int k) { &k; &w; }
-abbrev second_source : List Outer
+abbrev pub second_source : List Outer
 second_source =
     structure (name_at (codes "s") 8) (fields (int 12) (declared 0 (name_at (codes "a") 16) [] ∷ []) (at 12) ∷ fields (int 19) (declared 1 (name_at (codes "q") 24) [] ∷ []) (at 19) ∷ [])
     ∷ objects false (struct_s 30 37) (plain_at 0 (codes "w") 39 (number (pos 3) (at 41) ∷ []) ∷ []) (at 30)
@@ -69,7 +69,7 @@ second_source =
     (and_does (compute (Some (address (n (codes "w") 103) 102)) (at 102)) no_part))
     ∷ []
 
-abbrev of_kinds : ℕ → List CellKind → Layout
+abbrev pub of_kinds : ℕ → List CellKind → Layout
 of_kinds element kinds = record { size = length kinds; element = element; kinds = kinds }
 
 abbrev row : Holder → ℕ → Layout → Holder × Place × Layout

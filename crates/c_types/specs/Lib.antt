@@ -5,13 +5,16 @@ pub mod Declarators
 pub mod Faults
 pub mod Format
 pub mod Found
+pub mod Functions
 pub mod Initials
+pub mod Layouts
 pub mod Library
 pub mod Members
 pub mod NumberTables
 pub mod Numbers
 pub mod Operands
 pub mod Programs
+pub mod Roots
 pub mod Scopes
 pub mod Seen
 pub mod Shown

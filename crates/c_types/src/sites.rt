@@ -78,7 +78,7 @@ fn site_name(alloc: Global, holder: Holder, line: u32, column: u32) -> Result<By
 }
 
 /// How many cells each struct has; `MAX_CELLS + 1` where there are more.
-fn sizes_of(alloc: Global, structs: &[List<CellKind>]) -> Result<List<u32>, AllocError>
+pub fn sizes_of(alloc: Global, structs: &[List<CellKind>]) -> Result<List<u32>, AllocError>
     ensures { IfOk result (λ sizes. sizes ≡ map (λ kinds. counted_cells (length kinds)) structs.now) }
 {
     let mut sizes = List::new(alloc);
@@ -89,7 +89,7 @@ fn sizes_of(alloc: Global, structs: &[List<CellKind>]) -> Result<List<u32>, Allo
     Ok(sizes)
 }
 
-fn is_laid_out(of: &ObjectType, structs: &[List<CellKind>], sizes: &[u32]) -> bool
+pub fn is_laid_out(of: &ObjectType, structs: &[List<CellKind>], sizes: &[u32]) -> bool
     requires { sizes.now ≡ map (λ kinds. counted_cells (length kinds)) structs.now }
     ensures { result ≡ spec.is_laid_out structs.now of.now }
 {
@@ -228,7 +228,7 @@ pub fn note_sites(
 }
 
 /// The cells of each struct that is defined before the place.
-fn kinds_of_structs(alloc: Global, table: &Table) -> Result<List<List<CellKind>>, AllocError>
+pub fn kinds_of_structs(alloc: Global, table: &Table) -> Result<List<List<CellKind>>, AllocError>
     ensures { IfOk result (λ kinds. kinds ≡ struct_kinds (map spec.types_of_members (known_of table.now).structs)) }
 {
     let types = types_of_structs(alloc, table)?;

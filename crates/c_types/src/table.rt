@@ -90,7 +90,7 @@ fn note_function<'a>(
     }
 }
 
-fn put_text<'a>(names: &mut IndexSet<&'a [u8]>, name: &'a [u8]) -> Result<(), AllocError>
+pub fn put_text<'a>(names: &mut IndexSet<&'a [u8]>, name: &'a [u8]) -> Result<(), AllocError>
     ensures { OnOk result (texts_of names.new.keys ≡ spec.with_text (texts_of names.old.keys) name.now) }
 {
     names.insert(name)?;

@@ -4,6 +4,8 @@
 
 mod compile;
 #[cfg(test)]
+mod listing_tests;
+#[cfg(test)]
 mod tests;
 
 pub use compile::{CompileFault, SourceFault, law_one_reading, typed};

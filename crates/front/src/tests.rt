@@ -1,7 +1,6 @@
 ghost use Rattle.std.specs.Prelude.{◌≤◌, ◌^◌, length};
 
 use crate::{CompileFault, typed};
-use rr_base::{Bytes, CellKind, Site};
 use std::alloc::Global;
 use std::fmt::Write;
 use std::process::Abort;
@@ -593,55 +592,6 @@ static STATEMENTS_IN: [(&[u8], &str); 12] = [
     (b"if(x) p = q; else y", "9 2:34"),
 ];
 
-// Sources with their sites: each one's name, size and element size, and the kinds of its cells.
-static SITES: [(&[u8], &str); 12] = [
-    (b"int x; int main(void){return 0;}", "x 1/1 W; "),
-    (
-        b"struct p {int a; int *q;}; struct p v[3]; int main(void){return 0;}",
-        "v 6/2 WPWPWP; ",
-    ),
-    (
-        b"int a[2][3]; int *b[2]; pthread_mutex_t m; pthread_cond_t c[2]; pthread_barrier_t r; struct s {pthread_mutex_t l; int n[2];}; struct s t; int main(void){return 0;}",
-        "a 6/1 WWWWWW; b 2/1 PP; m 1/1 M; c 2/1 CC; r 1/1 B; t 3/3 MWW; ",
-    ),
-    (
-        b"int main(void){int a; int b; int *p = &b; return 0;}",
-        "main.b@1:27 1/1 W; ",
-    ),
-    (
-        b"int main(void){int a; {int a; &a;} return a;}",
-        "main.a@1:28 1/1 W; ",
-    ),
-    (
-        b"int main(void){int a; {int a; a = 1;} sizeof &(a); return a;}",
-        "main.a@1:20 1/1 W; ",
-    ),
-    (
-        b"int f(int a, int b){return *&a;} int main(void){int *p; int v[2]; struct s *q; return 0;} struct s {int m;};",
-        "f.a@1:11 1/1 W; main.v@1:61 2/1 WW; ",
-    ),
-    (
-        b"int main(void){int *p = malloc(3); p = (int *)(malloc(1)); return 0;}",
-        "malloc@1:25 1/1 W; malloc@1:48 1/1 W; ",
-    ),
-    (
-        b"struct p {int a; int *b;}; int main(void){struct p *q = malloc(2); struct p **r = &q; return 0;}",
-        "main.q@1:53 1/1 P; malloc@1:57 2/2 WP; ",
-    ),
-    (
-        b"int main(void){for(int i=0;i<3;i++){int *p = &i;} for(int i=0;i<3;i++){} return 0;}",
-        "main.i@1:24 1/1 W; ",
-    ),
-    (
-        b"int x = 0; int main(void){int y[2]; int *z = &x; return 0;} int w; int f(int v); pthread_t t;",
-        "x 1/1 W; main.y@1:31 2/1 WW; w 1/1 W; t 1/1 W; ",
-    ),
-    (
-        b"int main(void){if(1){int a; &a;}else{int a; a = 2;} while(0){int a; int b; &b;} return 0;}",
-        "main.a@1:26 1/1 W; main.b@1:73 1/1 W; ",
-    ),
-];
-
 // What stands before the statements of the inner tables.
 static FRONT: &[u8] =
     b"int x; int *p; int *q; long *r; void *v; int a[3]; struct s {int m;}; struct s t; struct s *u; pthread_mutex_t mu; int f(int i){return i;} void *w(void *i){return i;} void *n(void *i);\nint main(void){";
@@ -747,50 +697,6 @@ fn counts_the_cells_of_globals(rt: HostRuntime) -> Result<(), Fail> {
     assert!(rt; text.len() < 2000);
     let found = shown(rt.alloc(), text.as_str().as_bytes())?;
     assert_eq!(rt; found.as_str(), "18 17:5");
-    Ok(())
-}
-
-fn letter_of(kind: CellKind) -> u8 {
-    match kind {
-        CellKind::Whole => b'W',
-        CellKind::Pointer => b'P',
-        CellKind::Mutex => b'M',
-        CellKind::Cond => b'C',
-        CellKind::Barrier => b'B',
-    }
-}
-
-fn push_site(alloc: Global, out: &mut Bytes, site: &Site) -> Result<(), Fail> {
-    let mut sizes = String::new(alloc);
-    write!(sizes, " {}/{} ", site.layout.size, site.layout.element)?;
-    out.extend_from_slice(site.name.as_slice())?;
-    out.extend_from_slice(sizes.as_str().as_bytes())?;
-    for kind in site.layout.kinds.as_slice() {
-        out.push(letter_of(*kind))?;
-    }
-    out.extend_from_slice(b"; ")?;
-    Ok(())
-}
-
-fn sites_shown(alloc: Global, text: &[u8]) -> Result<Bytes, Fail>
-    requires { length text.now ≤ 2 ^ 20 }
-{
-    let mut out = Bytes::new(alloc);
-    if let Ok(found) = typed(alloc, text) {
-        for site in found.sites().as_slice() {
-            push_site(alloc, &mut out, site)?;
-        }
-    }
-    Ok(out)
-}
-
-#[test]
-fn lists_the_sites(rt: HostRuntime) -> Result<(), Fail> {
-    for row in SITES.as_slice() {
-        assert!(rt; row.0.len() < 2000);
-        let found = sites_shown(rt.alloc(), row.0)?;
-        assert_eq!(rt; found.as_slice(), row.1.as_bytes(), "at {:?}", row.0);
-    }
     Ok(())
 }
 
