@@ -1,0 +1,4 @@
+pub mod Core
+pub mod Meaning
+pub mod Runs
+pub mod View

@@ -1,0 +1,83 @@
+-- The plain tree as which a tree of the crate shows.
+use Rattle.std.specs.Prelude.{Option, Some, None, map}
+use Rattle.c_core.specs.declared.value.Value.{Value, Number, Null, Register, Object, Global, Load', Unary', Binary', Move', Advance', Member', Between', ToPointer', ToNumber', And', Or', Conditional', Comma', SetRegister', Store', ChangeRegister', ChangeCell', Call', Library', Allocate', Row_of-Value, end_of-Value, more_of-Value}
+use Rattle.c_core.specs.declared.statement.Statement.{Statement as RustStatement, Block', Compute, If', While', Do', For', Break, Continue, Return, Row_of-Statement, end_of-Statement, more_of-Statement}
+use Rattle.c_core.specs.declared.program.Arrival.{Arrival as RustArrival}
+use Rattle.c_core.specs.declared.program.CoreFunction.{CoreFunction}
+use Rattle.c_core.specs.declared.program.Core.{Core}
+use Rattle.c_core.specs.Core.{Exp, number, null, register, object, global, load, unary, binary, move, advance, member, between, to_pointer, to_number, both, either, conditional, comma, set_register, store, change_register, change_cell, call, library, allocate, Exps, no_exp, and_exp, Statement, block, compute, branch, while_loop, do_loop, for_loop, break_at, continue_at, gives, Statements, no_statement, and_statement, Arrival, arrives, Function, Program}
+
+abbrev mutual
+  pub exp_of : Value → Exp
+  exp_of (Number z at) = number z at
+  exp_of (Null at) = null at
+  exp_of (Register n pointer at) = register n pointer at
+  exp_of (Object n at) = object n at
+  exp_of (Global address at) = global address at
+  exp_of (Load' p e pointer at) = load (exp_of e) pointer at
+  exp_of (Unary' op p e at) = unary op (exp_of e) at
+  exp_of (Binary' op p a q b at) = binary op (exp_of a) (exp_of b) at
+  exp_of (Move' p a q b element back at) = move (exp_of a) (exp_of b) element back at
+  exp_of (Advance' p a q b element at) = advance (exp_of a) (exp_of b) element at
+  exp_of (Member' p a by at) = member (exp_of a) by at
+  exp_of (Between' p a q b element at) = between (exp_of a) (exp_of b) element at
+  exp_of (ToPointer' p a at) = to_pointer (exp_of a) at
+  exp_of (ToNumber' p a at) = to_number (exp_of a) at
+  exp_of (And' p a q b at) = both (exp_of a) (exp_of b) at
+  exp_of (Or' p a q b at) = either (exp_of a) (exp_of b) at
+  exp_of (Conditional' p a q b r c at) = conditional (exp_of a) (exp_of b) (exp_of c) at
+  exp_of (Comma' p a q b at) = comma (exp_of a) (exp_of b) at
+  exp_of (SetRegister' n p a at) = set_register n (exp_of a) at
+  exp_of (Store' p a q b at) = store (exp_of a) (exp_of b) at
+  exp_of (ChangeRegister' n change p a old at) = change_register n change (exp_of a) old at
+  exp_of (ChangeCell' p a loaded change q b old at) = change_cell (exp_of a) loaded change (exp_of b) old at
+  exp_of (Call' f shape row pointer at) = call f (exps_of_row row) pointer at
+  exp_of (Library' c shape row at) = library c (exps_of_row row) at
+  exp_of (Allocate' site p a at) = allocate site (exp_of a) at
+
+  pub exps_of_row : {n : _} → Row_of-Value n → Exps
+  exps_of_row end_of-Value = no_exp
+  exps_of_row (more_of-Value e row) = and_exp (exp_of e) (exps_of_row row)
+
+abbrev pub maybe_of : Option Value → Option Exp
+maybe_of None = None
+maybe_of (Some e) = Some (exp_of e)
+
+abbrev mutual
+  pub stmt_of : RustStatement → Statement
+  stmt_of (Block' shape row) = block (stmts_of_row row)
+  stmt_of (Compute e) = compute (exp_of e)
+  stmt_of (If' e p a q b at) = branch (exp_of e) (stmt_of a) (stmt_of b) at
+  stmt_of (While' e p a at) = while_loop (exp_of e) (stmt_of a) at
+  stmt_of (Do' p a e at) = do_loop (stmt_of a) (exp_of e) at
+  stmt_of (For' p start test step q a at) = for_loop (stmt_of start) (maybe_of test) (maybe_of step) (stmt_of a) at
+  stmt_of (Break at) = break_at at
+  stmt_of (Continue at) = continue_at at
+  stmt_of (Return e at) = gives (maybe_of e) at
+
+  pub stmts_of_row : {n : _} → Row_of-Statement n → Statements
+  stmts_of_row end_of-Statement = no_statement
+  stmts_of_row (more_of-Statement s row) = and_statement (stmt_of s) (stmts_of_row row)
+
+abbrev pub arrival_of : RustArrival → Arrival
+arrival_of a = arrives a.register a.object a.at
+
+abbrev pub function_of : CoreFunction → Function
+function_of f = record {
+  name = f.name;
+  place = f.at;
+  formals = f.formals;
+  pointers = f.pointers;
+  objects = f.objects;
+  arrivals = map arrival_of f.arrivals;
+  gives_pointer = f.gives_pointer;
+  body = stmt_of f.body;
+}
+
+abbrev pub core_of : Core → Program
+core_of c = record {
+  functions = map function_of c.functions;
+  sites = c.sites;
+  globals = c.globals;
+  global_kinds = c.global_kinds;
+}

@@ -1,0 +1,40 @@
+use crate::position::Position;
+use crate::statement::Statement;
+use rr_base::{Bytes, CellKind, List, Site};
+
+/// A formal that is kept in cells: the register in which its argument arrives, its object, and the place of its name in
+/// the definition.
+#[derive(Clone, Copy, Debug, PartialEq, Eq)]
+pub struct Arrival {
+    pub register: u32,
+    pub object: u32,
+    pub at: Position,
+}
+
+/// A function that the source defines. Its registers are its formals, from 0 on, and behind them its other locals that
+/// aren't kept in cells.
+#[derive(Drop)]
+pub struct CoreFunction {
+    pub name: Bytes,
+    /// The place of the name in the definition.
+    pub at: Position,
+    pub formals: u32,
+    /// Whether each register is a pointer.
+    pub pointers: List<bool>,
+    /// The site of each formal and local that is kept in cells, in the order of the text.
+    pub objects: List<u16>,
+    pub arrivals: List<Arrival>,
+    pub gives_pointer: bool,
+    pub body: Statement,
+}
+
+/// A source with names and types settled. Function 0 is the first that it defines; site 1 is the first of `sites`.
+#[derive(Drop)]
+pub struct Core {
+    pub functions: List<CoreFunction>,
+    pub sites: List<Site>,
+    /// The start words of the global cells; the base of an address counts from the first of them.
+    pub globals: List<u64>,
+    /// The kind of each global cell.
+    pub global_kinds: List<CellKind>,
+}

@@ -1,0 +1,16 @@
+pub mod Arriving
+pub mod Calling
+pub mod Calls
+pub mod Ends
+pub mod Events
+pub mod Expressions
+pub mod Functions
+pub mod Lengths
+pub mod Libraries
+pub mod Loops
+pub mod Machine
+pub mod Objects
+pub mod Rows
+pub mod Statements
+pub mod Threads
+pub mod Values

@@ -1,0 +1,53 @@
+-- A code makes the events of a run.
+use Rattle.std.specs.Prelude.{◌≡◌, ℕ, zero, suc, nat_le, Bool, true, false, not, ℤ, pos, [], ◌⊎◌}
+use Rattle.sync_objects.specs.Setup.{SetupView}
+use Rattle.sync_objects.specs.Names.{name_of, is_ending}
+use Rattle.rr_base.specs.declared.trap.Trap.TheVariants as trap
+use Rattle.flow_code.specs.declared.code.Code.{Code}
+use Rattle.flow_code.specs.declared.thread.Action.{Action}
+use Rattle.flow_code.specs.declared.thread.Action.TheVariants as action
+use Rattle.flow_code.specs.declared.thread.Due.TheVariants as due
+use Rattle.flow_code.specs.declared.thread.Phase.{Phase}
+use Rattle.flow_code.specs.declared.thread.Phase.TheVariants as phase
+use Rattle.flow_code.specs.Threads.{Thread, line_of}
+use Rattle.flow_code.specs.Next.{due_of, action_at, stepped, most_entries}
+use Rattle.c_core.specs.Core.{Program}
+use Rattle.c_core.specs.Runs.{Run, does, traps, ends}
+use Rattle.c_core.specs.Meaning.{main_of, arena_start}
+
+-- an operation that is listed in the log
+abbrev pub is_entry : Action → Bool
+is_entry (action.Operate o obj) = not (is_ending (name_of o))
+is_entry _ = false
+
+-- from one state a thread comes to another by quiet steps
+pub data Comes (code : Code) (s : SetupView) (t : ℕ) : Thread → Thread → Type 0 where
+  here : {m : Thread} → Comes code s t m m
+  quietly : {m n : Thread} → due_of code s t m ≡ due.Quiet → Comes code s t (stepped code s t m (pos 0)) n → Comes code s t m n
+
+-- the thread's list of entries is full where the next one would come
+pub record IsFull (code : Code) (s : SetupView) (t : ℕ) (m : Thread) (a : Action) : Type 0 where
+  pub entry : is_entry a ≡ true
+  pub full : nat_le most_entries m.entries ≡ true
+  pub traps : due_of code s t m ≡ due.Trap trap.LogFull
+
+-- From this state on the thread makes the events of the run whatever is answered, up to an entry that is one too many: after
+-- quiet steps the run's event is the next one, a trap has the run's kind and line, and where the run ends the thread has.
+abbrev pub Follows : Code → SetupView → ℕ → Run → Thread → Type 0
+Follows code s t (does a more) m =
+    (n : Thread) × Comes code s t m n × (IsFull code s t n a ⊎ ((action_at code s t n ≡ a) × ((answer : ℤ) → Follows code s t (more answer) (stepped code s t n answer))))
+Follows code s t (traps kind line) m = (n : Thread) × Comes code s t m n × (due_of code s t n ≡ due.Trap kind) × (line_of code n.phase n.top ≡ line)
+Follows code s t ends m = (n : Thread) × Comes code s t m n × (due_of code s t n ≡ due.Nothing)
+
+-- nothing of the thread has run: thread 0 has begun with `main`, and any other waits for its start
+abbrev pub starts_as : Program → ℕ → Phase
+starts_as p zero = phase.Begun (main_of p)
+starts_as p (suc k) = phase.Fresh
+
+pub record IsAtStart (p : Program) (s : SetupView) (t : ℕ) (m : Thread) : Type 0 where
+  pub phase : m.phase ≡ starts_as p t
+  pub count : m.count ≡ 0
+  pub arena : m.arena ≡ arena_start p s t
+  pub printed : m.printed ≡ 0
+  pub below : m.below ≡ []
+  pub stripes : m.stripes ≡ []

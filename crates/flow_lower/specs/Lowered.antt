@@ -1,0 +1,316 @@
+-- The code of a core tree.
+use Rattle.std.specs.Prelude.{ℕ, ◌+◌, Bool, true, false, if◌then◌else◌, pos, List, [], ◌∷◌, ◌++◌, length, map, replicate, Option, Some, None}
+use Rattle.flow_code.specs.declared.act.Act.{Act}
+use Rattle.flow_code.specs.declared.act.Act.TheVariants as act
+use Rattle.flow_code.specs.declared.act.Instr.{Instr}
+use Rattle.flow_code.specs.declared.work.Work.{Work}
+use Rattle.flow_code.specs.declared.work.Work.TheVariants as work
+use Rattle.flow_code.specs.declared.code.Code.{Code}
+use Rattle.flow_code.specs.declared.code.Function.{Function as FlowFunction}
+use Rattle.c_core.specs.declared.position.Position.{Position}
+use Rattle.c_core.specs.declared.value.UnaryOp.{UnaryOp}
+use Rattle.c_core.specs.declared.value.UnaryOp.TheVariants as unary_op
+use Rattle.c_core.specs.declared.value.Change.{Change}
+use Rattle.c_core.specs.declared.value.Change.TheVariants as change
+use Rattle.c_core.specs.Core as core
+use Rattle.c_core.specs.Core.{Exp, null, register, object, global, load, unary, binary, move, advance, member, between, to_pointer, to_number, both, either, conditional, comma, set_register, store, change_register, change_cell, call, library, allocate, Exps, no_exp, and_exp, Statement, block, compute, branch, while_loop, do_loop, for_loop, break_at, continue_at, gives, Statements, no_statement, and_statement, Arrival, arrives, Function, Program}
+use Rattle.c_core.specs.Meaning.{is_pointer, is_pointer_change}
+
+abbrev pub instr : Position → Act → Instr
+instr at a = record { line = at.line; column = at.column; act = a }
+
+abbrev pub one : Position → Act → List Instr
+one at a = instr at a ∷ []
+
+abbrev pub computes : Position → ℕ → Work → List Instr
+computes at into w = one at (act.Compute into w)
+
+-- ---- how many registers the values of an expression and its parts need, and which of these are pointers
+
+-- the value of an expression comes first, then those of its parts
+abbrev mutual
+  pub exp_kinds : Exp → List Bool
+  exp_kinds (core.number z at) = false ∷ []
+  exp_kinds (null at) = true ∷ []
+  exp_kinds (register n pointer at) = pointer ∷ []
+  exp_kinds (object n at) = true ∷ []
+  exp_kinds (global address at) = true ∷ []
+  exp_kinds (load e pointer at) = pointer ∷ exp_kinds e
+  exp_kinds (unary o e at) = false ∷ exp_kinds e
+  exp_kinds (binary o a b at) = false ∷ (exp_kinds a ++ exp_kinds b)
+  exp_kinds (move a b element back at) = true ∷ (exp_kinds a ++ exp_kinds b)
+  exp_kinds (advance a b element at) = true ∷ (exp_kinds a ++ exp_kinds b)
+  exp_kinds (member a by at) = true ∷ exp_kinds a
+  exp_kinds (between a b element at) = false ∷ (exp_kinds a ++ exp_kinds b)
+  exp_kinds (to_pointer a at) = true ∷ exp_kinds a
+  exp_kinds (to_number a at) = false ∷ exp_kinds a
+  exp_kinds (both a b at) = false ∷ (exp_kinds a ++ exp_kinds b)
+  exp_kinds (either a b at) = false ∷ (exp_kinds a ++ exp_kinds b)
+  exp_kinds (conditional a b c at) = is_pointer b ∷ (exp_kinds a ++ (exp_kinds b ++ exp_kinds c))
+  exp_kinds (comma a b at) = is_pointer b ∷ (exp_kinds a ++ exp_kinds b)
+  exp_kinds (set_register n a at) = is_pointer a ∷ exp_kinds a
+  exp_kinds (store a b at) = is_pointer b ∷ (exp_kinds a ++ exp_kinds b)
+  -- the word before and the word behind have registers too
+  exp_kinds (change_register n c b old at) = is_pointer_change c ∷ is_pointer_change c ∷ is_pointer_change c ∷ exp_kinds b
+  exp_kinds (change_cell a loaded c b old at) = is_pointer_change c ∷ is_pointer_change c ∷ is_pointer_change c ∷ (exp_kinds a ++ exp_kinds b)
+  exp_kinds (call f es pointer at) = pointer ∷ exps_kinds es
+  exp_kinds (library c es at) = false ∷ exps_kinds es
+  exp_kinds (allocate site a at) = true ∷ exp_kinds a
+
+  pub exps_kinds : Exps → List Bool
+  exps_kinds no_exp = []
+  exps_kinds (and_exp e es) = exp_kinds e ++ exps_kinds es
+
+abbrev pub width : Exp → ℕ
+width e = length (exp_kinds e)
+
+abbrev pub maybe_kinds : Option Exp → List Bool
+maybe_kinds None = []
+maybe_kinds (Some e) = exp_kinds e
+
+abbrev mutual
+  pub statement_kinds : Statement → List Bool
+  statement_kinds (block ss) = statements_kinds ss
+  statement_kinds (compute e) = exp_kinds e
+  statement_kinds (branch e a b at) = exp_kinds e ++ (statement_kinds a ++ statement_kinds b)
+  statement_kinds (while_loop e a at) = exp_kinds e ++ statement_kinds a
+  statement_kinds (do_loop a e at) = statement_kinds a ++ exp_kinds e
+  statement_kinds (for_loop start test step a at) = statement_kinds start ++ (maybe_kinds test ++ (maybe_kinds step ++ statement_kinds a))
+  statement_kinds (break_at at) = []
+  statement_kinds (continue_at at) = []
+  statement_kinds (gives e at) = maybe_kinds e
+
+  pub statements_kinds : Statements → List Bool
+  statements_kinds no_statement = []
+  statements_kinds (and_statement s ss) = statement_kinds s ++ statements_kinds ss
+
+-- ---- how many instructions there are
+
+abbrev mutual
+  pub exp_size : Exp → ℕ
+  exp_size (core.number z at) = 1
+  exp_size (null at) = 1
+  exp_size (register n pointer at) = 1
+  exp_size (object n at) = 1
+  exp_size (global address at) = 1
+  exp_size (load e pointer at) = exp_size e + 1
+  exp_size (unary o e at) = exp_size e + 1
+  exp_size (binary o a b at) = exp_size a + (exp_size b + 1)
+  exp_size (move a b element back at) = exp_size a + (exp_size b + 1)
+  exp_size (advance a b element at) = exp_size a + (exp_size b + 1)
+  exp_size (member a by at) = exp_size a + 1
+  exp_size (between a b element at) = exp_size a + (exp_size b + 1)
+  exp_size (to_pointer a at) = exp_size a + 1
+  exp_size (to_number a at) = exp_size a + 1
+  exp_size (both a b at) = exp_size a + (1 + (exp_size b + 4))
+  exp_size (either a b at) = exp_size a + (1 + (exp_size b + 4))
+  exp_size (conditional a b c at) = exp_size a + (1 + (exp_size b + (1 + (1 + (exp_size c + 1)))))
+  exp_size (comma a b at) = exp_size a + (exp_size b + 1)
+  exp_size (set_register n a at) = exp_size a + 2
+  exp_size (store a b at) = exp_size a + (exp_size b + 2)
+  exp_size (change_register n c b old at) = 1 + (exp_size b + 3)
+  exp_size (change_cell a loaded c b old at) = exp_size a + (1 + (exp_size b + 3))
+  exp_size (call f es pointer at) = exps_size es + 1
+  exp_size (library c es at) = exps_size es + 1
+  exp_size (allocate site a at) = exp_size a + 1
+
+  pub exps_size : Exps → ℕ
+  exps_size no_exp = 0
+  exps_size (and_exp e es) = exp_size e + exps_size es
+
+abbrev pub maybe_size : Option Exp → ℕ
+maybe_size None = 0
+maybe_size (Some e) = exp_size e
+
+-- a condition that isn't there needs no branch
+abbrev pub test_size : Option Exp → ℕ
+test_size None = 0
+test_size (Some e) = exp_size e + 1
+
+abbrev mutual
+  pub statement_size : Statement → ℕ
+  statement_size (block ss) = statements_size ss
+  statement_size (compute e) = exp_size e
+  statement_size (branch e a b at) = exp_size e + (1 + (statement_size a + (1 + statement_size b)))
+  statement_size (while_loop e a at) = 1 + (exp_size e + (1 + (statement_size a + 1)))
+  statement_size (do_loop a e at) = 1 + (statement_size a + (exp_size e + 1))
+  statement_size (for_loop start test step a at) = statement_size start + (1 + (test_size test + (statement_size a + (maybe_size step + 1))))
+  statement_size (break_at at) = 1
+  statement_size (continue_at at) = 1
+  statement_size (gives e at) = maybe_size e + 1
+
+  pub statements_size : Statements → ℕ
+  statements_size no_statement = 0
+  statements_size (and_statement s ss) = statement_size s + statements_size ss
+
+-- ---- expressions
+
+abbrev pub unary_work : UnaryOp → ℕ → Work
+unary_work unary_op.Minus r = work.Minus r
+unary_work unary_op.Complement r = work.Complement r
+unary_work unary_op.Not r = work.Not r
+
+abbrev pub change_work : Change → ℕ → ℕ → Work
+change_work (change.Compute o) r by = work.Binary o r by
+change_work (change.Move element back) r by = work.Move r by element back
+
+-- the registers of the values of some expressions, the first of which has the register r
+abbrev pub value_registers : ℕ → Exps → List ℕ
+value_registers r no_exp = []
+value_registers r (and_exp e es) = r ∷ value_registers (r + width e) es
+
+-- 1 or 0 for the register r, from the place pc on, where the word in the register x is tested
+abbrev pub truth_code : Position → ℕ → ℕ → ℕ → List Instr
+truth_code at r x pc = instr at (act.Branch x (pc + 1) (pc + 3)) ∷ instr at (act.Compute r (work.Constant (pos 1))) ∷ instr at (act.Jump (pc + 4)) ∷ instr at (act.Compute r (work.Constant (pos 0))) ∷ []
+
+abbrev mutual
+  -- The code from the place pc on: the value comes into the register r, and those behind it are free. The addresses of the
+  -- function's objects are in the registers from `first` on.
+  pub exp_code : (first : ℕ) → Exp → (r pc : ℕ) → List Instr
+  exp_code first (core.number z at) r pc = computes at r (work.Constant z)
+  exp_code first (null at) r pc = computes at r (work.Constant (pos 0))
+  exp_code first (register n pointer at) r pc = computes at r (work.Copy n)
+  exp_code first (object n at) r pc = computes at r (work.Copy (first + n))
+  exp_code first (global address at) r pc = computes at r (work.Address address)
+  exp_code first (load e pointer at) r pc = exp_code first e (r + 1) pc ++ one at (act.LoadCell r (r + 1))
+  exp_code first (unary o e at) r pc = exp_code first e (r + 1) pc ++ computes at r (unary_work o (r + 1))
+  exp_code first (binary o a b at) r pc = exp_code first a (r + 1) pc ++ (exp_code first b (r + 1 + width a) (pc + exp_size a) ++ computes at r (work.Binary o (r + 1) (r + 1 + width a)))
+  exp_code first (move a b element back at) r pc = exp_code first a (r + 1) pc ++ (exp_code first b (r + 1 + width a) (pc + exp_size a) ++ computes at r (work.Move (r + 1) (r + 1 + width a) element back))
+  exp_code first (advance a b element at) r pc = exp_code first a (r + 1) pc ++ (exp_code first b (r + 1 + width a) (pc + exp_size a) ++ computes at r (work.Move (r + 1 + width a) (r + 1) element false))
+  exp_code first (member a by at) r pc = exp_code first a (r + 1) pc ++ computes at r (work.Member (r + 1) by)
+  exp_code first (between a b element at) r pc = exp_code first a (r + 1) pc ++ (exp_code first b (r + 1 + width a) (pc + exp_size a) ++ computes at r (work.Between (r + 1) (r + 1 + width a) element))
+  exp_code first (to_pointer a at) r pc = exp_code first a (r + 1) pc ++ computes at r (work.ToPointer (r + 1))
+  exp_code first (to_number a at) r pc = exp_code first a (r + 1) pc ++ computes at r (work.ToNumber (r + 1))
+  exp_code first (both a b at) r pc =
+      let second = pc + exp_size a + 1 in
+      let tested = second + exp_size b in
+      exp_code first a (r + 1) pc ++ (instr at (act.Branch (r + 1) second (tested + 3)) ∷ (exp_code first b (r + 1 + width a) second ++ truth_code at r (r + 1 + width a) tested))
+  exp_code first (either a b at) r pc =
+      let second = pc + exp_size a + 1 in
+      let tested = second + exp_size b in
+      exp_code first a (r + 1) pc ++ (instr at (act.Branch (r + 1) (tested + 1) second) ∷ (exp_code first b (r + 1 + width a) second ++ truth_code at r (r + 1 + width a) tested))
+  exp_code first (conditional a b c at) r pc =
+      let yes' = pc + exp_size a + 1 in
+      let no' = yes' + exp_size b + 2 in
+      exp_code first a (r + 1) pc ++ (instr at (act.Branch (r + 1) yes' no') ∷
+      (exp_code first b (r + 1 + width a) yes' ++ (instr at (act.Compute r (work.Copy (r + 1 + width a))) ∷ instr at (act.Jump (no' + exp_size c + 1)) ∷
+      (exp_code first c (r + 1 + width a + width b) no' ++ computes at r (work.Copy (r + 1 + width a + width b))))))
+  exp_code first (comma a b at) r pc = exp_code first a (r + 1) pc ++ (exp_code first b (r + 1 + width a) (pc + exp_size a) ++ computes at r (work.Copy (r + 1 + width a)))
+  exp_code first (set_register n a at) r pc = exp_code first a (r + 1) pc ++ (instr at (act.Compute n (work.Copy (r + 1))) ∷ computes at r (work.Copy (r + 1)))
+  exp_code first (store a b at) r pc = exp_code first a (r + 1) pc ++ (exp_code first b (r + 1 + width a) (pc + exp_size a) ++ (instr at (act.StoreCell (r + 1) (r + 1 + width a)) ∷ computes at r (work.Copy (r + 1 + width a))))
+  exp_code first (change_register n c b old at) r pc =
+      instr at (act.Compute (r + 1) (work.Copy n)) ∷ (exp_code first b (r + 3) (pc + 1) ++
+      (instr at (act.Compute (r + 2) (change_work c (r + 1) (r + 3))) ∷ instr at (act.Compute n (work.Copy (r + 2))) ∷ computes at r (work.Copy (if old then r + 1 else r + 2))))
+  exp_code first (change_cell a loaded c b old at) r pc =
+      exp_code first a (r + 3) pc ++ (instr loaded (act.LoadCell (r + 1) (r + 3)) ∷ (exp_code first b (r + 3 + width a) (pc + exp_size a + 1) ++
+      (instr at (act.Compute (r + 2) (change_work c (r + 1) (r + 3 + width a))) ∷ instr at (act.StoreCell (r + 3) (r + 2)) ∷ computes at r (work.Copy (if old then r + 1 else r + 2)))))
+  exp_code first (call f es pointer at) r pc = exps_code first es (r + 1) pc ++ one at (act.Call f (value_registers (r + 1) es) (Some r))
+  exp_code first (library c es at) r pc = exps_code first es (r + 1) pc ++ one at (act.Library c (value_registers (r + 1) es) (Some r))
+  exp_code first (allocate site a at) r pc = exp_code first a (r + 1) pc ++ one at (act.Alloc r site (Some (r + 1)))
+
+  pub exps_code : (first : ℕ) → Exps → (r pc : ℕ) → List Instr
+  exps_code first no_exp r pc = []
+  exps_code first (and_exp e es) r pc = exp_code first e r pc ++ exps_code first es (r + width e) (pc + exp_size e)
+
+-- ---- statements
+
+abbrev pub maybe_code : (first : ℕ) → Option Exp → (r pc : ℕ) → List Instr
+maybe_code first None r pc = []
+maybe_code first (Some e) r pc = exp_code first e r pc
+
+-- the body follows; where the condition doesn't hold, the loop is left for the place `out`
+abbrev pub test_code : (first : ℕ) → Position → Option Exp → (r pc out : ℕ) → List Instr
+test_code first at None r pc out = []
+test_code first at (Some e) r pc out = exp_code first e r pc ++ one at (act.Branch r (pc + exp_size e + 1) out)
+
+abbrev pub return_code : (first : ℕ) → Position → Option Exp → (r pc : ℕ) → List Instr
+return_code first at None r pc = one at (act.Return None)
+return_code first at (Some e) r pc = exp_code first e r pc ++ one at (act.Return (Some r))
+
+abbrev mutual
+  -- a loop round it is left for the place `out`, and continued at the place `on`
+  pub statement_code : (first : ℕ) → Statement → (r pc out on : ℕ) → List Instr
+  statement_code first (block ss) r pc out on = statements_code first ss r pc out on
+  statement_code first (compute e) r pc out on = exp_code first e r pc
+  statement_code first (branch e a b at) r pc out on =
+      let yes' = pc + exp_size e + 1 in
+      let no' = yes' + statement_size a + 1 in
+      exp_code first e r pc ++ (instr at (act.Branch r yes' no') ∷
+      (statement_code first a (r + width e) yes' out on ++ (instr at (act.Jump (no' + statement_size b)) ∷
+      statement_code first b (r + width e + length (statement_kinds a)) no' out on)))
+  statement_code first (while_loop e a at) r pc out on =
+      let body = pc + 1 + exp_size e + 1 in
+      let end = body + statement_size a + 1 in
+      instr at act.Mark ∷ (exp_code first e r (pc + 1) ++ (instr at (act.Branch r body end) ∷
+      (statement_code first a (r + width e) body end (body + statement_size a) ++ one at (act.Jump pc))))
+  statement_code first (do_loop a e at) r pc out on =
+      let test = pc + 1 + statement_size a in
+      let end = test + exp_size e + 1 in
+      instr at act.Mark ∷ (statement_code first a r (pc + 1) end test ++
+      (exp_code first e (r + length (statement_kinds a)) test ++ one at (act.Branch (r + length (statement_kinds a)) pc end)))
+  statement_code first (for_loop start test step a at) r pc out on =
+      let mark = pc + statement_size start in
+      let body = mark + 1 + test_size test in
+      let last = body + statement_size a in
+      let end = last + maybe_size step + 1 in
+      let tested = r + length (statement_kinds start) in
+      let stepped = tested + length (maybe_kinds test) in
+      statement_code first start r pc out on ++ (instr at act.Mark ∷
+      (test_code first at test tested (mark + 1) end ++
+      (statement_code first a (stepped + length (maybe_kinds step)) body end last ++
+      (maybe_code first step stepped last ++ one at (act.Jump mark)))))
+  statement_code first (break_at at) r pc out on = one at (act.Jump out)
+  statement_code first (continue_at at) r pc out on = one at (act.Jump on)
+  statement_code first (gives e at) r pc out on = return_code first at e r pc
+
+  pub statements_code : (first : ℕ) → Statements → (r pc out on : ℕ) → List Instr
+  statements_code first no_statement r pc out on = []
+  statements_code first (and_statement s ss) r pc out on =
+      statement_code first s r pc out on ++ statements_code first ss (r + length (statement_kinds s)) (pc + statement_size s) out on
+
+-- ---- functions
+
+-- the objects of a function are made before all else, each with its address in a register of its own
+abbrev pub objects_code : Position → ℕ → List ℕ → List Instr
+objects_code at r [] = []
+objects_code at r (site ∷ more) = instr at (act.Alloc r site None) ∷ objects_code at (r + 1) more
+
+-- then each formal that is kept in cells is stored
+abbrev pub arrivals_code : (first : ℕ) → List Arrival → List Instr
+arrivals_code first [] = []
+arrivals_code first (arrives n k at ∷ more) = instr at (act.StoreCell (first + k) n) ∷ arrivals_code first more
+
+-- outside of loops nothing is left or continued
+abbrev pub body_code : Function → List Instr
+body_code f =
+    let first = length f.pointers in
+    let pc = length f.objects + length f.arrivals in
+    let end = pc + statement_size f.body in
+    objects_code f.place first f.objects ++
+    (arrivals_code first f.arrivals ++
+    (statement_code first f.body (first + length f.objects) pc end end ++ one f.place (act.Return None)))
+
+abbrev pub function_kinds : Function → List Bool
+function_kinds f = f.pointers ++ (replicate (length f.objects) true ++ statement_kinds f.body)
+
+abbrev pub function_code : Function → FlowFunction
+function_code f = record {
+  name = f.name;
+  line = f.place.line;
+  formals = f.formals;
+  registers = length (function_kinds f);
+  pointers = function_kinds f;
+  gives_pointer = f.gives_pointer;
+  instrs = body_code f;
+  loops = [];
+  regions = [];
+}
+
+abbrev pub lowered : Program → Code
+lowered p = record {
+  functions = map function_code p.functions;
+  sites = p.sites;
+  globals = p.globals;
+  global_kinds = p.global_kinds;
+  locks = [];
+}

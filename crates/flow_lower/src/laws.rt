@@ -1,0 +1,16 @@
+//! The law of the code.
+ghost use Rattle.std.specs.Prelude.{◌≡◌, ℕ, ◌≤◌};
+ghost use Rattle.sync_objects.specs.Setup.{SetupView};
+ghost use Rattle.flow_code.specs.Threads.{Thread};
+ghost use Rattle.c_core.specs.Core.{Program};
+ghost use Rattle.c_core.specs.Meaning.{run_of};
+ghost use Rattle.flow_lower.specs.Lowered.{lowered};
+ghost use Rattle.flow_lower.specs.Within.{IsWithin};
+ghost use Rattle.flow_lower.specs.Follows.{Follows, IsAtStart};
+
+/// From its start on, each thread of a core tree's code makes the events of the tree's thread whatever is answered: loads,
+/// stores, marks and operations in their order, each trap with its kind and line, and the end. Only where its list of
+/// entries is full does it trap before its next entry.
+pub fn law_events()
+    ensures { (p : Program) (s : SetupView) (t : ℕ) (m : Thread) → IsWithin p → 1 ≤ s.limit → IsAtStart p s t m → Follows (lowered p) s t (run_of p s t) m }
+{}
