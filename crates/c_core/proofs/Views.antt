@@ -1,7 +1,7 @@
 -- The plain tree of each variant that holds a list.
 use Rattle.std.proofs.Common.{◌≡◌, List, refl, ap, map, ◌∙◌}
-use Rattle.c_core.specs.declared.value.Value.{Value, Row_of-Value, end_of-Value, more_of-Value}
-use Rattle.c_core.specs.declared.value.Value.TheBlock.{hidden-the_row-Value-0, items-the_row-Value, items_hidden-the_row-Value-0}
+use Rattle.c_core.specs.declared.value.Value.{Value}
+use Rattle.c_core.specs.declared.value.Assignment.TheBlock.{Row_of-Value, end_of-Value, more_of-Value, hidden-the_row-Value-0, items-the_row-Value, items_hidden-the_row-Value-0}
 use Rattle.c_core.specs.declared.statement.Statement.{Statement, Row_of-Statement, end_of-Statement, more_of-Statement}
 use Rattle.c_core.specs.declared.statement.Statement.TheBlock.{hidden-the_row-Statement-0, items-the_row-Statement, items_hidden-the_row-Statement-0}
 use Rattle.c_core.specs.Core.{and_exp, listed, and_statement, listed_statements}

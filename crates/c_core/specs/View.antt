@@ -1,39 +1,62 @@
 -- The plain tree as which a tree of the crate shows.
 use Rattle.std.specs.Prelude.{Option, Some, None, map}
-use Rattle.c_core.specs.declared.value.Value.{Value, Number, Null, Register, Object, Global, Load', Unary', Binary', Move', Advance', Member', Between', ToPointer', ToNumber', And', Or', Conditional', Comma', SetRegister', Store', ChangeRegister', ChangeCell', Call', Library', Allocate', Row_of-Value, end_of-Value, more_of-Value}
+use Rattle.c_core.specs.declared.position.Position.{Position}
+use Rattle.c_core.specs.declared.value.Simple.{Simple as RustSimple}
+use Rattle.c_core.specs.declared.value.Simple.TheVariants as simple
+use Rattle.c_core.specs.declared.value.Value.{Value}
+use Rattle.c_core.specs.declared.value.Operation.{Operation}
+use Rattle.c_core.specs.declared.value.Choice.{Choice}
+use Rattle.c_core.specs.declared.value.Assignment.{Assignment}
+use Rattle.c_core.specs.declared.value.Call.{Call}
+use Rattle.c_core.specs.declared.value.Assignment.TheBlock.{Simple, Operates, Chooses, Assigns, Calls, Load', Unary', Binary', Move', Advance', Member', Between', ToPointer', ToNumber', And', Or', Conditional', Comma', Set', Store', ChangeRegister', ChangeCell', Function', Library', Allocate', Row_of-Value, end_of-Value, more_of-Value}
 use Rattle.c_core.specs.declared.statement.Statement.{Statement as RustStatement, Block', Compute, If', While', Do', For', Break, Continue, Return, Row_of-Statement, end_of-Statement, more_of-Statement}
 use Rattle.c_core.specs.declared.program.Arrival.{Arrival as RustArrival}
 use Rattle.c_core.specs.declared.program.CoreFunction.{CoreFunction}
 use Rattle.c_core.specs.declared.program.Core.{Core}
 use Rattle.c_core.specs.Core.{Exp, number, null, register, object, global, load, unary, binary, move, advance, member, between, to_pointer, to_number, both, either, conditional, comma, set_register, store, change_register, change_cell, call, library, allocate, Exps, no_exp, and_exp, Statement, block, compute, branch, while_loop, do_loop, for_loop, break_at, continue_at, gives, Statements, no_statement, and_statement, Arrival, arrives, Function, Program}
 
+abbrev pub simple_of : RustSimple → Position → Exp
+simple_of (simple.Number z) at = number z at
+simple_of simple.Null at = null at
+simple_of (simple.Register n pointer) at = register n pointer at
+simple_of (simple.Object n) at = object n at
+simple_of (simple.Global address) at = global address at
+
 abbrev mutual
   pub exp_of : Value → Exp
-  exp_of (Number z at) = number z at
-  exp_of (Null at) = null at
-  exp_of (Register n pointer at) = register n pointer at
-  exp_of (Object n at) = object n at
-  exp_of (Global address at) = global address at
-  exp_of (Load' p e pointer at) = load (exp_of e) pointer at
-  exp_of (Unary' op p e at) = unary op (exp_of e) at
-  exp_of (Binary' op p a q b at) = binary op (exp_of a) (exp_of b) at
-  exp_of (Move' p a q b element back at) = move (exp_of a) (exp_of b) element back at
-  exp_of (Advance' p a q b element at) = advance (exp_of a) (exp_of b) element at
-  exp_of (Member' p a by at) = member (exp_of a) by at
-  exp_of (Between' p a q b element at) = between (exp_of a) (exp_of b) element at
-  exp_of (ToPointer' p a at) = to_pointer (exp_of a) at
-  exp_of (ToNumber' p a at) = to_number (exp_of a) at
-  exp_of (And' p a q b at) = both (exp_of a) (exp_of b) at
-  exp_of (Or' p a q b at) = either (exp_of a) (exp_of b) at
-  exp_of (Conditional' p a q b r c at) = conditional (exp_of a) (exp_of b) (exp_of c) at
-  exp_of (Comma' p a q b at) = comma (exp_of a) (exp_of b) at
-  exp_of (SetRegister' n p a at) = set_register n (exp_of a) at
-  exp_of (Store' p a q b at) = store (exp_of a) (exp_of b) at
-  exp_of (ChangeRegister' n change p a old at) = change_register n change (exp_of a) old at
-  exp_of (ChangeCell' p a loaded change q b old at) = change_cell (exp_of a) loaded change (exp_of b) old at
-  exp_of (Call' f shape row pointer at) = call f (exps_of_row row) pointer at
-  exp_of (Library' c shape row at) = library c (exps_of_row row) at
-  exp_of (Allocate' site p a at) = allocate site (exp_of a) at
+  exp_of (Simple x at) = simple_of x at
+  exp_of (Operates o) = operation_of o
+  exp_of (Chooses c) = choice_of c
+  exp_of (Assigns a) = assignment_of a
+  exp_of (Calls c) = call_of c
+
+  pub operation_of : Operation → Exp
+  operation_of (Load' p e pointer at) = load (exp_of e) pointer at
+  operation_of (Unary' op p e at) = unary op (exp_of e) at
+  operation_of (Binary' op p a q b at) = binary op (exp_of a) (exp_of b) at
+  operation_of (Move' p a q b element back at) = move (exp_of a) (exp_of b) element back at
+  operation_of (Advance' p a q b element at) = advance (exp_of a) (exp_of b) element at
+  operation_of (Member' p a by at) = member (exp_of a) by at
+  operation_of (Between' p a q b element at) = between (exp_of a) (exp_of b) element at
+  operation_of (ToPointer' p a at) = to_pointer (exp_of a) at
+  operation_of (ToNumber' p a at) = to_number (exp_of a) at
+
+  pub choice_of : Choice → Exp
+  choice_of (And' p a q b at) = both (exp_of a) (exp_of b) at
+  choice_of (Or' p a q b at) = either (exp_of a) (exp_of b) at
+  choice_of (Conditional' p a q b r c at) = conditional (exp_of a) (exp_of b) (exp_of c) at
+  choice_of (Comma' p a q b at) = comma (exp_of a) (exp_of b) at
+
+  pub assignment_of : Assignment → Exp
+  assignment_of (Set' n p a at) = set_register n (exp_of a) at
+  assignment_of (Store' p a q b at) = store (exp_of a) (exp_of b) at
+  assignment_of (ChangeRegister' n change p a old at) = change_register n change (exp_of a) old at
+  assignment_of (ChangeCell' p a loaded change q b old at) = change_cell (exp_of a) loaded change (exp_of b) old at
+
+  pub call_of : Call → Exp
+  call_of (Function' f shape row pointer at) = call f (exps_of_row row) pointer at
+  call_of (Library' c shape row at) = library c (exps_of_row row) at
+  call_of (Allocate' site p a at) = allocate site (exp_of a) at
 
   pub exps_of_row : {n : _} → Row_of-Value n → Exps
   exps_of_row end_of-Value = no_exp

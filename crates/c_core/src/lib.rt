@@ -10,4 +10,4 @@ mod value;
 pub use position::Position;
 pub use program::{Arrival, Core, CoreFunction};
 pub use statement::Statement;
-pub use value::{Change, UnaryOp, Value};
+pub use value::{Assignment, Call, Change, Choice, Operation, Simple, UnaryOp, Value};

@@ -22,35 +22,37 @@ pub enum Change {
     Move { element: u32, back: bool },
 }
 
+/// What gives a word without anything to compute or load.
+#[derive(Clone, Copy, Debug, PartialEq, Eq)]
+pub enum Simple {
+    /// A constant.
+    Number(i64),
+    /// `NULL`, or `0` in its place.
+    Null,
+    /// A formal or local that is a register.
+    Register { number: u32, pointer: bool },
+    /// The address of a formal or local that is kept in cells.
+    Object(u32),
+    /// The address of a global; its base counts from the first global cell.
+    Global(PtrWord),
+}
+
 /// An expression, which gives a word: a whole number of 64 bits or a pointer. Registers and objects are those of its
-/// function. The place is that of the token at which its own event or trap stands, and else that of its own token.
+/// function. Each place is that of the token at which the event or trap of its own stands, and else that of the own token.
+#[cycle(values)]
 #[derive(Drop)]
 pub enum Value {
-    /// A constant.
-    Number {
-        value: i64,
-        at: Position,
-    },
-    /// `NULL`, or `0` in its place.
-    Null {
-        at: Position,
-    },
-    /// A formal or local that is a register.
-    Register {
-        number: u32,
-        pointer: bool,
-        at: Position,
-    },
-    /// The address of a formal or local that is kept in cells.
-    Object {
-        number: u32,
-        at: Position,
-    },
-    /// The address of a global; its base counts from the first global cell.
-    Global {
-        address: PtrWord,
-        at: Position,
-    },
+    Simple { simple: Simple, at: Position },
+    Operates(Operation),
+    Chooses(Choice),
+    Assigns(Assignment),
+    Calls(Call),
+}
+
+/// An operator that takes all of its operands, from left to right.
+#[cycle(values)]
+#[derive(Drop)]
+pub enum Operation {
     /// What the cell holds to which the operand points.
     Load {
         through: Box<Value>,
@@ -107,6 +109,12 @@ pub enum Value {
         operand: Box<Value>,
         at: Position,
     },
+}
+
+/// An operator that takes its operands as they are needed.
+#[cycle(values)]
+#[derive(Drop)]
+pub enum Choice {
     /// `&&` (C99 6.5.13).
     And {
         left: Box<Value>,
@@ -128,12 +136,18 @@ pub enum Value {
     },
     /// `,` (C99 6.5.17).
     Comma {
-        first: Box<Value>,
-        second: Box<Value>,
+        before: Box<Value>,
+        value: Box<Value>,
         at: Position,
     },
+}
+
+/// A register or a cell gets a value (C99 6.5.16, 6.5.2.4, 6.5.3.1).
+#[cycle(values)]
+#[derive(Drop)]
+pub enum Assignment {
     /// A register gets a value.
-    SetRegister {
+    Set {
         register: u32,
         value: Box<Value>,
         at: Position,
@@ -161,8 +175,14 @@ pub enum Value {
         gives_old: bool,
         at: Position,
     },
-    /// A call of a function of the source.
-    Call {
+}
+
+/// A call (C99 6.5.2.2).
+#[cycle(values)]
+#[derive(Drop)]
+pub enum Call {
+    /// Of a function of the source.
+    Function {
         function: u32,
         arguments: List<Value>,
         gives_pointer: bool,

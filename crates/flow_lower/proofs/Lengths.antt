@@ -96,14 +96,15 @@ mutual
       let last = body + statement_size a in
       let end = last + maybe_size step + 1 in
       let tested = r + length (statement_kinds start) in
-      let stepped = tested + length (maybe_kinds test) in
+      let inner = tested + length (maybe_kinds test) in
+      let stepped = inner + length (statement_kinds a) in
       let code_s = maybe_code first step stepped last ++ one at (act.Jump mark) in
-      let code_a = statement_code first a (stepped + length (maybe_kinds step)) body end last ++ code_s in
+      let code_a = statement_code first a inner body end last ++ code_s in
       let code_t = test_code first at test tested (mark + 1) end ++ code_a in
       joined (statement_code first start r pc out on) (instr at act.Mark ∷ code_t) _ _ (statement_length first start r pc out on)
       (behind (instr at act.Mark) code_t _
       (joined (test_code first at test tested (mark + 1) end) code_a _ _ (test_length first at test tested (mark + 1) end)
-      (joined (statement_code first a (stepped + length (maybe_kinds step)) body end last) code_s _ _ (statement_length first a (stepped + length (maybe_kinds step)) body end last)
+      (joined (statement_code first a inner body end last) code_s _ _ (statement_length first a inner body end last)
       (joined (maybe_code first step stepped last) (one at (act.Jump mark)) _ _ (maybe_length first step stepped last) refl))))
   statement_length first (break_at at) r pc out on = refl
   statement_length first (continue_at at) r pc out on = refl

@@ -5,6 +5,7 @@ pub mod Ends
 pub mod Events
 pub mod Expressions
 pub mod Functions
+pub mod Joins
 pub mod Lengths
 pub mod Libraries
 pub mod Loops

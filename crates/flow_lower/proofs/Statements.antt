@@ -196,21 +196,21 @@ module _ (p : Program) (s : SetupView) (t : ℕ) (i : ℕ) (f : Function) (is : 
       let last = body + statement_size a in
       let end = last + maybe_size step + 1 in
       let tested = r + length (statement_kinds start) in
-      let stepped = tested + length (maybe_kinds test) in
-      let inner = stepped + length (maybe_kinds step) in
+      let inner = tested + length (maybe_kinds test) in
+      let stepped = inner + length (statement_kinds a) in
       let is_end : end ≡ pc + (statement_size start + (1 + (test_size test + (statement_size a + (maybe_size step + 1))))) = omega arith in
       let code_m = behind_statement start r pc out on _ code in
       let code_t = code_m.1 in
       let code_a = has_at (body_code f) (mark + 1 + length (test_code first at test tested (mark + 1) end)) body _ (ap (λ n. mark + 1 + n) (test_length first at test tested (mark + 1) end)) (has_back (body_code f) (mark + 1) (test_code first at test tested (mark + 1) end) _ code_t) in
       let code_s = behind_statement a inner body end last _ code_a in
-      let kinds_t = has_back kinds r (statement_kinds start) (maybe_kinds test ++ (maybe_kinds step ++ statement_kinds a)) ks in
-      let kinds_s = has_back kinds tested (maybe_kinds test) (maybe_kinds step ++ statement_kinds a) kinds_t in
+      let kinds_t = has_back kinds r (statement_kinds start) (maybe_kinds test ++ (statement_kinds a ++ maybe_kinds step)) ks in
+      let kinds_a = has_back kinds tested (maybe_kinds test) (statement_kinds a ++ maybe_kinds step) kinds_t in
       leads_start r pc out on (has_front (body_code f) pc (statement_code first start r pc out on) _ code) (has_front kinds r (statement_kinds start) _ ks) le _ m σ place h
       (both_lead start no_statement r pc out on _ k m (pc + (statement_size start + (1 + (test_size test + (statement_size a + (maybe_size step + 1)))))) (λ o σ' place' shows later.
       rounds p s t i f is callers budget at mark body last end code_m.0 (test_value p s t calls test) (meaning.meaning p s t calls a) (step_value p s t calls step)
       (maybe_test_follows test at tested (mark + 1) end _ w_test code_t (has_front kinds tested (maybe_kinds test) _ kinds_t) (omega (arith, le)))
-      (leads inner body end last (has_front (body_code f) body (statement_code first a inner body end last) _ code_a) (has_back kinds stepped (maybe_kinds step) (statement_kinds a) kinds_s) (omega (arith, le)))
-      (maybe_step_follows step at stepped last mark w_step code_s (has_front kinds stepped (maybe_kinds step) (statement_kinds a) kinds_s) (omega (arith, le)))
+      (leads inner body end last (has_front (body_code f) body (statement_code first a inner body end last) _ code_a) (has_front kinds inner (statement_kinds a) (maybe_kinds step) kinds_a) (omega (arith, le)))
+      (maybe_step_follows step at stepped last mark w_step code_s (has_back kinds inner (statement_kinds a) (maybe_kinds step) kinds_a) (omega (arith, le)))
       k o
       (λ n σ'' place'' shows'' later''. go n goes σ'' (record { reached = place'' ∙ is_end; shows = shows''; later = omega (arith, later, later'') }))
       (λ n v line σ'' ret shows'' later''. go n (returns v line) σ'' (record { reached = ret; shows = shows''; later = omega (arith, later, later'') }))

@@ -75,7 +75,7 @@ abbrev mutual
   statement_kinds (branch e a b at) = exp_kinds e ++ (statement_kinds a ++ statement_kinds b)
   statement_kinds (while_loop e a at) = exp_kinds e ++ statement_kinds a
   statement_kinds (do_loop a e at) = statement_kinds a ++ exp_kinds e
-  statement_kinds (for_loop start test step a at) = statement_kinds start ++ (maybe_kinds test ++ (maybe_kinds step ++ statement_kinds a))
+  statement_kinds (for_loop start test step a at) = statement_kinds start ++ (maybe_kinds test ++ (statement_kinds a ++ maybe_kinds step))
   statement_kinds (break_at at) = []
   statement_kinds (continue_at at) = []
   statement_kinds (gives e at) = maybe_kinds e
@@ -254,10 +254,11 @@ abbrev mutual
       let last = body + statement_size a in
       let end = last + maybe_size step + 1 in
       let tested = r + length (statement_kinds start) in
-      let stepped = tested + length (maybe_kinds test) in
+      let inner = tested + length (maybe_kinds test) in
+      let stepped = inner + length (statement_kinds a) in
       statement_code first start r pc out on ++ (instr at act.Mark ∷
       (test_code first at test tested (mark + 1) end ++
-      (statement_code first a (stepped + length (maybe_kinds step)) body end last ++
+      (statement_code first a inner body end last ++
       (maybe_code first step stepped last ++ one at (act.Jump mark)))))
   statement_code first (break_at at) r pc out on = one at (act.Jump out)
   statement_code first (continue_at at) r pc out on = one at (act.Jump on)

@@ -2,6 +2,14 @@
 //! tree, in each of its threads and whatever is answered.
 #![tactic(auto)]
 
+mod emit;
+mod expression;
+mod function;
+mod kinds;
 mod laws;
+mod library;
+mod sizes;
+mod statement;
 
+pub use function::lower;
 pub use laws::law_events;
