@@ -11,7 +11,7 @@ use Rattle.flow_code.specs.declared.work.BinaryOp.TheVariants as binary_op
 use Rattle.flow_code.specs.declared.thread.Action.TheVariants as action
 use Rattle.c_core.specs.declared.position.Position.{Position}
 use Rattle.c_core.specs.declared.value.Change.TheVariants as change
-use Rattle.c_core.specs.Core.{Exp, number, register, object, global, load, binary, both, store, set_register, change_register, change_cell, call, no_exp, and_exp, Statement, block, compute, gives, branch, while_loop, do_loop, for_loop, continue_at, no_statement, and_statement, arrives, Function, Program}
+use Rattle.c_core.specs.Core.{Exp, number, register, object, global, load, binary, copy, both, store, set_register, change_register, change_cell, call, no_exp, and_exp, Statement, block, compute, gives, branch, while_loop, do_loop, for_loop, continue_at, no_statement, and_statement, arrives, Function, Program}
 use Rattle.c_core.specs.Runs.{events, done, trapped}
 use Rattle.c_core.specs.Meaning.{run_of}
 
@@ -97,6 +97,15 @@ short_program = program_of (compute (store g (both (z 0) (binary binary_op.Divid
 
 pub short_events_are : events (run_of short_program (setup 10) 0) (answers 3) ≡ done action.Mark (pos 0) ∷ done (action.Store 2 0) (pos 0) ∷ done (action.Operate op.HaltAll object_id.Halt) (pos 0) ∷ []
 short_events_are = refl
+
+-- int main(void) { g = +(g += 5); return 0; } where g holds 4
+abbrev copy_program : Program
+copy_program = program_of (compute (store g (copy (change_cell g (at 3) (change.Compute binary_op.Add) (z 5) false (at 3)) (at 3)) (at 4)))
+
+-- a copy has no event of its own
+pub copy_events_are : events (run_of copy_program (setup 10) 0) (pos 0 ∷ pos 4 ∷ answers 3) ≡
+    done action.Mark (pos 0) ∷ done (action.Load 2) (pos 4) ∷ done (action.Store 2 9) (pos 0) ∷ done (action.Store 2 9) (pos 0) ∷ done (action.Operate op.HaltAll object_id.Halt) (pos 0) ∷ []
+copy_events_are = refl
 
 -- int f(int n) { return *&n + 1; } where the formal is kept in cells
 abbrev f : Function

@@ -31,6 +31,8 @@ mutual
     between : Exp → Exp → ℕ → Position → Exp
     to_pointer : Exp → Position → Exp
     to_number : Exp → Position → Exp
+    -- the operand's word again
+    copy : Exp → Position → Exp
     both : Exp → Exp → Position → Exp
     either : Exp → Exp → Position → Exp
     conditional : Exp → Exp → Exp → Position → Exp

@@ -25,7 +25,7 @@ use Rattle.c_core.specs.declared.value.UnaryOp.TheVariants as unary_op
 use Rattle.c_core.specs.declared.value.Change.{Change}
 use Rattle.c_core.specs.declared.value.Change.TheVariants as change
 use Rattle.c_core.specs.Core as core
-use Rattle.c_core.specs.Core.{Exp, null, register, object, global, load, unary, binary, move, advance, member, between, to_pointer, to_number, both, either, conditional, comma, set_register, store, change_register, change_cell, call, library, allocate, Exps, no_exp, and_exp, Statement, block, compute, branch, while_loop, do_loop, for_loop, break_at, continue_at, gives, Statements, no_statement, and_statement, Arrival, arrives, Function, Program}
+use Rattle.c_core.specs.Core.{Exp, null, register, object, global, load, unary, binary, move, advance, member, between, to_pointer, to_number, copy, both, either, conditional, comma, set_register, store, change_register, change_cell, call, library, allocate, Exps, no_exp, and_exp, Statement, block, compute, branch, while_loop, do_loop, for_loop, break_at, continue_at, gives, Statements, no_statement, and_statement, Arrival, arrives, Function, Program}
 use Rattle.c_core.specs.Runs.{Run, does, traps, ends, State, M, ◌>>=◌, ◌>>◌, pure, trap_at, result_at, event, read_register, write_register, read_object, choose}
 
 -- ---- kinds
@@ -50,6 +50,7 @@ is_pointer (member a by at) = true
 is_pointer (between a b element at) = false
 is_pointer (to_pointer a at) = true
 is_pointer (to_number a at) = false
+is_pointer (copy a at) = is_pointer a
 is_pointer (both a b at) = false
 is_pointer (either a b at) = false
 is_pointer (conditional a b c at) = is_pointer b
@@ -236,6 +237,7 @@ module _ (p : Program) (s : SetupView) (t : ℕ) where
       result_at at.line (compared p.sites v w (elements_between v w element))
     value calls (to_pointer a at) = value calls a >>= λ w. result_at at.line (pointer_to (number w))
     value calls (to_number a at) = value calls a >>= λ w. result_at at.line (number_from p.sites w)
+    value calls (copy a at) = value calls a
     value calls (both a b at) = value calls a >>= λ v. choose v (value calls b >>= λ w. pure (truth (not (nat_eq w 0)))) (pure 0)
     value calls (either a b at) = value calls a >>= λ v. choose v (pure 1) (value calls b >>= λ w. pure (truth (not (nat_eq w 0))))
     value calls (conditional a b c at) = value calls a >>= λ v. choose v (value calls b) (value calls c)

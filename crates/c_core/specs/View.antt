@@ -8,12 +8,12 @@ use Rattle.c_core.specs.declared.value.Operation.{Operation}
 use Rattle.c_core.specs.declared.value.Choice.{Choice}
 use Rattle.c_core.specs.declared.value.Assignment.{Assignment}
 use Rattle.c_core.specs.declared.value.Call.{Call}
-use Rattle.c_core.specs.declared.value.Assignment.TheBlock.{Simple, Operates, Chooses, Assigns, Calls, Load', Unary', Binary', Move', Advance', Member', Between', ToPointer', ToNumber', And', Or', Conditional', Comma', Set', Store', ChangeRegister', ChangeCell', Function', Library', Allocate', Row_of-Value, end_of-Value, more_of-Value}
+use Rattle.c_core.specs.declared.value.Assignment.TheBlock.{Simple, Operates, Chooses, Assigns, Calls, Load', Unary', Binary', Move', Advance', Member', Between', ToPointer', ToNumber', Copy', And', Or', Conditional', Comma', Set', Store', ChangeRegister', ChangeCell', Function', Library', Allocate', Row_of-Value, end_of-Value, more_of-Value}
 use Rattle.c_core.specs.declared.statement.Statement.{Statement as RustStatement, Block', Compute, If', While', Do', For', Break, Continue, Return, Row_of-Statement, end_of-Statement, more_of-Statement}
 use Rattle.c_core.specs.declared.program.Arrival.{Arrival as RustArrival}
 use Rattle.c_core.specs.declared.program.CoreFunction.{CoreFunction}
 use Rattle.c_core.specs.declared.program.Core.{Core}
-use Rattle.c_core.specs.Core.{Exp, number, null, register, object, global, load, unary, binary, move, advance, member, between, to_pointer, to_number, both, either, conditional, comma, set_register, store, change_register, change_cell, call, library, allocate, Exps, no_exp, and_exp, Statement, block, compute, branch, while_loop, do_loop, for_loop, break_at, continue_at, gives, Statements, no_statement, and_statement, Arrival, arrives, Function, Program}
+use Rattle.c_core.specs.Core.{Exp, number, null, register, object, global, load, unary, binary, move, advance, member, between, to_pointer, to_number, copy, both, either, conditional, comma, set_register, store, change_register, change_cell, call, library, allocate, Exps, no_exp, and_exp, Statement, block, compute, branch, while_loop, do_loop, for_loop, break_at, continue_at, gives, Statements, no_statement, and_statement, Arrival, arrives, Function, Program}
 
 abbrev pub simple_of : RustSimple → Position → Exp
 simple_of (simple.Number z) at = number z at
@@ -40,6 +40,7 @@ abbrev mutual
   operation_of (Between' p a q b element at) = between (exp_of a) (exp_of b) element at
   operation_of (ToPointer' p a at) = to_pointer (exp_of a) at
   operation_of (ToNumber' p a at) = to_number (exp_of a) at
+  operation_of (Copy' p a at) = copy (exp_of a) at
 
   pub choice_of : Choice → Exp
   choice_of (And' p a q b at) = both (exp_of a) (exp_of b) at

@@ -109,6 +109,11 @@ pub enum Operation {
         operand: Box<Value>,
         at: Position,
     },
+    /// The operand's word in a register of its own: unary `+`, or a cast that changes no kind (C99 6.5.3.3, 6.5.4).
+    Copy {
+        operand: Box<Value>,
+        at: Position,
+    },
 }
 
 /// An operator that takes its operands as they are needed.

@@ -8,7 +8,7 @@ use Rattle.flow_code.specs.Works.{register, is_pointer}
 use Rattle.flow_code.specs.Threads.{Frame, Thread}
 use Rattle.flow_code.specs.Next.{one_more, in_frame, past}
 use Rattle.c_core.specs.Core as core
-use Rattle.c_core.specs.Core.{Exp, null, load, unary, binary, move, advance, member, between, to_pointer, to_number, both, either, conditional, comma, set_register, store, change_register, change_cell, call, library, allocate, Exps, no_exp, and_exp, Function, Program}
+use Rattle.c_core.specs.Core.{Exp, null, load, unary, binary, move, advance, member, between, to_pointer, to_number, copy, both, either, conditional, comma, set_register, store, change_register, change_cell, call, library, allocate, Exps, no_exp, and_exp, Function, Program}
 use Rattle.c_core.specs.Runs.{State, counted, with_value}
 use Rattle.c_core.specs.Meaning as meaning
 use Rattle.flow_lower.specs.Lowered.{function_kinds, exp_kinds, exps_kinds, width}
@@ -31,6 +31,7 @@ head_kind (member a by at) = (exp_kinds a, refl)
 head_kind (between a b element at) = (exp_kinds a ++ exp_kinds b, refl)
 head_kind (to_pointer a at) = (exp_kinds a, refl)
 head_kind (to_number a at) = (exp_kinds a, refl)
+head_kind (copy a at) = (exp_kinds a, refl)
 head_kind (both a b at) = (exp_kinds a ++ exp_kinds b, refl)
 head_kind (either a b at) = (exp_kinds a ++ exp_kinds b, refl)
 head_kind (conditional a b c at) = (exp_kinds a ++ (exp_kinds b ++ exp_kinds c), refl)

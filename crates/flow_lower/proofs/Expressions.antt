@@ -15,14 +15,14 @@ use Rattle.flow_code.specs.Threads.{Frame, Thread, size_of}
 use Rattle.flow_code.specs.Next.{words_of, malloc_due, is_size, cells_in, act_due, act_after, allocated}
 use Rattle.c_core.specs.declared.position.Position.{Position}
 use Rattle.c_core.specs.Core as core
-use Rattle.c_core.specs.Core.{Exp, null, object, global, load, unary, binary, move, advance, member, between, to_pointer, to_number, both, either, conditional, comma, set_register, store, change_register, change_cell, call, library, allocate, Exps, no_exp, and_exp, Function, Program}
+use Rattle.c_core.specs.Core.{Exp, null, object, global, load, unary, binary, move, advance, member, between, to_pointer, to_number, copy, both, either, conditional, comma, set_register, store, change_register, change_cell, call, library, allocate, Exps, no_exp, and_exp, Function, Program}
 use Rattle.c_core.specs.Runs.{Run, State}
 use Rattle.c_core.specs.Meaning as meaning
 use Rattle.c_core.specs.Meaning.{Calls, value, values}
-use Rattle.flow_lower.specs.Lowered.{instr, lowered, function_kinds, body_code, exp_kinds, exps_kinds, width, exp_size, exps_size, exp_code, exps_code, value_registers}
+use Rattle.flow_lower.specs.Lowered.{instr, lowered, function_kinds, body_code, exp_kinds, exps_kinds, width, exp_size, exps_size, exp_code, exps_code, value_registers, library_code}
 use Rattle.flow_lower.specs.Within.{IsWithinExp, AreWithin}
 use Rattle.flow_lower.specs.Follows.{Follows}
-use Rattle.flow_lower.proofs.Machine.{same_register, other_register, Shows, instr_of, act_of, line_at, by_quiet, by_trap, HasAt, has_at, has_front, has_back}
+use Rattle.flow_lower.proofs.Machine.{same_register, other_register, Shows, act_of, line_at, by_quiet, by_trap, HasAt, has_at, has_front, has_back}
 use Rattle.flow_lower.proofs.Arriving.{some_width, top, Keeps, Arrives}
 use Rattle.flow_lower.proofs.Lengths.{exp_length, exps_length}
 use Rattle.flow_lower.proofs.Libraries.{library_follows}
@@ -89,7 +89,7 @@ module _ (p : Program) (s : SetupView) (t : ℕ) (i : ℕ) (f : Function) (is : 
   library_follows' c es at all r pc m σ k code ks le e h go =
       all (r + 1) pc m σ _ (has_front (body_code f) pc (exps_code first es (r + 1) pc) _ code) ks.1 (omega (arith, le)) e h (λ n ws σ' x.
       library_follows p s t i f is callers budget c n at (value_registers (r + 1) es) r ws σ' k
-      (instr_of p s t i f is callers budget n σ' x.shows ∙ ap (slice_get (body_code f)) x.place ∙ (behind_all es (r + 1) pc _ code).0) x.words x.shows le (within r false ks.0) (λ o v σ'' place shows is_v others later.
+      (has_at (body_code f) (pc + exps_size es) n.top.instr (library_code at r c (value_registers (r + 1) es)) (sym x.place) (behind_all es (r + 1) pc _ code)) x.words x.shows le (within r false ks.0) (λ o v σ'' place shows is_v others later.
       go o v σ'' (record {
         place = place ∙ omega (arith, x.place);
         shows = shows;
@@ -204,6 +204,7 @@ module _ (p : Program) (s : SetupView) (t : ℕ) (i : ℕ) (f : Function) (is : 
     exp_follows (between a b element at) w = values.between_follows p s t i f is callers budget calls a b element at (exp_follows a w.0) (exp_follows b w.1)
     exp_follows (to_pointer a at) w = values.to_pointer_follows p s t i f is callers budget calls a at (exp_follows a w)
     exp_follows (to_number a at) w = values.to_number_follows p s t i f is callers budget calls a at (exp_follows a w)
+    exp_follows (copy a at) w = values.copy_follows p s t i f is callers budget calls a at (exp_follows a w)
     exp_follows (both a b at) w = values.both_follows p s t i f is callers budget calls a b at (exp_follows a w.0) (exp_follows b w.1)
     exp_follows (either a b at) w = values.either_follows p s t i f is callers budget calls a b at (exp_follows a w.0) (exp_follows b w.1)
     exp_follows (conditional a b c at) w = values.conditional_follows p s t i f is callers budget calls a b c at (exp_follows a w.0) (exp_follows b w.1) (exp_follows c w.2)

@@ -1,17 +1,25 @@
 -- How many instructions code has.
-use Rattle.std.proofs.Common.{◌≡◌, ℕ, ◌+◌, List, ◌∷◌, ◌++◌, length, Option, Some, None, refl, arith, length-append}
+use Rattle.std.proofs.Common.{◌≡◌, ℕ, ◌+◌, Bool, true, false, if◌then◌else◌, pos, List, ◌∷◌, ◌++◌, length, Option, Some, None, refl, arith, length-append}
 use Rattle.flow_code.specs.declared.act.Act.TheVariants as act
+use Rattle.flow_code.specs.declared.act.LibraryCall.{LibraryCall}
 use Rattle.flow_code.specs.declared.work.Work.TheVariants as work
 use Rattle.c_core.specs.declared.position.Position.{Position}
 use Rattle.c_core.specs.Core as core
-use Rattle.c_core.specs.Core.{Exp, null, load, unary, binary, move, advance, member, between, to_pointer, to_number, both, either, conditional, comma, set_register, store, change_register, change_cell, call, library, allocate, Exps, no_exp, and_exp, Statement, block, compute, branch, while_loop, do_loop, for_loop, break_at, continue_at, gives, Statements, no_statement, and_statement}
-use Rattle.flow_lower.specs.Lowered.{instr, one, computes, width, exp_size, exps_size, exp_code, exps_code, statement_kinds, maybe_kinds, statement_size, statements_size, statement_code, statements_code, maybe_size, test_size, maybe_code, test_code}
+use Rattle.c_core.specs.Core.{Exp, null, load, unary, binary, move, advance, member, between, to_pointer, to_number, copy, both, either, conditional, comma, set_register, store, change_register, change_cell, call, library, allocate, Exps, no_exp, and_exp, Statement, block, compute, branch, while_loop, do_loop, for_loop, break_at, continue_at, gives, Statements, no_statement, and_statement}
+use Rattle.flow_lower.specs.Lowered.{instr, one, computes, gives_nothing, library_size, library_code, width, exp_size, exps_size, exp_code, exps_code, value_registers, statement_kinds, maybe_kinds, statement_size, statements_size, statement_code, statements_code, maybe_size, test_size, maybe_code, test_code}
 
 pub joined : {X : Type 0} (xs ys : List X) (m n : ℕ) → length xs ≡ m → length ys ≡ n → length (xs ++ ys) ≡ m + n
 joined xs ys m n d e = omega (arith, length-append xs ys, d, e)
 
 pub behind : {X : Type 0} (x : X) (xs : List X) (n : ℕ) → length xs ≡ n → length (x ∷ xs) ≡ 1 + n
 behind x xs n e = omega (arith, e)
+
+pub library_length : (at : Position) (r : ℕ) (c : LibraryCall) (args : List ℕ) → length (library_code at r c args) ≡ library_size c
+library_length at r c args = by (gives_nothing c)
+  where
+    by : (b : Bool) → length (if b then instr at (act.Library c args None) ∷ computes at r (work.Constant (pos 0)) else one at (act.Library c args (Some r))) ≡ (if b then 2 else 1)
+    by true = refl
+    by false = refl
 
 mutual
   pub exp_length : (first : ℕ) (e : Exp) (r pc : ℕ) → length (exp_code first e r pc) ≡ exp_size e
@@ -25,6 +33,7 @@ mutual
   exp_length first (member a by at) r pc = joined _ _ _ _ (exp_length first a (r + 1) pc) refl
   exp_length first (to_pointer a at) r pc = joined _ _ _ _ (exp_length first a (r + 1) pc) refl
   exp_length first (to_number a at) r pc = joined _ _ _ _ (exp_length first a (r + 1) pc) refl
+  exp_length first (copy a at) r pc = joined _ _ _ _ (exp_length first a (r + 1) pc) refl
   exp_length first (set_register n a at) r pc = joined _ _ _ _ (exp_length first a (r + 1) pc) refl
   exp_length first (allocate site a at) r pc = joined _ _ _ _ (exp_length first a (r + 1) pc) refl
   exp_length first (binary o a b at) r pc = joined _ _ _ _ (exp_length first a (r + 1) pc) (joined _ _ _ _ (exp_length first b (r + 1 + width a) (pc + exp_size a)) refl)
@@ -47,7 +56,7 @@ mutual
   exp_length first (change_register n c b old at) r pc = behind (instr at (act.Compute (r + 1) (work.Copy n))) _ _ (joined _ _ _ _ (exp_length first b (r + 3) (pc + 1)) refl)
   exp_length first (change_cell a loaded c b old at) r pc = joined _ _ _ _ (exp_length first a (r + 3) pc) (behind (instr loaded (act.LoadCell (r + 1) (r + 3))) _ _ (joined _ _ _ _ (exp_length first b (r + 3 + width a) (pc + exp_size a + 1)) refl))
   exp_length first (call f es pointer at) r pc = joined _ _ _ _ (exps_length first es (r + 1) pc) refl
-  exp_length first (library c es at) r pc = joined _ _ _ _ (exps_length first es (r + 1) pc) refl
+  exp_length first (library c es at) r pc = joined _ _ _ _ (exps_length first es (r + 1) pc) (library_length at r c (value_registers (r + 1) es))
 
   pub exps_length : (first : ℕ) (es : Exps) (r pc : ℕ) → length (exps_code first es r pc) ≡ exps_size es
   exps_length first no_exp r pc = refl

@@ -1,5 +1,5 @@
 -- A call of the library makes its events.
-use Rattle.std.proofs.Common.{◌≡◌, ℕ, zero, suc, ◌+◌, ◌≤◌, ◌<◌, ◌≢◌, ◌⊎◌, inl, inr, Bool, true, false, not, cond, nat_le, ◌&&◌, ◌||◌, ℤ, pos, List, [], length, Some, None, slice_get, refl, sym, ◌∙◌, ap, subst, arith}
+use Rattle.std.proofs.Common.{◌≡◌, ℕ, zero, suc, ◌+◌, ◌≤◌, ◌<◌, ◌≢◌, ◌⊎◌, inl, inr, Bool, true, false, not, cond, nat_le, ◌&&◌, ◌||◌, ℤ, pos, List, [], length, Option, Some, None, slice_get, Ok, refl, sym, ◌∙◌, ap, subst, arith}
 use Rattle.std.proofs.lemmas.List.{length-set}
 use Rattle.sync_objects.specs.Setup.{SetupView}
 use Rattle.sync_objects.specs.Names.{name_of, is_ending, is_weak}
@@ -12,6 +12,7 @@ use Rattle.flow_code.specs.declared.act.Act.{Act}
 use Rattle.flow_code.specs.declared.act.Act.TheVariants as act
 use Rattle.flow_code.specs.declared.act.LibraryCall.{LibraryCall}
 use Rattle.flow_code.specs.declared.act.LibraryCall.TheVariants as call
+use Rattle.flow_code.specs.declared.work.Work.TheVariants as work
 use Rattle.flow_code.specs.declared.code.Code.{Code}
 use Rattle.flow_code.specs.declared.thread.Phase.TheVariants as phase
 use Rattle.flow_code.specs.declared.thread.Due.{Due}
@@ -22,16 +23,17 @@ use Rattle.flow_code.specs.declared.thread.Onward.TheVariants as onward
 use Rattle.flow_code.specs.Works.{register}
 use Rattle.flow_code.specs.Library.{argument, library_due, library_onward, piece_of}
 use Rattle.flow_code.specs.Threads.{Frame, Thread, result_cell, line_of, line_in, instr_at}
-use Rattle.flow_code.specs.Next.{act_in, act_at, act_due, act_after, due_of, action_of, stepped, limited, listed, owing, first_owed, most_entries, phase_due, phase_after, after_due, one_more, went_on, caller, is_free_of_limit, words_of}
+use Rattle.flow_code.specs.Next.{act_in, act_at, act_due, act_after, due_of, action_of, stepped, limited, listed, owing, first_owed, most_entries, phase_due, phase_after, after_due, one_more, went_on, caller, is_free_of_limit, words_of, past}
 use Rattle.c_core.specs.declared.position.Position.{Position}
 use Rattle.c_core.specs.Core.{Function, Program}
 use Rattle.c_core.specs.Runs.{Run, does, traps, ends, State, is_free}
 use Rattle.c_core.specs.Meaning as meaning
-use Rattle.flow_lower.specs.Lowered.{instr, lowered, function_kinds}
+use Rattle.flow_lower.specs.Lowered.{instr, library_size, library_code, lowered, function_kinds, body_code}
 use Rattle.flow_lower.specs.Follows.{Follows, here}
-use Rattle.flow_lower.proofs.Machine.{Shows, same_register, other_register, goes_quietly, quiet_passes, trap_passes}
+use Rattle.flow_lower.proofs.Machine.{Shows, instr_of, same_register, other_register, goes_quietly, by_quiet, quiet_passes, trap_passes, HasAt}
 use Rattle.flow_lower.proofs.Events as events
-use Rattle.flow_lower.proofs.Events.{plain_by, action_is, load_passes, store_passes, mark_passes}
+use Rattle.flow_lower.proofs.Events.{sets, by_compute, plain_by, action_is, load_passes, store_passes, mark_passes}
+use Rattle.flow_lower.proofs.Arriving.{puts}
 use Rattle.flow_lower.proofs.Calls.{IsPlain, IsNotExit, plain_due, IsTrap, IsOver, ends_by_four}
 
 -- ---- operations
@@ -125,11 +127,11 @@ module _ (p : Program) (s : SetupView) (t : ℕ) (i : ℕ) (f : Function) (is : 
     later = omega arith;
   }
 
-  module _ (m : Thread) (at : Position) (c : LibraryCall) (args : List ℕ) (into : ℕ) (ws : List ℕ) (stands : instr_at (lowered p) m.top ≡ Some (instr at (act.Library c args (Some into)))) (are : words_of m.top.registers args ≡ ws) where
+  module _ (m : Thread) (at : Position) (c : LibraryCall) (args : List ℕ) (into : Option ℕ) (ws : List ℕ) (stands : instr_at (lowered p) m.top ≡ Some (instr at (act.Library c args into))) (are : words_of m.top.registers args ≡ ws) where
     lib : Act
-    lib = act.Library c args (Some into)
+    lib = act.Library c args into
 
-    here_act : (n : Thread) (σ : State) (made : ℕ) (kept : ℤ) → InCall m n σ made kept → act_at (lowered p) n.top ≡ Some (act.Library c args (Some into))
+    here_act : (n : Thread) (σ : State) (made : ℕ) (kept : ℤ) → InCall m n σ made kept → act_at (lowered p) n.top ≡ Some (act.Library c args into)
     here_act n σ made kept h = ap (λ x. act_at (lowered p) x) h.frame ∙ ap act_in stands
 
     here_line : (n : Thread) (σ : State) (made : ℕ) (kept : ℤ) → InCall m n σ made kept → line_of (lowered p) n.phase n.top ≡ at.line
@@ -139,7 +141,7 @@ module _ (p : Program) (s : SetupView) (t : ℕ) (i : ℕ) (f : Function) (is : 
     abbrev due_now : State → ℕ → ℤ → Due
     due_now σ made kept = library_due (meaning.caller p s t σ) c ws made kept
 
-    same_due : (n : Thread) (σ : State) (made : ℕ) (kept : ℤ) → InCall m n σ made kept → act_due (lowered p) s t n (Some (act.Library c args (Some into))) ≡ due_now σ made kept
+    same_due : (n : Thread) (σ : State) (made : ℕ) (kept : ℤ) → InCall m n σ made kept → act_due (lowered p) s t n (Some (act.Library c args into)) ≡ due_now σ made kept
     same_due n σ made kept h =
         ap (λ x. library_due (caller (lowered p) s t n) c (words_of x.registers args) x.made x.kept) h.frame
         ∙ ap (λ x. library_due (caller (lowered p) s t n) c x made kept) are
@@ -154,15 +156,15 @@ module _ (p : Program) (s : SetupView) (t : ℕ) (i : ℕ) (f : Function) (is : 
 
     -- the thread behind what is due
     abbrev goes_on : Thread → State → ℕ → ℤ → ℤ → Thread
-    goes_on n σ made kept answer = went_on (record n { printed = n.printed + length (piece_of c ws) }) (Some into) (library_onward (meaning.caller p s t σ) c ws made kept answer)
+    goes_on n σ made kept answer = went_on (record n { printed = n.printed + length (piece_of c ws) }) into (library_onward (meaning.caller p s t σ) c ws made kept answer)
 
     same_onward : (n : Thread) (σ : State) (made : ℕ) (kept answer : ℤ) → InCall m n σ made kept → phase_after (lowered p) s t n n.phase answer ≡ goes_on n σ made kept answer
     same_onward n σ made kept answer h =
         ap (λ x. phase_after (lowered p) s t n x answer) h.phase
         ∙ ap (λ x. act_after (lowered p) s t n x answer) (here_act n σ made kept h)
-        ∙ ap (λ x. went_on (record n { printed = n.printed + length (piece_of c (words_of x.registers args)) }) (Some into) (library_onward (caller (lowered p) s t n) c (words_of x.registers args) x.made x.kept answer)) h.frame
-        ∙ ap (λ x. went_on (record n { printed = n.printed + length (piece_of c x) }) (Some into) (library_onward (caller (lowered p) s t n) c x made kept answer)) are
-        ∙ ap (λ x. went_on (record n { printed = n.printed + length (piece_of c ws) }) (Some into) (library_onward (record { sites = p.sites; setup = s; thread = t; printed = x }) c ws made kept answer)) h.printed
+        ∙ ap (λ x. went_on (record n { printed = n.printed + length (piece_of c (words_of x.registers args)) }) into (library_onward (caller (lowered p) s t n) c (words_of x.registers args) x.made x.kept answer)) h.frame
+        ∙ ap (λ x. went_on (record n { printed = n.printed + length (piece_of c x) }) into (library_onward (caller (lowered p) s t n) c x made kept answer)) are
+        ∙ ap (λ x. went_on (record n { printed = n.printed + length (piece_of c ws) }) into (library_onward (record { sites = p.sites; setup = s; thread = t; printed = x }) c ws made kept answer)) h.printed
 
     -- ---- where an answer leads to
 
@@ -171,19 +173,19 @@ module _ (p : Program) (s : SetupView) (t : ℕ) (i : ℕ) (f : Function) (is : 
 
     -- the thread behind an event, with its count and the length of its list of entries
     abbrev landed : Thread → Onward → (count entries : ℕ) → Thread
-    landed n o count entries = record (went_on (record n { printed = n.printed + bytes }) (Some into) o) { count = count; entries = entries }
+    landed n o count entries = record (went_on (record n { printed = n.printed + bytes }) into o) { count = count; entries = entries }
 
-    quiet_lands : (n : Thread) (o : Onward) → went_on (record n { printed = n.printed + bytes }) (Some into) o ≡ landed n o n.count n.entries
+    quiet_lands : (n : Thread) (o : Onward) → went_on (record n { printed = n.printed + bytes }) into o ≡ landed n o n.count n.entries
     quiet_lands n (onward.Stays kept) = refl
     quiet_lands n (onward.Gives w) = refl
     quiet_lands n onward.Ends = refl
 
-    more_lands : (n : Thread) (o : Onward) → one_more (went_on (record n { printed = n.printed + bytes }) (Some into) o) ≡ landed n o (n.count + 1) n.entries
+    more_lands : (n : Thread) (o : Onward) → one_more (went_on (record n { printed = n.printed + bytes }) into o) ≡ landed n o (n.count + 1) n.entries
     more_lands n (onward.Stays kept) = refl
     more_lands n (onward.Gives w) = refl
     more_lands n onward.Ends = refl
 
-    entry_lands : (n : Thread) (o : Onward) → one_entry (went_on (record n { printed = n.printed + bytes }) (Some into) o) ≡ landed n o (n.count + 1) (n.entries + 1)
+    entry_lands : (n : Thread) (o : Onward) → one_entry (went_on (record n { printed = n.printed + bytes }) into o) ≡ landed n o (n.count + 1) (n.entries + 1)
     entry_lands n (onward.Stays kept) = refl
     entry_lands n (onward.Gives w) = refl
     entry_lands n onward.Ends = refl
@@ -192,10 +194,10 @@ module _ (p : Program) (s : SetupView) (t : ℕ) (i : ℕ) (f : Function) (is : 
     abbrev state_after : State → ℕ → State
     state_after σ count = record σ { count = count; printed = σ.printed + bytes }
 
-    -- where the value comes, if it is asked for in a register of values
-    abbrev Goes : (ℕ → State → Run) → Type 0
-    Goes k = (n : Thread) (v : ℕ) (σ' : State) → n.top.instr ≡ m.top.instr + 1 → Shows p s t i f is callers budget n σ' → register n.top.registers into ≡ v
-        → ((q : ℕ) → q ≢ into → register n.top.registers q ≡ register m.top.registers q) → m.count ≤ n.count → Follows (lowered p) s t (k v σ') n
+    -- where the value comes, if it is asked for in the register r
+    abbrev Goes : ℕ → (ℕ → State → Run) → Type 0
+    Goes r k = (n : Thread) (v : ℕ) (σ' : State) → n.top.instr ≡ m.top.instr + 1 → Shows p s t i f is callers budget n σ' → register n.top.registers r ≡ v
+        → ((q : ℕ) → q ≢ r → register n.top.registers q ≡ register m.top.registers q) → m.count ≤ n.count → Follows (lowered p) s t (k v σ') n
 
     stays_in : (n : Thread) (σ : State) (made : ℕ) (kept kept' : ℤ) (count entries : ℕ) → InCall m n σ made kept → n.count ≤ count → InCall m (landed n (onward.Stays kept') count entries) (state_after σ count) (made + 1) kept'
     stays_in n σ made kept kept' count entries h le = record {
@@ -293,23 +295,24 @@ module _ (p : Program) (s : SetupView) (t : ℕ) (i : ℕ) (f : Function) (is : 
     step_operate n σ made kept o obj answer h free e =
         ap (λ x. after_due (lowered p) s t n x answer) e ∙ after_operation (lowered p) s t n o obj answer free ∙ ap one_entry (same_onward n σ made kept answer h) ∙ entry_lands n (library_onward (meaning.caller p s t σ) c ws made kept answer)
 
-    module _ (in_values : length f.pointers + length f.objects ≤ into) (in_range : into < length (function_kinds f)) (k : ℕ → State → Run) (go : Goes k) where
+    module _ (r : ℕ) (asks : into ≡ Some r) (in_values : length f.pointers + length f.objects ≤ r) (in_range : r < length (function_kinds f)) (k : ℕ → State → Run) (go : Goes r k) where
       lands : (fuel : ℕ) (n : Thread) (σ : State) (made : ℕ) (kept : ℤ) (count entries : ℕ) (o : Onward) → InCall m n σ made kept → n.count ≤ count → count ≤ s.limit
           → ((kept' : ℤ) → o ≡ onward.Stays kept' → InCall m (landed n o count entries) (state_after σ count) (made + 1) kept' → Follows (lowered p) s t (meaning.library_from p s t fuel at.line c ws (made + 1) kept' (state_after σ count) k) (landed n o count entries))
           → Follows (lowered p) s t (meaning.onwards p s t (meaning.library_from p s t fuel at.line c ws (made + 1)) o (state_after σ count) k) (landed n o count entries)
       lands fuel n σ made kept count entries (onward.Stays kept') h le low again =
           again kept' refl (stays_in n σ made kept kept' count entries h le)
       lands fuel n σ made kept count entries (onward.Gives w) h le low again =
-          go (landed n (onward.Gives w) count entries) w (state_after σ count) (ap (λ x. x.instr + 1) h.frame) (record {
+          subst (λ x. Follows (lowered p) s t (k w (state_after σ count)) (record (went_on (record n { printed = n.printed + bytes }) x (onward.Gives w)) { count = count; entries = entries })) (sym asks)
+          (go (record (went_on (record n { printed = n.printed + bytes }) (Some r) (onward.Gives w)) { count = count; entries = entries }) w (state_after σ count) (ap (λ x. x.instr + 1) h.frame) (record {
             function = ap (λ x. x.function) h.frame ∙ h.function;
             made = refl;
             kept = refl;
             phase = h.phase;
             below = h.below;
             stripes = h.stripes;
-            size = length-set n.top.registers into w ∙ ap (λ x. length x.registers) h.frame ∙ h.size;
-            registers = λ q lt. other_register n.top.registers into w q (λ e. omega (arith, lt, in_values)) ∙ ap (λ x. register x.registers q) h.frame ∙ h.registers q lt;
-            objects = λ q lt. other_register n.top.registers into w (length f.pointers + q) (λ e. omega (arith, lt, in_values)) ∙ ap (λ x. register x.registers (length f.pointers + q)) h.frame ∙ h.objects q lt;
+            size = length-set n.top.registers r w ∙ ap (λ x. length x.registers) h.frame ∙ h.size;
+            registers = λ q lt. other_register n.top.registers r w q (λ e. omega (arith, lt, in_values)) ∙ ap (λ x. register x.registers q) h.frame ∙ h.registers q lt;
+            objects = λ q lt. other_register n.top.registers r w (length f.pointers + q) (λ e. omega (arith, lt, in_values)) ∙ ap (λ x. register x.registers (length f.pointers + q)) h.frame ∙ h.objects q lt;
             count = refl;
             arena = h.arena;
             printed = ap (λ x. x + bytes) h.printed;
@@ -317,8 +320,8 @@ module _ (p : Program) (s : SetupView) (t : ℕ) (i : ℕ) (f : Function) (is : 
             small = low;
             enough = omega (arith, h.enough, le);
           })
-          (same_register n.top.registers into w (omega (arith, ap (λ x. length x.registers) h.frame, h.size, in_range)))
-          (λ q ne. other_register n.top.registers into w q ne ∙ ap (λ x. register x.registers q) h.frame) (omega (arith, h.later, le))
+          (same_register n.top.registers r w (omega (arith, ap (λ x. length x.registers) h.frame, h.size, in_range)))
+          (λ q ne. other_register n.top.registers r w q ne ∙ ap (λ x. register x.registers q) h.frame) (omega (arith, h.later, le)))
       lands fuel n σ made kept count entries onward.Ends h le low again = (landed n onward.Ends count entries, here, ended_due (landed n onward.Ends count entries) refl h.stripes)
 
       -- ---- the whole call
@@ -423,58 +426,95 @@ module _ (p : Program) (s : SetupView) (t : ℕ) (i : ℕ) (f : Function) (is : 
     step_ends n σ made kept answer _ obj h last e = absurd last
 
   -- `pthread_exit`: the value is handed over, the slot ended, and the live threads left
-  exit_call : (m : Thread) (at : Position) (args : List ℕ) (into : ℕ) (ws : List ℕ) (σ : State) (k : ℕ → State → Run) → instr_at (lowered p) m.top ≡ Some (instr at (act.Library call.Exit args (Some into))) → words_of m.top.registers args ≡ ws
+  exit_call : (m : Thread) (at : Position) (args : List ℕ) (ws : List ℕ) (σ : State) (k : ℕ → State → Run) → instr_at (lowered p) m.top ≡ Some (instr at (act.Library call.Exit args None)) → words_of m.top.registers args ≡ ws
       → Shows p s t i f is callers budget m σ → Follows (lowered p) s t (meaning.library_call p s t at.line call.Exit ws σ k) m
-  exit_call m at args into ws σ k stands are h = handed
+  exit_call m at args ws σ k stands are h = handed
     where
       first_stands : InCall m m σ 0 (pos 0)
       first_stands = begins m σ h
 
       m1 : Thread
-      m1 = landed m at call.Exit args into ws stands are m (onward.Stays (pos 0)) (m.count + 1) m.entries
+      m1 = landed m at call.Exit args None ws stands are m (onward.Stays (pos 0)) (m.count + 1) m.entries
 
       σ1 : State
-      σ1 = state_after m at call.Exit args into ws stands are σ (m.count + 1)
+      σ1 = state_after m at call.Exit args None ws stands are σ (m.count + 1)
 
       second_stands : InCall m m1 σ1 1 (pos 0)
-      second_stands = stays_in m at call.Exit args into ws stands are m σ 0 (pos 0) (pos 0) (m.count + 1) m.entries first_stands (omega arith)
+      second_stands = stays_in m at call.Exit args None ws stands are m σ 0 (pos 0) (pos 0) (m.count + 1) m.entries first_stands (omega arith)
 
       m2 : Thread
-      m2 = landed m at call.Exit args into ws stands are m1 (onward.Stays (pos 0)) (m1.count + 1) m1.entries
+      m2 = landed m at call.Exit args None ws stands are m1 (onward.Stays (pos 0)) (m1.count + 1) m1.entries
 
       σ2 : State
-      σ2 = state_after m at call.Exit args into ws stands are σ1 (m1.count + 1)
+      σ2 = state_after m at call.Exit args None ws stands are σ1 (m1.count + 1)
 
       third_stands : InCall m m2 σ2 2 (pos 0)
-      third_stands = stays_in m at call.Exit args into ws stands are m1 σ1 1 (pos 0) (pos 0) (m1.count + 1) m1.entries second_stands (omega arith)
+      third_stands = stays_in m at call.Exit args None ws stands are m1 σ1 1 (pos 0) (pos 0) (m1.count + 1) m1.entries second_stands (omega arith)
 
       m3 : Thread
-      m3 = landed m at call.Exit args into ws stands are m2 onward.Ends (m2.count + 1) m2.entries
+      m3 = landed m at call.Exit args None ws stands are m2 onward.Ends (m2.count + 1) m2.entries
 
       over : Follows (lowered p) s t ends m3
-      over = (m3, here, ended_due m at call.Exit args into ws stands are m3 refl h.stripes)
+      over = (m3, here, ended_due m at call.Exit args None ws stands are m3 refl h.stripes)
 
       leaves : Follows (lowered p) s t (meaning.library_from p s t 3 at.line call.Exit ws 2 (pos 0) σ2 k) m2
       leaves =
-          ends_event m at call.Exit args into ws stands are m2 σ2 2 (pos 0) op.Leave object_id.Threads _ third_stands refl refl refl (λ e answer.
-          subst (λ x. Follows (lowered p) s t ends x) (sym (step_ends m at call.Exit args into ws stands are m2 σ2 2 (pos 0) answer op.Leave object_id.Threads third_stands tt e)) over)
+          ends_event m at call.Exit args None ws stands are m2 σ2 2 (pos 0) op.Leave object_id.Threads _ third_stands refl refl refl (λ e answer.
+          subst (λ x. Follows (lowered p) s t ends x) (sym (step_ends m at call.Exit args None ws stands are m2 σ2 2 (pos 0) answer op.Leave object_id.Threads third_stands tt e)) over)
 
       ended : Follows (lowered p) s t (meaning.library_from p s t 4 at.line call.Exit ws 1 (pos 0) σ1 k) m1
       ended =
-          ends_event m at call.Exit args into ws stands are m1 σ1 1 (pos 0) op.End (object_id.Slot t) _ second_stands refl refl refl (λ e answer.
-          subst (λ x. Follows (lowered p) s t (meaning.library_from p s t 3 at.line call.Exit ws 2 (pos 0) σ2 k) x) (sym (step_ends m at call.Exit args into ws stands are m1 σ1 1 (pos 0) answer op.End (object_id.Slot t) second_stands tt e)) leaves)
+          ends_event m at call.Exit args None ws stands are m1 σ1 1 (pos 0) op.End (object_id.Slot t) _ second_stands refl refl refl (λ e answer.
+          subst (λ x. Follows (lowered p) s t (meaning.library_from p s t 3 at.line call.Exit ws 2 (pos 0) σ2 k) x) (sym (step_ends m at call.Exit args None ws stands are m1 σ1 1 (pos 0) answer op.End (object_id.Slot t) second_stands tt e)) leaves)
 
       handed : Follows (lowered p) s t (meaning.library_call p s t at.line call.Exit ws σ k) m
       handed =
-          plain_event m at call.Exit args into ws stands are m σ 0 (pos 0) (due.Store (result_cell t) (argument ws 0)) _ first_stands refl (store_passes p s t i f is callers budget (result_cell t) (argument ws 0)) refl (λ low e answer.
-          subst (λ x. Follows (lowered p) s t (meaning.library_from p s t 4 at.line call.Exit ws 1 (pos 0) (state_after m at call.Exit args into ws stands are σ (σ.count + 1)) k) x)
-          (sym (step_store m at call.Exit args into ws stands are m σ 0 (pos 0) (result_cell t) (argument ws 0) answer first_stands e))
-          (subst (λ x. Follows (lowered p) s t (meaning.library_from p s t 4 at.line call.Exit ws 1 (pos 0) (state_after m at call.Exit args into ws stands are σ x) k) m1) (ap (λ x. x + 1) h.count) ended))
+          plain_event m at call.Exit args None ws stands are m σ 0 (pos 0) (due.Store (result_cell t) (argument ws 0)) _ first_stands refl (store_passes p s t i f is callers budget (result_cell t) (argument ws 0)) refl (λ low e answer.
+          subst (λ x. Follows (lowered p) s t (meaning.library_from p s t 4 at.line call.Exit ws 1 (pos 0) (state_after m at call.Exit args None ws stands are σ (σ.count + 1)) k) x)
+          (sym (step_store m at call.Exit args None ws stands are m σ 0 (pos 0) (result_cell t) (argument ws 0) answer first_stands e))
+          (subst (λ x. Follows (lowered p) s t (meaning.library_from p s t 4 at.line call.Exit ws 1 (pos 0) (state_after m at call.Exit args None ws stands are σ x) k) m1) (ap (λ x. x + 1) h.count) ended))
 
-  pub library_follows : (c : LibraryCall) (m : Thread) (at : Position) (args : List ℕ) (into : ℕ) (ws : List ℕ) (σ : State) (k : ℕ → State → Run) → instr_at (lowered p) m.top ≡ Some (instr at (act.Library c args (Some into))) → words_of m.top.registers args ≡ ws
-      → Shows p s t i f is callers budget m σ → length f.pointers + length f.objects ≤ into → into < length (function_kinds f)
-      → ((n : Thread) (v : ℕ) (σ' : State) → n.top.instr ≡ m.top.instr + 1 → Shows p s t i f is callers budget n σ' → register n.top.registers into ≡ v → ((q : ℕ) → q ≢ into → register n.top.registers q ≡ register m.top.registers q) → m.count ≤ n.count → Follows (lowered p) s t (k v σ') n)
+  -- `free`: the word 0 comes into its register behind the call
+  free_call : (m : Thread) (at : Position) (args : List ℕ) (r : ℕ) (ws : List ℕ) (σ : State) (k : ℕ → State → Run) → HasAt (body_code f) m.top.instr (library_code at r call.Free args) → Shows p s t i f is callers budget m σ
+      → length f.pointers + length f.objects ≤ r → r < length (function_kinds f)
+      → ((n : Thread) (v : ℕ) (σ' : State) → n.top.instr ≡ m.top.instr + 2 → Shows p s t i f is callers budget n σ' → register n.top.registers r ≡ v → ((q : ℕ) → q ≢ r → register n.top.registers q ≡ register m.top.registers q) → m.count ≤ n.count → Follows (lowered p) s t (k v σ') n)
+      → Follows (lowered p) s t (meaning.library_call p s t at.line call.Free ws σ k) m
+  free_call m at args r ws σ k code h in_values in_range go =
+      by_quiet p s t i f is callers budget _ m n σ at (act.Library call.Free args None) h code.0 refl refl
+      (by_compute p s t i f is callers budget n σ' at r (work.Constant (pos 0)) (Ok 0) k shows code.1.0 refl (λ v same.
+      let x = puts p s t i f is callers budget m n σ' r v (m.top.instr + 2) in_values in_range shows (λ q l1 l2. refl) (omega arith) (omega arith) in
+      go (sets n r v) v σ' x.place x.shows x.value (λ q ne. other_register m.top.registers r v q ne) x.later))
+    where
+      n : Thread
+      n = record m { top = past m.top; printed = m.printed + 0 }
+
+      σ' : State
+      σ' = record σ { printed = σ.printed + 0 }
+
+      shows : Shows p s t i f is callers budget n σ'
+      shows = record {
+        function = h.function;
+        made = refl;
+        kept = refl;
+        phase = h.phase;
+        below = h.below;
+        stripes = h.stripes;
+        size = h.size;
+        registers = h.registers;
+        objects = h.objects;
+        count = h.count;
+        arena = h.arena;
+        printed = ap (λ x. x + 0) h.printed;
+        depth = h.depth;
+        small = h.small;
+        enough = h.enough;
+      }
+
+  pub library_follows : (c : LibraryCall) (m : Thread) (at : Position) (args : List ℕ) (r : ℕ) (ws : List ℕ) (σ : State) (k : ℕ → State → Run) → HasAt (body_code f) m.top.instr (library_code at r c args) → words_of m.top.registers args ≡ ws
+      → Shows p s t i f is callers budget m σ → length f.pointers + length f.objects ≤ r → r < length (function_kinds f)
+      → ((n : Thread) (v : ℕ) (σ' : State) → n.top.instr ≡ m.top.instr + library_size c → Shows p s t i f is callers budget n σ' → register n.top.registers r ≡ v → ((q : ℕ) → q ≢ r → register n.top.registers q ≡ register m.top.registers q) → m.count ≤ n.count → Follows (lowered p) s t (k v σ') n)
       → Follows (lowered p) s t (meaning.library_call p s t at.line c ws σ k) m
-  library_follows call.Exit m at args into ws σ k stands are h in_values in_range go = exit_call m at args into ws σ k stands are h
-  library_follows c m at args into ws σ k stands are h in_values in_range go =
-      whole_call m at c args into ws stands are in_values in_range k go tt 5 m σ 0 (pos 0) (begins m σ h) h.small (omega arith) (omega arith)
+  library_follows call.Exit m at args r ws σ k code are h in_values in_range go = exit_call m at args ws σ k (instr_of p s t i f is callers budget m σ h ∙ code.0) are h
+  library_follows call.Free m at args r ws σ k code are h in_values in_range go = free_call m at args r ws σ k code h in_values in_range go
+  library_follows c m at args r ws σ k code are h in_values in_range go =
+      whole_call m at c args (Some r) ws (instr_of p s t i f is callers budget m σ h ∙ code.0) are r refl in_values in_range k go tt 5 m σ 0 (pos 0) (begins m σ h) h.small (omega arith) (omega arith)

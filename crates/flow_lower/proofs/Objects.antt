@@ -1,16 +1,19 @@
 -- The objects that a function has from its entry on.
-use Rattle.std.proofs.Common.{◌≡◌, ℕ, zero, suc, ◌+◌, ◌≤◌, ◌<◌, Bool, true, false, cond, nat_le, List, [], ◌∷◌, ◌++◌, length, Option, Some, None, option_map, slice_set, refl, sym, ◌∙◌, ap, subst, append_assoc, arith}
+use Rattle.std.proofs.Common.{◌≡◌, ℕ, zero, suc, ◌+◌, ◌≤◌, ◌<◌, Bool, true, false, if◌then◌else◌, cond, nat_le, pos, List, [], ◌∷◌, ◌++◌, length, Option, Some, None, option_map, slice_set, refl, sym, ◌∙◌, ap, subst, append_assoc, arith}
 use Rattle.std.proofs.lemmas.List.{length-set}
 use Rattle.rr_base.specs.declared.layout.Site.{Site}
+use Rattle.flow_code.specs.declared.act.Act.TheVariants as act
 use Rattle.flow_code.specs.declared.act.Instr.{Instr}
+use Rattle.flow_code.specs.declared.act.LibraryCall.{LibraryCall}
+use Rattle.flow_code.specs.declared.work.Work.TheVariants as work
 use Rattle.flow_code.specs.Pointers.{pointer_at}
 use Rattle.flow_code.specs.Works.{register}
 use Rattle.flow_code.specs.Threads.{Object, object, object_of, and_objects, objects_of, fitted, placed, with_arguments, size_of}
 use Rattle.c_core.specs.declared.position.Position.{Position}
 use Rattle.c_core.specs.Core as core
-use Rattle.c_core.specs.Core.{Exp, null, load, unary, binary, move, advance, member, between, to_pointer, to_number, both, either, conditional, comma, set_register, store, change_register, change_cell, call, library, allocate, Exps, no_exp, and_exp, Statement, block, compute, branch, while_loop, do_loop, for_loop, break_at, continue_at, gives, Statements, no_statement, and_statement, Arrival, arrives}
+use Rattle.c_core.specs.Core.{Exp, null, load, unary, binary, move, advance, member, between, to_pointer, to_number, copy, both, either, conditional, comma, set_register, store, change_register, change_cell, call, library, allocate, Exps, no_exp, and_exp, Statement, block, compute, branch, while_loop, do_loop, for_loop, break_at, continue_at, gives, Statements, no_statement, and_statement, Arrival, arrives}
 use Rattle.c_core.specs.Meaning.{made_objects, with_first, listed_word}
-use Rattle.flow_lower.specs.Lowered.{width, exp_size, exp_code, exps_code, statement_kinds, statement_size, statement_code, statements_code, objects_code, arrivals_code}
+use Rattle.flow_lower.specs.Lowered.{instr, one, computes, gives_nothing, library_code, width, exp_size, exp_code, exps_code, value_registers, statement_kinds, statement_size, statement_code, statements_code, objects_code, arrivals_code}
 use Rattle.flow_lower.proofs.Machine.{same_register, other_register}
 
 -- ---- code that doesn't begin with an object
@@ -26,6 +29,13 @@ begins_append (x ∷ xs) ys h = h
 no_objects : (xs : List Instr) → Begins xs → objects_of xs ≡ []
 no_objects [] h = absurd h
 no_objects (x ∷ xs) h = ap (λ o. and_objects o (objects_of xs)) h
+
+library_begins : (at : Position) (r : ℕ) (c : LibraryCall) (args : List ℕ) → Begins (library_code at r c args)
+library_begins at r c args = by (gives_nothing c)
+  where
+    by : (b : Bool) → Begins (if b then instr at (act.Library c args None) ∷ computes at r (work.Constant (pos 0)) else one at (act.Library c args (Some r)))
+    by true = refl
+    by false = refl
 
 mutual
   exp_begins : (first : ℕ) (e : Exp) (r pc : ℕ) → Begins (exp_code first e r pc)
@@ -43,6 +53,7 @@ mutual
   exp_begins first (between a b element at) r pc = begins_append (exp_code first a (r + 1) pc) _ (exp_begins first a (r + 1) pc)
   exp_begins first (to_pointer a at) r pc = begins_append (exp_code first a (r + 1) pc) _ (exp_begins first a (r + 1) pc)
   exp_begins first (to_number a at) r pc = begins_append (exp_code first a (r + 1) pc) _ (exp_begins first a (r + 1) pc)
+  exp_begins first (copy a at) r pc = begins_append (exp_code first a (r + 1) pc) _ (exp_begins first a (r + 1) pc)
   exp_begins first (both a b at) r pc = begins_append (exp_code first a (r + 1) pc) _ (exp_begins first a (r + 1) pc)
   exp_begins first (either a b at) r pc = begins_append (exp_code first a (r + 1) pc) _ (exp_begins first a (r + 1) pc)
   exp_begins first (conditional a b c at) r pc = begins_append (exp_code first a (r + 1) pc) _ (exp_begins first a (r + 1) pc)
@@ -52,7 +63,7 @@ mutual
   exp_begins first (change_register n c b old at) r pc = refl
   exp_begins first (change_cell a loaded c b old at) r pc = begins_append (exp_code first a (r + 3) pc) _ (exp_begins first a (r + 3) pc)
   exp_begins first (call f es pointer at) r pc = exps_begin first es (r + 1) pc _ refl
-  exp_begins first (library c es at) r pc = exps_begin first es (r + 1) pc _ refl
+  exp_begins first (library c es at) r pc = exps_begin first es (r + 1) pc _ (library_begins at r c (value_registers (r + 1) es))
   exp_begins first (allocate site a at) r pc = begins_append (exp_code first a (r + 1) pc) _ (exp_begins first a (r + 1) pc)
 
   exps_begin : (first : ℕ) (es : Exps) (r pc : ℕ) (rest : List Instr) → Begins rest → Begins (exps_code first es r pc ++ rest)

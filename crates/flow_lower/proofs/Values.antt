@@ -20,7 +20,7 @@ use Rattle.c_core.specs.declared.value.UnaryOp.TheVariants as unary_op
 use Rattle.c_core.specs.declared.value.Change.{Change}
 use Rattle.c_core.specs.declared.value.Change.TheVariants as change
 use Rattle.c_core.specs.Core as core
-use Rattle.c_core.specs.Core.{Exp, null, object, global, load, unary, binary, move, advance, member, between, to_pointer, to_number, both, either, conditional, comma, set_register, store, change_register, change_cell, Exps, no_exp, and_exp, Function, Program}
+use Rattle.c_core.specs.Core.{Exp, null, object, global, load, unary, binary, move, advance, member, between, to_pointer, to_number, copy, both, either, conditional, comma, set_register, store, change_register, change_cell, Exps, no_exp, and_exp, Function, Program}
 use Rattle.c_core.specs.Runs.{Run, State, ◌>>=◌, result_at, counted, with_value}
 use Rattle.c_core.specs.Meaning as meaning
 use Rattle.c_core.specs.Meaning.{Calls, value, unary_of, changed, load_at, store_at}
@@ -127,6 +127,9 @@ module _ (p : Program) (s : SetupView) (t : ℕ) (i : ℕ) (f : Function) (is : 
 
   pub to_number_follows : (a : Exp) (at : Position) → ExpFollows a → ExpFollows (to_number a at)
   to_number_follows a at follows r pc m σ k code ks le e h go = one_operand a follows at (work.ToNumber (r + 1)) (λ v. number_from p.sites v) false r pc m σ k (λ regs v same. ap (λ x. number_from p.sites x) same) code ks le e h go
+
+  pub copy_follows : (a : Exp) (at : Position) → ExpFollows a → ExpFollows (copy a at)
+  copy_follows a at follows r pc m σ k code ks le e h go = one_operand a follows at (work.Copy (r + 1)) Ok (meaning.is_pointer a) r pc m σ k (λ regs v same. ap Ok same) code ks le e h go
 
   pub load_follows : (a : Exp) (pointer : Bool) (at : Position) → ExpFollows a → ExpFollows (load a pointer at)
   load_follows a pointer at follows r pc m σ k code ks le e h go =

@@ -3,6 +3,8 @@ use Rattle.std.specs.Prelude.{ℕ, ◌+◌, Bool, true, false, if◌then◌else�
 use Rattle.flow_code.specs.declared.act.Act.{Act}
 use Rattle.flow_code.specs.declared.act.Act.TheVariants as act
 use Rattle.flow_code.specs.declared.act.Instr.{Instr}
+use Rattle.flow_code.specs.declared.act.LibraryCall.{LibraryCall}
+use Rattle.flow_code.specs.declared.act.LibraryCall.TheVariants as library_call
 use Rattle.flow_code.specs.declared.work.Work.{Work}
 use Rattle.flow_code.specs.declared.work.Work.TheVariants as work
 use Rattle.flow_code.specs.declared.code.Code.{Code}
@@ -13,7 +15,7 @@ use Rattle.c_core.specs.declared.value.UnaryOp.TheVariants as unary_op
 use Rattle.c_core.specs.declared.value.Change.{Change}
 use Rattle.c_core.specs.declared.value.Change.TheVariants as change
 use Rattle.c_core.specs.Core as core
-use Rattle.c_core.specs.Core.{Exp, null, register, object, global, load, unary, binary, move, advance, member, between, to_pointer, to_number, both, either, conditional, comma, set_register, store, change_register, change_cell, call, library, allocate, Exps, no_exp, and_exp, Statement, block, compute, branch, while_loop, do_loop, for_loop, break_at, continue_at, gives, Statements, no_statement, and_statement, Arrival, arrives, Function, Program}
+use Rattle.c_core.specs.Core.{Exp, null, register, object, global, load, unary, binary, move, advance, member, between, to_pointer, to_number, copy, both, either, conditional, comma, set_register, store, change_register, change_cell, call, library, allocate, Exps, no_exp, and_exp, Statement, block, compute, branch, while_loop, do_loop, for_loop, break_at, continue_at, gives, Statements, no_statement, and_statement, Arrival, arrives, Function, Program}
 use Rattle.c_core.specs.Meaning.{is_pointer, is_pointer_change}
 
 abbrev pub instr : Position → Act → Instr
@@ -44,6 +46,7 @@ abbrev mutual
   exp_kinds (between a b element at) = false ∷ (exp_kinds a ++ exp_kinds b)
   exp_kinds (to_pointer a at) = true ∷ exp_kinds a
   exp_kinds (to_number a at) = false ∷ exp_kinds a
+  exp_kinds (copy a at) = is_pointer a ∷ exp_kinds a
   exp_kinds (both a b at) = false ∷ (exp_kinds a ++ exp_kinds b)
   exp_kinds (either a b at) = false ∷ (exp_kinds a ++ exp_kinds b)
   exp_kinds (conditional a b c at) = is_pointer b ∷ (exp_kinds a ++ (exp_kinds b ++ exp_kinds c))
@@ -86,6 +89,15 @@ abbrev mutual
 
 -- ---- how many instructions there are
 
+-- whether a call of the library gives nothing
+abbrev pub gives_nothing : LibraryCall → Bool
+gives_nothing library_call.Exit = true
+gives_nothing library_call.Free = true
+gives_nothing _ = false
+
+abbrev pub library_size : LibraryCall → ℕ
+library_size c = if gives_nothing c then 2 else 1
+
 abbrev mutual
   pub exp_size : Exp → ℕ
   exp_size (core.number z at) = 1
@@ -102,6 +114,7 @@ abbrev mutual
   exp_size (between a b element at) = exp_size a + (exp_size b + 1)
   exp_size (to_pointer a at) = exp_size a + 1
   exp_size (to_number a at) = exp_size a + 1
+  exp_size (copy a at) = exp_size a + 1
   exp_size (both a b at) = exp_size a + (1 + (exp_size b + 4))
   exp_size (either a b at) = exp_size a + (1 + (exp_size b + 4))
   exp_size (conditional a b c at) = exp_size a + (1 + (exp_size b + (1 + (1 + (exp_size c + 1)))))
@@ -111,7 +124,7 @@ abbrev mutual
   exp_size (change_register n c b old at) = 1 + (exp_size b + 3)
   exp_size (change_cell a loaded c b old at) = exp_size a + (1 + (exp_size b + 3))
   exp_size (call f es pointer at) = exps_size es + 1
-  exp_size (library c es at) = exps_size es + 1
+  exp_size (library c es at) = exps_size es + library_size c
   exp_size (allocate site a at) = exp_size a + 1
 
   pub exps_size : Exps → ℕ
@@ -163,6 +176,10 @@ value_registers r (and_exp e es) = r ∷ value_registers (r + width e) es
 abbrev pub truth_code : Position → ℕ → ℕ → ℕ → List Instr
 truth_code at r x pc = instr at (act.Branch x (pc + 1) (pc + 3)) ∷ instr at (act.Compute r (work.Constant (pos 1))) ∷ instr at (act.Jump (pc + 4)) ∷ instr at (act.Compute r (work.Constant (pos 0))) ∷ []
 
+-- a call of the library; where it gives nothing, the register r gets 0 behind it
+abbrev pub library_code : Position → ℕ → LibraryCall → List ℕ → List Instr
+library_code at r c arguments = if gives_nothing c then instr at (act.Library c arguments None) ∷ computes at r (work.Constant (pos 0)) else one at (act.Library c arguments (Some r))
+
 abbrev mutual
   -- The code from the place pc on: the value comes into the register r, and those behind it are free. The addresses of the
   -- function's objects are in the registers from `first` on.
@@ -181,6 +198,7 @@ abbrev mutual
   exp_code first (between a b element at) r pc = exp_code first a (r + 1) pc ++ (exp_code first b (r + 1 + width a) (pc + exp_size a) ++ computes at r (work.Between (r + 1) (r + 1 + width a) element))
   exp_code first (to_pointer a at) r pc = exp_code first a (r + 1) pc ++ computes at r (work.ToPointer (r + 1))
   exp_code first (to_number a at) r pc = exp_code first a (r + 1) pc ++ computes at r (work.ToNumber (r + 1))
+  exp_code first (copy a at) r pc = exp_code first a (r + 1) pc ++ computes at r (work.Copy (r + 1))
   exp_code first (both a b at) r pc =
       let second = pc + exp_size a + 1 in
       let tested = second + exp_size b in
@@ -205,7 +223,7 @@ abbrev mutual
       exp_code first a (r + 3) pc ++ (instr loaded (act.LoadCell (r + 1) (r + 3)) ∷ (exp_code first b (r + 3 + width a) (pc + exp_size a + 1) ++
       (instr at (act.Compute (r + 2) (change_work c (r + 1) (r + 3 + width a))) ∷ instr at (act.StoreCell (r + 3) (r + 2)) ∷ computes at r (work.Copy (if old then r + 1 else r + 2)))))
   exp_code first (call f es pointer at) r pc = exps_code first es (r + 1) pc ++ one at (act.Call f (value_registers (r + 1) es) (Some r))
-  exp_code first (library c es at) r pc = exps_code first es (r + 1) pc ++ one at (act.Library c (value_registers (r + 1) es) (Some r))
+  exp_code first (library c es at) r pc = exps_code first es (r + 1) pc ++ library_code at r c (value_registers (r + 1) es)
   exp_code first (allocate site a at) r pc = exp_code first a (r + 1) pc ++ one at (act.Alloc r site (Some (r + 1)))
 
   pub exps_code : (first : ℕ) → Exps → (r pc : ℕ) → List Instr

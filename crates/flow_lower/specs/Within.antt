@@ -1,7 +1,7 @@
 -- What a core tree names is there.
 use Rattle.std.specs.Prelude.{◌≡◌, ℕ, ◌<◌, List, [], ◌∷◌, length, slice_get, Option, Some, None}
 use Rattle.c_core.specs.Core as core
-use Rattle.c_core.specs.Core.{Exp, null, register, object, global, load, unary, binary, move, advance, member, between, to_pointer, to_number, both, either, conditional, comma, set_register, store, change_register, change_cell, call, library, allocate, Exps, no_exp, and_exp, Statement, block, compute, branch, while_loop, do_loop, for_loop, break_at, continue_at, gives, Statements, no_statement, and_statement, Arrival, arrives, Function, Program}
+use Rattle.c_core.specs.Core.{Exp, null, register, object, global, load, unary, binary, move, advance, member, between, to_pointer, to_number, copy, both, either, conditional, comma, set_register, store, change_register, change_cell, call, library, allocate, Exps, no_exp, and_exp, Statement, block, compute, branch, while_loop, do_loop, for_loop, break_at, continue_at, gives, Statements, no_statement, and_statement, Arrival, arrives, Function, Program}
 use Rattle.c_core.specs.Meaning.{main_of}
 
 -- registers, objects and functions, of which there are so many
@@ -21,6 +21,7 @@ abbrev mutual
   IsWithinExp rs os fs (between a b element at) = IsWithinExp rs os fs a × IsWithinExp rs os fs b
   IsWithinExp rs os fs (to_pointer a at) = IsWithinExp rs os fs a
   IsWithinExp rs os fs (to_number a at) = IsWithinExp rs os fs a
+  IsWithinExp rs os fs (copy a at) = IsWithinExp rs os fs a
   IsWithinExp rs os fs (both a b at) = IsWithinExp rs os fs a × IsWithinExp rs os fs b
   IsWithinExp rs os fs (either a b at) = IsWithinExp rs os fs a × IsWithinExp rs os fs b
   IsWithinExp rs os fs (conditional a b c at) = IsWithinExp rs os fs a × IsWithinExp rs os fs b × IsWithinExp rs os fs c

@@ -7,10 +7,10 @@ ghost use Rattle.c_core.specs.View.{exp_of, simple_of, operation_of, choice_of, 
 ghost use Rattle.flow_lower.specs.Lowered as spec;
 
 use crate::emit::{Next, change_work, push, push_truth, push_work, unary_work};
-use crate::library::copy_of;
+use crate::library::{copy_of, gives_nothing};
 use crate::sizes::{sum, value_size};
 use c_core::{Assignment, Call, Change, Choice, Operation, Position, Simple, Value};
-use flow_code::{Act, Instr, Work};
+use flow_code::{Act, Instr, LibraryCall, Work};
 use rr_base::List;
 use std::alloc::{AllocError, Global};
 
@@ -148,6 +148,38 @@ fn push_changed(
     push(out, at, last)?;
     let given = if gives_old { old } else { new };
     push_work(out, at, from.register, Work::Copy(given))
+}
+
+/// A call of the library. Where it gives nothing, the register of the expression gets 0.
+fn push_library(
+    out: &mut List<Instr>,
+    at: Position,
+    behind: Next,
+    into: u32,
+    call: LibraryCall,
+    arguments: List<u32>,
+) -> Result<Next, AllocError>
+    ensures register { IfOk result (λ n. n.register ≡ behind.register) }
+    ensures place { IfOk result (λ n. n.place ≡ behind.place + spec.library_size call) }
+    ensures out { OnOk result (out.new ≡ out.old ++ spec.library_code at into call arguments) }
+{
+    if gives_nothing(&call) {
+        let act = Act::Library {
+            call,
+            arguments,
+            into: None,
+        };
+        push(out, at, act)?;
+        push_work(out, at, into, Work::Constant(0))?;
+        behind.behind(2)
+    } else {
+        let act = Act::Library {
+            call,
+            arguments,
+            into: Some(into),
+        };
+        push_last(out, at, behind, act)
+    }
 }
 
 /// An expression without parts.
@@ -319,6 +351,11 @@ fn push_operation(
                 from.register,
                 Work::ToNumber(inner.register),
             )
+        }
+        Operation::Copy { operand, at } => {
+            let inner = from.using(1)?;
+            let behind = push_value(alloc, first, operand, inner, out)?;
+            push_computed(out, *at, behind, from.register, Work::Copy(inner.register))
         }
     }
 }
@@ -536,12 +573,8 @@ fn push_call(
                 &mut registers,
                 out,
             )?;
-            let act = Act::Library {
-                call: copy_of(alloc, library)?,
-                arguments: registers,
-                into: Some(from.register),
-            };
-            push_last(out, *at, behind, act)
+            let copy = copy_of(alloc, library)?;
+            push_library(out, *at, behind, from.register, copy, registers)
         }
         Call::Allocate { site, size, at } => {
             let inner = from.using(1)?;

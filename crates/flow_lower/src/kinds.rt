@@ -45,6 +45,7 @@ fn is_pointer(e: &Value) -> bool
     }
 }
 
+#[cycle(is_pointer)]
 fn is_pointer_operation(operation: &Operation) -> bool
     ensures { result ≡ meaning.is_pointer (operation_of operation.now) }
 {
@@ -58,6 +59,7 @@ fn is_pointer_operation(operation: &Operation) -> bool
         Operation::Between { .. } => false,
         Operation::ToPointer { .. } => true,
         Operation::ToNumber { .. } => false,
+        Operation::Copy { operand, .. } => is_pointer(operand),
     }
 }
 
@@ -136,6 +138,7 @@ fn push_operation_kinds(operation: &Operation, out: &mut List<bool>) -> Result<(
         }
         Operation::ToPointer { operand, .. } => push_kinds(operand, out),
         Operation::ToNumber { operand, .. } => push_kinds(operand, out),
+        Operation::Copy { operand, .. } => push_kinds(operand, out),
     }
 }
 

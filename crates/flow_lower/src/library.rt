@@ -1,9 +1,28 @@
-//! Calls of the library, copied.
+//! Calls of the library.
 ghost use Rattle.std.specs.Prelude.{◌≡◌, IfOk};
+ghost use Rattle.flow_lower.specs.Lowered as spec;
 
 use flow_code::LibraryCall;
 use rr_base::List;
 use std::alloc::{AllocError, Global};
+
+/// Whether a call gives nothing.
+pub fn gives_nothing(call: &LibraryCall) -> bool
+    ensures { result ≡ spec.gives_nothing call.now }
+{
+    match call {
+        LibraryCall::Exit => true,
+        LibraryCall::Free => true,
+        _ => false,
+    }
+}
+
+/// The instructions of a call behind those of its arguments.
+pub fn library_size(call: &LibraryCall) -> u32
+    ensures { result ≡ spec.library_size call.now }
+{
+    if gives_nothing(call) { 2 } else { 1 }
+}
 
 /// The same call.
 pub fn copy_of(alloc: Global, call: &LibraryCall) -> Result<LibraryCall, AllocError>

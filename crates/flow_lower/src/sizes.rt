@@ -4,6 +4,7 @@ ghost use Rattle.c_core.specs.Core.{listed, listed_statements};
 ghost use Rattle.c_core.specs.View.{exp_of, operation_of, choice_of, assignment_of, call_of, maybe_of, stmt_of};
 ghost use Rattle.flow_lower.specs.Lowered as spec;
 
+use crate::library::library_size;
 use c_core::{Assignment, Call, Choice, Operation, Statement, Value};
 use std::alloc::AllocError;
 
@@ -69,6 +70,7 @@ fn operation_size(operation: &Operation) -> Result<u32, AllocError>
         Operation::Between { left, right, .. } => sum_of(value_size(left)?, value_size(right)?, 1),
         Operation::ToPointer { operand, .. } => sum(value_size(operand)?, 1),
         Operation::ToNumber { operand, .. } => sum(value_size(operand)?, 1),
+        Operation::Copy { operand, .. } => sum(value_size(operand)?, 1),
     }
 }
 
@@ -110,7 +112,11 @@ fn call_size(call: &Call) -> Result<u32, AllocError>
 {
     match call {
         Call::Function { arguments, .. } => sum(values_size(arguments.as_slice())?, 1),
-        Call::Library { arguments, .. } => sum(values_size(arguments.as_slice())?, 1),
+        Call::Library {
+            call: library,
+            arguments,
+            ..
+        } => sum(values_size(arguments.as_slice())?, library_size(library)),
         Call::Allocate { size, .. } => sum(value_size(size)?, 1),
     }
 }

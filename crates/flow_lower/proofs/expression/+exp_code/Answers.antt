@@ -15,14 +15,14 @@ push_call-returns-in_ok-behind-in-Function-clause-place t c = rw (c.in-Function.
 pub push_call-returns-in_ok-behind-in-Function-clause-out : goal.push_call-returns-in_ok-behind-in-Function-clause-out
 push_call-returns-in_ok-behind-in-Function-clause-out t c = rw (c.in-Function.is, exps_of_row-list) (grind (arith, common_steps))
 
-pub push_call-returns-in_ok-copy_of-in-Library-clause-register : goal.push_call-returns-in_ok-copy_of-in-Library-clause-register
-push_call-returns-in_ok-copy_of-in-Library-clause-register t c = rw (c.in-Library.is, exps_of_row-list) (grind (arith, common_steps))
+pub push_call-returns-in_ok-copy-in-Library-clause-register : goal.push_call-returns-in_ok-copy-in-Library-clause-register
+push_call-returns-in_ok-copy-in-Library-clause-register t c = rw (c.in-Library.is, exps_of_row-list) (grind (arith, common_steps))
 
-pub push_call-returns-in_ok-copy_of-in-Library-clause-place : goal.push_call-returns-in_ok-copy_of-in-Library-clause-place
-push_call-returns-in_ok-copy_of-in-Library-clause-place t c = rw (c.in-Library.is, exps_of_row-list) (grind (arith, common_steps))
+pub push_call-returns-in_ok-copy-in-Library-clause-place : goal.push_call-returns-in_ok-copy-in-Library-clause-place
+push_call-returns-in_ok-copy-in-Library-clause-place t c = rw (c.in-Library.is, exps_of_row-list) (grind (arith, common_steps))
 
-pub push_call-returns-in_ok-copy_of-in-Library-clause-out : goal.push_call-returns-in_ok-copy_of-in-Library-clause-out
-push_call-returns-in_ok-copy_of-in-Library-clause-out t c = rw (c.in-Library.is, exps_of_row-list) (grind (arith, common_steps))
+pub push_call-returns-in_ok-copy-in-Library-clause-out : goal.push_call-returns-in_ok-copy-in-Library-clause-out
+push_call-returns-in_ok-copy-in-Library-clause-out t c = rw (c.in-Library.is, exps_of_row-list) (grind (arith, common_steps))
 
 pub push_choice-returns-in_ok-behind-in-Conditional-clause-out : goal.push_choice-returns-in_ok-behind-in-Conditional-clause-out
 push_choice-returns-in_ok-behind-in-Conditional-clause-out t c =
