@@ -11,7 +11,8 @@ use Rattle.c_lexer.specs.Bytes.{Text}
 use Rattle.c_lexer.specs.Names.{entry_of}
 use Rattle.c_types.specs.declared.table.Declared.{Declared}
 use Rattle.c_types.specs.Scopes.{Meaning, has_name, with_text, with_name}
-use Rattle.c_types.specs.Table.{texts_of, meaning_of, scope_of}
+use Rattle.c_types.specs.declared.types.ObjectType.{ObjectType}
+use Rattle.c_types.specs.Table.{texts_of, meaning_of, scope_of, members_of}
 
 -- ---- names
 
@@ -23,6 +24,16 @@ position_of_text ks name =
     passed_over : (ks : List (Bor Text)) → position_or_len (λ k. bytes_eq name k.now) ks ≡ position_or_len (λ n. bytes_eq name n) (texts_of ks)
     passed_over [] = refl
     passed_over (k ∷ ks) = ap (λ i. if not (bytes_eq name k.now) then 1 + i else 0) (passed_over ks)
+
+-- a member's position is that of its name among those that are shown
+pub position_of_member : (es : List (Bor Text × Option ObjectType)) (name : Text) → position (λ (k : Bor Text). bytes_eq name k.now) (map (λ (e : Bor Text × Option ObjectType). e.0) es) ≡ position (λ (m : Text × Option ObjectType). bytes_eq name m.0) (members_of es)
+position_of_member es name =
+    ap (λ i. if nat_lt i (length (map (λ (e : Bor Text × Option ObjectType). e.0) es)) then Some i else None) (passed_over es)
+    ∙ ap (λ n. if nat_lt (position_or_len (λ (m : Text × Option ObjectType). bytes_eq name m.0) (members_of es)) n then Some (position_or_len (λ (m : Text × Option ObjectType). bytes_eq name m.0) (members_of es)) else None) (length-map es (λ (e : Bor Text × Option ObjectType). e.0) ∙ sym (length-map es (λ (e : Bor Text × Option ObjectType). (e.0.now, e.1))))
+  where
+    passed_over : (es : List (Bor Text × Option ObjectType)) → position_or_len (λ (k : Bor Text). bytes_eq name k.now) (map (λ (e : Bor Text × Option ObjectType). e.0) es) ≡ position_or_len (λ (m : Text × Option ObjectType). bytes_eq name m.0) (members_of es)
+    passed_over [] = refl
+    passed_over (e ∷ es) = ap (λ i. if not (bytes_eq name e.0.now) then 1 + i else 0) (passed_over es)
 
 pub has_text : (ks : List (Bor Text)) (name : Text) → list_any (λ k. bytes_eq name k.now) ks ≡ has_name (texts_of ks) name
 has_text [] name = refl

@@ -60,6 +60,10 @@ abbrev pub has_name : List Text → Text → Bool
 has_name [] name = false
 has_name (n ∷ ns) name = bytes_eq name n || has_name ns name
 
+-- a function's number is that of its definition, which may stand anywhere in the file
+abbrev pub function_numbered : Known → Text → Option ℕ
+function_numbered known name = position (λ n. bytes_eq name n) known.defined
+
 -- ---- types by name
 
 -- a struct's number is that of its definition, which may stand anywhere in the file
@@ -90,6 +94,14 @@ member_among (Some members) name = entry_of members name
 
 abbrev pub member_of : Known → ℕ → Text → Option (Option ObjectType)
 member_of known k name = member_among (slice_get known.structs k) name
+
+-- the position of a name among those of a struct's members, counted from 0
+abbrev pub numbered_among : Option Members → Text → Option ℕ
+numbered_among None name = None
+numbered_among (Some members) name = position (λ m. bytes_eq name m.0) members
+
+abbrev pub member_numbered : Known → ℕ → Text → Option ℕ
+member_numbered known k name = numbered_among (slice_get known.structs k) name
 
 abbrev pub members_of : Option Members → List (Option ObjectType)
 members_of None = []

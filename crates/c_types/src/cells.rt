@@ -30,7 +30,7 @@ fn put_base(
 }
 
 /// Adds the kinds of the cells of a type to the end.
-fn put_layered(
+pub fn put_layered(
     alloc: Global,
     out: &mut List<CellKind>,
     layers: &[Layer],

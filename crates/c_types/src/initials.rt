@@ -50,7 +50,7 @@ fn base_part<'a, N: Names>(
 }
 
 /// The type of the part with this number, if braces start such a part. It isn't known where that of the whole isn't.
-fn part_at<'a, N: Names>(
+pub fn part_at<'a, N: Names>(
     names: &'a N,
     of: Option<TypeRef<'a>>,
     index: usize,
@@ -67,7 +67,7 @@ fn part_at<'a, N: Names>(
     }
 }
 
-fn is_array(of: TypeRef) -> bool
+pub fn is_array(of: TypeRef) -> bool
     ensures { result ≡ spec.layered_is_array (shown_type of.entry).layers }
 {
     match of.peeled() {

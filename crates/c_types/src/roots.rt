@@ -46,7 +46,7 @@ fn name_of_start(e: &Expr) -> Option<&[u8]>
     }
 }
 
-fn third_name(es: &[Expr]) -> Option<&[u8]>
+pub fn third_name(es: &[Expr]) -> Option<&[u8]>
     ensures { option_map (λ n. n.now) result ≡ spec.third_name (listed (map exp_of es.now)) }
 {
     match es {

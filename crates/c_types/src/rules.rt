@@ -74,7 +74,7 @@ impl<'a> Operand<'a> {
     }
 }
 
-fn are_whole(a: Operand, b: Operand) -> bool
+pub fn are_whole(a: Operand, b: Operand) -> bool
     ensures { result ≡ spec.are_whole (shown_operand a.entry) (shown_operand b.entry) }
 {
     a.is_whole() && b.is_whole()

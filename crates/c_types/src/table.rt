@@ -151,6 +151,12 @@ fn member_placed<'s>(members: &'s Members, index: usize) -> Option<Option<TypeRe
     }
 }
 
+fn index_in(members: &Members, name: &[u8]) -> Option<usize>
+    ensures { result ≡ spec.numbered_among (Some (members_of members.now.entries)) name.now }
+{
+    members.get_index_of(name)
+}
+
 impl<'a> Table<'a> {
     /// What is known where the source begins.
     pub fn new(alloc: Global, program: &'a Program) -> Result<Table<'a>, AllocError>
@@ -223,6 +229,23 @@ impl<'a> Table<'a> {
         ensures { result ≡ length (known_of self.now).structs }
     {
         self.structs.len()
+    }
+
+    /// The position of a member in its struct, counted from 0.
+    pub fn member_numbered(&self, number: usize, name: &[u8]) -> Option<usize>
+        ensures { result ≡ spec.member_numbered (known_of self.now) number name.now }
+    {
+        match self.structs.get(number) {
+            Some(members) => index_in(members, name),
+            None => None,
+        }
+    }
+
+    /// The number of the function that the file defines anywhere.
+    pub fn function_numbered(&self, name: &[u8]) -> Option<usize>
+        ensures { result ≡ spec.function_numbered (known_of self.now) name.now }
+    {
+        self.defined.get_index_of(name)
     }
 
     /// The definition of the function begins.

@@ -68,4 +68,12 @@ impl Typed {
         let Typed { program, .. } = self;
         program
     }
+
+    pub fn into_sites(self) -> List<Site>
+        ensures value { result ≡ sites_in self }
+        ensures own { result ≡ program_sites (program_of (program_in self)) }
+    {
+        let Typed { sites, .. } = self;
+        sites
+    }
 }
