@@ -13,24 +13,19 @@ use Rattle.core_run.specs.declared.outcome.Walk.TheVariants as walk
 use Rattle.core_run.specs.Machine.{Told, machine, start_state}
 use Rattle.core_run.specs.Walks.{first_trap, TrapOf, walk_of, WalkIs, IsWhole, IsRefusedAt, IsUnfinished}
 use Rattle.flow_code.specs.declared.code.Code.{Code}
-use Rattle.c_lexer.specs.declared.fault.LexFault.{LexFault}
-use Rattle.c_lexer.specs.declared.token.Token.{Token}
 use Rattle.order_log.specs.declared.fault.LogFault.{LogFault}
 use Rattle.order_log.specs.declared.fault.LogFault.TheVariants.{LogSyntax, LogLimit, OutOfMemory}
 use Rattle.order_log.specs.Log.{LogView}
 use Rattle.order_log.proofs.Only.{log_at-only}
-use Rattle.c_lexer.specs.Tokens.{tokens_of}
-use Rattle.c_tree.specs.Tree.{Outer}
-use Rattle.c_parser.specs.Exact.{parsed}
-use Rattle.c_parser.specs.Gives.{limit, lexemes}
-use Rattle.c_parser.specs.Parse.{Outcome, Got, Stuck, Spent}
+use Rattle.front.specs.Plain.{plain_code}
+use Rattle.front.specs.Readings.{Reading, sound, refused}
+use Rattle.front.proofs.One.{one_reading}
 use Rattle.answers.specs.Jobs.Asked.{Replay}
 use Rattle.answers.specs.declared.answer.Part.{Part}
 use Rattle.answers.specs.declared.answer.Part.TheVariants as part
 use Rattle.answers.specs.declared.answer.Answer.{Answer}
 use Rattle.answers.specs.declared.answer.Answer.TheVariants as answer
-use Rattle.chimera.specs.Replays.{no_reads, answer_of, IsByCode, IsByTree, IsByTokens, IsByLog, Replays, IsOfFile, OneAnswer}
-use Rattle.thin_source.specs.Thin.{thin_code}
+use Rattle.chimera.specs.Replays.{no_reads, answer_of, IsByReading, Reads, IsByLog, Replays, IsOfFile, OneAnswer}
 
 same_some : {A : Type 0} (x y : A) → Some x ≡ Some y → x ≡ y
 same_some x y e = cc e
@@ -106,21 +101,17 @@ module _ (code : Code) (s : SetupView) where
 
 -- ---- from the log up
 
-one_code : (log : LogView) (o : Option Code) (a b : Answer) → IsByCode log o a → IsByCode log o b → a ≡ b
-one_code log (Some code) a b h g = h.told ∙ one_walk code log.setup log.entries no_reads h.walk g.walk h.is g.is ∙ sym g.told
-one_code log None a b h g = h ∙ sym g
+one_by_reading : (log : LogView) (r : Reading) (a b : Answer) → IsByReading log r a → IsByReading log r b → a ≡ b
+one_by_reading log (sound os) a b h g = h.told ∙ one_walk (plain_code os) log.setup log.entries no_reads h.walk g.walk h.is g.is ∙ sym g.told
+one_by_reading log (refused fault) a b h g = h ∙ sym g
 
-one_by_tree : (log : LogView) (tokens : List Token) (o : Outcome (List Outer)) (a b : Answer) → IsByTree log tokens o a → IsByTree log tokens o b → a ≡ b
-one_by_tree log tokens (Got os rest) a b h g = one_code log (thin_code os) a b h g
-one_by_tree log tokens (Stuck fault rest) a b h g = h ∙ sym g
-one_by_tree log tokens Spent a b h g = absurd h
-
-one_by_tokens : (log : LogView) (r : Result (List Token) LexFault) (a b : Answer) → IsByTokens log r a → IsByTokens log r b → a ≡ b
-one_by_tokens log (Ok tokens) a b h g = one_by_tree log tokens (parsed limit (lexemes tokens)) a b h g
-one_by_tokens log (Err fault) a b h g = same_some a b (sym h ∙ g)
+one_by_source : (source : List ℕ) (log : LogView) (a b : Answer) → Reads source log a → Reads source log b → a ≡ b
+one_by_source source log a b h g =
+    let same : h.reading ≡ g.reading = one_reading source h.reading g.reading h.is g.is in
+    one_by_reading log g.reading a b (subst (λ r. IsByReading log r a) same h.answers) g.answers
 
 one_by_log : (source : List ℕ) (r : Result LogView LogFault) (a b : Answer) → IsByLog source r a → IsByLog source r b → a ≡ b
-one_by_log source (Ok log) a b h g = one_by_tokens log (tokens_of source) a b h g
+one_by_log source (Ok log) a b h g = one_by_source source log a b h g
 one_by_log source (Err (LogSyntax line)) a b h g = h ∙ sym g
 one_by_log source (Err (LogLimit line)) a b h g = h ∙ sym g
 one_by_log source (Err OutOfMemory) a b h g = absurd h

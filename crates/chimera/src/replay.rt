@@ -1,25 +1,20 @@
 // The answer of a source and a log.
 
-ghost use Rattle.std.specs.Prelude.{◌≡◌, ◌≤◌, ◌^◌, Option, Some, None, length, option_map, IfOk, IfSome, MatchResult, All};
+ghost use Rattle.std.specs.Prelude.{◌≡◌, ◌≤◌, ◌^◌, Option, Some, None, Ok, length, IfOk, IfSome, MatchResult};
 ghost use Rattle.rr_base.specs.Faults.{ShelfFaults};
-ghost use Rattle.c_lexer.specs.Spans.{IsPlaced};
-ghost use Rattle.c_tree.specs.View.{program_of};
 ghost use Rattle.flow_code.specs.Settle.{IsRunnable};
-ghost use Rattle.thin_source.specs.Thin.{thin_code};
 ghost use Rattle.answers.specs.Jobs.{Asked};
 ghost use Rattle.answers.specs.Jobs.Asked.{Replay as AskedReplay};
+ghost use Rattle.answers.specs.declared.answer.Answer.TheVariants as answer;
 ghost use Rattle.chimera.specs.Replays as spec;
 
 use answers::{Answer, Part, get_within};
-use c_lexer::{LexFault, Token, tokens};
-use c_parser::{ParseFault, parse};
-use c_tree::Program;
 use core_run::{Formula, Walk, walk};
 use flow_code::Code;
+use front::{CompileFault, SourceFault, plain};
 use order_log::{Log, LogFault, read_log};
-use rr_base::{List, Shelf, ShelfEnd};
+use rr_base::{Shelf, ShelfEnd};
 use std::alloc::{AllocError, Global};
-use thin_source::{ThinFault, read_thin};
 
 /// The most bytes of a source.
 const SOURCE_BYTES: u32 = 1_048_576;
@@ -64,76 +59,26 @@ fn by_walk(alloc: Global, code: &Code, log: &Log) -> Result<Answer, AllocError>
     Ok(answer_of(walk))
 }
 
-fn by_tree(alloc: Global, program: &Program, log: &Log) -> Result<Answer, AllocError>
-    requires { length (program_of program.now) ≤ 2 ^ 20 }
-    ensures { IfOk result (spec.IsByCode log.now (thin_code (program_of program.now))) }
+// What is told of a source's fault.
+fn refusal_of(fault: SourceFault) -> Answer
+    ensures { result ≡ answer.SourceRefused fault.number fault.line fault.column }
 {
-    match read_thin(alloc, program) {
-        Ok(code) => by_walk(alloc, &code, log),
-        Err(ThinFault::NotThin) => Ok(Answer::SourceRefused {
-            number: 20,
-            line: 1,
-            column: 1,
-        }),
-        Err(ThinFault::OutOfMemory) => Err(AllocError),
+    Answer::SourceRefused {
+        number: fault.number,
+        line: fault.line,
+        column: fault.column,
     }
 }
 
-// What is told of a fault of the grammar; nothing where memory is wanting.
-fn told_of(fault: ParseFault) -> Option<Answer>
-    ensures { result ≡ spec.told_of fault }
-{
-    let (number, line, column) = match fault {
-        ParseFault::Syntax { line, column } => (7, line, column),
-        ParseFault::Nesting { line, column } => (8, line, column),
-        ParseFault::OutOfProfile { line, column } => (20, line, column),
-        ParseFault::OutOfMemory => return None,
-    };
-    Some(Answer::SourceRefused {
-        number,
-        line,
-        column,
-    })
-}
-
-fn by_tokens(alloc: Global, tokens: &List<Token>, log: &Log) -> Result<Answer, AllocError>
-    requires few { length tokens.now ≤ 2 ^ 20 }
-    requires placed { All IsPlaced tokens.now }
-    ensures { IfOk result (spec.IsByTokens log.now (Ok tokens.now)) }
-{
-    match parse(alloc, tokens) {
-        Ok(program) => by_tree(alloc, &program, log),
-        Err(fault) => told_of(fault).ok_or(AllocError),
-    }
-}
-
-// The number of a fault, by which it is told; none where memory is wanting.
-fn refusal_of(fault: LexFault) -> Option<Answer>
-    ensures { result ≡ spec.refusal_of fault }
-{
-    let (number, line, column) = match fault {
-        LexFault::BadByte { line, column } => (1, line, column),
-        LexFault::OpenComment { line, column } => (2, line, column),
-        LexFault::OpenText { line, column } => (3, line, column),
-        LexFault::BadEscape { line, column } => (4, line, column),
-        LexFault::WideNumber { line, column } => (5, line, column),
-        LexFault::BadDirective { line, column } => (6, line, column),
-        LexFault::OutOfMemory => return None,
-    };
-    Some(Answer::SourceRefused {
-        number,
-        line,
-        column,
-    })
-}
-
+#[tactic(auto, using(crate::proofs::Told::walked, crate::proofs::Told::refused_for))]
 fn by_log(alloc: Global, source: &[u8], log: &Log) -> Result<Answer, AllocError>
     requires { length source.now ≤ 2 ^ 20 }
     ensures { IfOk result (spec.IsByLog source.now (Ok log.now)) }
 {
-    match tokens(alloc, source) {
-        Ok(tokens) => by_tokens(alloc, &tokens, log),
-        Err(fault) => refusal_of(fault).ok_or(AllocError),
+    match plain(alloc, source) {
+        Ok(code) => by_walk(alloc, &code, log),
+        Err(CompileFault::Source(fault)) => Ok(refusal_of(fault)),
+        Err(CompileFault::OutOfMemory) => Err(AllocError),
     }
 }
 

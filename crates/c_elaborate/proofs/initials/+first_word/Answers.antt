@@ -1,0 +1,15 @@
+use Rattle.std.proofs.Common.{sym, ◌∙◌}
+use Rattle.c_tree.proofs.Views.{inits_of_row-list}
+use Rattle.c_elaborate.specs.Views.{here_of}
+use Rattle.c_elaborate.proofs.FirstWords.{word_of_none, word_within}
+use Rattle.c_elaborate.proofs.initials.+first_word.Goals as goal
+
+pub returns-in-empty : goal.returns-in-empty
+returns-in-empty t c =
+    rw (c.in-Braces.is, inits_of_row-list)
+    (c.zero_word.ensures ∙ sym (word_of_none (here_of c.args.here) c.args.pointer c.args.at _ _ c.as_slice.ensures c.in-empty.len_below))
+
+pub returns-in-len1-up : goal.returns-in-len1-up
+returns-in-len1-up t c =
+    rw (c.in-Braces.is, inits_of_row-list)
+    (word_within c.first_word.result (here_of c.args.here) c.args.pointer c.args.at _ _ c.first-item.result _ c.as_slice.ensures c.in-len1-up.len_at_least c.first-item.is c.first_word.ensures)

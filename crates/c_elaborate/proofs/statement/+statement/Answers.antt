@@ -1,0 +1,58 @@
+use Rattle.std.proofs.Common.{map, refl, ap, ◌∙◌, arith}
+use Rattle.std.proofs.lemmas.Grind.{common_steps}
+use Rattle.c_tree.specs.Tree.{place_at, listed_parts}
+use Rattle.c_tree.specs.View.{start_of, maybe_of, stmt_of, part_of}
+use Rattle.c_tree.proofs.Views.{parts_of_row-list}
+use Rattle.c_types.specs.Addresses.{count_of_locals}
+use Rattle.c_types.specs.NumberTables.{numbered_of}
+use Rattle.c_types.specs.Scopes.{closed}
+use Rattle.c_types.specs.Statements.{after_start, after_parts}
+use Rattle.c_types.specs.Table.{known_of}
+use Rattle.c_types.proofs.Numbering.{block_numbers, for_numbers}
+use Rattle.c_types.proofs.Within.{closed_parts, closed_start}
+use Rattle.c_core.proofs.Views.{stmts_of_row-list}
+use Rattle.c_elaborate.specs.Views.{frame_in, source_in}
+use Rattle.c_elaborate.proofs.Nested.{block_made, for_made}
+use Rattle.c_elaborate.proofs.statement.+statement.Goals as goal
+
+pub block-returns-clause-known : goal.block-returns-clause-known
+block-returns-clause-known t c =
+    let parts = listed_parts (map part_of c.args.parts.now) in
+    c.close.ensures
+    ∙ ap closed c.in_ok-push_parts.ensures.known
+    ∙ ap (λ k. closed (after_parts k parts)) c.in_ok-open.ensures
+    ∙ closed_parts (known_of c.args.table.now) parts
+
+pub block-returns-clause-numbers : goal.block-returns-clause-numbers
+block-returns-clause-numbers t c =
+    block_numbers _ _ _ _ (listed_parts (map part_of c.args.parts.now)) c.in_ok-open-2.ensures c.in_ok-push_parts.ensures.numbers c.close-2.ensures
+
+pub block-returns-clause-statement : goal.block-returns-clause-statement
+block-returns-clause-statement t c =
+    rw stmts_of_row-list
+    (block_made (source_in c.args.source.now) (frame_in c.args.frame.now) (known_of c.args.table.now) _ (numbered_of c.args.numbers.now) _ (listed_parts (map part_of c.args.parts.now)) _
+    c.in_ok-open.ensures c.in_ok-open-2.ensures (rw c.new-inner.ensures at c.in_ok-push_parts.ensures.out))
+
+pub for_statement-returns-clause-known : goal.for_statement-returns-clause-known
+for_statement-returns-clause-known t c =
+    let begin = start_of c.args.begin.now in
+    c.close.ensures
+    ∙ ap closed c.in_ok-made.ensures.known
+    ∙ ap (λ k. closed (after_start k begin)) c.in_ok-open.ensures
+    ∙ closed_start (known_of c.args.table.now) begin
+
+pub for_statement-returns-clause-numbers : goal.for_statement-returns-clause-numbers
+for_statement-returns-clause-numbers t c =
+    for_numbers _ _ _ _ _ (start_of c.args.begin.now) (count_of_locals (stmt_of c.args.body.now)) c.in_ok-open-2.ensures refl c.in_ok-made.ensures.numbers c.close-2.ensures
+
+pub for_statement-returns-clause-statement : goal.for_statement-returns-clause-statement
+for_statement-returns-clause-statement t c =
+    for_made (source_in c.args.source.now) (frame_in c.args.frame.now) (known_of c.args.table.now) _ (numbered_of c.args.numbers.now) _
+    (start_of c.args.begin.now) (maybe_of c.args.test.now) (maybe_of c.args.step.now) (stmt_of c.args.body.now) (place_at c.args.at.0 c.args.at.1) _
+    c.in_ok-open.ensures c.in_ok-open-2.ensures c.in_ok-made.ensures.statement
+
+pub statement-returns-in-Block-clause-numbers : goal.statement-returns-in-Block-clause-numbers
+statement-returns-in-Block-clause-numbers t c = rw (c.in-Block.is, parts_of_row-list) (grind (arith, common_steps))
+
+pub statement-returns-in-Block-clause-statement : goal.statement-returns-in-Block-clause-statement
+statement-returns-in-Block-clause-statement t c = rw (c.in-Block.is, parts_of_row-list) (grind (arith, common_steps))

@@ -1,0 +1,25 @@
+use Rattle.std.proofs.Common.{◌≡◌, ◌++◌, false, drop, map}
+use Rattle.c_tree.specs.View.{object_of}
+use Rattle.c_types.specs.Addresses.{after_names}
+use Rattle.c_types.specs.NumberTables.{numbered_of}
+use Rattle.c_types.specs.Statements.{after_objects}
+use Rattle.c_types.specs.Table.{known_of}
+use Rattle.c_core.specs.View.{stmt_of}
+use Rattle.c_elaborate.specs.Here.{here_in}
+use Rattle.c_elaborate.specs.Statements.{objects_elaborated}
+use Rattle.c_elaborate.specs.Views.{frame_in, source_in}
+use Rattle.c_elaborate.proofs.statement.push_declares.Given as goal
+
+-- what is done and the rest make the whole
+abbrev pub invariant-loop-item : goal.invariant-loop-item
+invariant-loop-item l = record {
+  known :
+      after_objects (known_of l.table) false l.declaration.specifier (map object_of (drop l.item-index l.declaration.items))
+      ≡ after_objects (known_of l.fn.table) false l.declaration.specifier (map object_of l.declaration.items);
+  numbers :
+      after_names (numbered_of l.numbers) (map object_of (drop l.item-index l.declaration.items))
+      ≡ after_names (numbered_of l.fn.numbers) (map object_of l.declaration.items);
+  out :
+      map stmt_of l.out ++ objects_elaborated (here_in (source_in l.source) (frame_in l.frame) (known_of l.table) (numbered_of l.numbers)) l.declaration.specifier (map object_of (drop l.item-index l.declaration.items))
+      ≡ map stmt_of l.fn.out ++ objects_elaborated (here_in (source_in l.source) (frame_in l.frame) (known_of l.fn.table) (numbered_of l.fn.numbers)) l.declaration.specifier (map object_of l.declaration.items);
+}

@@ -1,0 +1,143 @@
+-- Functions (C99 6.9.1): where each formal and local is kept, and the core tree of a definition.
+use Rattle.std.specs.Prelude.{ℕ, ◌+◌, nat_lt, Bool, true, false, not, ◌&&◌, ◌||◌, if◌then◌else◌, List, [], ◌∷◌, ◌++◌, length, map, Option, Some, None}
+use Rattle.rr_base.specs.declared.layout.Site.{Site}
+use Rattle.c_tree.specs.declared.name.Name.{Name}
+use Rattle.c_tree.specs.declared.ctype.Specifier.{Specifier}
+use Rattle.c_tree.specs.declared.program.Param.{Param}
+use Rattle.c_tree.specs.Tree.{Place, place_at, Declared, declared, Object, Declares, declares, Start, start_declares, start_computes, Statement, block, compute, break_at, continue_at, gives, branch, branch_else, while_loop, do_loop, for_loop, Parts, no_part, and_declares, and_does}
+use Rattle.c_types.specs.declared.library.StarredType.{StarredType}
+use Rattle.c_types.specs.Scopes.{Known}
+use Rattle.c_types.specs.Declarators.{after_params}
+use Rattle.c_types.specs.Statements.{declared_by}
+use Rattle.c_types.specs.Spots.{is_kept}
+use Rattle.c_types.specs.Addresses.{is_among, numbered_from}
+use Rattle.c_core.specs.declared.position.Position.{Position}
+use Rattle.c_core.specs.Core as core
+use Rattle.c_elaborate.specs.declared.home.Home.{Home}
+use Rattle.c_elaborate.specs.declared.home.Home.TheVariants as home
+use Rattle.c_elaborate.specs.declared.local.Local.{Local}
+use Rattle.c_elaborate.specs.Held.{position_of}
+use Rattle.c_elaborate.specs.Here.{Source, Frame, here_in, site_at}
+use Rattle.c_elaborate.specs.Calls.{gives_pointer}
+use Rattle.c_elaborate.specs.Statements.{block_of, all_elaborated}
+
+-- ---- the formals and locals of a function, in the order of the text
+
+-- whether its type keeps it in cells, whether it is a pointer, and the place of its name
+abbrev pub local_at : Bool → Bool → ℕ → ℕ → Local
+local_at kept pointer line column = record { is_kept = kept; is_pointer = pointer; line = line; column = column }
+
+abbrev pub formal_at : Param → Option Name → Local
+formal_at p None = local_at false (nat_lt 0 p.stars) p.line p.column
+formal_at p (Some name) = local_at (is_kept p.specifier p.stars []) (nat_lt 0 p.stars) name.line name.column
+
+abbrev pub formal_of : Param → Local
+formal_of p = formal_at p p.name
+
+abbrev pub local_declared : Specifier → Declared → Local
+local_declared s (declared stars name lengths) = local_at (is_kept s stars lengths) (nat_lt 0 stars) name.line name.column
+
+abbrev pub local_of : Specifier → Object → Local
+local_of s o = local_declared s (declared_by o)
+
+abbrev pub declares_locals : Declares → List Local
+declares_locals (declares s os at) = map (local_of s) os
+
+abbrev pub start_locals : Start → List Local
+start_locals (start_declares d) = declares_locals d
+start_locals (start_computes e) = []
+
+abbrev mutual
+  pub statement_locals : Statement → List Local
+  statement_locals (block ps at) = parts_locals ps
+  statement_locals (compute e at) = []
+  statement_locals (break_at at) = []
+  statement_locals (continue_at at) = []
+  statement_locals (gives e at) = []
+  statement_locals (branch e a at) = statement_locals a
+  statement_locals (branch_else e a b at) = statement_locals a ++ statement_locals b
+  statement_locals (while_loop e a at) = statement_locals a
+  statement_locals (do_loop a e at) = statement_locals a
+  statement_locals (for_loop start test next a at) = start_locals start ++ statement_locals a
+
+  pub parts_locals : Parts → List Local
+  parts_locals no_part = []
+  parts_locals (and_declares d ps) = declares_locals d ++ parts_locals ps
+  parts_locals (and_does s ps) = statement_locals s ++ parts_locals ps
+
+-- those to which `&` is applied, by their numbers from n on, are kept in cells too
+abbrev pub marked : List ℕ → ℕ → List Local → List Local
+marked ns n [] = []
+marked ns n (l ∷ ls) = record l { is_kept = l.is_kept || is_among ns n } ∷ marked ns (n + 1) ls
+
+-- ---- where they are kept
+
+abbrev pub one_if : Bool → ℕ
+one_if b = if b then 1 else 0
+
+-- how many are kept in cells
+abbrev pub kept_count : List Local → ℕ
+kept_count [] = 0
+kept_count (l ∷ ls) = one_if l.is_kept + kept_count ls
+
+-- each formal has the next register, also one that is kept in cells
+abbrev pub formal_homes : ℕ → ℕ → List Local → List Home
+formal_homes r k [] = []
+formal_homes r k (l ∷ ls) = (if l.is_kept then home.Object k else home.Register r) ∷ formal_homes (r + 1) (k + one_if l.is_kept) ls
+
+abbrev pub local_homes : ℕ → ℕ → List Local → List Home
+local_homes r k [] = []
+local_homes r k (l ∷ ls) = (if l.is_kept then home.Object k else home.Register r) ∷ local_homes (r + one_if (not l.is_kept)) (k + one_if l.is_kept) ls
+
+abbrev pub homes_of : List Local → List Local → List Home
+homes_of formals locals = formal_homes 0 0 formals ++ local_homes (length formals) (kept_count formals) locals
+
+abbrev pub local_pointers : List Local → List Bool
+local_pointers [] = []
+local_pointers (l ∷ ls) = (if l.is_kept then [] else l.is_pointer ∷ []) ++ local_pointers ls
+
+-- whether each register is a pointer
+abbrev pub pointers_of : List Local → List Local → List Bool
+pointers_of formals locals = map (λ l. l.is_pointer) formals ++ local_pointers locals
+
+-- the site of each that is kept in cells
+abbrev pub sites_of : List Site → List Local → List ℕ
+sites_of sites [] = []
+sites_of sites (l ∷ ls) = (if l.is_kept then site_at sites (place_at l.line l.column) ∷ [] else []) ++ sites_of sites ls
+
+abbrev pub arrivals_of : ℕ → ℕ → List Local → List core.Arrival
+arrivals_of r k [] = []
+arrivals_of r k (l ∷ ls) =
+    (if l.is_kept then core.arrives r k (record { line = l.line; column = l.column }) ∷ [] else []) ++ arrivals_of (r + 1) (k + one_if l.is_kept) ls
+
+-- ---- a definition
+
+abbrev pub name_position : Name → Position
+name_position name = record { line = name.line; column = name.column }
+
+-- the formals and locals have numbers from n on
+abbrev pub frame_of : ℕ → List Local → List Local → Option StarredType → Frame
+frame_of n formals locals result = record { first = n; homes = homes_of formals locals; gives_pointer = gives_pointer result }
+
+-- of these formals and locals, with this body
+abbrev pub function_by : List Site → Name → Option StarredType → List Local → List Local → core.Statement → core.Function
+function_by sites name result formals locals body = record {
+  name = name.text;
+  place = name_position name;
+  formals = length formals;
+  pointers = pointers_of formals locals;
+  objects = sites_of sites (formals ++ locals);
+  arrivals = arrivals_of 0 0 formals;
+  gives_pointer = gives_pointer result;
+  body = body;
+}
+
+-- whose numbers begin with n; `inside` is known behind its formals
+abbrev pub definition_by : Source → Known → ℕ → Name → Option StarredType → List Param → Parts → List Local → List Local → core.Function
+definition_by s inside n name result ps parts formals locals =
+    function_by s.sites name result formals locals (block_of (all_elaborated (here_in s (frame_of n formals locals result) inside (numbered_from n ps)) parts))
+
+-- where `&` is applied to those with the numbers ns
+abbrev pub definition : Source → List ℕ → Known → ℕ → Name → Option StarredType → List Param → Parts → core.Function
+definition s ns inside n name result ps parts =
+    definition_by s (after_params inside ps) n name result ps parts (marked ns n (map formal_of ps)) (marked ns (n + length ps) (parts_locals parts))

@@ -1,0 +1,65 @@
+-- What stands for an expression of a source, and the word that it gives where a number or a pointer is wanted (C99 6.3.2).
+use Rattle.std.specs.Prelude.{ℕ, Bool, true, false, if◌then◌else◌, pos}
+use Rattle.c_tree.specs.Tree.{Place}
+use Rattle.c_types.specs.Operands.{Standing, no_type, zero_literal, null_literal, a_value, a_place, Operand, any_operand, whole, zero_operand, null_operand, pointing, no_operand, operand_of}
+use Rattle.c_types.specs.Initials.{layered_is_array}
+use Rattle.c_core.specs.declared.position.Position.{Position}
+use Rattle.c_core.specs.Core as core
+
+abbrev pub position_of : Place → Position
+position_of at = record { line = at.line; column = at.column }
+
+pub data Held : Type 0 where
+  -- a local or formal that is a register
+  held_register : ℕ → Position → Held
+  -- an object in cells: the pointer to it, and where it is loaded
+  held_cells : core.Exp → Position → Held
+  -- the literal `0`, which is a null pointer where a pointer is wanted
+  held_zero : Position → Held
+  held_value : core.Exp → Held
+
+-- an expression with what it is
+pub record Part : Type 0 where
+  pub standing : Standing
+  pub held : Held
+
+abbrev pub part_by : Standing → Held → Part
+part_by s h = record { standing = s; held = h }
+
+abbrev pub operand_in : Part → Operand
+operand_in p = operand_of p.standing
+
+abbrev pub is_pointing : Operand → Bool
+is_pointing (pointing t) = true
+is_pointing any_operand = false
+is_pointing whole = false
+is_pointing zero_operand = false
+is_pointing null_operand = false
+is_pointing no_operand = false
+
+abbrev pub is_array : Standing → Bool
+is_array (a_place t) = layered_is_array t.layers
+is_array no_type = false
+is_array zero_literal = false
+is_array null_literal = false
+is_array (a_value t) = false
+
+-- the word that it gives: an array gives the pointer to its first element, and any other object what it holds
+abbrev pub value_by : Standing → Held → core.Exp
+value_by s (held_register n at) = core.register n (is_pointing (operand_of s)) at
+value_by s (held_cells e at) = if is_array s then e else core.load e (is_pointing (operand_of s)) at
+value_by s (held_zero at) = core.number (pos 0) at
+value_by s (held_value e) = e
+
+abbrev pub pointer_by : Standing → Held → core.Exp
+pointer_by s (held_register n at) = value_by s (held_register n at)
+pointer_by s (held_cells e at) = value_by s (held_cells e at)
+pointer_by s (held_zero at) = core.null at
+pointer_by s (held_value e) = e
+
+abbrev pub value_in : Part → core.Exp
+value_in p = value_by p.standing p.held
+
+-- the word where a pointer is wanted or not
+abbrev pub wanted_in : Bool → Part → core.Exp
+wanted_in pointer p = if pointer then pointer_by p.standing p.held else value_in p

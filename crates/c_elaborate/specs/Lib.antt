@@ -1,0 +1,11 @@
+pub mod Held
+pub mod Here
+pub mod Operators
+pub mod Calls
+pub mod Expressions
+pub mod Initials
+pub mod Statements
+pub mod Functions
+pub mod Globals
+pub mod Whole
+pub mod Views

@@ -1,0 +1,38 @@
+-- How what the crate holds shows.
+use Rattle.std.specs.Prelude.{ℕ, List, map}
+use Rattle.std.specs.Borrow.{Bor}
+use Rattle.indexmap.specs.IndexMap.{IndexMap}
+use Rattle.c_lexer.specs.Bytes.{Text}
+use Rattle.c_types.specs.Shown.{shown_standing}
+use Rattle.c_types.specs.Table.{known_of}
+use Rattle.c_types.specs.NumberTables.{numbered_of}
+use Rattle.c_core.specs.View.{exp_of}
+use Rattle.c_elaborate.specs.declared.held.Held.{Held as RustHeld}
+use Rattle.c_elaborate.specs.declared.held.Held.TheVariants as rust
+use Rattle.c_elaborate.specs.declared.held.Part.{Part as RustPart}
+use Rattle.c_elaborate.specs.declared.here.Source.{Source as RustSource}
+use Rattle.c_elaborate.specs.declared.here.Frame.{Frame as RustFrame}
+use Rattle.c_elaborate.specs.declared.here.Here.{Here as RustHere}
+use Rattle.c_elaborate.specs.Held.{Held, held_register, held_cells, held_zero, held_value, Part, part_by}
+use Rattle.c_elaborate.specs.Here.{Source, Frame, Here}
+
+abbrev pub held_of : RustHeld → Held
+held_of (rust.Register n at) = held_register n at
+held_of (rust.Cells e at) = held_cells (exp_of e) at
+held_of (rust.Zero at) = held_zero at
+held_of (rust.Value e) = held_value (exp_of e)
+
+abbrev pub part_of : RustPart → Part
+part_of p = part_by (shown_standing p.standing) (held_of p.held)
+
+abbrev pub globals_of : {S : Type 0} → IndexMap (Bor Text) ℕ S → List (Text × ℕ)
+globals_of gs = map (λ e. (e.0.now, e.1)) gs.entries
+
+abbrev pub source_in : RustSource → Source
+source_in s = record { whole = known_of s.whole; kinds = s.kinds; sites = s.sites.now; globals = globals_of s.globals }
+
+abbrev pub frame_in : RustFrame → Frame
+frame_in f = record { first = f.first; homes = f.homes; gives_pointer = f.gives_pointer }
+
+abbrev pub here_of : RustHere → Here
+here_of h = record { source = source_in h.source.now; frame = frame_in h.frame.now; known = known_of h.table.now; numbers = numbered_of h.numbers.now }

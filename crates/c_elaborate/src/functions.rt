@@ -1,0 +1,448 @@
+//! Functions: where each formal and local is kept, and the core tree of a definition (C99 6.9.1).
+ghost use Rattle.std.specs.Prelude.{◌≡◌, ◌+◌, ◌++◌, IfOk, OnOk, length, map};
+ghost use Rattle.c_tree.specs.Tree.{listed_parts};
+ghost use Rattle.c_tree.specs.View as tree;
+ghost use Rattle.c_types.specs.Addresses as numbering;
+ghost use Rattle.c_types.specs.Addresses.{count_of_parts};
+ghost use Rattle.c_types.specs.Declarators.{after_params};
+ghost use Rattle.c_types.specs.NumberTables.{numbered_of};
+ghost use Rattle.c_types.specs.Statements.{after_parts, declared_by};
+ghost use Rattle.c_types.specs.Table.{known_of};
+ghost use Rattle.c_core.specs.View.{arrival_of, function_of, stmt_of};
+ghost use Rattle.c_elaborate.specs.Here.{here_in};
+ghost use Rattle.c_elaborate.specs.Statements as spec_statements;
+ghost use Rattle.c_elaborate.specs.Functions as spec;
+ghost use Rattle.c_elaborate.specs.Views.{frame_in, source_in};
+
+use crate::calls::gives_pointer;
+use crate::here::{Frame, Source, site_at};
+use crate::home::Home;
+use crate::initials::sum;
+use crate::local::Local;
+use crate::statement::push_parts;
+use c_core::{Arrival, CoreFunction, Position, Statement};
+use c_tree::{Declaration, Declarator, ForStart, Item, Name, Param, Part, Specifier, Stmt};
+use c_types::{Marks, NumberTable, StarredType, Table, declare_param, is_kept};
+use rr_base::{Bytes, List, Site};
+use std::alloc::{AllocError, Global};
+
+fn formal_of(param: &Param) -> Local
+    ensures { result ≡ spec.formal_of param.now }
+{
+    let is_pointer = param.stars > 0;
+    match &param.name {
+        None => Local {
+            is_kept: false,
+            is_pointer,
+            line: param.line,
+            column: param.column,
+        },
+        Some(name) => Local {
+            is_kept: is_kept(&param.specifier, param.stars, &[]),
+            is_pointer,
+            line: name.line,
+            column: name.column,
+        },
+    }
+}
+
+fn local_declared(specifier: &Specifier, declarator: &Declarator) -> Local
+    ensures { result ≡ spec.local_declared specifier.now (tree.declared_of declarator.now) }
+{
+    Local {
+        is_kept: is_kept(specifier, declarator.stars, declarator.lengths.as_slice()),
+        is_pointer: declarator.stars > 0,
+        line: declarator.name.line,
+        column: declarator.name.column,
+    }
+}
+
+fn local_of(specifier: &Specifier, item: &Item) -> Local
+    ensures { result ≡ spec.local_of specifier.now (tree.object_of item.now) }
+{
+    match item {
+        Item::Plain(declarator) => local_declared(specifier, declarator),
+        Item::Initialised { declarator, .. } => local_declared(specifier, declarator),
+    }
+}
+
+fn push_declares_locals(declaration: &Declaration, out: &mut List<Local>) -> Result<(), AllocError>
+    ensures { OnOk result (out.new ≡ out.old ++ spec.declares_locals (tree.declares_of declaration.now)) }
+{
+    for item in declaration.items.as_slice() {
+        out.push(local_of(&declaration.specifier, item))?;
+    }
+    Ok(())
+}
+
+fn push_start_locals(start: &ForStart, out: &mut List<Local>) -> Result<(), AllocError>
+    ensures { OnOk result (out.new ≡ out.old ++ spec.start_locals (tree.start_of start.now)) }
+{
+    match start {
+        ForStart::Declares(declaration) => push_declares_locals(declaration, out),
+        ForStart::Computes(_) => Ok(()),
+    }
+}
+
+/// The locals of a statement, in the order of the text.
+#[cycle(statement_locals)]
+fn push_statement_locals(stmt: &Stmt, out: &mut List<Local>) -> Result<(), AllocError>
+    ensures { OnOk result (out.new ≡ out.old ++ spec.statement_locals (tree.stmt_of stmt.now)) }
+{
+    match stmt {
+        Stmt::Block { parts, .. } => push_parts_locals(parts.as_slice(), out),
+        Stmt::Expression { .. }
+        | Stmt::Break { .. }
+        | Stmt::Continue { .. }
+        | Stmt::Return { .. } => Ok(()),
+        Stmt::If { yes, no, .. } => {
+            push_statement_locals(yes, out)?;
+            match no {
+                None => Ok(()),
+                Some(no) => push_statement_locals(no, out),
+            }
+        }
+        Stmt::While { body, .. } => push_statement_locals(body, out),
+        Stmt::Do { body, .. } => push_statement_locals(body, out),
+        Stmt::For { start, body, .. } => {
+            push_start_locals(start, out)?;
+            push_statement_locals(body, out)
+        }
+    }
+}
+
+#[cycle(statement_locals)]
+fn push_parts_locals(parts: &[Part], out: &mut List<Local>) -> Result<(), AllocError>
+    ensures { OnOk result (out.new ≡ out.old ++ spec.parts_locals (listed_parts (map tree.part_of parts.now))) }
+{
+    for part in parts {
+        match part {
+            Part::Declares(declaration) => push_declares_locals(declaration, out)?,
+            Part::Does(stmt) => push_statement_locals(stmt, out)?,
+        }
+    }
+    Ok(())
+}
+
+/// A number more. More than the machine can count don't fit its memory.
+fn following(number: usize) -> Result<usize, AllocError>
+    ensures { IfOk result (λ n. n ≡ number + 1) }
+{
+    match number.checked_add(1) {
+        Some(next) => Ok(next),
+        None => Err(AllocError),
+    }
+}
+
+/// Those to which `&` is applied, by their numbers from `first` on, are kept in cells too.
+fn marked(
+    alloc: Global,
+    marks: &Marks,
+    first: usize,
+    locals: &[Local],
+) -> Result<List<Local>, AllocError>
+    ensures { IfOk result (λ ls. ls ≡ spec.marked marks.now.numbers first locals.now) }
+{
+    let mut out = List::new(alloc);
+    let mut number = first;
+    for local in locals {
+        out.push(Local {
+            is_kept: local.is_kept || marks.holds(number),
+            is_pointer: local.is_pointer,
+            line: local.line,
+            column: local.column,
+        })?;
+        number = following(number)?;
+    }
+    Ok(out)
+}
+
+/// The formals of a function.
+fn formals_of(
+    alloc: Global,
+    marks: &Marks,
+    first: usize,
+    params: &[Param],
+) -> Result<List<Local>, AllocError>
+    ensures { IfOk result (λ ls. ls ≡ spec.marked marks.now.numbers first (map spec.formal_of params.now)) }
+{
+    let mut formals = List::new(alloc);
+    for param in params {
+        formals.push(formal_of(param))?;
+    }
+    marked(alloc, marks, first, formals.as_slice())
+}
+
+/// Its locals.
+fn locals_of(
+    alloc: Global,
+    marks: &Marks,
+    first: usize,
+    parts: &[Part],
+) -> Result<List<Local>, AllocError>
+    ensures { IfOk result (λ ls. ls ≡ spec.marked marks.now.numbers first (spec.parts_locals (listed_parts (map tree.part_of parts.now)))) }
+{
+    let mut locals = List::new(alloc);
+    push_parts_locals(parts, &mut locals)?;
+    marked(alloc, marks, first, locals.as_slice())
+}
+
+fn one_if(holds: bool) -> u32
+    ensures { result ≡ spec.one_if holds }
+{
+    if holds { 1 } else { 0 }
+}
+
+/// Where the formals are kept, and how many of them are kept in cells.
+fn push_formal_homes(formals: &[Local], out: &mut List<Home>) -> Result<u32, AllocError>
+    ensures homes { OnOk result (out.new ≡ out.old ++ spec.formal_homes 0 0 formals.now) }
+    ensures kept { IfOk result (λ n. n ≡ spec.kept_count formals.now) }
+{
+    let mut register = 0;
+    let mut object = 0;
+    for local in formals {
+        out.push(if local.is_kept {
+            Home::Object(object)
+        } else {
+            Home::Register(register)
+        })?;
+        register = sum(register, 1)?;
+        object = sum(object, one_if(local.is_kept))?;
+    }
+    Ok(object)
+}
+
+/// Where the locals are kept, whose first register and first object these are.
+fn push_local_homes(
+    register: u32,
+    object: u32,
+    locals: &[Local],
+    out: &mut List<Home>,
+) -> Result<(), AllocError>
+    ensures { OnOk result (out.new ≡ out.old ++ spec.local_homes register object locals.now) }
+{
+    let mut register = register;
+    let mut object = object;
+    for local in locals {
+        out.push(if local.is_kept {
+            Home::Object(object)
+        } else {
+            Home::Register(register)
+        })?;
+        register = sum(register, one_if(!local.is_kept))?;
+        object = sum(object, one_if(local.is_kept))?;
+    }
+    Ok(())
+}
+
+/// A count that doesn't fit 32 bits is one of what the machine's memory can't hold.
+fn counted(count: usize) -> Result<u32, AllocError>
+    ensures { IfOk result (λ n. n ≡ count) }
+{
+    match u32::try_from(count) {
+        Ok(count) => Ok(count),
+        Err(_) => Err(AllocError),
+    }
+}
+
+fn homes_of(alloc: Global, formals: &[Local], locals: &[Local]) -> Result<List<Home>, AllocError>
+    ensures { IfOk result (λ hs. hs ≡ spec.homes_of formals.now locals.now) }
+{
+    let mut homes = List::new(alloc);
+    let objects = push_formal_homes(formals, &mut homes)?;
+    push_local_homes(counted(formals.len())?, objects, locals, &mut homes)?;
+    Ok(homes)
+}
+
+/// Whether each register is a pointer.
+fn pointers_of(alloc: Global, formals: &[Local], locals: &[Local]) -> Result<List<bool>, AllocError>
+    ensures { IfOk result (λ ps. ps ≡ spec.pointers_of formals.now locals.now) }
+{
+    let mut pointers = List::new(alloc);
+    for formal in formals {
+        pointers.push(formal.is_pointer)?;
+    }
+    for local in locals {
+        if !local.is_kept {
+            pointers.push(local.is_pointer)?;
+        }
+    }
+    Ok(pointers)
+}
+
+/// The sites of those that are kept in cells.
+fn push_sites(sites: &[Site], locals: &[Local], out: &mut List<u16>) -> Result<(), AllocError>
+    ensures { OnOk result (out.new ≡ out.old ++ spec.sites_of sites.now locals.now) }
+{
+    for local in locals {
+        if local.is_kept {
+            out.push(site_at(sites, local.line, local.column)?)?;
+        }
+    }
+    Ok(())
+}
+
+fn objects_of(
+    alloc: Global,
+    sites: &[Site],
+    formals: &[Local],
+    locals: &[Local],
+) -> Result<List<u16>, AllocError>
+    ensures { IfOk result (λ ss. ss ≡ spec.sites_of sites.now (formals.now ++ locals.now)) }
+{
+    let mut objects = List::new(alloc);
+    push_sites(sites, formals, &mut objects)?;
+    push_sites(sites, locals, &mut objects)?;
+    Ok(objects)
+}
+
+/// The formals that are kept in cells.
+fn arrivals_of(alloc: Global, formals: &[Local]) -> Result<List<Arrival>, AllocError>
+    ensures { IfOk result (λ xs. map arrival_of xs ≡ spec.arrivals_of 0 0 formals.now) }
+{
+    let mut arrivals = List::new(alloc);
+    let mut register = 0;
+    let mut object = 0;
+    for local in formals {
+        if local.is_kept {
+            arrivals.push(Arrival {
+                register,
+                object,
+                at: Position {
+                    line: local.line,
+                    column: local.column,
+                },
+            })?;
+        }
+        register = sum(register, 1)?;
+        object = sum(object, one_if(local.is_kept))?;
+    }
+    Ok(arrivals)
+}
+
+/// The formals have the next numbers, and are declared.
+fn pass_formals<'a>(
+    alloc: Global,
+    table: &mut Table<'a>,
+    numbers: &mut NumberTable<'a>,
+    params: &'a [Param],
+) -> Result<(), AllocError>
+    ensures known { OnOk result (known_of table.new ≡ after_params (known_of table.old) params.now) }
+    ensures numbers { OnOk result (numbered_of numbers.new ≡ numbering.after_formals (numbered_of numbers.old) params.now) }
+{
+    for param in params {
+        declare_param(alloc, table, param)?;
+        match &param.name {
+            None => numbers.skip()?,
+            Some(name) => numbers.number(name)?,
+        }
+    }
+    Ok(())
+}
+
+/// The body of a function, where its formals and locals are kept in these places.
+fn body_of<'a>(
+    alloc: Global,
+    source: &Source<'a>,
+    frame: &Frame,
+    table: &mut Table<'a>,
+    params: &'a [Param],
+    parts: &'a [Part],
+) -> Result<Statement, AllocError>
+    ensures known { OnOk result (known_of table.new ≡ after_parts (after_params (known_of table.old) params.now) (listed_parts (map tree.part_of parts.now))) }
+    ensures body { IfOk result (λ s. stmt_of s ≡ spec_statements.block_of (spec_statements.all_elaborated (here_in (source_in source.now) (frame_in frame.now) (after_params (known_of table.old) params.now) (numbering.numbered_from frame.now.first params.now)) (listed_parts (map tree.part_of parts.now)))) }
+{
+    let mut numbers = NumberTable::new(alloc, frame.first)?;
+    pass_formals(alloc, table, &mut numbers, params)?;
+    let mut body = List::new(alloc);
+    push_parts(alloc, source, frame, table, &mut numbers, parts, &mut body)?;
+    Ok(Statement::Block(body))
+}
+
+fn frame_of(
+    alloc: Global,
+    first: usize,
+    formals: &[Local],
+    locals: &[Local],
+    gives: Option<StarredType>,
+) -> Result<Frame, AllocError>
+    ensures { IfOk result (λ f. frame_in f ≡ spec.frame_of first formals.now locals.now gives) }
+{
+    Ok(Frame {
+        first,
+        homes: homes_of(alloc, formals, locals)?,
+        gives_pointer: gives_pointer(gives),
+    })
+}
+
+/// A definition of these formals and locals, with this body.
+fn function_by(
+    alloc: Global,
+    source: &Source,
+    name: &Name,
+    gives: Option<StarredType>,
+    formals: &[Local],
+    locals: &[Local],
+    body: Statement,
+) -> Result<CoreFunction, AllocError>
+    ensures { IfOk result (λ f. function_of f ≡ spec.function_by (source_in source.now).sites name.now gives formals.now locals.now (stmt_of body)) }
+{
+    Ok(CoreFunction {
+        name: Bytes::from_slice(alloc, name.text.as_slice())?,
+        at: Position {
+            line: name.line,
+            column: name.column,
+        },
+        formals: counted(formals.len())?,
+        pointers: pointers_of(alloc, formals, locals)?,
+        objects: objects_of(alloc, source.sites, formals, locals)?,
+        arrivals: arrivals_of(alloc, formals)?,
+        gives_pointer: gives_pointer(gives),
+        body,
+    })
+}
+
+/// So many numbers more.
+fn behind(number: usize, many: usize) -> Result<usize, AllocError>
+    ensures { IfOk result (λ n. n ≡ number + many) }
+{
+    match number.checked_add(many) {
+        Some(next) => Ok(next),
+        None => Err(AllocError),
+    }
+}
+
+/// A definition, whose formals and locals have the next numbers. The table's innermost scope is its own.
+pub fn definition<'a>(
+    alloc: Global,
+    source: &Source<'a>,
+    marks: &Marks,
+    table: &mut Table<'a>,
+    next: &mut usize,
+    name: &Name,
+    gives: Option<StarredType>,
+    params: &'a [Param],
+    parts: &'a [Part],
+) -> Result<CoreFunction, AllocError>
+    ensures known { OnOk result (known_of table.new ≡ after_parts (after_params (known_of table.old) params.now) (listed_parts (map tree.part_of parts.now))) }
+    ensures next { OnOk result (next.new ≡ next.old + (length params.now + count_of_parts (listed_parts (map tree.part_of parts.now)))) }
+    ensures function { IfOk result (λ f. function_of f ≡ spec.definition (source_in source.now) marks.now.numbers (known_of table.old) next.old name.now gives params.now (listed_parts (map tree.part_of parts.now))) }
+{
+    let first = *next;
+    let formals = formals_of(alloc, marks, first, params)?;
+    let behind_formals = behind(first, params.len())?;
+    let locals = locals_of(alloc, marks, behind_formals, parts)?;
+    let frame = frame_of(alloc, first, formals.as_slice(), locals.as_slice(), gives)?;
+    let body = body_of(alloc, source, &frame, table, params, parts)?;
+    let function = function_by(
+        alloc,
+        source,
+        name,
+        gives,
+        formals.as_slice(),
+        locals.as_slice(),
+        body,
+    )?;
+    *next = behind(behind_formals, locals.len())?;
+    Ok(function)
+}

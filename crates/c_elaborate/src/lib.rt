@@ -1,0 +1,19 @@
+//! What a C source does, as a core tree: from a source whose types and names break no rule to the tree in which they are
+//! settled. It stands on `c_types` and `c_core`.
+#![tactic(auto)]
+
+mod calls;
+mod expression;
+mod functions;
+mod globals;
+mod held;
+mod here;
+mod home;
+mod initials;
+mod local;
+mod make;
+mod operators;
+mod statement;
+mod whole;
+
+pub use whole::elaborate;

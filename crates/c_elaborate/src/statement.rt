@@ -1,0 +1,544 @@
+//! The core tree of statements (C99 6.8). A declaration in a block is the statements that give its objects their first
+//! values.
+ghost use Rattle.std.specs.Prelude.{◌≡◌, ◌++◌, ◌∷◌, [], false, IfOk, OnOk, map};
+ghost use Rattle.c_tree.specs.Tree.{initialised, listed_parts, place_at};
+ghost use Rattle.c_tree.specs.View as tree;
+ghost use Rattle.c_types.specs.Addresses as numbering;
+ghost use Rattle.c_types.specs.NumberTables.{numbered_of};
+ghost use Rattle.c_types.specs.Statements as statements;
+ghost use Rattle.c_types.specs.Table.{known_of};
+ghost use Rattle.c_tree.specs.Tree as trees;
+ghost use Rattle.c_core.specs.Core as core;
+ghost use Rattle.c_core.specs.View.{exp_of, maybe_of, stmt_of};
+ghost use Rattle.c_elaborate.specs.Expressions.{value_of};
+ghost use Rattle.c_elaborate.specs.Held.{position_of};
+ghost use Rattle.c_elaborate.specs.Here.{here_in};
+ghost use Rattle.c_elaborate.specs.Statements as spec;
+ghost use Rattle.c_elaborate.specs.Views.{frame_in, here_of, source_in};
+
+use crate::expression::{position, value, wanted};
+use crate::here::{Frame, Here, Source};
+use crate::initials::push_begun;
+use crate::make::{self, ForHead};
+use c_core::{Statement, Value};
+use c_tree::{Declaration, Declarator, Expr, ForStart, Initial, Item, Part, Specifier, Stmt};
+use c_types::{NumberTable, Table, Target, copy_of, declare_object, declared_type};
+use rr_base::List;
+use std::alloc::{AllocError, Global};
+
+/// The place at which so much is known.
+fn here<'h, 'a>(
+    source: &'h Source<'a>,
+    frame: &'h Frame,
+    table: &'h Table<'a>,
+    numbers: &'h NumberTable<'a>,
+) -> Here<'h, 'a>
+    ensures { here_of result ≡ here_in (source_in source.now) (frame_in frame.now) (known_of table.now) (numbered_of numbers.now) }
+{
+    Here {
+        source,
+        frame,
+        table,
+        numbers,
+    }
+}
+
+/// A local that starts as something. The scope of its name begins behind its declarator.
+fn push_initialised<'a>(
+    alloc: Global,
+    source: &Source<'a>,
+    frame: &Frame,
+    table: &mut Table<'a>,
+    numbers: &mut NumberTable<'a>,
+    specifier: &Specifier,
+    declarator: &'a Declarator,
+    initial: &Initial,
+    at: (u32, u32),
+    out: &mut List<Statement>,
+) -> Result<(), AllocError>
+    ensures known { OnOk result (known_of table.new ≡ statements.after_declared (known_of table.old) false specifier.now (tree.declared_of declarator.now)) }
+    ensures numbers { OnOk result (numbered_of numbers.new ≡ numbering.after_name (numbered_of numbers.old) (tree.declared_of declarator.now)) }
+    ensures out { OnOk result (map stmt_of out.new ≡ map stmt_of out.old ++ spec.object_elaborated (here_in (source_in source.now) (frame_in frame.now) (known_of table.old) (numbered_of numbers.old)) specifier.now (initialised (tree.declared_of declarator.now) (tree.init_of initial.now) (place_at at.0 at.1))) }
+{
+    let of = declared_type(alloc, &*table, specifier, declarator)?;
+    let kept = copy_of(alloc, &of)?;
+    declare_object(table, false, &declarator.name, of)?;
+    numbers.number(&declarator.name)?;
+    let here = here(source, frame, &*table, &*numbers);
+    let home = here.home_of(declarator.name.text.as_slice());
+    push_begun(alloc, here, home, &kept, initial, position(at.0, at.1), out)
+}
+
+/// A local that starts as nothing.
+fn pass_plain<'a>(
+    alloc: Global,
+    table: &mut Table<'a>,
+    numbers: &mut NumberTable<'a>,
+    specifier: &Specifier,
+    declarator: &'a Declarator,
+) -> Result<(), AllocError>
+    ensures known { OnOk result (known_of table.new ≡ statements.after_declared (known_of table.old) false specifier.now (tree.declared_of declarator.now)) }
+    ensures numbers { OnOk result (numbered_of numbers.new ≡ numbering.after_name (numbered_of numbers.old) (tree.declared_of declarator.now)) }
+{
+    let of = declared_type(alloc, &*table, specifier, declarator)?;
+    declare_object(table, false, &declarator.name, of)?;
+    numbers.number(&declarator.name)
+}
+
+fn push_object<'a>(
+    alloc: Global,
+    source: &Source<'a>,
+    frame: &Frame,
+    table: &mut Table<'a>,
+    numbers: &mut NumberTable<'a>,
+    specifier: &Specifier,
+    item: &'a Item,
+    out: &mut List<Statement>,
+) -> Result<(), AllocError>
+    ensures known { OnOk result (known_of table.new ≡ statements.after_declared (known_of table.old) false specifier.now (statements.declared_by (tree.object_of item.now))) }
+    ensures numbers { OnOk result (numbered_of numbers.new ≡ numbering.after_name (numbered_of numbers.old) (statements.declared_by (tree.object_of item.now))) }
+    ensures out { OnOk result (map stmt_of out.new ≡ map stmt_of out.old ++ spec.object_elaborated (here_in (source_in source.now) (frame_in frame.now) (known_of table.old) (numbered_of numbers.old)) specifier.now (tree.object_of item.now)) }
+{
+    match item {
+        Item::Plain(declarator) => pass_plain(alloc, table, numbers, specifier, declarator),
+        Item::Initialised {
+            declarator,
+            initial,
+            line,
+            column,
+        } => push_initialised(
+            alloc,
+            source,
+            frame,
+            table,
+            numbers,
+            specifier,
+            declarator,
+            initial,
+            (*line, *column),
+            out,
+        ),
+    }
+}
+
+/// A declaration in a block.
+fn push_declares<'a>(
+    alloc: Global,
+    source: &Source<'a>,
+    frame: &Frame,
+    table: &mut Table<'a>,
+    numbers: &mut NumberTable<'a>,
+    declaration: &'a Declaration,
+    out: &mut List<Statement>,
+) -> Result<(), AllocError>
+    ensures known { OnOk result (known_of table.new ≡ statements.after_declares (known_of table.old) (tree.declares_of declaration.now)) }
+    ensures numbers { OnOk result (numbered_of numbers.new ≡ numbering.after_declaration (numbered_of numbers.old) (tree.declares_of declaration.now)) }
+    ensures out { OnOk result (map stmt_of out.new ≡ map stmt_of out.old ++ spec.declares_elaborated (here_in (source_in source.now) (frame_in frame.now) (known_of table.old) (numbered_of numbers.old)) (tree.declares_of declaration.now)) }
+{
+    let specifier = &declaration.specifier;
+    for item in declaration.items.as_slice() {
+        push_object(alloc, source, frame, table, numbers, specifier, item, out)?;
+    }
+    Ok(())
+}
+
+/// No statement.
+fn nothing(alloc: Global) -> Statement
+    ensures { stmt_of result ≡ spec.block_of [] }
+{
+    Statement::Block(List::new(alloc))
+}
+
+/// The word of an expression at this place.
+fn value_at<'a>(
+    alloc: Global,
+    source: &Source<'a>,
+    frame: &Frame,
+    table: &Table<'a>,
+    numbers: &NumberTable<'a>,
+    e: &Expr,
+) -> Result<Value, AllocError>
+    ensures { IfOk result (λ v. exp_of v ≡ value_of (here_in (source_in source.now) (frame_in frame.now) (known_of table.now) (numbered_of numbers.now)) (tree.exp_of e.now)) }
+{
+    value(alloc, here(source, frame, table, numbers), e)
+}
+
+/// An expression for what it does.
+fn computed<'a>(
+    alloc: Global,
+    source: &Source<'a>,
+    frame: &Frame,
+    table: &Table<'a>,
+    numbers: &NumberTable<'a>,
+    e: &Option<Expr>,
+) -> Result<Statement, AllocError>
+    ensures { IfOk result (λ s. stmt_of s ≡ spec.computed (here_in (source_in source.now) (frame_in frame.now) (known_of table.now) (numbered_of numbers.now)) (tree.maybe_of e.now)) }
+{
+    match e {
+        None => Ok(nothing(alloc)),
+        Some(e) => {
+            let value = value_at(alloc, source, frame, table, numbers, e)?;
+            Ok(Statement::Compute(value))
+        }
+    }
+}
+
+fn maybe_value(alloc: Global, here: Here, e: &Option<Expr>) -> Result<Option<Value>, AllocError>
+    ensures { IfOk result (λ v. maybe_of v ≡ spec.maybe_value (here_of here.entry) (tree.maybe_of e.now)) }
+{
+    match e {
+        None => Ok(None),
+        Some(e) => {
+            let value = value(alloc, here, e)?;
+            Ok(Some(value))
+        }
+    }
+}
+
+/// What a `return` gives.
+fn given<'a>(
+    alloc: Global,
+    source: &Source<'a>,
+    frame: &Frame,
+    table: &Table<'a>,
+    numbers: &NumberTable<'a>,
+    e: &Option<Expr>,
+) -> Result<Option<Value>, AllocError>
+    ensures { IfOk result (λ v. maybe_of v ≡ spec.given (here_in (source_in source.now) (frame_in frame.now) (known_of table.now) (numbered_of numbers.now)) (tree.maybe_of e.now)) }
+{
+    match e {
+        None => Ok(None),
+        Some(e) => {
+            let here = here(source, frame, table, numbers);
+            let value = wanted(alloc, here, frame.gives_pointer, Target::No, e)?;
+            Ok(Some(value))
+        }
+    }
+}
+
+/// How a `for` begins.
+fn start<'a>(
+    alloc: Global,
+    source: &Source<'a>,
+    frame: &Frame,
+    table: &mut Table<'a>,
+    numbers: &mut NumberTable<'a>,
+    start: &'a ForStart,
+) -> Result<Statement, AllocError>
+    ensures known { OnOk result (known_of table.new ≡ statements.after_start (known_of table.old) (tree.start_of start.now)) }
+    ensures numbers { OnOk result (numbered_of numbers.new ≡ numbering.after_for_start (numbered_of numbers.old) (tree.start_of start.now)) }
+    ensures statement { IfOk result (λ s. stmt_of s ≡ spec.start_elaborated (here_in (source_in source.now) (frame_in frame.now) (known_of table.old) (numbered_of numbers.old)) (tree.start_of start.now)) }
+{
+    match start {
+        ForStart::Declares(declaration) => {
+            let mut begun = List::new(alloc);
+            push_declares(
+                alloc,
+                source,
+                frame,
+                table,
+                numbers,
+                declaration,
+                &mut begun,
+            )?;
+            Ok(Statement::Block(begun))
+        }
+        ForStart::Computes(e) => { computed(alloc, source, frame, &*table, &*numbers, e) }
+    }
+}
+
+/// A block opens a scope.
+#[cycle(statement)]
+fn block<'a>(
+    alloc: Global,
+    source: &Source<'a>,
+    frame: &Frame,
+    table: &mut Table<'a>,
+    numbers: &mut NumberTable<'a>,
+    parts: &'a [Part],
+) -> Result<Statement, AllocError>
+    ensures known { OnOk result (known_of table.new ≡ known_of table.old) }
+    ensures numbers { OnOk result (numbered_of numbers.new ≡ numbering.behind (numbered_of numbers.old) (numbering.count_of_parts (listed_parts (map tree.part_of parts.now)))) }
+    ensures statement { IfOk result (λ s. stmt_of s ≡ spec.block_of (spec.all_elaborated (spec.here_inside (here_in (source_in source.now) (frame_in frame.now) (known_of table.old) (numbered_of numbers.old))) (listed_parts (map tree.part_of parts.now)))) }
+{
+    table.open(alloc)?;
+    numbers.open(alloc)?;
+    let mut inner = List::new(alloc);
+    push_parts(alloc, source, frame, table, numbers, parts, &mut inner)?;
+    table.close();
+    numbers.close();
+    Ok(Statement::Block(inner))
+}
+
+#[cycle(statement)]
+fn while_loop<'a>(
+    alloc: Global,
+    source: &Source<'a>,
+    frame: &Frame,
+    table: &mut Table<'a>,
+    numbers: &mut NumberTable<'a>,
+    body: &'a Stmt,
+    test: &Expr,
+    at: (u32, u32),
+) -> Result<Statement, AllocError>
+    ensures known { OnOk result (known_of table.new ≡ known_of table.old) }
+    ensures numbers { OnOk result (numbered_of numbers.new ≡ numbering.behind_statement (numbered_of numbers.old) (tree.stmt_of body.now)) }
+    ensures statement { IfOk result (λ s. stmt_of s ≡ spec.elaborated (here_in (source_in source.now) (frame_in frame.now) (known_of table.old) (numbered_of numbers.old)) (trees.while_loop (tree.exp_of test.now) (tree.stmt_of body.now) (place_at at.0 at.1))) }
+{
+    let test = value_at(alloc, source, frame, &*table, &*numbers, test)?;
+    let body = statement(alloc, source, frame, table, numbers, body)?;
+    make::while_loop(alloc, test, body, position(at.0, at.1))
+}
+
+#[cycle(statement)]
+fn do_loop<'a>(
+    alloc: Global,
+    source: &Source<'a>,
+    frame: &Frame,
+    table: &mut Table<'a>,
+    numbers: &mut NumberTable<'a>,
+    body: &'a Stmt,
+    test: &Expr,
+    at: (u32, u32),
+) -> Result<Statement, AllocError>
+    ensures known { OnOk result (known_of table.new ≡ known_of table.old) }
+    ensures numbers { OnOk result (numbered_of numbers.new ≡ numbering.behind_statement (numbered_of numbers.old) (tree.stmt_of body.now)) }
+    ensures statement { IfOk result (λ s. stmt_of s ≡ spec.elaborated (here_in (source_in source.now) (frame_in frame.now) (known_of table.old) (numbered_of numbers.old)) (trees.do_loop (tree.stmt_of body.now) (tree.exp_of test.now) (place_at at.0 at.1))) }
+{
+    let body = statement(alloc, source, frame, table, numbers, body)?;
+    let test = value_at(alloc, source, frame, &*table, &*numbers, test)?;
+    make::do_loop(alloc, body, test, position(at.0, at.1))
+}
+
+/// What is tested in the parentheses of a `for`, and its step.
+fn for_parts<'a>(
+    alloc: Global,
+    source: &Source<'a>,
+    frame: &Frame,
+    table: &Table<'a>,
+    numbers: &NumberTable<'a>,
+    test: &Option<Expr>,
+    step: &Option<Expr>,
+) -> Result<(Option<Value>, Option<Value>), AllocError>
+    ensures test { IfOk result (λ r. maybe_of r.0 ≡ spec.maybe_value (here_in (source_in source.now) (frame_in frame.now) (known_of table.now) (numbered_of numbers.now)) (tree.maybe_of test.now)) }
+    ensures step { IfOk result (λ r. maybe_of r.1 ≡ spec.maybe_value (here_in (source_in source.now) (frame_in frame.now) (known_of table.now) (numbered_of numbers.now)) (tree.maybe_of step.now)) }
+{
+    let here = here(source, frame, table, numbers);
+    let test = maybe_value(alloc, here, test)?;
+    let step = maybe_value(alloc, here, step)?;
+    Ok((test, step))
+}
+
+/// What stands in the parentheses of a `for`.
+fn for_head<'a>(
+    alloc: Global,
+    source: &Source<'a>,
+    frame: &Frame,
+    table: &mut Table<'a>,
+    numbers: &mut NumberTable<'a>,
+    begin: &'a ForStart,
+    test: &Option<Expr>,
+    step: &Option<Expr>,
+) -> Result<ForHead, AllocError>
+    ensures known { OnOk result (known_of table.new ≡ statements.after_start (known_of table.old) (tree.start_of begin.now)) }
+    ensures numbers { OnOk result (numbered_of numbers.new ≡ numbering.after_for_start (numbered_of numbers.old) (tree.start_of begin.now)) }
+    ensures start { IfOk result (λ h. stmt_of h.start.value ≡ spec.start_elaborated (here_in (source_in source.now) (frame_in frame.now) (known_of table.old) (numbered_of numbers.old)) (tree.start_of begin.now)) }
+    ensures test { IfOk result (λ h. maybe_of h.test ≡ spec.maybe_value (spec.here_after_start (here_in (source_in source.now) (frame_in frame.now) (known_of table.old) (numbered_of numbers.old)) (tree.start_of begin.now)) (tree.maybe_of test.now)) }
+    ensures step { IfOk result (λ h. maybe_of h.step ≡ spec.maybe_value (spec.here_after_start (here_in (source_in source.now) (frame_in frame.now) (known_of table.old) (numbered_of numbers.old)) (tree.start_of begin.now)) (tree.maybe_of step.now)) }
+{
+    let begun = start(alloc, source, frame, table, numbers, begin)?;
+    let start = Box::new(alloc, begun)?;
+    let parts = for_parts(alloc, source, frame, &*table, &*numbers, test, step)?;
+    Ok(ForHead {
+        start,
+        test: parts.0,
+        step: parts.1,
+    })
+}
+
+/// A `for` in a scope of its own, which its caller opens and closes.
+#[cycle(statement)]
+fn for_loop<'a>(
+    alloc: Global,
+    source: &Source<'a>,
+    frame: &Frame,
+    table: &mut Table<'a>,
+    numbers: &mut NumberTable<'a>,
+    body: &'a Stmt,
+    begin: &'a ForStart,
+    test: &Option<Expr>,
+    step: &Option<Expr>,
+    at: (u32, u32),
+) -> Result<Statement, AllocError>
+    ensures known { OnOk result (known_of table.new ≡ statements.after_start (known_of table.old) (tree.start_of begin.now)) }
+    ensures numbers { OnOk result (numbered_of numbers.new ≡ numbering.behind_statement (numbering.after_for_start (numbered_of numbers.old) (tree.start_of begin.now)) (tree.stmt_of body.now)) }
+    ensures statement { let h = (here_in (source_in source.now) (frame_in frame.now) (known_of table.old) (numbered_of numbers.old)) in let after = spec.here_after_start h (tree.start_of begin.now) in IfOk result (λ s. stmt_of s ≡ core.for_loop (spec.start_elaborated h (tree.start_of begin.now)) (spec.maybe_value after (tree.maybe_of test.now)) (spec.maybe_value after (tree.maybe_of step.now)) (spec.elaborated after (tree.stmt_of body.now)) (position_of (place_at at.0 at.1))) }
+{
+    let head = for_head(alloc, source, frame, table, numbers, begin, test, step)?;
+    let body = statement(alloc, source, frame, table, numbers, body)?;
+    make::for_loop(alloc, head, body, position(at.0, at.1))
+}
+
+/// A `for`, whose names aren't seen behind it.
+#[cycle(statement)]
+fn for_statement<'a>(
+    alloc: Global,
+    source: &Source<'a>,
+    frame: &Frame,
+    table: &mut Table<'a>,
+    numbers: &mut NumberTable<'a>,
+    body: &'a Stmt,
+    begin: &'a ForStart,
+    test: &Option<Expr>,
+    step: &Option<Expr>,
+    at: (u32, u32),
+) -> Result<Statement, AllocError>
+    ensures known { OnOk result (known_of table.new ≡ known_of table.old) }
+    ensures numbers { OnOk result (numbered_of numbers.new ≡ numbering.behind_statement (numbered_of numbers.old) (trees.for_loop (tree.start_of begin.now) (tree.maybe_of test.now) (tree.maybe_of step.now) (tree.stmt_of body.now) (place_at at.0 at.1))) }
+    ensures statement { IfOk result (λ s. stmt_of s ≡ spec.elaborated (here_in (source_in source.now) (frame_in frame.now) (known_of table.old) (numbered_of numbers.old)) (trees.for_loop (tree.start_of begin.now) (tree.maybe_of test.now) (tree.maybe_of step.now) (tree.stmt_of body.now) (place_at at.0 at.1))) }
+{
+    table.open(alloc)?;
+    numbers.open(alloc)?;
+    let made = for_loop(
+        alloc, source, frame, table, numbers, body, begin, test, step, at,
+    )?;
+    table.close();
+    numbers.close();
+    Ok(made)
+}
+
+/// A statement. Its locals aren't seen behind it.
+#[cycle(statement)]
+#[tactic(auto, using(crate::proofs::Nested::numbers_behind))]
+fn statement<'a>(
+    alloc: Global,
+    source: &Source<'a>,
+    frame: &Frame,
+    table: &mut Table<'a>,
+    numbers: &mut NumberTable<'a>,
+    stmt: &'a Stmt,
+) -> Result<Statement, AllocError>
+    ensures known { OnOk result (known_of table.new ≡ known_of table.old) }
+    ensures numbers { OnOk result (numbered_of numbers.new ≡ numbering.behind_statement (numbered_of numbers.old) (tree.stmt_of stmt.now)) }
+    ensures statement { IfOk result (λ s. stmt_of s ≡ spec.elaborated (here_in (source_in source.now) (frame_in frame.now) (known_of table.old) (numbered_of numbers.old)) (tree.stmt_of stmt.now)) }
+{
+    match stmt {
+        Stmt::Block { parts, .. } => {
+            block(alloc, source, frame, table, numbers, parts.as_slice())
+        }
+        Stmt::Expression { value, .. } => {
+            computed(alloc, source, frame, &*table, &*numbers, value)
+        }
+        Stmt::Break { line, column } => Ok(Statement::Break {
+            at: position(*line, *column),
+        }),
+        Stmt::Continue { line, column } => Ok(Statement::Continue {
+            at: position(*line, *column),
+        }),
+        Stmt::Return {
+            value,
+            line,
+            column,
+        } => {
+            let value = given(alloc, source, frame, &*table, &*numbers, value)?;
+            Ok(Statement::Return {
+                value,
+                at: position(*line, *column),
+            })
+        }
+        Stmt::If {
+            test,
+            yes,
+            no,
+            line,
+            column,
+        } => {
+            let test = value_at(alloc, source, frame, &*table, &*numbers, test)?;
+            let yes = statement(alloc, source, frame, table, numbers, yes)?;
+            let no = match no {
+                None => nothing(alloc),
+                Some(no) => statement(alloc, source, frame, table, numbers, no)?,
+            };
+            make::branch(alloc, test, yes, no, position(*line, *column))
+        }
+        Stmt::While {
+            test,
+            body,
+            line,
+            column,
+        } => while_loop(
+            alloc,
+            source,
+            frame,
+            table,
+            numbers,
+            body,
+            test,
+            (*line, *column),
+        ),
+        Stmt::Do {
+            body,
+            test,
+            line,
+            column,
+        } => do_loop(
+            alloc,
+            source,
+            frame,
+            table,
+            numbers,
+            body,
+            test,
+            (*line, *column),
+        ),
+        Stmt::For {
+            start,
+            test,
+            step,
+            body,
+            line,
+            column,
+        } => for_statement(
+            alloc,
+            source,
+            frame,
+            table,
+            numbers,
+            body,
+            start,
+            test,
+            step,
+            (*line, *column),
+        ),
+    }
+}
+
+/// What stands in a block, one after another. Its declarations stay in the innermost scope.
+#[cycle(statement)]
+#[tactic(auto, using(crate::proofs::Nested::numbers_behind))]
+pub fn push_parts<'a>(
+    alloc: Global,
+    source: &Source<'a>,
+    frame: &Frame,
+    table: &mut Table<'a>,
+    numbers: &mut NumberTable<'a>,
+    parts: &'a [Part],
+    out: &mut List<Statement>,
+) -> Result<(), AllocError>
+    ensures known { OnOk result (known_of table.new ≡ statements.after_parts (known_of table.old) (listed_parts (map tree.part_of parts.now))) }
+    ensures numbers { OnOk result (numbered_of numbers.new ≡ numbering.behind_parts (numbered_of numbers.old) (listed_parts (map tree.part_of parts.now))) }
+    ensures out { OnOk result (map stmt_of out.new ≡ map stmt_of out.old ++ spec.all_elaborated (here_in (source_in source.now) (frame_in frame.now) (known_of table.old) (numbered_of numbers.old)) (listed_parts (map tree.part_of parts.now))) }
+{
+    for part in parts {
+        match part {
+            Part::Declares(declaration) => {
+                push_declares(alloc, source, frame, table, numbers, declaration, out)?;
+            }
+            Part::Does(stmt) => {
+                let made = statement(alloc, source, frame, table, numbers, stmt)?;
+                out.push(made)?;
+            }
+        }
+    }
+    Ok(())
+}

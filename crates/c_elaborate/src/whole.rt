@@ -1,0 +1,228 @@
+//! The core tree of a whole source (C99 6.9).
+ghost use Rattle.std.specs.Prelude.{◌≡◌, ◌+◌, ◌++◌, ◌∷◌, [], IfOk, OnOk, length, map};
+ghost use Rattle.c_tree.specs.Tree.{listed_parts};
+ghost use Rattle.c_tree.specs.View.{code_of, fields_of, outer_of, part_of, program_of};
+ghost use Rattle.c_types.specs.Addresses.{count_of_code, count_of_outer, count_of_parts, program_addressed};
+ghost use Rattle.c_types.specs.Declarators.{after_struct, listed_params};
+ghost use Rattle.c_types.specs.Programs as programs;
+ghost use Rattle.c_types.specs.Scopes.{opened};
+ghost use Rattle.c_types.specs.Spots.{program_sites, program_spots};
+ghost use Rattle.c_types.specs.Table.{known_of};
+ghost use Rattle.c_types.specs.Typed.{program_in};
+ghost use Rattle.c_core.specs.View.{core_of, function_of};
+ghost use Rattle.c_elaborate.specs.Functions.{definition};
+ghost use Rattle.c_elaborate.specs.Globals as spec_globals;
+ghost use Rattle.c_elaborate.specs.Views.{source_in};
+ghost use Rattle.c_elaborate.specs.Whole as spec;
+
+use crate::functions::definition;
+use crate::globals::{global_kinds, globals_in, push_objects};
+use crate::here::Source;
+use c_core::{Core, CoreFunction};
+use c_tree::{Body, External, Member, Name, Param, Params, Part, Program, Specifier};
+use c_types::{
+    Marks, StarredType, Table, Typed, addressed_in, declare_function, kinds_of_structs, listed,
+    note_struct, signature_of, spots_in,
+};
+use rr_base::{CellKind, List, Site};
+use std::alloc::{AllocError, Global};
+
+/// A definition in a scope of its own.
+fn push_definition<'a>(
+    alloc: Global,
+    source: &Source<'a>,
+    marks: &Marks,
+    table: &mut Table<'a>,
+    next: &mut usize,
+    name: &Name,
+    gives: Option<StarredType>,
+    params: &'a [Param],
+    parts: &'a [Part],
+    out: &mut List<CoreFunction>,
+) -> Result<(), AllocError>
+    ensures known { OnOk result (known_of table.new ≡ known_of table.old) }
+    ensures next { OnOk result (next.new ≡ next.old + (length params.now + count_of_parts (listed_parts (map part_of parts.now)))) }
+    ensures out { OnOk result (map function_of out.new ≡ map function_of out.old ++ definition (source_in source.now) marks.now.numbers (opened (known_of table.old)) next.old name.now gives params.now (listed_parts (map part_of parts.now)) ∷ []) }
+{
+    table.open(alloc)?;
+    let function = definition(
+        alloc, source, marks, table, next, name, gives, params, parts,
+    )?;
+    table.close();
+    out.push(function)?;
+    Ok(())
+}
+
+/// A function. A prototype defines none.
+fn push_function<'a>(
+    alloc: Global,
+    source: &Source<'a>,
+    marks: &Marks,
+    table: &mut Table<'a>,
+    next: &mut usize,
+    specifier: &Specifier,
+    stars: usize,
+    name: &'a Name,
+    params: &'a Params,
+    body: &'a Body,
+    out: &mut List<CoreFunction>,
+) -> Result<(), AllocError>
+    ensures known { OnOk result (known_of table.new ≡ programs.after_function (known_of table.old) name.now (programs.signature_of (known_of table.old) specifier.now stars params.now) (code_of body.now)) }
+    ensures next { OnOk result (next.new ≡ next.old + count_of_code (listed_params params.now) (code_of body.now)) }
+    ensures out { OnOk result (map function_of out.new ≡ map function_of out.old ++ spec.code_functions (source_in source.now) marks.now.numbers (known_of table.old) next.old name.now (programs.signature_of (known_of table.old) specifier.now stars params.now) params.now (code_of body.now)) }
+{
+    let signature = signature_of(alloc, &*table, specifier, stars, params)?;
+    let gives = signature.result;
+    declare_function(table, name, signature, body)?;
+    match body {
+        Body::Block { parts, .. } => push_definition(
+            alloc,
+            source,
+            marks,
+            table,
+            next,
+            name,
+            gives,
+            listed(params),
+            parts.as_slice(),
+            out,
+        ),
+        Body::Prototype => Ok(()),
+    }
+}
+
+fn pass_struct<'a>(
+    alloc: Global,
+    table: &mut Table<'a>,
+    name: &'a Name,
+    members: &'a [Member],
+) -> Result<(), AllocError>
+    ensures { OnOk result (known_of table.new ≡ after_struct (known_of table.old) name.now (map fields_of members.now)) }
+{
+    let mut unnoted = None;
+    note_struct(alloc, table, name, members, &mut unnoted)
+}
+
+fn push_external<'a>(
+    alloc: Global,
+    source: &Source<'a>,
+    marks: &Marks,
+    table: &mut Table<'a>,
+    next: &mut usize,
+    external: &'a External,
+    functions: &mut List<CoreFunction>,
+    words: &mut List<u64>,
+) -> Result<(), AllocError>
+    ensures known { OnOk result (known_of table.new ≡ programs.after_outer (known_of table.old) (outer_of external.now)) }
+    ensures next { OnOk result (next.new ≡ next.old + count_of_outer (outer_of external.now)) }
+    ensures functions { OnOk result (map function_of functions.new ≡ map function_of functions.old ++ spec.outer_functions (source_in source.now) marks.now.numbers (known_of table.old) next.old (outer_of external.now)) }
+    ensures words { OnOk result (words.new ≡ words.old ++ spec.outer_words (source_in source.now) (known_of table.old) (outer_of external.now)) }
+{
+    match external {
+        External::Struct { name, members } => pass_struct(alloc, table, name, members.as_slice()),
+        External::Function {
+            specifier,
+            stars,
+            name,
+            params,
+            body,
+            ..
+        } => push_function(
+            alloc, source, marks, table, next, specifier, *stars, name, params, body, functions,
+        ),
+        External::Objects {
+            specifier,
+            items,
+            ..
+        } => push_objects(alloc, source, table, specifier, items.as_slice(), words),
+    }
+}
+
+/// The functions of a source, and the start words of its global cells.
+fn walked<'a>(
+    alloc: Global,
+    source: &Source<'a>,
+    marks: &Marks,
+    program: &'a Program,
+) -> Result<(List<CoreFunction>, List<u64>), AllocError>
+    ensures functions { IfOk result (λ r. map function_of r.0 ≡ spec.outers_functions (source_in source.now) marks.now.numbers (programs.known_at_start (program_of program.now)) 0 (program_of program.now)) }
+    ensures words { IfOk result (λ r. r.1 ≡ spec.outers_words (source_in source.now) (programs.known_at_start (program_of program.now)) (program_of program.now)) }
+{
+    let mut table = Table::new(alloc, program)?;
+    let mut next = 0;
+    let mut functions = List::new(alloc);
+    let mut words = List::new(alloc);
+    for external in program.externals.as_slice() {
+        push_external(
+            alloc,
+            source,
+            marks,
+            &mut table,
+            &mut next,
+            external,
+            &mut functions,
+            &mut words,
+        )?;
+    }
+    Ok((functions, words))
+}
+
+/// What is known of a whole source, and the kinds of its global cells, where those are marked to which `&` is applied.
+fn source_of<'a>(
+    alloc: Global,
+    marks: &'a Marks,
+    program: &'a Program,
+    sites: &'a [Site],
+) -> Result<(Source<'a>, List<CellKind>), AllocError>
+    requires marks { marks.now.numbers ≡ program_addressed (program_of program.now) }
+    requires sites { sites.now ≡ program_sites (program_of program.now) }
+    ensures source { IfOk result (λ r. source_in r.0 ≡ spec.source_of (program_of program.now)) }
+    ensures kinds { IfOk result (λ r. r.1 ≡ spec_globals.global_kinds (program_spots (program_of program.now)) (program_sites (program_of program.now))) }
+{
+    let (whole, spots) = spots_in(alloc, marks, program)?;
+    let kinds = kinds_of_structs(alloc, &whole)?;
+    let globals = globals_in(alloc, spots.as_slice(), sites)?;
+    let global_kinds = global_kinds(alloc, spots.as_slice(), sites)?;
+    let source = Source {
+        whole,
+        kinds,
+        sites,
+        globals,
+    };
+    Ok((source, global_kinds))
+}
+
+/// The functions, the start words and the kinds of the global cells of a source.
+#[tactic(auto, unfolding(crate::specs::Whole::core_of_source))]
+fn parts_of(
+    alloc: Global,
+    typed: &Typed,
+) -> Result<(List<CoreFunction>, List<u64>, List<CellKind>), AllocError>
+    ensures functions { IfOk result (λ r. map function_of r.0 ≡ (spec.core_of_source (program_of (program_in typed.now))).functions) }
+    ensures words { IfOk result (λ r. r.1 ≡ (spec.core_of_source (program_of (program_in typed.now))).globals) }
+    ensures kinds { IfOk result (λ r. r.2 ≡ (spec.core_of_source (program_of (program_in typed.now))).global_kinds) }
+{
+    let program = typed.program();
+    let marks = addressed_in(alloc, program)?;
+    let (source, kinds) = source_of(alloc, &marks, program, typed.sites().as_slice())?;
+    let (functions, words) = walked(alloc, &source, &marks, program)?;
+    Ok((functions, words, kinds))
+}
+
+/// What a source without a fault does.
+///
+/// # Errors
+///
+/// Only when memory runs out.
+#[tactic(auto, unfolding(crate::specs::Whole::core_of_source))]
+pub fn elaborate(alloc: Global, typed: Typed) -> Result<Core, AllocError>
+    ensures { IfOk result (λ c. core_of c ≡ spec.core_of_source (program_of (program_in typed))) }
+{
+    let (functions, globals, global_kinds) = parts_of(alloc, &typed)?;
+    Ok(Core {
+        functions,
+        sites: typed.into_sites(),
+        globals,
+        global_kinds,
+    })
+}

@@ -1,3 +1,0 @@
-mod Sound
-mod Views
-pub mod Kept
