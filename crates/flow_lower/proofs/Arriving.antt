@@ -1,58 +1,16 @@
 -- What holds where the value of an expression has come into its register.
-use Rattle.std.proofs.Common.{◌≡◌, ℕ, ◌+◌, ◌≤◌, ◌<◌, Bool, true, false, List, [], ◌∷◌, ◌++◌, length, Some, slice_get, slice_set, nat_eq, cond, refl, ◌∙◌, ap, subst, arith}
+use Rattle.std.proofs.Common.{◌≡◌, ℕ, ◌+◌, ◌≤◌, ◌<◌, Bool, true, false, List, length, Some, slice_get, slice_set, nat_eq, cond, refl, ◌∙◌, ap, arith}
 use Rattle.std.proofs.lemmas.List.{length-set}
-use Rattle.std.proofs.lemmas.Option.{get_or_from_slice_get}
 use Rattle.std.proofs.lemmas.Bool.Decides.{nat_tests}
 use Rattle.sync_objects.specs.Setup.{SetupView}
-use Rattle.flow_code.specs.Works.{register, is_pointer}
+use Rattle.flow_code.specs.Works.{register}
 use Rattle.flow_code.specs.Threads.{Frame, Thread}
 use Rattle.flow_code.specs.Next.{one_more, in_frame, past}
-use Rattle.c_core.specs.Core as core
-use Rattle.c_core.specs.Core.{Exp, null, load, unary, binary, move, advance, member, between, to_pointer, to_number, copy, both, either, conditional, comma, set_register, store, change_register, change_cell, call, library, allocate, Exps, no_exp, and_exp, Function, Program}
+use Rattle.c_core.specs.Core.{Function, Program}
 use Rattle.c_core.specs.Runs.{State, counted, with_value}
-use Rattle.c_core.specs.Meaning as meaning
-use Rattle.flow_lower.specs.Lowered.{function_kinds, exp_kinds, exps_kinds, width}
-use Rattle.flow_lower.proofs.Machine.{same_register, other_register, HasAt, Shows}
+use Rattle.flow_lower.specs.Lowered.{function_kinds}
+use Rattle.flow_lower.proofs.Machine.{same_register, other_register, Shows}
 use Rattle.flow_lower.proofs.Events.{sets, goes_to}
-
--- the first kind is that of the value
-pub head_kind : (e : Exp) → (ks : List Bool) × (exp_kinds e ≡ meaning.is_pointer e ∷ ks)
-head_kind (core.number z at) = ([], refl)
-head_kind (null at) = ([], refl)
-head_kind (core.register n pointer at) = ([], refl)
-head_kind (core.object n at) = ([], refl)
-head_kind (core.global address at) = ([], refl)
-head_kind (load e pointer at) = (exp_kinds e, refl)
-head_kind (unary o e at) = (exp_kinds e, refl)
-head_kind (binary o a b at) = (exp_kinds a ++ exp_kinds b, refl)
-head_kind (move a b element back at) = (exp_kinds a ++ exp_kinds b, refl)
-head_kind (advance a b element at) = (exp_kinds a ++ exp_kinds b, refl)
-head_kind (member a by at) = (exp_kinds a, refl)
-head_kind (between a b element at) = (exp_kinds a ++ exp_kinds b, refl)
-head_kind (to_pointer a at) = (exp_kinds a, refl)
-head_kind (to_number a at) = (exp_kinds a, refl)
-head_kind (copy a at) = (exp_kinds a, refl)
-head_kind (both a b at) = (exp_kinds a ++ exp_kinds b, refl)
-head_kind (either a b at) = (exp_kinds a ++ exp_kinds b, refl)
-head_kind (conditional a b c at) = (exp_kinds a ++ (exp_kinds b ++ exp_kinds c), refl)
-head_kind (comma a b at) = (exp_kinds a ++ exp_kinds b, refl)
-head_kind (set_register n a at) = (exp_kinds a, refl)
-head_kind (store a b at) = (exp_kinds a ++ exp_kinds b, refl)
-head_kind (change_register n c b old at) = (_, refl)
-head_kind (change_cell a loaded c b old at) = (_, refl)
-head_kind (call f es pointer at) = (exps_kinds es, refl)
-head_kind (library c es at) = (exps_kinds es, refl)
-head_kind (allocate site a at) = (exp_kinds a, refl)
-
-pub some_width : (e : Exp) → 1 ≤ width e
-some_width e = let h = head_kind e in omega (arith, ap length h.1)
-
--- the kind at the register of a value
-pub kind_here : (kinds : List Bool) (r : ℕ) (e : Exp) → HasAt kinds r (exp_kinds e) → slice_get kinds r ≡ Some (meaning.is_pointer e)
-kind_here kinds r e h = let k = head_kind e in (subst (λ ks. HasAt kinds r ks) k.1 h).0
-
-pub is_kind : (kinds : List Bool) (r : ℕ) (b : Bool) → slice_get kinds r ≡ Some b → is_pointer kinds r ≡ b
-is_kind kinds r b h = get_or_from_slice_get kinds r b false h
 
 module _ (p : Program) (s : SetupView) (t : ℕ) (i : ℕ) (f : Function) (is : slice_get p.functions i ≡ Some f) (callers : List Frame) (budget : ℕ) where
   -- the first register of a value

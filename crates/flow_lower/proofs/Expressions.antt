@@ -22,8 +22,9 @@ use Rattle.c_core.specs.Meaning.{Calls, value, values}
 use Rattle.flow_lower.specs.Lowered.{instr, lowered, function_kinds, body_code, exp_kinds, exps_kinds, width, exp_size, exps_size, exp_code, exps_code, value_registers, library_code}
 use Rattle.flow_lower.specs.Within.{IsWithinExp, AreWithin}
 use Rattle.flow_lower.specs.Follows.{Follows}
-use Rattle.flow_lower.proofs.Machine.{same_register, other_register, Shows, act_of, line_at, by_quiet, by_trap, HasAt, has_at, has_front, has_back}
-use Rattle.flow_lower.proofs.Arriving.{some_width, top, Keeps, Arrives}
+use Rattle.flow_lower.proofs.Machine.{same_register, other_register, Shows, act_of, line_at, by_quiet, by_trap}
+use Rattle.flow_lower.proofs.Places.{HasAt, has_at, has_front, has_back, some_width}
+use Rattle.flow_lower.proofs.Arriving.{top, Keeps, Arrives}
 use Rattle.flow_lower.proofs.Lengths.{exp_length, exps_length}
 use Rattle.flow_lower.proofs.Libraries.{library_follows}
 use Rattle.flow_lower.proofs.Calling.{Serves}

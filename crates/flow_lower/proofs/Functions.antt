@@ -1,5 +1,5 @@
 -- Functions: their entry, their body and their end.
-use Rattle.std.proofs.Common.{◌≡◌, ℕ, zero, suc, ◌+◌, ◌-◌, ◌≤◌, ◌<◌, inr, Bool, true, false, cond, nat_le, nat_eq, ℤ, pos, List, [], ◌∷◌, ◌++◌, length, replicate, take, Option, Some, None, option_map, slice_get, slice_index_or, refl, sym, ◌∙◌, ap, subst, append_assoc, arith, length-append}
+use Rattle.std.proofs.Common.{◌≡◌, ℕ, zero, suc, ◌+◌, ◌-◌, ◌≤◌, ◌<◌, inr, Bool, true, false, cond, nat_le, nat_eq, ℤ, pos, List, [], ◌∷◌, ◌++◌, length, replicate, take, Option, Some, None, option_map, slice_get, slice_index_or, refl, sym, ◌∙◌, ap, subst, arith, length-append}
 use Rattle.std.proofs.Math.Seq.{take-append_seam}
 use Rattle.std.proofs.lemmas.List.{length-replicate, get_or_append_left}
 use Rattle.std.proofs.lemmas.Option.{slice_get-map}
@@ -10,7 +10,6 @@ use Rattle.rr_base.specs.declared.trap.Trap.{Trap}
 use Rattle.rr_base.specs.declared.trap.Trap.TheVariants as trap
 use Rattle.flow_code.specs.declared.act.Act.{Act}
 use Rattle.flow_code.specs.declared.act.Act.TheVariants as act
-use Rattle.flow_code.specs.declared.act.Instr.{Instr}
 use Rattle.flow_code.specs.declared.thread.Phase.TheVariants as phase
 use Rattle.flow_code.specs.declared.thread.Due.TheVariants as due
 use Rattle.flow_code.specs.declared.thread.Action.TheVariants as action
@@ -22,60 +21,17 @@ use Rattle.c_core.specs.Core.{Arrival, arrives, Function, Program}
 use Rattle.c_core.specs.Runs.{Run, State, counted}
 use Rattle.c_core.specs.Meaning as meaning
 use Rattle.c_core.specs.Meaning.{Calls, Flow, goes, breaks, continues, returns, word_given, line_given, made_objects, listed_word, left}
-use Rattle.flow_lower.specs.Lowered.{instr, one, lowered, function_code, function_kinds, body_code, statement_kinds, statement_size, statement_code, objects_code, arrivals_code}
+use Rattle.flow_lower.specs.Lowered.{one, lowered, function_code, function_kinds, body_code, statement_kinds, arrivals_code}
 use Rattle.flow_lower.specs.Within.{IsWithin, IsWithinFunction, AreWithinArrivals}
 use Rattle.flow_lower.specs.Follows.{Follows, here}
-use Rattle.flow_lower.proofs.Machine.{Shows, HasAt, has_at, has_front, has_back, by_quiet}
+use Rattle.flow_lower.proofs.Machine.{Shows, by_quiet}
+use Rattle.flow_lower.proofs.Places.{HasAt, has_front, first_of, start_of, body_at, end_at, statement_part, behind_objects, has_arrivals, has_body, has_end, has_kinds}
 use Rattle.flow_lower.proofs.Events.{by_store}
 use Rattle.flow_lower.proofs.Arriving.{shows_counted, shows_past}
-use Rattle.flow_lower.proofs.Lengths.{statement_length}
 use Rattle.flow_lower.proofs.Calling.{Returns, Serves}
 use Rattle.flow_lower.proofs.Loops.{ReturnsHere, Lands}
 use Rattle.flow_lower.proofs.Statements.{statement_leads}
-use Rattle.flow_lower.proofs.Objects.{statement_begins, arrivals_begin, objects_from, objects_are, objects_length, count_of_objects, arrivals_length, fitted_same, placed_length, placed_below, made_addresses, placed_at, arguments_length, arguments_are}
-
-has_all : {X : Type 0} (is pre : List X) → HasAt (pre ++ is) (length pre) is
-has_all [] pre = tt
-has_all (i ∷ is) pre =
-    let n : length (pre ++ i ∷ []) ≡ length pre + 1 = omega (arith, length-append pre (i ∷ [])) in
-    let rest = has_all is (pre ++ i ∷ []) in
-    let rest' = subst (λ l. HasAt l (length (pre ++ i ∷ [])) is) (append_assoc pre (i ∷ []) is) rest in
-    (slice_get-append_at pre i is (length pre) refl, subst (λ m. HasAt (pre ++ i ∷ is) m is) n rest')
-
--- ---- where the parts of a function's code stand
-
-abbrev pub first_of : Function → ℕ
-first_of f = length f.pointers
-
-abbrev pub start_of : Function → ℕ
-start_of f = length f.objects
-
-abbrev pub body_at : Function → ℕ
-body_at f = length f.objects + length f.arrivals
-
-abbrev pub end_at : Function → ℕ
-end_at f = body_at f + statement_size f.body
-
-abbrev statement_part : Function → List Instr
-statement_part f = statement_code (first_of f) f.body (first_of f + length f.objects) (body_at f) (end_at f) (end_at f)
-
-abbrev behind_objects : Function → List Instr
-behind_objects f = arrivals_code (first_of f) f.arrivals ++ (statement_part f ++ one f.place (act.Return None))
-
-pub has_arrivals : (f : Function) → HasAt (body_code f) (start_of f) (arrivals_code (first_of f) f.arrivals ++ (statement_part f ++ one f.place (act.Return None)))
-has_arrivals f = has_at (body_code f) (length (objects_code f.place (first_of f) f.objects)) (start_of f) (behind_objects f) (objects_length f.place (first_of f) f.objects) (has_all (behind_objects f) (objects_code f.place (first_of f) f.objects))
-
-pub has_body : (f : Function) → HasAt (body_code f) (body_at f) (statement_part f ++ one f.place (act.Return None))
-has_body f = has_at (body_code f) (start_of f + length (arrivals_code (first_of f) f.arrivals)) (body_at f) _ (ap (λ n. start_of f + n) (arrivals_length (first_of f) f.arrivals)) (has_back (body_code f) (start_of f) (arrivals_code (first_of f) f.arrivals) _ (has_arrivals f))
-
-pub has_end : (f : Function) → slice_get (body_code f) (end_at f) ≡ Some (instr f.place (act.Return None))
-has_end f = (has_at (body_code f) (body_at f + length (statement_part f)) (end_at f) (one f.place (act.Return None)) (ap (λ n. body_at f + n) (statement_length (first_of f) f.body (first_of f + length f.objects) (body_at f) (end_at f) (end_at f))) (has_back (body_code f) (body_at f) (statement_part f) (one f.place (act.Return None)) (has_body f))).0
-
-pub has_kinds : (f : Function) → HasAt (function_kinds f) (first_of f + length f.objects) (statement_kinds f.body)
-has_kinds f =
-    let behind = has_all (replicate (length f.objects) true ++ statement_kinds f.body) f.pointers in
-    has_at (function_kinds f) (first_of f + length (replicate (length f.objects) true)) (first_of f + length f.objects) (statement_kinds f.body) (ap (λ n. first_of f + n) (length-replicate (length f.objects) true))
-    (has_back (function_kinds f) (first_of f) (replicate (length f.objects) true) (statement_kinds f.body) behind)
+use Rattle.flow_lower.proofs.Objects.{statement_begins, arrivals_begin, objects_from, objects_are, count_of_objects, fitted_same, placed_length, placed_below, made_addresses, placed_at, arguments_length, arguments_are}
 
 pub its_objects : (f : Function) → objects_of (body_code f) ≡ objects_from (first_of f) f.objects
 its_objects f =

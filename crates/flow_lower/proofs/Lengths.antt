@@ -1,12 +1,12 @@
 -- How many instructions code has.
-use Rattle.std.proofs.Common.{◌≡◌, ℕ, ◌+◌, Bool, true, false, if◌then◌else◌, pos, List, ◌∷◌, ◌++◌, length, Option, Some, None, refl, arith, length-append}
+use Rattle.std.proofs.Common.{◌≡◌, ℕ, suc, ◌+◌, Bool, true, false, if◌then◌else◌, pos, List, [], ◌∷◌, ◌++◌, length, Option, Some, None, refl, ap, arith, length-append}
 use Rattle.flow_code.specs.declared.act.Act.TheVariants as act
 use Rattle.flow_code.specs.declared.act.LibraryCall.{LibraryCall}
 use Rattle.flow_code.specs.declared.work.Work.TheVariants as work
 use Rattle.c_core.specs.declared.position.Position.{Position}
 use Rattle.c_core.specs.Core as core
-use Rattle.c_core.specs.Core.{Exp, null, load, unary, binary, move, advance, member, between, to_pointer, to_number, copy, both, either, conditional, comma, set_register, store, change_register, change_cell, call, library, allocate, Exps, no_exp, and_exp, Statement, block, compute, branch, while_loop, do_loop, for_loop, break_at, continue_at, gives, Statements, no_statement, and_statement}
-use Rattle.flow_lower.specs.Lowered.{instr, one, computes, gives_nothing, library_size, library_code, width, exp_size, exps_size, exp_code, exps_code, value_registers, statement_kinds, maybe_kinds, statement_size, statements_size, statement_code, statements_code, maybe_size, test_size, maybe_code, test_code}
+use Rattle.c_core.specs.Core.{Exp, null, load, unary, binary, move, advance, member, between, to_pointer, to_number, copy, both, either, conditional, comma, set_register, store, change_register, change_cell, call, library, allocate, Exps, no_exp, and_exp, Statement, block, compute, branch, while_loop, do_loop, for_loop, break_at, continue_at, gives, Statements, no_statement, and_statement, Arrival, arrives}
+use Rattle.flow_lower.specs.Lowered.{instr, one, computes, gives_nothing, library_size, library_code, width, exp_size, exps_size, exp_code, exps_code, value_registers, statement_kinds, maybe_kinds, statement_size, statements_size, statement_code, statements_code, maybe_size, test_size, maybe_code, test_code, objects_code, arrivals_code}
 
 pub joined : {X : Type 0} (xs ys : List X) (m n : ℕ) → length xs ≡ m → length ys ≡ n → length (xs ++ ys) ≡ m + n
 joined xs ys m n d e = omega (arith, length-append xs ys, d, e)
@@ -123,3 +123,11 @@ mutual
   pub statements_length : (first : ℕ) (ss : Statements) (r pc out on : ℕ) → length (statements_code first ss r pc out on) ≡ statements_size ss
   statements_length first no_statement r pc out on = refl
   statements_length first (and_statement a ss) r pc out on = joined _ _ _ _ (statement_length first a r pc out on) (statements_length first ss (r + length (statement_kinds a)) (pc + statement_size a) out on)
+
+pub objects_length : (at : Position) (r : ℕ) (sites : List ℕ) → length (objects_code at r sites) ≡ length sites
+objects_length at r [] = refl
+objects_length at r (site ∷ more) = ap suc (objects_length at (r + 1) more)
+
+pub arrivals_length : (first : ℕ) (arrivals : List Arrival) → length (arrivals_code first arrivals) ≡ length arrivals
+arrivals_length first [] = refl
+arrivals_length first (arrives n k at ∷ more) = ap suc (arrivals_length first more)

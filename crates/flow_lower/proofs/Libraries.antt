@@ -30,7 +30,8 @@ use Rattle.c_core.specs.Runs.{Run, does, traps, ends, State, is_free}
 use Rattle.c_core.specs.Meaning as meaning
 use Rattle.flow_lower.specs.Lowered.{instr, library_size, library_code, lowered, function_kinds, body_code}
 use Rattle.flow_lower.specs.Follows.{Follows, here}
-use Rattle.flow_lower.proofs.Machine.{Shows, instr_of, same_register, other_register, goes_quietly, by_quiet, quiet_passes, trap_passes, HasAt}
+use Rattle.flow_lower.proofs.Machine.{Shows, instr_of, same_register, other_register, goes_quietly, by_quiet, quiet_passes, trap_passes}
+use Rattle.flow_lower.proofs.Places.{HasAt}
 use Rattle.flow_lower.proofs.Events as events
 use Rattle.flow_lower.proofs.Events.{sets, by_compute, plain_by, action_is, load_passes, store_passes, mark_passes}
 use Rattle.flow_lower.proofs.Arriving.{puts}

@@ -1,5 +1,5 @@
 -- Steps of a thread in the code of one function of a core tree.
-use Rattle.std.proofs.Common.{◌≡◌, ℕ, ◌+◌, ◌≤◌, ◌<◌, ◌≢◌, Bool, true, false, nat_le, pos, List, [], ◌∷◌, ◌++◌, length, Some, None, option_map, slice_get, slice_set, refl, sym, ◌∙◌, ap, subst, arith}
+use Rattle.std.proofs.Common.{◌≡◌, ℕ, ◌+◌, ◌≤◌, ◌<◌, ◌≢◌, Bool, true, false, nat_le, pos, List, [], length, Some, None, option_map, slice_get, slice_set, refl, sym, ◌∙◌, ap, subst}
 use Rattle.std.proofs.lemmas.List.{get_or-set_same, get_or-set_other}
 use Rattle.std.proofs.lemmas.Option.{slice_get-map}
 use Rattle.sync_objects.specs.Setup.{SetupView}
@@ -49,24 +49,6 @@ module _ (code : Code) (s : SetupView) (t : ℕ) where
   goes_quietly (does a more) m n e is f = (f.0, quietly e (subst (λ n. Comes code s t n f.0) (sym is) f.1), f.2)
   goes_quietly (traps kind line) m n e is f = (f.0, quietly e (subst (λ n. Comes code s t n f.0) (sym is) f.1), f.2, f.3)
   goes_quietly ends m n e is f = (f.0, quietly e (subst (λ n. Comes code s t n f.0) (sym is) f.1), f.2)
-
--- ---- code and kinds at their places
-
--- these instructions stand from this place on
-abbrev pub HasAt : {X : Type 0} → List X → ℕ → List X → Type 0
-HasAt code pc [] = Unit {0}
-HasAt code pc (i ∷ is) = (slice_get code pc ≡ Some i) × HasAt code (pc + 1) is
-
-pub has_at : {X : Type 0} (code : List X) (pc pc' : ℕ) (is : List X) → pc ≡ pc' → HasAt code pc is → HasAt code pc' is
-has_at code pc pc' is e h = subst (λ p. HasAt code p is) e h
-
-pub has_front : {X : Type 0} (code : List X) (pc : ℕ) (is js : List X) → HasAt code pc (is ++ js) → HasAt code pc is
-has_front code pc [] js h = tt
-has_front code pc (i ∷ is) js h = (h.0, has_front code (pc + 1) is js h.1)
-
-pub has_back : {X : Type 0} (code : List X) (pc : ℕ) (is js : List X) → HasAt code pc (is ++ js) → HasAt code (pc + length is) js
-has_back code pc [] js h = has_at code pc (pc + 0) js (omega arith) h
-has_back code pc (i ∷ is) js h = has_at code (pc + 1 + length is) (pc + length (i ∷ is)) js (omega arith) (has_back code (pc + 1) is js h.1)
 
 -- ---- in one function
 

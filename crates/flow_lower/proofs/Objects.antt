@@ -103,17 +103,9 @@ pub objects_are : (at : Position) (r : ℕ) (sites : List ℕ) (rest : List Inst
 objects_are at r [] rest h = no_objects rest h
 objects_are at r (site ∷ more) rest h = ap (λ os. object r site ∷ os) (objects_are at (r + 1) more rest h)
 
-pub objects_length : (at : Position) (r : ℕ) (sites : List ℕ) → length (objects_code at r sites) ≡ length sites
-objects_length at r [] = refl
-objects_length at r (site ∷ more) = ap suc (objects_length at (r + 1) more)
-
 pub count_of_objects : (r : ℕ) (sites : List ℕ) → length (objects_from r sites) ≡ length sites
 count_of_objects r [] = refl
 count_of_objects r (site ∷ more) = ap suc (count_of_objects (r + 1) more)
-
-pub arrivals_length : (first : ℕ) (arrivals : List Arrival) → length (arrivals_code first arrivals) ≡ length arrivals
-arrivals_length first [] = refl
-arrivals_length first (arrives n k at ∷ more) = ap suc (arrivals_length first more)
 
 -- ---- whether they fit, and their addresses
 

@@ -1,14 +1,25 @@
 -- Worked rows of code.
-use Rattle.std.proofs.Common.{◌≡◌, ℕ, pos, false, List, [], ◌∷◌, None, refl, codes, map}
+use Rattle.std.proofs.Common.{◌≡◌, ◌≢◌, ◌⊎◌, ℕ, zero, suc, ◌+◌, ◌≤◌, pos, negsuc, true, false, List, [], ◌∷◌, Option, Some, None, slice_get, refl, subst, arith, codes, map}
 use Rattle.rr_base.specs.Words.{pack}
+use Rattle.rr_base.specs.declared.layout.CellKind.{CellKind}
+use Rattle.rr_base.specs.declared.layout.CellKind.TheVariants as kind
+use Rattle.rr_base.specs.declared.layout.Site.{Site}
 use Rattle.flow_code.specs.declared.act.Act.{Act}
 use Rattle.flow_code.specs.declared.act.Act.TheVariants as act
 use Rattle.flow_code.specs.declared.act.LibraryCall.TheVariants as library_call
+use Rattle.flow_code.specs.declared.code.LoopInfo.{LoopInfo}
+use Rattle.flow_code.specs.declared.region.Bound.TheVariants as bound
 use Rattle.flow_code.specs.declared.work.Work.TheVariants as work
 use Rattle.flow_code.specs.declared.work.BinaryOp.TheVariants as binary_op
+use Rattle.flow_code.specs.Pointers.{site_at}
+use Rattle.flow_code.specs.Threads.{size_of}
+use Rattle.flow_code.specs.Valid.{is_valid}
 use Rattle.c_core.specs.declared.position.Position.{Position}
-use Rattle.c_core.specs.Core.{Exp, number, null, register, global, binary, copy, store, both, library, no_exp, and_exp, Statement, compute, while_loop, break_at, Function}
-use Rattle.flow_lower.specs.Lowered.{body_code}
+use Rattle.c_core.specs.declared.value.Change.TheVariants as change
+use Rattle.c_core.specs.Core.{Exp, number, null, register, global, load, binary, copy, both, set_register, store, change_register, library, no_exp, and_exp, Statement, block, compute, while_loop, for_loop, break_at, gives, no_statement, and_statement, Function, Program}
+use Rattle.c_core.specs.Meaning.{is_main}
+use Rattle.flow_lower.specs.Lowered.{lowered, body_code, function_code}
+use Rattle.flow_lower.specs.Sound.{IsAddress, IsSoundExp, IsSoundFunction, LiesAt, IsSound}
 
 abbrev at : ℕ → Position
 at line = record { line = line; column = 1 }
@@ -67,3 +78,115 @@ pub loop_code : acts_of (while_loop (both (register 0 false (at 3)) (number (pos
     ∷ act.Return None
     ∷ []
 loop_code = refl
+
+abbrev loops_of : Statement → List LoopInfo
+loops_of body = (function_code (main_of body)).loops
+
+abbrev whole : ℕ → Exp
+whole r = register r false (at 3)
+
+-- for (r = 0; r < b; last_part) body
+abbrev up_to : ℕ → Exp → Exp → Statement → Statement
+up_to r b last_part body = for_loop (compute (set_register r (number (pos 0) (at 3)) (at 3))) (Some (binary binary_op.Less (whole r) b (at 3))) (Some last_part) body (at 3)
+
+-- r += c
+abbrev raised : ℕ → Exp → Exp
+raised r c = change_register r (change.Compute binary_op.Add) c false (at 3)
+
+-- r = a + b
+abbrev summed : ℕ → Exp → Exp → Exp
+summed r a b = set_register r (binary binary_op.Add a b (at 3)) (at 3)
+
+-- for (i = 0; i < 4; i += 1) for (j = 0; j < n; j = j + 2) {}
+pub nested_loops : loops_of (up_to 1 (number (pos 4) (at 3)) (raised 1 (number (pos 1) (at 3))) (up_to 2 (whole 0) (summed 2 (whole 2) (number (pos 2) (at 3))) (block no_statement))) ≡
+    record { at = 3; first = 8; last = 26; counter = 1; bound = bound.Number (pos 4); step = pos 1 }
+    ∷ record { at = 11; first = 16; last = 20; counter = 2; bound = bound.Register 0; step = pos 2 }
+    ∷ []
+nested_loops = refl
+
+-- for (i = 0; i < 4; i += -1) {}
+pub down : loops_of (up_to 1 (number (pos 4) (at 3)) (raised 1 (number (negsuc 0) (at 3))) (block no_statement)) ≡ []
+down = refl
+
+-- for (i = 0; i < 4; i = 1 + i) {}
+pub turned : loops_of (up_to 1 (number (pos 4) (at 3)) (summed 1 (number (pos 1) (at 3)) (whole 1)) (block no_statement)) ≡ []
+turned = refl
+
+-- for (i = 0; i < 4; j += 1) {}
+pub of_another : loops_of (up_to 1 (number (pos 4) (at 3)) (raised 2 (number (pos 1) (at 3))) (block no_statement)) ≡ []
+of_another = refl
+
+-- ---- sound trees
+
+abbrev site_g : Site
+site_g = record { name = codes "g"; layout = record { size = 1; element = 1; kinds = kind.Whole ∷ [] }; line = 1; column = 5 }
+
+-- int g; int main(void) { int n; g = n + 2; return g; }
+abbrev main_body : Statement
+main_body = block (and_statement (compute (store g (binary binary_op.Add (register 0 false (at 3)) (number (pos 2) (at 3)) (at 3)) (at 3))) (and_statement (gives (Some (load g false (at 4))) (at 4)) no_statement))
+
+abbrev sound_program : Program
+sound_program = record { functions = main_of main_body ∷ []; sites = site_g ∷ []; globals = 0 ∷ []; global_kinds = kind.Whole ∷ [] }
+
+-- `g` has cell 0
+abbrev home : ℕ → Option ℕ
+home zero = None
+home (suc zero) = Some 0
+home (suc (suc s)) = None
+
+g_there : (s base : ℕ) → home s ≡ Some base → (site : Site) × (site_at (site_g ∷ []) s ≡ Some site) × LiesAt sound_program site base
+g_there zero base e = absurd cc
+g_there (suc zero) base e = let first : 0 ≡ base = cc in (site_g, refl, subst (LiesAt sound_program site_g) first (record { within = omega arith; kinds = whole_there }))
+  where
+    whole_there : (k : ℕ) (cell : CellKind) → slice_get (kind.Whole ∷ []) k ≡ Some cell → slice_get (kind.Whole ∷ []) (0 + k) ≡ Some cell
+    whole_there zero cell e = e
+    whole_there (suc k) cell e = absurd cc
+g_there (suc (suc s)) base e = absurd cc
+
+g_alone : (s t base base' : ℕ) → home s ≡ Some base → home t ≡ Some base' → s ≢ t → (base + size_of (site_g ∷ []) s ≤ base') ⊎ (base' + size_of (site_g ∷ []) t ≤ base)
+g_alone zero t base base' e e' ne = absurd cc
+g_alone (suc zero) zero base base' e e' ne = absurd cc
+g_alone (suc zero) (suc zero) base base' e e' ne = absurd (ne refl)
+g_alone (suc zero) (suc (suc t)) base base' e e' ne = absurd cc
+g_alone (suc (suc s)) t base base' e e' ne = absurd cc
+
+g_starts : (k w : ℕ) → slice_get (kind.Whole ∷ []) k ≡ Some kind.Pointer → slice_get (0 ∷ []) k ≡ Some w → (w ≡ 0) ⊎ IsAddress sound_program home w
+g_starts zero w e e' = absurd cc
+g_starts (suc k) w e e' = absurd cc
+
+g_address : IsAddress sound_program home (pack 1 0 1 0)
+g_address = (1, 0, refl, refl)
+
+main_sound : (k : ℕ) (f : Function) → slice_get (main_of main_body ∷ []) k ≡ Some f → IsSoundFunction sound_program home f
+main_sound zero f e = let only : main_of main_body ≡ f = cc in subst (IsSoundFunction sound_program home) only (record {
+  formals = omega arith;
+  objects = λ k site h. absurd cc;
+  arrivals = λ k a h. absurd cc;
+  body = ((refl, g_address, ((refl, λ no'. absurd cc), refl, tt)), ((refl, (refl, g_address)), tt));
+})
+main_sound (suc k) f e = absurd cc
+
+no_formals : (k : ℕ) (f : Function) → slice_get (main_of main_body ∷ []) k ≡ Some f → is_main f ≡ true → f.formals ≡ 0
+no_formals zero f e m = let only : main_of main_body ≡ f = cc in subst (λ (f : Function). f.formals ≡ 0) only refl
+no_formals (suc k) f e m = absurd cc
+
+pub program_is_sound : IsSound sound_program
+program_is_sound = record {
+  home = home;
+  homes = record { there = g_there; apart = g_alone; words = g_starts };
+  functions = main_sound;
+  one_main = refl;
+  main_alone = no_formals;
+  cell_kinds = refl;
+  layouts = refl;
+  few_functions = omega arith;
+  few_sites = omega arith;
+  few_cells = omega arith;
+}
+
+-- *2
+pub a_number_is_not_loaded : IsSoundExp sound_program home (main_of main_body) (load (number (pos 2) (at 3)) false (at 3)) → ⊥
+a_number_is_not_loaded s = let wrong : false ≡ true = s.0 in cc
+
+pub its_code_is_valid : is_valid (lowered sound_program) ≡ true
+its_code_is_valid = refl

@@ -12,7 +12,8 @@ use Rattle.c_core.specs.Meaning.{Calls, Flow, goes, breaks, continues, returns, 
 use Rattle.flow_lower.specs.Lowered.{instr, one, lowered, function_kinds, body_code, exp_kinds, maybe_kinds, width, exp_size, maybe_size, test_size, exp_code, maybe_code, test_code, statement_kinds, statements_kinds, statement_size, statements_size, statement_code, statements_code}
 use Rattle.flow_lower.specs.Within.{IsWithinExp, IsWithinMaybe, IsWithinStatement, AreWithinStatements}
 use Rattle.flow_lower.specs.Follows.{Follows}
-use Rattle.flow_lower.proofs.Machine.{Shows, HasAt, has_at, has_front, has_back}
+use Rattle.flow_lower.proofs.Machine.{Shows}
+use Rattle.flow_lower.proofs.Places.{HasAt, has_at, has_front, has_back}
 use Rattle.flow_lower.proofs.Events.{goes_to, by_jump, by_branch}
 use Rattle.flow_lower.proofs.Arriving.{top, shows_at}
 use Rattle.flow_lower.proofs.Lengths.{exp_length, test_length, statement_length}

@@ -26,9 +26,10 @@ use Rattle.c_core.specs.Meaning as meaning
 use Rattle.c_core.specs.Meaning.{Calls, value, unary_of, changed, load_at, store_at}
 use Rattle.flow_lower.specs.Lowered.{instr, lowered, function_kinds, body_code, exp_kinds, width, exp_size, exp_code, unary_work, change_work, computes, truth_code}
 use Rattle.flow_lower.specs.Follows.{Follows}
-use Rattle.flow_lower.proofs.Machine.{same_register, other_register, by_quiet, Shows, HasAt, has_at, has_front, has_back}
+use Rattle.flow_lower.proofs.Machine.{same_register, other_register, by_quiet, Shows}
+use Rattle.flow_lower.proofs.Places.{HasAt, has_at, has_front, has_back, some_width, kind_here, is_kind}
 use Rattle.flow_lower.proofs.Events.{sets, goes_to, by_compute, by_jump, by_load, by_store, by_branch}
-use Rattle.flow_lower.proofs.Arriving.{some_width, kind_here, is_kind, top, Keeps, Arrives, shows_set, shows_written, shows_counted, shows_past, shows_at, puts, puts_counted}
+use Rattle.flow_lower.proofs.Arriving.{top, Keeps, Arrives, shows_set, shows_written, shows_counted, shows_past, shows_at, puts, puts_counted}
 use Rattle.flow_lower.proofs.Lengths.{exp_length}
 
 module _ (p : Program) (s : SetupView) (t : ℕ) (i : ℕ) (f : Function) (is : slice_get p.functions i ≡ Some f) (callers : List Frame) (budget : ℕ) (calls : Calls) where

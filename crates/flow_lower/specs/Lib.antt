@@ -1,3 +1,6 @@
 pub mod Follows
+pub mod Loops
 pub mod Lowered
+pub mod Sizes
+pub mod Sound
 pub mod Within

@@ -2,14 +2,16 @@
 ghost use Rattle.std.specs.Prelude.{◌≡◌, ◌+◌, ◌++◌, ◌∷◌, true, map, length, replicate, None, IfOk, OnOk};
 ghost use Rattle.flow_code.specs.declared.act.Act.TheVariants as act;
 ghost use Rattle.c_core.specs.View.{stmt_of, arrival_of, function_of, core_of};
+ghost use Rattle.flow_lower.specs.Loops.{statement_loops};
 ghost use Rattle.flow_lower.specs.Lowered as spec;
 
+use crate::counted_loops::push_statement_loops;
 use crate::emit::{Next, push};
 use crate::kinds::push_statement_kinds;
 use crate::sizes::{statement_size, sum};
 use crate::statement::{Around, push_statement};
 use c_core::{Arrival, Core, CoreFunction, Position};
-use flow_code::{Act, Code, Function, Instr};
+use flow_code::{Act, Code, Function, Instr, LoopInfo};
 use rr_base::{Bytes, List};
 use std::alloc::{AllocError, Global};
 
@@ -111,6 +113,16 @@ fn kinds_of(alloc: Global, function: &CoreFunction) -> Result<List<bool>, AllocE
     Ok(kinds)
 }
 
+fn loops_of(alloc: Global, function: &CoreFunction) -> Result<List<LoopInfo>, AllocError>
+    ensures { IfOk result (λ ls. ls ≡ statement_loops (stmt_of function.now.body) (length function.now.objects + length function.now.arrivals)) }
+{
+    let objects = counted(function.objects.len())?;
+    let place = sum(objects, counted(function.arrivals.len())?)?;
+    let mut out = List::new(alloc);
+    push_statement_loops(&function.body, place, &mut out)?;
+    Ok(out)
+}
+
 fn lower_function(alloc: Global, function: &CoreFunction) -> Result<Function, AllocError>
     ensures { IfOk result (λ f. f ≡ spec.function_code (function_of function.now)) }
 {
@@ -123,7 +135,7 @@ fn lower_function(alloc: Global, function: &CoreFunction) -> Result<Function, Al
         pointers,
         gives_pointer: function.gives_pointer,
         instrs: instrs_of(alloc, function)?,
-        loops: List::new(alloc),
+        loops: loops_of(alloc, function)?,
         regions: List::new(alloc),
     })
 }

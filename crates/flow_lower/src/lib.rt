@@ -1,7 +1,8 @@
 //! The code of a core tree. It stands on `c_core` and `flow_code`. `law_events` says that the code makes the events of the
-//! tree, in each of its threads and whatever is answered.
+//! tree, in each of its threads and whatever is answered; `law_valid` says that the code of a sound tree is valid.
 #![tactic(auto)]
 
+mod counted_loops;
 mod emit;
 mod expression;
 mod function;
@@ -12,4 +13,4 @@ mod sizes;
 mod statement;
 
 pub use function::lower;
-pub use laws::law_events;
+pub use laws::{law_events, law_valid, law_within};

@@ -1,0 +1,114 @@
+-- Where code and kinds stand.
+use Rattle.std.proofs.Common.{◌≡◌, ℕ, ◌+◌, ◌≤◌, Bool, true, false, List, [], ◌∷◌, ◌++◌, length, replicate, Some, None, slice_get, refl, ap, subst, append_assoc, arith, length-append}
+use Rattle.std.proofs.lemmas.List.{length-replicate}
+use Rattle.std.proofs.lemmas.Option.{get_or_from_slice_get}
+use Rattle.rr_base.proofs.Lists.{slice_get-append_at}
+use Rattle.flow_code.specs.declared.act.Act.TheVariants as act
+use Rattle.flow_code.specs.declared.act.Instr.{Instr}
+use Rattle.flow_code.specs.Works.{is_pointer}
+use Rattle.c_core.specs.Core as core
+use Rattle.c_core.specs.Core.{Exp, null, load, unary, binary, move, advance, member, between, to_pointer, to_number, copy, both, either, conditional, comma, set_register, store, change_register, change_cell, call, library, allocate, Function}
+use Rattle.c_core.specs.Meaning as meaning
+use Rattle.flow_lower.specs.Lowered.{instr, one, exp_kinds, exps_kinds, width, function_kinds, body_code, statement_kinds, statement_size, statement_code, objects_code, arrivals_code}
+use Rattle.flow_lower.proofs.Lengths.{statement_length, objects_length, arrivals_length}
+
+-- these instructions stand from this place on
+abbrev pub HasAt : {X : Type 0} → List X → ℕ → List X → Type 0
+HasAt code pc [] = Unit {0}
+HasAt code pc (i ∷ is) = (slice_get code pc ≡ Some i) × HasAt code (pc + 1) is
+
+pub has_at : {X : Type 0} (code : List X) (pc pc' : ℕ) (is : List X) → pc ≡ pc' → HasAt code pc is → HasAt code pc' is
+has_at code pc pc' is e h = subst (λ p. HasAt code p is) e h
+
+pub has_front : {X : Type 0} (code : List X) (pc : ℕ) (is js : List X) → HasAt code pc (is ++ js) → HasAt code pc is
+has_front code pc [] js h = tt
+has_front code pc (i ∷ is) js h = (h.0, has_front code (pc + 1) is js h.1)
+
+pub has_back : {X : Type 0} (code : List X) (pc : ℕ) (is js : List X) → HasAt code pc (is ++ js) → HasAt code (pc + length is) js
+has_back code pc [] js h = has_at code pc (pc + 0) js (omega arith) h
+has_back code pc (i ∷ is) js h = has_at code (pc + 1 + length is) (pc + length (i ∷ is)) js (omega arith) (has_back code (pc + 1) is js h.1)
+
+-- what stands behind other things stands there
+pub has_all : {X : Type 0} (is pre : List X) → HasAt (pre ++ is) (length pre) is
+has_all [] pre = tt
+has_all (i ∷ is) pre =
+    let n : length (pre ++ i ∷ []) ≡ length pre + 1 = omega (arith, length-append pre (i ∷ [])) in
+    let rest = has_all is (pre ++ i ∷ []) in
+    let rest' = subst (λ l. HasAt l (length (pre ++ i ∷ [])) is) (append_assoc pre (i ∷ []) is) rest in
+    (slice_get-append_at pre i is (length pre) refl, subst (λ m. HasAt (pre ++ i ∷ is) m is) n rest')
+
+-- ---- kinds of values
+
+-- the first kind is that of the value
+pub head_kind : (e : Exp) → (ks : List Bool) × (exp_kinds e ≡ meaning.is_pointer e ∷ ks)
+head_kind (core.number z at) = ([], refl)
+head_kind (null at) = ([], refl)
+head_kind (core.register n pointer at) = ([], refl)
+head_kind (core.object n at) = ([], refl)
+head_kind (core.global address at) = ([], refl)
+head_kind (load e pointer at) = (exp_kinds e, refl)
+head_kind (unary o e at) = (exp_kinds e, refl)
+head_kind (binary o a b at) = (exp_kinds a ++ exp_kinds b, refl)
+head_kind (move a b element back at) = (exp_kinds a ++ exp_kinds b, refl)
+head_kind (advance a b element at) = (exp_kinds a ++ exp_kinds b, refl)
+head_kind (member a by at) = (exp_kinds a, refl)
+head_kind (between a b element at) = (exp_kinds a ++ exp_kinds b, refl)
+head_kind (to_pointer a at) = (exp_kinds a, refl)
+head_kind (to_number a at) = (exp_kinds a, refl)
+head_kind (copy a at) = (exp_kinds a, refl)
+head_kind (both a b at) = (exp_kinds a ++ exp_kinds b, refl)
+head_kind (either a b at) = (exp_kinds a ++ exp_kinds b, refl)
+head_kind (conditional a b c at) = (exp_kinds a ++ (exp_kinds b ++ exp_kinds c), refl)
+head_kind (comma a b at) = (exp_kinds a ++ exp_kinds b, refl)
+head_kind (set_register n a at) = (exp_kinds a, refl)
+head_kind (store a b at) = (exp_kinds a ++ exp_kinds b, refl)
+head_kind (change_register n c b old at) = (_, refl)
+head_kind (change_cell a loaded c b old at) = (_, refl)
+head_kind (call f es pointer at) = (exps_kinds es, refl)
+head_kind (library c es at) = (exps_kinds es, refl)
+head_kind (allocate site a at) = (exp_kinds a, refl)
+
+pub some_width : (e : Exp) → 1 ≤ width e
+some_width e = let h = head_kind e in omega (arith, ap length h.1)
+
+-- the kind at the register of a value
+pub kind_here : (kinds : List Bool) (r : ℕ) (e : Exp) → HasAt kinds r (exp_kinds e) → slice_get kinds r ≡ Some (meaning.is_pointer e)
+kind_here kinds r e h = let k = head_kind e in (subst (λ ks. HasAt kinds r ks) k.1 h).0
+
+pub is_kind : (kinds : List Bool) (r : ℕ) (b : Bool) → slice_get kinds r ≡ Some b → is_pointer kinds r ≡ b
+is_kind kinds r b h = get_or_from_slice_get kinds r b false h
+
+-- ---- where the parts of a function's code stand
+
+abbrev pub first_of : Function → ℕ
+first_of f = length f.pointers
+
+abbrev pub start_of : Function → ℕ
+start_of f = length f.objects
+
+abbrev pub body_at : Function → ℕ
+body_at f = length f.objects + length f.arrivals
+
+abbrev pub end_at : Function → ℕ
+end_at f = body_at f + statement_size f.body
+
+abbrev pub statement_part : Function → List Instr
+statement_part f = statement_code (first_of f) f.body (first_of f + length f.objects) (body_at f) (end_at f) (end_at f)
+
+abbrev pub behind_objects : Function → List Instr
+behind_objects f = arrivals_code (first_of f) f.arrivals ++ (statement_part f ++ one f.place (act.Return None))
+
+pub has_arrivals : (f : Function) → HasAt (body_code f) (start_of f) (arrivals_code (first_of f) f.arrivals ++ (statement_part f ++ one f.place (act.Return None)))
+has_arrivals f = has_at (body_code f) (length (objects_code f.place (first_of f) f.objects)) (start_of f) (behind_objects f) (objects_length f.place (first_of f) f.objects) (has_all (behind_objects f) (objects_code f.place (first_of f) f.objects))
+
+pub has_body : (f : Function) → HasAt (body_code f) (body_at f) (statement_part f ++ one f.place (act.Return None))
+has_body f = has_at (body_code f) (start_of f + length (arrivals_code (first_of f) f.arrivals)) (body_at f) _ (ap (λ n. start_of f + n) (arrivals_length (first_of f) f.arrivals)) (has_back (body_code f) (start_of f) (arrivals_code (first_of f) f.arrivals) _ (has_arrivals f))
+
+pub has_end : (f : Function) → slice_get (body_code f) (end_at f) ≡ Some (instr f.place (act.Return None))
+has_end f = (has_at (body_code f) (body_at f + length (statement_part f)) (end_at f) (one f.place (act.Return None)) (ap (λ n. body_at f + n) (statement_length (first_of f) f.body (first_of f + length f.objects) (body_at f) (end_at f) (end_at f))) (has_back (body_code f) (body_at f) (statement_part f) (one f.place (act.Return None)) (has_body f))).0
+
+pub has_kinds : (f : Function) → HasAt (function_kinds f) (first_of f + length f.objects) (statement_kinds f.body)
+has_kinds f =
+    let behind = has_all (replicate (length f.objects) true ++ statement_kinds f.body) f.pointers in
+    has_at (function_kinds f) (first_of f + length (replicate (length f.objects) true)) (first_of f + length f.objects) (statement_kinds f.body) (ap (λ n. first_of f + n) (length-replicate (length f.objects) true))
+    (has_back (function_kinds f) (first_of f) (replicate (length f.objects) true) (statement_kinds f.body) behind)

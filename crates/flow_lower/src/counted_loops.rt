@@ -1,0 +1,206 @@
+//! The counted loops of a function.
+ghost use Rattle.std.specs.Prelude.{◌≡◌, ◌+◌, ◌≤◌, ◌++◌, map, option_to_list, IfOk, OnOk};
+ghost use Rattle.c_core.specs.Core.{listed_statements};
+ghost use Rattle.c_core.specs.View.{exp_of, maybe_of, stmt_of};
+ghost use Rattle.flow_lower.specs.Sizes as size;
+ghost use Rattle.flow_lower.specs.Loops as spec;
+
+use crate::sizes::{maybe_size, statement_size, sum, test_size, value_size};
+use c_core::{Assignment, Change, Operation, Simple, Statement, Value};
+use flow_code::{BinaryOp, Bound, LoopInfo};
+use rr_base::List;
+use std::alloc::AllocError;
+
+fn number_of(e: &Value) -> Option<i64>
+    ensures { result ≡ spec.number_of (exp_of e.now) }
+{
+    match e {
+        Value::Simple {
+            simple: Simple::Number(number),
+            ..
+        } => Some(*number),
+        _ => None,
+    }
+}
+
+/// The register that the expression is, if it is one and no pointer.
+fn register_of(e: &Value) -> Option<u32>
+    ensures { result ≡ spec.register_of (exp_of e.now) }
+{
+    match e {
+        Value::Simple {
+            simple: Simple::Register {
+                number,
+                pointer: false,
+            },
+            ..
+        } => Some(*number),
+        _ => None,
+    }
+}
+
+fn bound_of(e: &Value) -> Option<Bound>
+    ensures { result ≡ spec.bound_of (exp_of e.now) }
+{
+    match number_of(e) {
+        Some(number) => Some(Bound::Number(number)),
+        None => register_of(e).map(Bound::Register),
+    }
+}
+
+/// Of `i < b`: i and b.
+fn limit_of(e: &Value) -> Option<(u32, Bound)>
+    ensures { result ≡ spec.limit_of (exp_of e.now) }
+{
+    match e {
+        Value::Operates(
+            Operation::Binary {
+                op: BinaryOp::Less,
+                left,
+                right,
+                ..
+            },
+        ) => Some((register_of(left)?, bound_of(right)?)),
+        _ => None,
+    }
+}
+
+/// Of `i + c`: i and c.
+fn sum_of(e: &Value) -> Option<(u32, i64)>
+    ensures { result ≡ spec.sum_of (exp_of e.now) }
+{
+    match e {
+        Value::Operates(
+            Operation::Binary {
+                op: BinaryOp::Add,
+                left,
+                right,
+                ..
+            },
+        ) => Some((register_of(left)?, number_of(right)?)),
+        _ => None,
+    }
+}
+
+/// Of `i++`, `++i`, `i += c` and `i = i + c`: c.
+fn step_of(counter: u32, e: &Value) -> Option<i64>
+    ensures { result ≡ spec.step_of counter (exp_of e.now) }
+{
+    match e {
+        Value::Assigns(
+            Assignment::ChangeRegister {
+                register,
+                change: Change::Compute(BinaryOp::Add),
+                operand,
+                ..
+            },
+        ) if *register == counter => number_of(operand),
+        Value::Assigns(
+            Assignment::Set {
+                register,
+                value,
+                ..
+            },
+        ) if *register == counter => match sum_of(value)? {
+            (from, by) if from == counter => Some(by),
+            _ => None,
+        },
+        _ => None,
+    }
+}
+
+/// A `for` as a counted loop, if it is one.
+fn loop_of(
+    test: &Option<Value>,
+    step: &Option<Value>,
+    mark: u32,
+    first: u32,
+    back: u32,
+) -> Option<LoopInfo>
+    requires { 1 ≤ back }
+    ensures { result ≡ spec.loop_of (maybe_of test.now) (maybe_of step.now) mark first back }
+{
+    let (counter, bound) = limit_of(test.as_ref()?)?;
+    let step = step_of(counter, step.as_ref()?)?;
+    if step > 0 {
+        Some(LoopInfo {
+            at: mark,
+            first,
+            last: back - 1,
+            counter,
+            bound,
+            step,
+        })
+    } else {
+        None
+    }
+}
+
+fn push_loop(found: Option<LoopInfo>, out: &mut List<LoopInfo>) -> Result<(), AllocError>
+    ensures { OnOk result (out.new ≡ out.old ++ option_to_list found) }
+{
+    match found {
+        Some(counted) => out.push(counted),
+        None => Ok(()),
+    }
+}
+
+/// The counted loops of a statement whose code begins at the place, and where it ends.
+#[cycle(statement_loops)]
+pub fn push_statement_loops(
+    stmt: &Statement,
+    place: u32,
+    out: &mut List<LoopInfo>,
+) -> Result<u32, AllocError>
+    ensures end { IfOk result (λ n. n ≡ place + size.statement_size (stmt_of stmt.now)) }
+    ensures out { OnOk result (out.new ≡ out.old ++ spec.statement_loops (stmt_of stmt.now) place) }
+{
+    match stmt {
+        Statement::Block(stmts) => push_loops(stmts.as_slice(), place, out),
+        Statement::Compute(value) => sum(place, value_size(value)?),
+        Statement::If { test, yes, no, .. } => {
+            let then_at = sum(sum(place, value_size(test)?)?, 1)?;
+            let jump = push_statement_loops(yes, then_at, out)?;
+            push_statement_loops(no, sum(jump, 1)?, out)
+        }
+        Statement::While { test, body, .. } => {
+            let first = sum(sum(sum(place, 1)?, value_size(test)?)?, 1)?;
+            let back = push_statement_loops(body, first, out)?;
+            sum(back, 1)
+        }
+        Statement::Do { body, test, .. } => {
+            let tested = push_statement_loops(body, sum(place, 1)?, out)?;
+            sum(sum(tested, value_size(test)?)?, 1)
+        }
+        Statement::For {
+            start,
+            test,
+            step,
+            body,
+            ..
+        } => {
+            let mark = push_statement_loops(start, place, out)?;
+            let first = sum(sum(mark, 1)?, test_size(test)?)?;
+            let back = sum(sum(first, statement_size(body)?)?, maybe_size(step)?)?;
+            push_loop(loop_of(test, step, mark, first, back), out)?;
+            push_statement_loops(body, first, out)?;
+            sum(back, 1)
+        }
+        Statement::Break { .. } => sum(place, 1),
+        Statement::Continue { .. } => sum(place, 1),
+        Statement::Return { value, .. } => sum(sum(place, maybe_size(value)?)?, 1),
+    }
+}
+
+/// The counted loops of several statements, one after another.
+#[cycle(statement_loops)]
+fn push_loops(stmts: &[Statement], place: u32, out: &mut List<LoopInfo>) -> Result<u32, AllocError>
+    ensures end { IfOk result (λ n. n ≡ place + size.statements_size (listed_statements (map stmt_of stmts.now))) }
+    ensures out { OnOk result (out.new ≡ out.old ++ spec.statements_loops (listed_statements (map stmt_of stmts.now)) place) }
+{
+    let mut next = place;
+    for stmt in stmts {
+        next = push_statement_loops(stmt, next, out)?;
+    }
+    Ok(next)
+}
