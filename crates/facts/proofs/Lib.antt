@@ -1,0 +1,9 @@
+pub mod Ascending
+pub mod Orders
+pub mod Summaries
+pub mod Tables
+pub mod Marked
+pub mod PathSets
+pub mod SeenPaths
+pub mod Followed
+pub mod Rows

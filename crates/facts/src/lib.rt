@@ -1,7 +1,27 @@
-//! The results of the analyses as types, each of which keeps what it is. It stands on `rr_base`. So far it has
-//! profiles, whose pairs of functions always ascend.
+//! The results of the analyses as types, each of which keeps what it is, and their definitions. It stands on `rr_base` and
+//! `flow_code`. It has profiles, whose pairs of functions always ascend; blocks of instructions, and the constants in them;
+//! points-to: its constraints and its answer; names of locks, relative locksets and summaries of functions; and pairs of
+//! accesses that may race. The answer of each analysis is the only one that its definition allows.
 #![tactic(auto)]
 
+mod blocks;
+mod constraint;
+mod laws;
+mod locks;
+mod names;
+mod pair;
+mod paths;
+mod points;
 mod profile;
+mod relative;
+mod trail;
 
+pub use blocks::{block_starts, constant_at};
+pub use constraint::{Constraint, Node};
+pub use laws::{law_one_list_of_pairs, law_one_points_to, law_one_summaries};
+pub use locks::{Guarded, LockPath, Minus, Naming, RelLocks, Summary};
+pub use names::argument_names;
+pub use pair::{AccessAt, Pair};
+pub use paths::{add_path, add_paths, has_path, substitute};
+pub use points::PointsTo;
 pub use profile::{FunctionPairs, Profile};

@@ -1,0 +1,69 @@
+-- Worked rows of the definitions of paths and locks.
+use Rattle.std.proofs.Common.{◌≡◌, true, false, [], ◌∷◌, Some, None, refl, negsuc}
+use Rattle.flow_code.specs.declared.act.Act.TheVariants as act
+use Rattle.flow_code.specs.declared.work.Work.TheVariants as work
+use Rattle.flow_code.specs.declared.act.LibraryCall.TheVariants as call
+use Rattle.flow_code.specs.declared.code.Function.{Function}
+use Rattle.facts.specs.declared.locks.LockPath.TheVariants.{Cell, Formal}
+use Rattle.facts.specs.declared.locks.Minus.TheVariants.{All, Listed}
+use Rattle.facts.specs.declared.locks.Naming.TheVariants.{Unknown, Named}
+use Rattle.facts.specs.declared.trail.Source.TheVariants as source
+use Rattle.facts.specs.Paths.{global, formal, are_small, are_small_actuals, argument_namings}
+use Rattle.facts.specs.Locks.{with, union, through, locks_are_small, locks_are_sized, unlocked}
+use Rattle.facts.specs.Trails.{known_from, on_way, root_of}
+
+-- sets of paths
+with_row : with (Cell 3) (Cell 1 ∷ Formal 0 2 ∷ []) ≡ Cell 1 ∷ Cell 3 ∷ Formal 0 2 ∷ []
+with_row = refl
+
+union_row : union (Cell 1 ∷ Cell 4 ∷ []) (Cell 4 ∷ Formal 1 0 ∷ []) ≡ Cell 1 ∷ Cell 4 ∷ Formal 1 0 ∷ []
+union_row = refl
+
+-- the called function holds the lock 2 cells behind its first formal, and may have given any other back
+through_row : through (Some (Cell 5) ∷ []) (record { plus = Formal 0 2 ∷ []; minus = All }) (record { plus = Cell 1 ∷ []; minus = Listed [] }) ≡ record { plus = Cell 7 ∷ []; minus = All }
+through_row = refl
+
+-- an unlock through a pointer that isn't known
+unlocked_row : unlocked Unknown (record { plus = Cell 1 ∷ []; minus = Listed [] }) ≡ record { plus = []; minus = All }
+unlocked_row = refl
+
+-- sizes
+small_row : are_small (Cell 2147483647 ∷ Formal 0 2147483648 ∷ []) ≡ false
+small_row = refl
+
+actuals_row : are_small_actuals (None ∷ Some (Cell 7) ∷ []) ≡ true
+actuals_row = refl
+
+locks_row : locks_are_small (record { plus = Cell 1 ∷ []; minus = Listed (Cell 2147483648 ∷ []) }) ≡ false
+locks_row = refl
+
+sized_row : locks_are_sized (record { plus = Cell 70000 ∷ []; minus = Listed (Formal 0 65536 ∷ []) }) ≡ false
+sized_row = refl
+
+-- what is followed back: a cell back from a register, and then 1 back and 2 on
+from_row : known_from (λ r. Some (record { root = formal r; cells = 4 })) (source.Moved 2 (negsuc 0)) ≡ Some (record { root = formal 2; cells = 3 })
+from_row = refl
+
+way_row : on_way 1 2 (Some (record { root = global 9; cells = 3 })) ≡ Some (record { root = global 9; cells = 4 })
+way_row = refl
+
+root_row : root_of (Formal 1 0) ≡ formal 1
+root_row = refl
+
+-- a function that locks the mutex 2 cells behind its formal
+locking : Function
+locking = record {
+  name = [];
+  line = 1;
+  formals = 1;
+  registers = 2;
+  pointers = true ∷ true ∷ [];
+  gives_pointer = false;
+  loops = [];
+  regions = [];
+  instrs = record { line = 1; column = 1; act = act.Compute 1 (work.Member 0 2) } ∷ record { line = 2; column = 1; act = act.Library call.MutexLock (1 ∷ []) None } ∷ record { line = 3; column = 1; act = act.Return None } ∷ [];
+}
+
+namings_row : argument_namings locking ≡ [] ∷ (Named (Formal 0 2) ∷ []) ∷ [] ∷ []
+unfolding locking
+namings_row = refl

@@ -1,0 +1,206 @@
+-- Relative locksets (RELAY, Voung, Jhala and Lerner 2007): which locks a function holds at each of its points beside those
+-- that its caller held at its entry, and which it may have given back.
+use Rattle.std.specs.Prelude.{◌≡◌, ℕ, ◌+◌, nat_lt, ◌==◌, ◌&&◌, ◌||◌, Bool, true, false, not, if◌then◌else◌, List, [], ◌∷◌, map, length, Option, Some, None, slice_get}
+use Rattle.std.specs.List.{list_all, list_any, filter, Contains}
+use Rattle.flow_code.specs.declared.act.Act.{Act}
+use Rattle.flow_code.specs.declared.act.Act.TheVariants as act
+use Rattle.flow_code.specs.declared.act.Instr.{Instr}
+use Rattle.flow_code.specs.declared.act.LibraryCall.{LibraryCall}
+use Rattle.flow_code.specs.declared.act.LibraryCall.TheVariants as call
+use Rattle.flow_code.specs.declared.code.Function.{Function}
+use Rattle.facts.specs.declared.locks.LockPath.{LockPath}
+use Rattle.facts.specs.declared.locks.LockPath.TheVariants.{Cell, Formal}
+use Rattle.facts.specs.declared.locks.Minus.{Minus}
+use Rattle.facts.specs.declared.locks.Minus.TheVariants.{All, Listed}
+use Rattle.facts.specs.declared.locks.RelLocks.{RelLocks}
+use Rattle.facts.specs.declared.locks.Naming.{Naming}
+use Rattle.facts.specs.declared.locks.Naming.TheVariants.{Unknown, Nowhere, Named}
+use Rattle.facts.specs.Paths.{naming_at, names_cell, actual_of, substituted, are_small, are_sized, may_be}
+
+-- ---- sets of paths, as lists that ascend: cells first, then formals by index and offset
+
+abbrev pub is_less : LockPath → LockPath → Bool
+is_less (Cell a) (Cell b) = nat_lt a b
+is_less (Cell a) (Formal j n) = true
+is_less (Formal i m) (Cell b) = false
+is_less (Formal i m) (Formal j n) = nat_lt i j || ((i == j) && nat_lt m n)
+
+abbrev pub is_same : LockPath → LockPath → Bool
+is_same (Cell a) (Cell b) = a == b
+is_same (Formal i m) (Formal j n) = (i == j) && (m == n)
+is_same _ _ = false
+
+abbrev pub has : LockPath → List LockPath → Bool
+has p qs = list_any (is_same p) qs
+
+-- the paths and one more, in its place
+abbrev pub with : LockPath → List LockPath → List LockPath
+with p [] = p ∷ []
+with p (q ∷ qs) = if is_less p q then p ∷ q ∷ qs else if is_same p q then q ∷ qs else q ∷ with p qs
+
+abbrev pub union : List LockPath → List LockPath → List LockPath
+union ps [] = ps
+union ps (q ∷ qs) = with q (union ps qs)
+
+abbrev pub are_ascending : List LockPath → Bool
+are_ascending [] = true
+are_ascending (p ∷ []) = true
+are_ascending (p ∷ q ∷ ps) = is_less p q && are_ascending (q ∷ ps)
+
+-- ---- what holds behind an instruction
+
+-- the path is none of these, whatever they lead to
+abbrev pub is_clear : List LockPath → LockPath → Bool
+is_clear qs p = list_all (λ q. not (may_be p q)) qs
+
+abbrev pub without : Minus → List LockPath → List LockPath
+without All ps = []
+without (Listed qs) ps = filter (is_clear qs) ps
+
+abbrev pub both : Minus → Minus → Minus
+both All m = All
+both (Listed ps) All = All
+both (Listed ps) (Listed qs) = Listed (union ps qs)
+
+abbrev pub nothing : RelLocks
+nothing = record { plus = []; minus = Listed [] }
+
+-- a lock that isn't known by name tells nothing when it is taken
+abbrev pub locked : Naming → RelLocks → RelLocks
+locked (Named q) l = record { plus = with q l.plus; minus = l.minus }
+locked _ l = l
+
+-- and any lock may be the one that is given back
+abbrev pub unlocked : Naming → RelLocks → RelLocks
+unlocked Unknown l = record { plus = []; minus = All }
+unlocked Nowhere l = l
+unlocked (Named q) l = record { plus = without (Listed (q ∷ [])) l.plus; minus = both l.minus (Listed (q ∷ [])) }
+
+-- ---- a called function's locks as the caller sees them
+
+abbrev pub and_path : Option LockPath → List LockPath → List LockPath
+and_path None ps = ps
+and_path (Some p) ps = if names_cell p then with p ps else ps
+
+-- a path that the caller doesn't know is left out, and so is one that leads to no cell
+abbrev pub plus_seen : List (Option LockPath) → List LockPath → List LockPath
+plus_seen actuals [] = []
+plus_seen actuals (p ∷ ps) = and_path (substituted p actuals) (plus_seen actuals ps)
+
+-- a path that the caller doesn't know may be any lock
+abbrev pub minus_with : Option LockPath → Minus → Minus
+minus_with None m = All
+minus_with (Some p) All = All
+minus_with (Some p) (Listed ps) = Listed (and_path (Some p) ps)
+
+abbrev pub listed_seen : List (Option LockPath) → List LockPath → Minus
+listed_seen actuals [] = Listed []
+listed_seen actuals (p ∷ ps) = minus_with (substituted p actuals) (listed_seen actuals ps)
+
+abbrev pub minus_seen : List (Option LockPath) → Minus → Minus
+minus_seen actuals All = All
+minus_seen actuals (Listed ps) = listed_seen actuals ps
+
+-- the caller's locks, where it held these as it called and the called function has had those since its entry
+abbrev pub through : List (Option LockPath) → RelLocks → RelLocks → RelLocks
+through actuals callee l = record {
+  plus = union (without (minus_seen actuals callee.minus) l.plus) (plus_seen actuals callee.plus);
+  minus = both l.minus (minus_seen actuals callee.minus);
+}
+
+-- the paths are small
+abbrev pub minus_is_small : Minus → Bool
+minus_is_small All = true
+minus_is_small (Listed ps) = are_small ps
+
+abbrev pub locks_are_small : RelLocks → Bool
+locks_are_small l = are_small l.plus && minus_is_small l.minus
+
+-- the paths are such as functions name
+abbrev pub minus_is_sized : Minus → Bool
+minus_is_sized All = true
+minus_is_sized (Listed ps) = are_sized ps
+
+abbrev pub locks_are_sized : RelLocks → Bool
+locks_are_sized l = are_sized l.plus && minus_is_sized l.minus
+
+abbrev pub actuals_at : Function → ℕ → List ℕ → List (Option LockPath)
+actuals_at f k arguments = map (λ r. actual_of (naming_at f k r)) arguments
+
+-- ---- instructions
+
+abbrev pub after_library : Function → ℕ → LibraryCall → List ℕ → RelLocks → RelLocks
+after_library f k call.MutexLock (m ∷ []) l = locked (naming_at f k m) l
+after_library f k call.MutexUnlock (m ∷ []) l = unlocked (naming_at f k m) l
+-- a wait gives its mutex back and takes it again
+after_library f k call.CondWait (c ∷ m ∷ []) l = locked (naming_at f k m) (unlocked (naming_at f k m) l)
+after_library f k _ _ l = l
+
+-- without an exit the called function isn't there
+abbrev pub after_call : List (Option LockPath) → Option RelLocks → RelLocks → RelLocks
+after_call actuals None l = l
+after_call actuals (Some exit) l = through actuals exit l
+
+-- the locks behind the k-th instruction of f, where the functions of the code have these exits
+abbrev pub after : List RelLocks → Function → ℕ → Act → RelLocks → RelLocks
+after exits f k (act.Library c arguments into) l = after_library f k c arguments l
+after exits f k (act.Call g arguments into) l = after_call (actuals_at f k arguments) (slice_get exits g) l
+after exits f k _ l = l
+
+-- where control may go from the k-th instruction
+abbrev pub successors : ℕ → Act → List ℕ
+successors k (act.Jump to) = to ∷ []
+successors k (act.Branch on then_at else_at) = then_at ∷ else_at ∷ []
+successors k (act.Return value) = []
+successors k _ = (k + 1) ∷ []
+
+abbrev pub returns : Act → Bool
+returns (act.Return value) = true
+returns _ = false
+
+-- ---- the locks at all points of a function
+
+abbrev pub MinusBelow : Minus → Minus → Type 0
+MinusBelow All m = Unit {0}
+MinusBelow (Listed ps) All = ⊥
+MinusBelow (Listed ps) (Listed qs) = (p : LockPath) → has p qs ≡ true → has p ps ≡ true
+
+-- l knows no more than m
+pub record Below (l m : RelLocks) : Type 0 where
+  pub plus : (p : LockPath) → has p l.plus ≡ true → has p m.plus ≡ true
+  pub minus : MinusBelow l.minus m.minus
+
+abbrev pub topmost : List LockPath → RelLocks
+topmost top = record { plus = top; minus = Listed [] }
+
+-- the locks before each instruction, and those at the exit
+pub record Points : Type 0 where
+  pub before : List RelLocks
+  pub exit : RelLocks
+
+-- Nothing is known at the entry, no path but those of `top` is held, and each point knows no more than each way to it tells.
+pub record IsSolution (exits : List RelLocks) (f : Function) (top : List LockPath) (x : Points) : Type 0 where
+  pub long : length x.before ≡ length f.instrs
+  pub entry : (l : RelLocks) → slice_get x.before 0 ≡ Some l → Below l nothing
+  pub within : (k : ℕ) (l : RelLocks) → slice_get x.before k ≡ Some l → Below l (topmost top)
+  pub steps : (k to : ℕ) (i : Instr) (l m : RelLocks) → slice_get f.instrs k ≡ Some i → Contains (successors k i.act) to → slice_get x.before k ≡ Some l → slice_get x.before to ≡ Some m → Below m (after exits f k i.act l)
+  pub exit_within : Below x.exit (topmost top)
+  pub returned : (k : ℕ) (i : Instr) (l : RelLocks) → slice_get f.instrs k ≡ Some i → returns i.act ≡ true → slice_get x.before k ≡ Some l → Below x.exit l
+
+pub record PointsBelow (x y : Points) : Type 0 where
+  pub before : (k : ℕ) (l m : RelLocks) → slice_get x.before k ≡ Some l → slice_get y.before k ≡ Some m → Below l m
+  pub exit : Below x.exit y.exit
+
+abbrev pub minus_ascends : Minus → Bool
+minus_ascends All = true
+minus_ascends (Listed ps) = are_ascending ps
+
+abbrev pub ascends : RelLocks → Bool
+ascends l = are_ascending l.plus && minus_ascends l.minus
+
+-- the greatest solution, its paths in order
+pub record IsGreatest (exits : List RelLocks) (f : Function) (top : List LockPath) (x : Points) : Type 0 where
+  pub solves : IsSolution exits f top x
+  pub most : (y : Points) → IsSolution exits f top y → PointsBelow y x
+  pub in_order : list_all ascends x.before ≡ true
+  pub exit_in_order : ascends x.exit ≡ true

@@ -1,0 +1,3 @@
+pub mod Orders
+pub mod Unique
+pub mod Rows

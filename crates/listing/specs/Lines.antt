@@ -1,0 +1,61 @@
+-- The lines by which race pairs are listed: where each access stands in the source, and the order of lines.
+use Rattle.std.specs.Prelude.{◌==◌, ◌&&◌, ◌||◌, nat_lt, Bool, true, false, not, if◌then◌else◌, List, [], ◌∷◌, Option, Some, None, slice_get}
+use Rattle.rr_base.specs.declared.layout.Place.{Place}
+use Rattle.flow_code.specs.declared.act.Instr.{Instr}
+use Rattle.flow_code.specs.declared.code.Code.{Code}
+use Rattle.flow_code.specs.Threads.{instrs_in}
+use Rattle.facts.specs.Accesses.{Access, access_of}
+use Rattle.facts.specs.Pairs.{place_less, place_same}
+use Rattle.facts.specs.declared.pair.AccessAt.{AccessAt}
+use Rattle.facts.specs.declared.pair.Pair.{Pair}
+use Rattle.listing.specs.declared.line.Line.{Line}
+use Rattle.listing.specs.declared.line.Shown.{Shown}
+
+-- ---- an access as the source shows it
+
+abbrev pub is_store : Option Access → Bool
+is_store None = false
+is_store (Some a) = a.store
+
+abbrev pub shown_in : Option Instr → Shown
+shown_in None = record { line = 0; column = 0; store = false }
+shown_in (Some i) = record { line = i.line; column = i.column; store = is_store (access_of i.act) }
+
+abbrev pub shown : Code → AccessAt → Shown
+shown code a = shown_in (slice_get (instrs_in (slice_get code.functions a.function)) a.instr)
+
+-- loads come before stores
+abbrev pub kind_less : Bool → Bool → Bool
+kind_less s t = not s && t
+
+abbrev pub kind_same : Bool → Bool → Bool
+kind_same true t = t
+kind_same false t = not t
+
+-- by line, then by column, then by kind
+abbrev pub shown_less : Shown → Shown → Bool
+shown_less x y = nat_lt x.line y.line || ((x.line == y.line) && (nat_lt x.column y.column || ((x.column == y.column) && kind_less x.store y.store)))
+
+abbrev pub shown_same : Shown → Shown → Bool
+shown_same x y = (x.line == y.line) && ((x.column == y.column) && kind_same x.store y.store)
+
+-- ---- the line of a pair: its first access isn't behind its second
+
+abbrev pub in_order : Place → Shown → Shown → Line
+in_order p x y = if shown_less y x then record { place = p; first = y; second = x } else record { place = p; first = x; second = y }
+
+abbrev pub line_of : Code → Pair → Line
+line_of code v = in_order v.place (shown code v.first) (shown code v.second)
+
+-- ---- lines in order: by place, then by the first access, then by the second
+
+abbrev pub line_less : Line → Line → Bool
+line_less l m = place_less l.place m.place || (place_same l.place m.place && (shown_less l.first m.first || (shown_same l.first m.first && shown_less l.second m.second)))
+
+abbrev pub with_line : Line → List Line → List Line
+with_line l [] = l ∷ []
+with_line l (m ∷ ms) = if line_less m l then m ∷ with_line l ms else l ∷ m ∷ ms
+
+abbrev pub sorted_lines : List Line → List Line
+sorted_lines [] = []
+sorted_lines (l ∷ ls) = with_line l (sorted_lines ls)

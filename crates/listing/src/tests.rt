@@ -1,0 +1,121 @@
+use super::*;
+use facts::{AccessAt, Pair};
+use flow_code::{Act, Code, Function, Instr};
+use rr_base::{CellKind, Layout, List, Place, Site};
+use std::alloc::{AllocError, Global};
+use std::test::Fail;
+
+const X: Place = Place { site: 2, class: 0 };
+
+const ITEMS: Place = Place { site: 1, class: 12 };
+
+fn at(function: u32, instr: u32) -> AccessAt {
+    AccessAt { function, instr }
+}
+
+fn pair(place: Place, first: AccessAt, second: AccessAt) -> Pair {
+    Pair {
+        place,
+        first,
+        second,
+    }
+}
+
+fn site(alloc: Global, name: &[u8]) -> Result<Site, AllocError> {
+    Ok(Site {
+        name: List::from_slice(alloc, name)?,
+        layout: Layout {
+            size: 1,
+            element: 1,
+            kinds: List::from_slice(alloc, &[CellKind::Whole])?,
+        },
+        line: 1,
+        column: 1,
+    })
+}
+
+// A store at 7:3 and then a load at 5:9 in the first, a load at 14:16 in the second, as they stand in their code.
+fn functions(alloc: Global) -> Result<List<Function>, AllocError> {
+    let places = [(0, 7, 3, true), (0, 5, 9, false), (1, 14, 16, false)];
+    let mut functions = List::new(alloc);
+    for number in 0..2 {
+        let mut instrs = List::new(alloc);
+        for (function, line, column, store) in places {
+            if function == number {
+                let act = if store {
+                    Act::StoreCell {
+                        through: 0,
+                        from: 1,
+                    }
+                } else {
+                    Act::LoadCell {
+                        into: 1,
+                        through: 0,
+                    }
+                };
+                instrs.push(Instr { line, column, act })?;
+            }
+        }
+        functions.push(Function {
+            name: List::new(alloc),
+            line: 1,
+            formals: 0,
+            registers: 2,
+            pointers: List::new(alloc),
+            gives_pointer: false,
+            instrs,
+            loops: List::new(alloc),
+            regions: List::new(alloc),
+        })?;
+    }
+    Ok(functions)
+}
+
+fn code(alloc: Global) -> Result<Code, AllocError> {
+    let mut sites = List::new(alloc);
+    sites.push(site(alloc, b"items")?)?;
+    sites.push(site(alloc, b"x")?)?;
+    Ok(Code {
+        functions: functions(alloc)?,
+        sites,
+        globals: List::new(alloc),
+        global_kinds: List::new(alloc),
+        locks: List::new(alloc),
+    })
+}
+
+#[test]
+fn lists_pairs(rt: HostRuntime) -> Result<(), Fail> {
+    let store = at(0, 0);
+    let load = at(0, 1);
+    let late = at(1, 0);
+    let rows: [(&[Pair], &str); 4] = [
+        (&[], "races 0\n"),
+        (
+            &[
+                pair(X, store, store),
+                pair(X, store, load),
+                pair(X, store, late),
+            ],
+            "race x+0 load 5:9 store 7:3\nrace x+0 store 7:3 store 7:3\nrace x+0 store 7:3 load 14:16\nraces 3\n",
+        ),
+        (
+            &[
+                pair(X, late, load),
+                pair(ITEMS, store, load),
+                pair(X, load, late),
+            ],
+            "race items+12 load 5:9 store 7:3\nrace x+0 load 5:9 load 14:16\nrace x+0 load 5:9 load 14:16\nraces 3\n",
+        ),
+        (
+            &[pair(Place { site: 3, class: 1 }, at(0, 2), at(7, 0))],
+            "race +1 load 0:0 load 0:0\nraces 1\n",
+        ),
+    ];
+    for (pairs, want) in rows {
+        let code = code(rt.alloc())?;
+        let text = races_text(rt.alloc(), &code, pairs)?;
+        assert_eq!(rt; text.as_slice(), want.as_bytes(), "{want}");
+    }
+    Ok(())
+}

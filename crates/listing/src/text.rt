@@ -1,0 +1,73 @@
+// The text of lines.
+ghost use Rattle.std.specs.Prelude.{◌≡◌, ◌∷◌, ◌++◌, [], decimal, IfOk, OnOk};
+ghost use Rattle.listing.specs.Text as listing;
+
+use crate::line::{Line, Shown};
+use crate::lines::sorted;
+use facts::Pair;
+use flow_code::{Code, site_at};
+use itoa::Buffer;
+use rr_base::{Bytes, List, Place};
+use std::alloc::{AllocError, Global};
+
+// A number behind a word.
+fn push_numbered(out: &mut Bytes, word: &[u8], number: u64) -> Result<(), AllocError>
+    ensures { OnOk result (out.new ≡ out.old ++ (word.now ++ decimal number)) }
+{
+    let mut buffer = Buffer::new();
+    out.extend_from_slice(word)?;
+    out.extend_from_slice(buffer.format(number).as_bytes())
+}
+
+fn push_place(out: &mut Bytes, code: &Code, place: Place) -> Result<(), AllocError>
+    ensures { OnOk result (out.new ≡ out.old ++ listing.place_text code.now place) }
+{
+    if let Some(site) = site_at(code.sites.as_slice(), place.site) {
+        out.extend_from_slice(site.name.as_slice())?;
+    }
+    push_numbered(out, b"+", u64::from(place.class))
+}
+
+fn kind(store: bool) -> &'static [u8]
+    ensures { result.now ≡ listing.kind_text store }
+{
+    if store { b" store " } else { b" load " }
+}
+
+fn push_shown(out: &mut Bytes, access: Shown) -> Result<(), AllocError>
+    ensures { OnOk result (out.new ≡ out.old ++ listing.shown_text access) }
+{
+    push_numbered(out, kind(access.store), u64::from(access.line))?;
+    push_numbered(out, b":", u64::from(access.column))
+}
+
+fn push_line(out: &mut Bytes, code: &Code, line: &Line) -> Result<(), AllocError>
+    ensures { OnOk result (out.new ≡ out.old ++ listing.line_text code.now line.now) }
+{
+    out.extend_from_slice(b"race ")?;
+    push_place(out, code, line.place)?;
+    push_shown(out, line.first)?;
+    push_shown(out, line.second)?;
+    out.push(b'\n')
+}
+
+fn push_lines(out: &mut Bytes, code: &Code, lines: &[Line]) -> Result<(), AllocError>
+    ensures { OnOk result (out.new ≡ out.old ++ listing.lines_text code.now lines.now) }
+{
+    for line in lines {
+        push_line(out, code, line)?;
+    }
+    Ok(())
+}
+
+/// A line `race PLACE KIND LINE:COLUMN KIND LINE:COLUMN` for each pair, in order, and then `races` and their number.
+pub fn races_text(alloc: Global, code: &Code, pairs: &[Pair]) -> Result<Bytes, AllocError>
+    ensures { IfOk result (λ text. text ≡ listing.races_text_of code.now pairs.now) }
+{
+    let lines = sorted(alloc, code, pairs)?;
+    let mut out = List::new(alloc);
+    push_lines(&mut out, code, &lines)?;
+    push_numbered(&mut out, b"races ", pairs.len() as u64)?;
+    out.push(b'\n')?;
+    Ok(out)
+}

@@ -1,0 +1,7 @@
+pub mod Effects
+pub mod Greatest
+pub mod Meets
+pub mod Relaxed
+pub mod Rows
+pub mod Sizes
+pub mod Within

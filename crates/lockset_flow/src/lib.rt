@@ -1,0 +1,18 @@
+//! Relative locksets (RELAY, Voung, Jhala and Lerner 2007): the locks at all points of a function, where the exits of
+//! those that it calls are given. They are the greatest solution, found by rounds over the instructions. It stands on
+//! `rr_base`, `flow_code` and `facts`.
+#![tactic(auto)]
+
+mod calls;
+mod effect;
+mod flow;
+mod flow_facts;
+mod meeting;
+mod next;
+
+pub use calls::actuals;
+pub use flow::flow_function;
+pub use flow_facts::FlowFacts;
+
+#[cfg(test)]
+mod tests;

@@ -1,0 +1,214 @@
+ghost use Rattle.std.specs.Prelude.{◌≡◌, true, IfOk};
+ghost use Rattle.lockset_flow.specs.Flow.{all_sized};
+
+use crate::{FlowFacts, flow_function};
+use facts::{LockPath, Minus, RelLocks, argument_names};
+use flow_code::{Act, Code, Function, Instr, LibraryCall, is_valid};
+use rr_base::{Bytes, List};
+use std::alloc::{AllocError, Global};
+use std::test::Fail;
+
+// The mutex to which the first formal points, and the one two cells behind it.
+const FIRST: LockPath = LockPath::Formal {
+    index: 0,
+    offset: 0,
+};
+
+const THIRD: LockPath = LockPath::Formal {
+    index: 0,
+    offset: 2,
+};
+
+/// What the function under test does.
+#[derive(Clone, Copy, Debug)]
+enum Body {
+    /// It locks its mutex, stores, and unlocks it.
+    Guards,
+    /// It locks its mutex, and gives one back that it doesn't know.
+    GivesUnknown,
+    /// It locks its mutex, and unlocks it in a loop.
+    Loops,
+    /// It locks its mutex, and waits with it.
+    Waits,
+    /// It tries to lock its mutex.
+    Tries,
+    /// It calls a function that takes a lock.
+    Calls,
+}
+
+fn library(alloc: Global, call: LibraryCall, arguments: &[u32]) -> Result<Act, AllocError> {
+    let arguments = List::from_slice(alloc, arguments)?;
+    Ok(Act::Library {
+        call,
+        arguments,
+        into: None,
+    })
+}
+
+// The instructions behind the first one, which takes the mutex or tries to.
+fn rest(alloc: Global, body: Body) -> Result<Vec<Act>, AllocError> {
+    let mut acts = Vec::new(alloc);
+    match body {
+        Body::Guards => {
+            acts.push(Act::StoreCell {
+                through: 0,
+                from: 3,
+            })?;
+            acts.push(library(alloc, LibraryCall::MutexUnlock, &[0])?)?;
+        }
+        Body::GivesUnknown => {
+            acts.push(Act::LoadCell {
+                into: 2,
+                through: 0,
+            })?;
+            acts.push(library(alloc, LibraryCall::MutexUnlock, &[2])?)?;
+        }
+        Body::Loops => {
+            acts.push(Act::Mark)?;
+            acts.push(Act::Branch {
+                on: 3,
+                then_at: 3,
+                else_at: 5,
+            })?;
+            acts.push(library(alloc, LibraryCall::MutexUnlock, &[0])?)?;
+            acts.push(Act::Jump { to: 1 })?;
+        }
+        Body::Waits => acts.push(library(alloc, LibraryCall::CondWait, &[1, 0])?)?,
+        Body::Tries | Body::Calls => {}
+    }
+    Ok(acts)
+}
+
+fn first(alloc: Global, body: Body) -> Result<Act, AllocError> {
+    match body {
+        Body::Tries => library(alloc, LibraryCall::MutexTryLock, &[0]),
+        Body::Calls => Ok(Act::Call {
+            function: 0,
+            arguments: List::from_slice(alloc, &[0, 1])?,
+            into: None,
+        }),
+        _ => library(alloc, LibraryCall::MutexLock, &[0]),
+    }
+}
+
+fn instrs(alloc: Global, acts: Vec<Act>) -> Result<List<Instr>, AllocError> {
+    let mut instrs = List::new(alloc);
+    for act in acts {
+        instrs.push(Instr {
+            line: 1,
+            column: 1,
+            act,
+        })?;
+    }
+    Ok(instrs)
+}
+
+fn function(
+    alloc: Global,
+    name: &[u8],
+    formals: u32,
+    acts: Vec<Act>,
+) -> Result<Function, AllocError> {
+    let name: Bytes = List::from_slice(alloc, name)?;
+    let pointers = List::from_slice(alloc, &[true, true, true, false])?;
+    Ok(Function {
+        name,
+        line: 1,
+        formals,
+        registers: 4,
+        pointers,
+        gives_pointer: false,
+        instrs: instrs(alloc, acts)?,
+        loops: List::new(alloc),
+        regions: List::new(alloc),
+    })
+}
+
+// A function with two formals and this body, and an empty `main`.
+fn code_of(alloc: Global, body: Body) -> Result<Code, AllocError> {
+    let mut acts = Vec::new(alloc);
+    acts.push(first(alloc, body)?)?;
+    let mut more = rest(alloc, body)?;
+    acts.append(&mut more)?;
+    acts.push(Act::Return { value: None })?;
+    let mut empty = Vec::new(alloc);
+    empty.push(Act::Return { value: None })?;
+    let mut functions = List::new(alloc);
+    functions.push(function(alloc, b"work", 2, acts)?)?;
+    functions.push(function(alloc, b"main", 0, empty)?)?;
+    Ok(Code {
+        functions,
+        sites: List::new(alloc),
+        globals: List::new(alloc),
+        global_kinds: List::new(alloc),
+        locks: List::new(alloc),
+    })
+}
+
+// The exit of a function that takes the lock two cells behind its formal, and may have given any back.
+fn exits(alloc: Global) -> Result<Vec<RelLocks>, AllocError>
+    ensures { IfOk result (λ v. all_sized v.items ≡ true) }
+{
+    let plus = List::from_slice(alloc, &[THIRD])?;
+    let mut exits = Vec::new(alloc);
+    exits.push(RelLocks {
+        plus,
+        minus: Minus::All,
+    })?;
+    Ok(exits)
+}
+
+// The locks at all points of the first function, if the code is valid.
+fn facts_of(alloc: Global, code: &Code, exits: &[RelLocks]) -> Result<Option<FlowFacts>, AllocError>
+    requires { all_sized exits.now ≡ true }
+{
+    if !is_valid(code) {
+        return Ok(None);
+    }
+    let Some(function) = code.functions.get(0) else {
+        return Ok(None);
+    };
+    let names = argument_names(alloc, function)?;
+    let facts = flow_function(alloc, function, names.as_slice(), exits, &[FIRST, THIRD])?;
+    Ok(Some(facts))
+}
+
+// Whether these locks are held, and no others may have been given back; `None` is any lock.
+fn are(locks: &RelLocks, held: &[LockPath], gone: Option<&[LockPath]>) -> bool {
+    let plus_is = locks.plus.as_slice() == held;
+    let minus_is = match (&locks.minus, gone) {
+        (Minus::All, None) => true,
+        (Minus::Listed(paths), Some(gone)) => paths.as_slice() == gone,
+        _ => false,
+    };
+    plus_is && minus_is
+}
+
+#[test]
+fn locks_flow(rt: HostRuntime) -> Result<(), Fail> {
+    let alloc = rt.alloc();
+    let exits = exits(alloc)?;
+    let rows: [(Body, usize, &[LockPath], Option<&[LockPath]>); 8] = [
+        (Body::Guards, 0, &[], Some(&[])),
+        (Body::Guards, 1, &[FIRST], Some(&[])),
+        (Body::Guards, 3, &[], Some(&[FIRST])),
+        (Body::GivesUnknown, 3, &[], None),
+        (Body::Loops, 1, &[], Some(&[FIRST])),
+        (Body::Waits, 2, &[FIRST], Some(&[FIRST])),
+        (Body::Tries, 1, &[], Some(&[])),
+        (Body::Calls, 1, &[THIRD], None),
+    ];
+    for (body, at, held, gone) in rows {
+        let code = code_of(alloc, body)?;
+        let facts = facts_of(alloc, &code, &exits)?;
+        let found = match &facts {
+            Some(facts) => match facts.before().get(at) {
+                Some(locks) => are(locks, held, gone),
+                None => false,
+            },
+            None => false,
+        };
+        assert!(rt; found, "{body:?} before {at}");
+    }
+    Ok(())
+}

@@ -1,0 +1,14 @@
+pub mod Sets
+pub mod Rises
+pub mod Whole
+pub mod Rounds
+pub mod Knowing
+pub mod Narrow
+pub mod Small
+pub mod Order
+pub mod Insertion
+pub mod Naming
+pub mod Compared
+pub mod Making
+pub mod Nearing
+mod Worked

@@ -1,0 +1,10 @@
+use Rattle.std.proofs.Common.{◌≡◌, ℕ, length, List, [], Some}
+use Rattle.std.specs.Prelude.{slice_get}
+use Rattle.facts.specs.declared.locks.LockPath.{LockPath}
+use Rattle.lockset_summary.proofs.universe.empty_rows.Given as goal
+
+abbrev pub invariant-loop-f : goal.invariant-loop-f
+invariant-loop-f l = record {
+  long : length l.rows.items ≡ l._f;
+  empty : (g : ℕ) (row : List LockPath) → slice_get l.rows.items g ≡ Some row → row ≡ [];
+}

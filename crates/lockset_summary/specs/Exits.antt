@@ -1,0 +1,84 @@
+-- Points of functions from one round to the next: each round's are the greatest where the functions have the exits of the
+-- round before.
+use Rattle.std.specs.Prelude.{◌≡◌, ℕ, ◌+◌, ◌-◌, ◌<◌, ◌^◌, ◌&&◌, Bool, true, false, List, [], ◌∷◌, map, length, Some, slice_get}
+use Rattle.std.specs.List.{list_all}
+use Rattle.flow_code.specs.declared.code.Code.{Code}
+use Rattle.flow_code.specs.declared.code.Function.{Function}
+use Rattle.facts.specs.declared.locks.LockPath.{LockPath}
+use Rattle.facts.specs.declared.locks.Minus.{Minus}
+use Rattle.facts.specs.declared.locks.Minus.TheVariants.{All, Listed}
+use Rattle.facts.specs.declared.locks.RelLocks.{RelLocks}
+use Rattle.facts.specs.Locks.{has, ascends, topmost, Points, Below, IsGreatest}
+use Rattle.facts.specs.Summaries.{exits_of, AreSolution, Knows, paths_same}
+
+-- each function's points are the greatest where the functions have these exits
+pub record AreEachGreatest (code : Code) (tops : List (List LockPath)) (exits : List RelLocks) (xs : List Points) : Type 0 where
+  pub long : length xs ≡ length code.functions
+  pub each : (f : ℕ) (fn : Function) (top : List LockPath) (x : Points) → slice_get code.functions f ≡ Some fn → slice_get tops f ≡ Some top → slice_get xs f ≡ Some x → IsGreatest exits fn top x
+
+-- each exit knows no more than the one in its place
+pub record ExitsBelow (es gs : List RelLocks) : Type 0 where
+  pub long : length es ≡ length gs
+  pub each : (g : ℕ) (e h : RelLocks) → slice_get es g ≡ Some e → slice_get gs g ≡ Some h → Below e h
+
+-- the most that exits may know
+abbrev pub topmost_exits : List (List LockPath) → List RelLocks
+topmost_exits tops = map topmost tops
+
+abbrev pub IsMinusKnown : Code → ℕ → Minus → Type 0
+IsMinusKnown code f All = Unit {0}
+IsMinusKnown code f (Listed ps) = (p : LockPath) → has p ps ≡ true → Knows code f p
+
+-- the function knows all paths of the locks
+pub record AreLocksKnown (code : Code) (f : ℕ) (l : RelLocks) : Type 0 where
+  pub plus : (p : LockPath) → has p l.plus ≡ true → Knows code f p
+  pub minus : IsMinusKnown code f l.minus
+
+-- exits that no solution exceeds, whose paths ascend, and are known to their functions
+pub record AreAbove (code : Code) (tops : List (List LockPath)) (exits : List RelLocks) : Type 0 where
+  pub long : length exits ≡ length code.functions
+  pub above : (ys : List Points) → AreSolution code tops ys → ExitsBelow (exits_of ys) exits
+  pub ascending : list_all ascends exits ≡ true
+  pub known : (g : ℕ) (e : RelLocks) → slice_get exits g ≡ Some e → AreLocksKnown code g e
+
+-- a round's points, and the exits with which it began
+pub record AreNearing (code : Code) (tops : List (List LockPath)) (exits : List RelLocks) (xs : List Points) : Type 0 where
+  pub from : AreAbove code tops exits
+  pub each : AreEachGreatest code tops exits xs
+  pub lower : ExitsBelow (exits_of xs) exits
+
+-- ---- how far exits can still fall
+
+abbrev pub minus_weight : Minus → ℕ
+minus_weight All = 0
+minus_weight (Listed ps) = 1 + (2 ^ 64 - length ps)
+
+abbrev pub weight : RelLocks → ℕ
+weight l = length l.plus + minus_weight l.minus
+
+abbrev pub weights : List RelLocks → ℕ
+weights [] = 0
+weights (l ∷ ls) = weight l + weights ls
+
+abbrev pub IsSmallMinus : Minus → Type 0
+IsSmallMinus All = Unit {0}
+IsSmallMinus (Listed ps) = length ps < 2 ^ 64
+
+abbrev pub AreSmall : List RelLocks → Type 0
+AreSmall [] = Unit {0}
+AreSmall (l ∷ ls) = IsSmallMinus l.minus × AreSmall ls
+
+-- ---- whether exits are the same
+
+abbrev pub minus_same : Minus → Minus → Bool
+minus_same All All = true
+minus_same (Listed ps) (Listed qs) = paths_same ps qs
+minus_same _ _ = false
+
+abbrev pub locks_same : RelLocks → RelLocks → Bool
+locks_same l m = paths_same l.plus m.plus && minus_same l.minus m.minus
+
+abbrev pub all_same : List RelLocks → List RelLocks → Bool
+all_same [] [] = true
+all_same (l ∷ ls) (m ∷ ms) = locks_same l m && all_same ls ms
+all_same _ _ = false

@@ -1,0 +1,6 @@
+pub mod Rounds
+pub mod Exits
+pub mod Known
+pub mod Guarding
+pub mod Names
+pub mod Collecting

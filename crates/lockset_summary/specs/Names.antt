@@ -1,0 +1,23 @@
+-- The mutex of which a library call speaks, by the names of the call's arguments.
+use Rattle.std.specs.Prelude.{List, [], ◌∷◌}
+use Rattle.flow_code.specs.declared.act.LibraryCall.{LibraryCall}
+use Rattle.flow_code.specs.declared.act.LibraryCall.TheVariants as call
+use Rattle.facts.specs.declared.locks.Naming.{Naming}
+use Rattle.facts.specs.declared.locks.Naming.TheVariants.{Unknown}
+
+abbrev pub only_name : List Naming → Naming
+only_name (m ∷ []) = m
+only_name _ = Unknown
+
+abbrev pub second_name : List Naming → Naming
+second_name (c ∷ m ∷ []) = m
+second_name _ = Unknown
+
+abbrev pub mutex_name : LibraryCall → List Naming → Naming
+mutex_name call.MutexInit ns = only_name ns
+mutex_name call.MutexLock ns = only_name ns
+mutex_name call.MutexUnlock ns = only_name ns
+mutex_name call.MutexTryLock ns = only_name ns
+mutex_name call.MutexDestroy ns = only_name ns
+mutex_name call.CondWait ns = second_name ns
+mutex_name _ ns = Unknown

@@ -1,0 +1,16 @@
+//! The summaries of functions: the locks at each function's exit, relative to its entry, and the accesses that it and those
+//! it calls make, with the locks at each. It stands on `rr_base`, `flow_code`, `facts` and `lockset_flow`.
+#![tactic(auto)]
+
+mod compare;
+mod exits;
+mod guarded;
+mod names;
+mod rows;
+mod summary;
+mod universe;
+
+pub use summary::summaries;
+
+#[cfg(test)]
+mod tests;

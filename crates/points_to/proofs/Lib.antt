@@ -1,0 +1,12 @@
+pub mod Adding
+pub mod Blocks
+pub mod Complete
+pub mod Emptiness
+pub mod Laws
+pub mod Listed
+pub mod Lists
+pub mod Places
+pub mod Pushed
+pub mod Rows
+pub mod Spots
+pub mod Validity

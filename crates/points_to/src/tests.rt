@@ -1,0 +1,322 @@
+ghost use Rattle.std.specs.Prelude.{◌<◌};
+ghost use Rattle.facts.specs.PointsTo.{IsPointsTo};
+
+use crate::constraints::following;
+use crate::nodes::classes_of;
+use crate::solve;
+use facts::{Node, PointsTo};
+use flow_code::{Act, Code, Function, Instr, LibraryCall, Work, is_valid};
+use rr_base::{CellKind, Layout, List, Place, PtrWord, Site};
+use std::alloc::{AllocError, Global};
+use std::test::Fail;
+
+// An instruction; the numbers are registers.
+#[derive(Clone, Copy, Debug)]
+enum Step {
+    Compute(u32, Work),
+    // Into a register, through another.
+    Load(u32, u32),
+    // Through a register, from another.
+    Store(u32, u32),
+    // Of function 1, by where its thread is put and its argument, with a number in register 2.
+    Create(u32, u32),
+    // Of a thread, with where its result is put.
+    Join(u32, u32),
+    Exit(u32),
+    GetChar(u32),
+    Return(u32),
+}
+
+// Globals of one cell.
+const WHOLE: (CellKind, u32, u32) = (CellKind::Whole, 1, 1);
+
+const POINTER: (CellKind, u32, u32) = (CellKind::Pointer, 1, 1);
+
+fn place(site: u16, class: u8) -> Place {
+    Place { site, class }
+}
+
+fn register(function: u32, register: u32) -> Node {
+    Node::Register { function, register }
+}
+
+fn cells(site: u16) -> Node {
+    Node::Cells(place(site, 0))
+}
+
+// The address of a global object whose sizes fit a word.
+fn address(site: u16, base: u16, cells: u16) -> Work
+    requires { site < 1024 }
+{
+    let object = (u64::from(site) << 54) + (u64::from(base) << 32);
+    Work::Address(PtrWord::from_word(object + (u64::from(cells) << 16)))
+}
+
+fn moved(pointer: u32, by: u32, element: u32) -> Work {
+    Work::Move {
+        pointer,
+        by,
+        element,
+        back: false,
+    }
+}
+
+fn called(
+    alloc: Global,
+    call: LibraryCall,
+    arguments: &[u32],
+    into: Option<u32>,
+) -> Result<Act, AllocError> {
+    Ok(Act::Library {
+        call,
+        arguments: List::from_slice(alloc, arguments)?,
+        into,
+    })
+}
+
+fn act_of(alloc: Global, step: Step) -> Result<Act, AllocError> {
+    match step {
+        Step::Compute(into, work) => Ok(Act::Compute { into, work }),
+        Step::Load(into, through) => Ok(Act::LoadCell { into, through }),
+        Step::Store(through, from) => Ok(Act::StoreCell { through, from }),
+        Step::Create(thread, argument) => {
+            let call = LibraryCall::Create { function: 1 };
+            called(alloc, call, &[thread, argument], Some(2))
+        }
+        Step::Join(thread, into) => called(alloc, LibraryCall::Join, &[thread, into], Some(2)),
+        Step::Exit(value) => called(alloc, LibraryCall::Exit, &[value], None),
+        Step::GetChar(into) => called(alloc, LibraryCall::GetChar, &[], Some(into)),
+        Step::Return(value) => Ok(Act::Return { value: Some(value) }),
+    }
+}
+
+fn site_of(alloc: Global, kind: CellKind, size: u32, element: u32) -> Result<Site, AllocError> {
+    let mut kinds = List::new(alloc);
+    for _cell in 0..size {
+        kinds.push(kind)?;
+    }
+    let layout = Layout {
+        size,
+        element,
+        kinds,
+    };
+    Ok(Site {
+        name: List::new(alloc),
+        layout,
+        line: 1,
+        column: 1,
+    })
+}
+
+fn function_of(
+    alloc: Global,
+    name: &[u8],
+    formals: u32,
+    pointers: &[bool],
+    steps: &[Step],
+) -> Result<Function, AllocError> {
+    let mut instrs = List::new(alloc);
+    let mut registers = 0;
+    for _pointer in pointers {
+        registers = following(registers)?;
+    }
+    for step in steps {
+        let act = act_of(alloc, *step)?;
+        instrs.push(Instr {
+            line: 1,
+            column: 1,
+            act,
+        })?;
+    }
+    Ok(Function {
+        name: List::from_slice(alloc, name)?,
+        line: 1,
+        formals,
+        registers,
+        pointers: List::from_slice(alloc, pointers)?,
+        gives_pointer: formals == 1,
+        instrs,
+        loops: List::new(alloc),
+        regions: List::new(alloc),
+    })
+}
+
+fn sites_of(alloc: Global, rows: &[(CellKind, u32, u32)]) -> Result<List<Site>, AllocError> {
+    let mut sites = List::new(alloc);
+    for (kind, size, element) in rows {
+        sites.push(site_of(alloc, *kind, *size, *element)?)?;
+    }
+    Ok(sites)
+}
+
+fn kinds_of(alloc: Global, rows: &[(CellKind, u32, u32)]) -> Result<List<CellKind>, AllocError> {
+    let mut kinds = List::new(alloc);
+    for (kind, size, _element) in rows {
+        for _cell in 0..*size {
+            kinds.push(*kind)?;
+        }
+    }
+    Ok(kinds)
+}
+
+fn code_of(
+    alloc: Global,
+    functions: List<Function>,
+    rows: &[(CellKind, u32, u32)],
+    words: &[u64],
+) -> Result<Code, AllocError> {
+    let sites = sites_of(alloc, rows)?;
+    let globals = List::from_slice(alloc, words)?;
+    let global_kinds = kinds_of(alloc, rows)?;
+    Ok(Code {
+        functions,
+        sites,
+        globals,
+        global_kinds,
+        locks: List::new(alloc),
+    })
+}
+
+// The places of a node that the code has.
+fn places<'a>(code: &Code, answer: &'a PointsTo, node: Node) -> Option<&'a [Place]>
+    requires { IsPointsTo code.now answer.now }
+{
+    match node {
+        Node::Register { function, register } => {
+            let body = code.functions.get(function as usize)?;
+            if register >= body.registers {
+                return None;
+            }
+            Some(answer.of_register(function, register).as_slice())
+        }
+        Node::Cells(place) => {
+            if place.site == 0 {
+                return None;
+            }
+            let site = code.sites.get(usize::from(place.site) - 1)?;
+            if u16::from(place.class) >= classes_of(site.layout.element) {
+                return None;
+            }
+            Some(answer.of_place(place).as_slice())
+        }
+        Node::Result(_) | Node::Ended => None,
+    }
+}
+
+// The first node whose places aren't the two wanted at most; a code that isn't valid has none to ask.
+fn first_wrong(
+    alloc: Global,
+    code: &Code,
+    rows: &[(Node, Option<Place>, Option<Place>)],
+) -> Result<Option<Node>, AllocError> {
+    if !is_valid(code) {
+        return Ok(Some(Node::Ended));
+    }
+    let answer = solve(alloc, code)?;
+    for (node, first, second) in rows {
+        let Some(got) = places(code, &answer, *node) else {
+            return Ok(Some(*node));
+        };
+        if got.get(0).copied() != *first || got.get(1).copied() != *second || got.len() > 2 {
+            return Ok(Some(*node));
+        }
+    }
+    Ok(None)
+}
+
+// int a; int b; int *p = &a; int main(void) { int *q = p; p = &b; *q = 1; return 1; }
+#[test]
+fn stores_are_loaded(rt: HostRuntime) -> Result<(), Fail> {
+    let alloc = rt.alloc();
+    let steps = [
+        Step::Compute(0, address(3, 2, 1)),
+        Step::Load(1, 0),
+        Step::Compute(2, address(2, 1, 1)),
+        Step::Store(0, 2),
+        Step::Compute(3, Work::Constant(1)),
+        Step::Store(1, 3),
+        Step::Return(3),
+    ];
+    let pointers = [true, true, true, false];
+    let mut functions = List::new(alloc);
+    functions.push(function_of(alloc, b"main", 0, &pointers, &steps)?)?;
+    let words = [0, 0, (1 << 54) + (1 << 16)];
+    let code = code_of(alloc, functions, &[WHOLE, WHOLE, POINTER], &words)?;
+    let first = Some(place(1, 0));
+    let second = Some(place(2, 0));
+    let rows = [
+        (cells(3), first, second),
+        (register(0, 1), first, second),
+        (register(0, 2), second, None),
+        (cells(1), None, None),
+    ];
+    assert_eq!(rt; first_wrong(alloc, &code, &rows)?, None);
+    Ok(())
+}
+
+// struct s { int a; int b; }; struct s v[4];
+// int main(void) { int n = getchar(); int *p = &v[0].a; int *q = p + 1; int *r = p + n; .. }
+// and q moved by n elements of v
+#[test]
+fn moves_go_on(rt: HostRuntime) -> Result<(), Fail> {
+    let alloc = rt.alloc();
+    let steps = [
+        Step::GetChar(0),
+        Step::Compute(1, address(1, 0, 8)),
+        Step::Compute(2, Work::Constant(1)),
+        Step::Compute(3, moved(1, 2, 1)),
+        Step::Compute(4, moved(1, 0, 1)),
+        Step::Compute(5, moved(3, 0, 2)),
+        Step::Return(0),
+    ];
+    let pointers = [false, true, false, true, true, true];
+    let mut functions = List::new(alloc);
+    functions.push(function_of(alloc, b"main", 0, &pointers, &steps)?)?;
+    let code = code_of(alloc, functions, &[(CellKind::Whole, 8, 2)], &[0; 8])?;
+    let first = Some(place(1, 0));
+    let second = Some(place(1, 1));
+    let rows = [
+        (register(0, 1), first, None),
+        (register(0, 3), second, None),
+        (register(0, 4), first, second),
+        (register(0, 5), second, None),
+    ];
+    assert_eq!(rt; first_wrong(alloc, &code, &rows)?, None);
+    Ok(())
+}
+
+// int x; int y; long t; void *left; void *work(void *given) { pthread_exit(&y); return given; }
+// int main(void) { pthread_create(&t, work, &x); pthread_join(t, &left); int *p = left; return 0; }
+#[test]
+fn threads_hand_over(rt: HostRuntime) -> Result<(), Fail> {
+    let alloc = rt.alloc();
+    let steps = [
+        Step::Compute(0, address(3, 2, 1)),
+        Step::Compute(1, address(1, 0, 1)),
+        Step::Create(0, 1),
+        Step::Load(3, 0),
+        Step::Compute(4, address(4, 3, 1)),
+        Step::Join(3, 4),
+        Step::Load(5, 4),
+        Step::Return(2),
+    ];
+    let pointers = [true, true, false, false, true, true];
+    let mut functions = List::new(alloc);
+    functions.push(function_of(alloc, b"main", 0, &pointers, &steps)?)?;
+    let steps = [
+        Step::Compute(1, address(2, 1, 1)),
+        Step::Exit(1),
+        Step::Return(0),
+    ];
+    functions.push(function_of(alloc, b"work", 1, &[true, true], &steps)?)?;
+    let code = code_of(alloc, functions, &[WHOLE, WHOLE, WHOLE, POINTER], &[0; 4])?;
+    let first = Some(place(1, 0));
+    let second = Some(place(2, 0));
+    let rows = [
+        (register(1, 0), first, None),
+        (cells(4), first, second),
+        (register(0, 5), first, second),
+    ];
+    assert_eq!(rt; first_wrong(alloc, &code, &rows)?, None);
+    Ok(())
+}

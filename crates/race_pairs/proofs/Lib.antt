@@ -1,0 +1,9 @@
+pub mod Elements
+pub mod Gaining
+pub mod Orders
+pub mod Touching
+pub mod Inserting
+pub mod Pairing
+pub mod Sorting
+pub mod Racing
+pub mod Rows

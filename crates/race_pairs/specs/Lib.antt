@@ -1,0 +1,4 @@
+pub mod Roots
+pub mod Gains
+pub mod Touches
+pub mod Races

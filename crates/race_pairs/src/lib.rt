@@ -1,0 +1,15 @@
+//! The pairs of accesses that may race, by what registers may point to and by the summaries of the functions with which
+//! threads may begin. It stands on `rr_base`, `flow_code` and `facts`.
+#![tactic(auto)]
+
+mod access;
+mod meeting;
+mod placing;
+mod race;
+mod roots;
+mod touch;
+
+pub use race::pairs;
+
+#[cfg(test)]
+mod tests;
