@@ -4,9 +4,10 @@ use Rattle.std.specs.Str.{bytes_eq}
 use Rattle.answers.specs.declared.words.Job.{Job}
 use Rattle.answers.specs.declared.words.Job.TheVariants as job
 
--- a run by a log: the name of the source and that of the log
+-- a run by a log, by the name of the source and that of the log; or the race listing of a source
 pub data Asked : Type 0 where
   Replay : (source log : List ℕ) → Asked
+  Races : (source : List ℕ) → Asked
 
 -- a word that names something: it isn't empty and doesn't begin with `-`
 abbrev pub is_name : List ℕ → Bool
@@ -16,11 +17,16 @@ is_name (b ∷ bs) = not (b == 45)
 abbrev pub replay_of : (command source log : List ℕ) → Option Asked
 replay_of command source log = if bytes_eq command (codes "replay") && is_name source && is_name log then Some (Replay source log) else None
 
+abbrev pub races_of : (command source : List ℕ) → Option Asked
+races_of command source = if bytes_eq command (codes "races") && is_name source then Some (Races source) else None
+
 -- what the words behind the program's name ask for; other words ask for nothing
 abbrev pub job_of : List (List ℕ) → Option Asked
+job_of (command ∷ source ∷ []) = races_of command source
 job_of (command ∷ source ∷ log ∷ []) = replay_of command source log
 job_of _ = None
 
 -- what a job in the code is
 abbrev pub told : Job → Asked
 told (job.Replay source log) = Replay source.now log.now
+told (job.Races source) = Races source.now

@@ -14,8 +14,13 @@ fn words_of(alloc: Global, line: &str) -> Result<Vec<String>, AllocError> {
 #[test]
 fn words_are_a_job(rt: HostRuntime) -> Result<(), Fail> {
     let rows = [
-        ("replay bank.c bank.log", Some(("bank.c", "bank.log"))),
-        ("replay a- b", Some(("a-", "b"))),
+        ("replay bank.c bank.log", Some(("bank.c", Some("bank.log")))),
+        ("replay a- b", Some(("a-", Some("b")))),
+        ("races bank.c", Some(("bank.c", None))),
+        ("races -a", None),
+        ("races a b", None),
+        ("races", None),
+        ("record bank.c", None),
         ("replay bank.c", None),
         ("replay bank.c bank.log more", None),
         ("replay -a b", None),
@@ -27,7 +32,8 @@ fn words_are_a_job(rt: HostRuntime) -> Result<(), Fail> {
     for (line, want) in rows {
         let words = words_of(rt.alloc(), line)?;
         let found = match job_of(words.as_slice()) {
-            Some(Job::Replay { source, log }) => Some((source, log)),
+            Some(Job::Replay { source, log }) => Some((source, Some(log))),
+            Some(Job::Races { source }) => Some((source, None)),
             None => None,
         };
         assert_eq!(rt; found, want, "{line}");

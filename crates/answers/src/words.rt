@@ -8,6 +8,8 @@ ghost use Rattle.answers.specs.Jobs as spec;
 pub enum Job<'a> {
     /// A run of the source of one name by the log of another.
     Replay { source: &'a str, log: &'a str },
+    /// The accesses of a source that may race.
+    Races { source: &'a str },
 }
 
 fn is_name(word: &str) -> bool
@@ -29,11 +31,22 @@ fn replay_of<'a>(command: &str, source: &'a str, log: &'a str) -> Option<Job<'a>
     }
 }
 
+fn races_of<'a>(command: &str, source: &'a str) -> Option<Job<'a>>
+    ensures { option_map spec.told result ≡ spec.races_of command.now source.now }
+{
+    if command == "races" && is_name(source) {
+        Some(Job::Races { source })
+    } else {
+        None
+    }
+}
+
 /// The job that the words behind the program's name are, where they are one.
 pub fn job_of(words: &[String]) -> Option<Job<'_>>
     ensures { option_map spec.told result ≡ spec.job_of (map string_bytes words.now) }
 {
     match words {
+        [command, source] => races_of(command, source),
         [command, source, log] => replay_of(command, source, log),
         _ => None,
     }

@@ -20,7 +20,18 @@ use Rattle.order_log.proofs.Only.{log_at-only}
 use Rattle.front.specs.Plain.{plain_code}
 use Rattle.front.specs.Readings.{Reading, sound, refused}
 use Rattle.front.proofs.One.{one_reading}
-use Rattle.answers.specs.Jobs.Asked.{Replay}
+use Rattle.answers.specs.Jobs.Asked.{Replay, Races}
+use Rattle.facts.specs.declared.locks.Summary.{Summary}
+use Rattle.facts.specs.declared.pair.Pair.{Pair}
+use Rattle.facts.specs.Pairs.{ArePairs}
+use Rattle.facts.specs.PointsTo.{Tables, IsPointsTo}
+use Rattle.facts.specs.Summaries.{AreSummaries}
+use Rattle.facts.proofs.Tables as tables
+use Rattle.facts.proofs.Summaries as summaries
+use Rattle.listing.specs.Text.{races_text_of}
+use Rattle.lock_sound.specs.Weakened.{Analysed, IsAnalysed}
+use Rattle.chimera.specs.Races as races
+use Rattle.chimera.specs.Races.{ListsRaces, Lists}
 use Rattle.answers.specs.declared.answer.Part.{Part}
 use Rattle.answers.specs.declared.answer.Part.TheVariants as part
 use Rattle.answers.specs.declared.answer.Answer.{Answer}
@@ -121,6 +132,34 @@ one_replay source log a b h g =
     let same : h.read ≡ g.read = sym (log_at-only log h.read h.is) ∙ log_at-only log g.read g.is in
     one_by_log source g.read a b (subst (λ r. IsByLog source r a) same h.by_log) g.by_log
 
+-- ---- the race listing
+
+one_of_found : (c d : Code) (t u : Tables) (ss ts : List Summary) (vs ws : List Pair) → c ≡ d → IsPointsTo c t → IsPointsTo d u → AreSummaries c ss → AreSummaries d ts → ArePairs c t ss vs → ArePairs d u ts ws → races_text_of c vs ≡ races_text_of d ws
+one_of_found c d t u ss ts vs ws e p q s r v w =
+    let p' : IsPointsTo d t = subst (λ x. IsPointsTo x t) e p in
+    let s' : AreSummaries d ss = subst (λ x. AreSummaries x ss) e s in
+    let v' : ArePairs d t ss vs = subst (λ x. ArePairs x t ss vs) e v in
+    let points : t ≡ u = tables.one_answer d t u p' q in
+    let sums : ss ≡ ts = summaries.one_answer d ss ts s' r in
+    let v'' : ArePairs d u ts vs = subst (λ x. ArePairs d u x vs) sums (subst (λ x. ArePairs d x ss vs) points v') in
+    let same : vs ≡ ws = summaries.one_list d u ts vs ws v'' w in
+    ap (λ x. races_text_of x vs) e ∙ ap (λ x. races_text_of d x) same
+
+one_listing : (code : Code) (a b : Answer) → ListsRaces code a → ListsRaces code b → a ≡ b
+one_listing code a b h g =
+    let f = h.found in
+    let k = g.found in
+    h.told ∙ ap answer.Done (one_of_found f.plain k.plain f.points k.points f.summaries k.summaries f.pairs k.pairs (h.of ∙ sym g.of) h.is.points g.is.points h.is.summaries g.is.summaries h.is.pairs g.is.pairs) ∙ sym g.told
+
+one_listed : (r : Reading) (a b : Answer) → races.IsByReading r a → races.IsByReading r b → a ≡ b
+one_listed (sound os) a b h g = one_listing (plain_code os) a b h g
+one_listed (refused fault) a b h g = h ∙ sym g
+
+one_lists : (source : List ℕ) (a b : Answer) → Lists source a → Lists source b → a ≡ b
+one_lists source a b h g =
+    let same : h.reading ≡ g.reading = one_reading source h.reading g.reading h.is g.is in
+    one_listed g.reading a b (subst (λ r. races.IsByReading r a) same h.answers) g.answers
+
 one_of_file : (most : ℕ) (what : Part) (o : Option (List ℕ)) (P Q : List ℕ → Type 0) (a b : Answer) → ((t : List ℕ) → P t → Q t → a ≡ b) → IsOfFile most what o P a → IsOfFile most what o Q b → a ≡ b
 one_of_file most what None P Q a b next h g = absurd h
 one_of_file most what (Some t) P Q a b next (inl h) (inl g) = next t h.1 g.1
@@ -133,3 +172,5 @@ one_answer files None a b h g = h ∙ sym g
 one_answer files (Some (Replay source log)) a b h g =
     one_of_file 1048576 part.Source (files source) (λ text. IsOfFile 536870912 part.Log (files log) (λ entries. Replays text entries a) a) (λ text. IsOfFile 536870912 part.Log (files log) (λ entries. Replays text entries b) b) a b
     (λ text h' g'. one_of_file 536870912 part.Log (files log) (λ entries. Replays text entries a) (λ entries. Replays text entries b) a b (λ entries. one_replay text entries a b) h' g') h g
+one_answer files (Some (Races source)) a b h g =
+    one_of_file 1048576 part.Source (files source) (λ text. Lists text a) (λ text. Lists text b) a b (λ text. one_lists text a b) h g

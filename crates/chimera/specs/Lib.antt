@@ -1,2 +1,3 @@
+pub mod Races
 pub mod Replays
 pub mod Endings

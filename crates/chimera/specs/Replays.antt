@@ -1,9 +1,9 @@
--- The answer that a list of words has on files: that of the walk of the log on the code of the source, or the first
--- thing that stands against it.
+-- The answer that a list of words has on files: that of the walk of the log on the code of the source, or the listing of
+-- the source's race pairs, or the first thing that stands against it.
 use Rattle.std.specs.Prelude.{◌≡◌, ◌≤◌, ◌<◌, ◌⊎◌, ℕ, List, Option, Some, None, Result, Ok, Err, length, false}
 use Rattle.rr_base.specs.Files.{Files}
 use Rattle.answers.specs.Jobs.{Asked}
-use Rattle.answers.specs.Jobs.Asked.{Replay}
+use Rattle.answers.specs.Jobs.Asked.{Replay, Races}
 use Rattle.answers.specs.declared.answer.Part.{Part}
 use Rattle.answers.specs.declared.answer.Part.TheVariants as part
 use Rattle.answers.specs.declared.answer.Answer.{Answer}
@@ -19,6 +19,7 @@ use Rattle.order_log.specs.declared.fault.LogFault.{LogFault}
 use Rattle.order_log.specs.declared.fault.LogFault.TheVariants.{LogSyntax, LogLimit, OutOfMemory}
 use Rattle.order_log.specs.Log.{LogView}
 use Rattle.order_log.specs.Reading as log_text
+use Rattle.chimera.specs.Races.{Lists}
 
 -- ---- the walk
 
@@ -75,6 +76,7 @@ abbrev pub IsAnswer : Files → Option Asked → Answer → Type 0
 IsAnswer files None a = a ≡ answer.Usage
 IsAnswer files (Some (Replay source log)) a =
     IsOfFile 1048576 part.Source (files source) (λ text. IsOfFile 536870912 part.Log (files log) (λ entries. Replays text entries a) a) a
+IsAnswer files (Some (Races source)) a = IsOfFile 1048576 part.Source (files source) (λ text. Lists text a) a
 
 -- files and words have one answer
 abbrev pub OneAnswer : Type 0

@@ -1,7 +1,10 @@
-//! The program: it replays a C source by a log of its order of synchronisation. It stands on all crates below. It
-//! promises that what it writes is the answer that its words and files have, and names the cause of each other end.
+//! The program: it replays a C source by a log of its order of synchronisation, and lists the accesses of a source that may
+//! race. It stands on all crates below. It promises that what it writes is the answer that its words and files have, and names the cause of each other end.
 #![tactic(auto)]
 
+#[cfg(test)]
+mod race_tests;
+mod races;
 mod replay;
 #[cfg(test)]
 mod tests;

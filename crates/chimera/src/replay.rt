@@ -17,7 +17,7 @@ use rr_base::{Shelf, ShelfEnd};
 use std::alloc::{AllocError, Global};
 
 /// The most bytes of a source.
-const SOURCE_BYTES: u32 = 1_048_576;
+pub const SOURCE_BYTES: u32 = 1_048_576;
 
 /// The most bytes of a log.
 const LOG_BYTES: u32 = 536_870_912;
@@ -59,8 +59,8 @@ fn by_walk(alloc: Global, code: &Code, log: &Log) -> Result<Answer, AllocError>
     Ok(answer_of(walk))
 }
 
-// What is told of a source's fault.
-fn refusal_of(fault: SourceFault) -> Answer
+/// What is told of a source's fault.
+pub fn refusal_of(fault: SourceFault) -> Answer
     ensures { result ≡ answer.SourceRefused fault.number fault.line fault.column }
 {
     Answer::SourceRefused {

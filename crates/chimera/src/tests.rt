@@ -6,7 +6,7 @@ use std::alloc::{AllocError, Global};
 use std::process::Abort;
 use std::test::Fail;
 
-const BANK: &str = "#include <pthread.h>
+pub const BANK: &str = "#include <pthread.h>
 #include <stdio.h>
 pthread_mutex_t m = PTHREAD_MUTEX_INITIALIZER;
 int a = 100;
@@ -444,7 +444,7 @@ static NO_JOBS: [&[&str]; 5] = [
     &["replay", "a", "-b"],
 ];
 
-fn joined(alloc: Global, parts: &[&str]) -> Result<Bytes, AllocError> {
+pub fn joined(alloc: Global, parts: &[&str]) -> Result<Bytes, AllocError> {
     let mut text = List::new(alloc);
     for part in parts {
         text.extend_from_slice(part.as_bytes())?;
@@ -453,7 +453,7 @@ fn joined(alloc: Global, parts: &[&str]) -> Result<Bytes, AllocError> {
 }
 
 // A shelf of a source `a` and a log `b`.
-fn shelf_of(alloc: Global, source: Bytes, log: Bytes) -> Result<MemShelf, AllocError> {
+pub fn shelf_of(alloc: Global, source: Bytes, log: Bytes) -> Result<MemShelf, AllocError> {
     let mut files = List::new(alloc);
     files.push((List::from_slice(alloc, b"a")?, source))?;
     files.push((List::from_slice(alloc, b"b")?, log))?;
@@ -467,7 +467,7 @@ fn sink_of(alloc: Global, fails: &[u64]) -> Result<MemSink, AllocError> {
 }
 
 // Calls with these words over a sink that fails at these calls, and compares what is told.
-fn check(
+pub fn check(
     rt: &impl Abort,
     alloc: Global,
     words: &[&str],

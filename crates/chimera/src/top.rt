@@ -6,6 +6,7 @@ ghost use Rattle.answers.specs.Jobs as jobs;
 ghost use Rattle.chimera.specs.Endings.{Ends, is_status};
 ghost use Rattle.chimera.specs.Replays.{IsAnswer, OneAnswer};
 
+use crate::races::races;
 use crate::replay::replay;
 use answers::{Answer, Job, job_of, tell, tell_answer};
 use rr_base::{Shelf, ShelfEnd, Sink, Source};
@@ -19,14 +20,15 @@ fn answered<S: Shelf>(alloc: Global, words: &[String], shelf: &mut S) -> Result<
 {
     match job_of(words) {
         Some(Job::Replay { source, log }) => replay(alloc, source, log, shelf),
+        Some(Job::Races { source }) => races(alloc, source, shelf),
         None => Ok(Answer::Usage),
     }
 }
 
-/// Does what the words behind the program's name ask for, and answers the exit status: 0 where the run ended, 1 where
-/// the words are no job, 2 where the source is refused, 3 where a thread trapped, 4 where the log is refused, 5 where
+/// Does what the words behind the program's name ask for, and answers the exit status: 0 where the run ended or the races
+/// were listed, 1 where the words are no job, 2 where the source is refused, 3 where a thread trapped, 4 where the log is refused, 5 where
 /// it isn't one of this program, 8 where the sink failed, 9 where the shelf did, 11 where a file has too many bytes,
-/// 12 without memory. A replay doesn't touch `input`.
+/// 12 without memory. No job touches `input`.
 pub fn chimera<I: Source, O: Sink, S: Shelf>(
     alloc: Global,
     words: &[String],

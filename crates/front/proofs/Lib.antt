@@ -1,1 +1,4 @@
+pub mod Members
 pub mod One
+pub mod Sources
+pub mod Together

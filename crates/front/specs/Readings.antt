@@ -18,9 +18,9 @@ use Rattle.c_parser.specs.Parse.{Fault, Syntax, Nesting, Outcome, Got, Stuck, Sp
 use Rattle.c_types.specs.declared.fault.Found.{Found}
 use Rattle.c_types.specs.Found.{number_of}
 use Rattle.c_types.specs.Whole.{first_fault}
-use Rattle.front.specs.declared.compile.CompileFault.{CompileFault}
-use Rattle.front.specs.declared.compile.CompileFault.TheVariants as faults
-use Rattle.front.specs.declared.compile.SourceFault.{SourceFault}
+use Rattle.front.specs.declared.reading.CompileFault.{CompileFault}
+use Rattle.front.specs.declared.reading.CompileFault.TheVariants as faults
+use Rattle.front.specs.declared.reading.SourceFault.{SourceFault}
 
 pub data Reading : Type 0 where
   -- a tree without a fault

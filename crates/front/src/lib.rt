@@ -1,13 +1,18 @@
 //! From the bytes of a C source to its code, or the first thing for which the source is refused. It stands on `c_lexer`,
-//! `c_parser` and `c_types`, which refuse in this order, and on `c_elaborate` and `flow_lower`, which make the code.
+//! `c_parser` and `c_types`, which refuse in this order, on `c_elaborate` and `flow_lower`, which make the code, and on the
+//! analyses of codes.
 #![tactic(auto)]
 
+mod analysed;
 mod code;
-mod compile;
+mod laws;
 #[cfg(test)]
 mod listing_tests;
+mod reading;
 #[cfg(test)]
 mod tests;
 
+pub use analysed::compile;
 pub use code::plain;
-pub use compile::{CompileFault, SourceFault, law_one_reading, typed};
+pub use laws::{law_events, law_sound};
+pub use reading::{CompileFault, SourceFault, law_one_reading, typed};

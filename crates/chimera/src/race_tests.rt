@@ -1,0 +1,170 @@
+use crate::tests::{BANK, check, joined, shelf_of};
+use rr_base::List;
+use std::alloc::Global;
+use std::process::Abort;
+use std::test::Fail;
+
+// A counter without a lock.
+const COUNTER: &str = "#include <pthread.h>
+#include <stdio.h>
+int x;
+void *inc(void *p) {
+int t = x;
+if (t >= 0)
+x = t + 1;
+return NULL; }
+int main(void) {
+pthread_t a; pthread_t b;
+pthread_create(&a, NULL, inc, NULL);
+pthread_create(&b, NULL, inc, NULL);
+pthread_join(a, NULL); pthread_join(b, NULL);
+printf(\"%d\\n\", x);
+return 0; }
+";
+
+// Two threads and `main` load; nothing is stored after the start.
+const READERS: &str = "#include <pthread.h>
+#include <stdio.h>
+int v[2] = {4, 5};
+void *inc(void *p) {
+return (void *)v[1];
+}
+int main(void) {
+pthread_t a; pthread_t b;
+pthread_create(&a, NULL, inc, NULL);
+pthread_create(&b, NULL, inc, NULL);
+pthread_join(a, NULL); pthread_join(b, NULL);
+printf(\"%d\\n\", v[0]);
+return 0; }
+";
+
+// The lock is held by the caller of `h`; `f` stores without it.
+const HELD_BY_CALLER: &str = "#include <pthread.h>
+pthread_mutex_t m;
+int x;
+void h(void) { x = 2; }
+void *f(void *p) {
+x = 1;
+pthread_mutex_lock(&m);
+pthread_mutex_unlock(&m);
+return NULL; }
+void *g(void *p) {
+pthread_mutex_lock(&m);
+h();
+pthread_mutex_unlock(&m);
+return NULL; }
+int main(void) {
+pthread_t a; pthread_t b;
+pthread_create(&a, NULL, f, NULL);
+pthread_create(&b, NULL, g, NULL);
+pthread_join(a, NULL); pthread_join(b, NULL);
+return 0; }
+";
+
+const ONE_LINE: &str = "#include <pthread.h>
+#include <stdio.h>
+int x;
+void *inc(void *p) {
+x = x + 1;
+return NULL; }
+int main(void) {
+pthread_t a; pthread_t b;
+pthread_create(&a, NULL, inc, NULL);
+pthread_create(&b, NULL, inc, NULL);
+pthread_join(a, NULL); pthread_join(b, NULL);
+printf(\"%d\\n\", x);
+return 0; }
+";
+
+// Threads meet in an object of `malloc`.
+const SHARED: &str = "#include <pthread.h>
+int *p;
+void *f(void *q) { *p = 1; return NULL; }
+int main(void) {
+pthread_t a; pthread_t b;
+p = malloc(sizeof(int));
+pthread_create(&a, NULL, f, NULL);
+pthread_create(&b, NULL, f, NULL);
+return 0; }
+";
+
+// A path through calls: the lock is taken by one function and given back by another, through a pointer that it changes.
+const THROUGH_CALLS: &str = "pthread_mutex_t m;
+int x;
+int y;
+void k(pthread_mutex_t *q) { pthread_mutex_lock(q); }
+void u(pthread_mutex_t *q) { q = q + 0; pthread_mutex_unlock(q); }
+void *c(void *p) { k(&m); x = 1; u(&m); y = 2; return NULL; }
+int main(void) { pthread_t a; pthread_create(&a, NULL, c, NULL); return 0; }
+";
+
+const ROWS: [(&str, &str, u8); 10] = [
+    (BANK, "races 0\n", 0),
+    (
+        COUNTER,
+        "race x+0 load 5:9 store 7:3\nrace x+0 store 7:3 store 7:3\nrace x+0 store 7:3 load 14:16\nraces 3\n",
+        0,
+    ),
+    (READERS, "races 0\n", 0),
+    (
+        HELD_BY_CALLER,
+        "race x+0 store 4:18 store 6:3\nrace x+0 store 6:3 store 6:3\nraces 2\n",
+        0,
+    ),
+    (
+        ONE_LINE,
+        "race x+0 store 5:3 store 5:3\nrace x+0 store 5:3 load 5:5\nrace x+0 store 5:3 load 12:16\nraces 3\n",
+        0,
+    ),
+    (
+        SHARED,
+        "race p+0 load 3:21 store 6:3\nrace malloc@6:5+0 store 3:23 store 3:23\nraces 2\n",
+        0,
+    ),
+    (
+        THROUGH_CALLS,
+        "race y+0 store 6:43 store 6:43\nraces 1\n",
+        0,
+    ),
+    ("int main(void){return y;}\n", "source refused 9 1 23\n", 2),
+    (
+        "int main(void){switch(0){}}\n",
+        "source refused 20 1 16\n",
+        2,
+    ),
+    ("", "source refused 15 1 1\n", 2),
+];
+
+static RACES: [&str; 2] = ["races", "a"];
+
+fn check_rows(rt: &impl Abort, alloc: Global) -> Result<(), Fail> {
+    for (source, text, status) in ROWS {
+        let mut shelf = shelf_of(alloc, joined(alloc, &[source])?, List::new(alloc))?;
+        check(rt, alloc, &RACES, &[], &mut shelf, (text, status))?;
+    }
+    Ok(())
+}
+
+// No file of that name, a source of one byte more than it may have, and a sink that fails after four bytes.
+fn check_outside(rt: &impl Abort, alloc: Global) -> Result<(), Fail> {
+    let large = List::from_vec(vec![in alloc; b' '; 1_048_577]?);
+    let mut shelf = shelf_of(alloc, large, List::new(alloc))?;
+    let missing = ["races", "c"];
+    check(rt, alloc, &missing, &[], &mut shelf, ("shelf fault\n", 9))?;
+    check(
+        rt,
+        alloc,
+        &RACES,
+        &[],
+        &mut shelf,
+        ("too large source\n", 11),
+    )?;
+    let mut shelf = shelf_of(alloc, joined(alloc, &[BANK])?, List::new(alloc))?;
+    check(rt, alloc, &RACES, &[4], &mut shelf, ("race", 8))
+}
+
+#[test]
+fn lists_the_races(rt: HostRuntime) -> Result<(), Fail> {
+    check_rows(&rt, rt.alloc())?;
+    check_outside(&rt, rt.alloc())
+}

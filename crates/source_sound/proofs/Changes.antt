@@ -1,0 +1,176 @@
+-- Assignments, `++` and `--`: what they change is there, and takes what it gets.
+use Rattle.std.proofs.Common.{◌≡◌, ℕ, ◌≤◌, Bool, true, false, not, ◌&&◌, if◌then◌else◌, pos, List, [], ◌∷◌, Option, Some, None, refl, sym, ap, ◌∙◌}
+use Rattle.std.proofs.lemmas.Bool.{and_from}
+use Rattle.flow_code.specs.declared.work.BinaryOp.{BinaryOp as FlowOp}
+use Rattle.c_tree.specs.declared.expr.AssignOp.{AssignOp}
+use Rattle.c_tree.specs.declared.expr.AssignOp.TheVariants as assign_op
+use Rattle.c_types.specs.declared.types.BaseType.{BaseType}
+use Rattle.c_types.specs.declared.types.BaseType.TheVariants as base
+use Rattle.c_types.specs.declared.types.Layer.{Layer}
+use Rattle.c_types.specs.declared.types.Layer.TheVariants as layer
+use Rattle.c_types.specs.declared.types.ObjectType.{ObjectType}
+use Rattle.c_types.specs.Scopes.{cells_of_type}
+use Rattle.c_types.specs.Operands.{Standing, no_type, zero_literal, null_literal, a_value, a_place, Operand, whole, pointing, type_operand, layered_operand, layered_value, type_value, is_void, is_typed, is_whole, layered_accepts, accepts, layered_moves, moves, layered_is_int, is_int_type, assigns}
+use Rattle.c_types.specs.Standing.{layered_struct, stepped, assign_standing}
+use Rattle.c_types.specs.Faults.{standing_type, assigns_to, steps}
+use Rattle.c_core.specs.declared.position.Position.{Position}
+use Rattle.c_core.specs.declared.value.Change.TheVariants as change
+use Rattle.c_core.specs.Core as core
+use Rattle.c_core.specs.Core.{Function, Program}
+use Rattle.c_core.specs.Meaning.{is_pointer}
+use Rattle.c_elaborate.specs.Held.{Held, held_register, held_cells, held_zero, held_value, Part, part_by, operand_in, is_pointing, value_in, wanted_in}
+use Rattle.c_elaborate.specs.Here.{Source}
+use Rattle.c_elaborate.specs.Operators.{changing_operator, change_of, changed_by, stored_in, assigned_in, stepped_in}
+use Rattle.flow_lower.specs.Sound.{IsSoundExp}
+use Rattle.source_sound.proofs.Environment.{IsFormed}
+use Rattle.source_sound.proofs.Apart.{never, both, not_true}
+use Rattle.source_sound.proofs.Standings.{formed_or_void, address_layers, Gives, Stands, PartGives}
+use Rattle.source_sound.proofs.Choices.{gives_whole, where_true, type_value_stands}
+use Rattle.source_sound.proofs.Operators.{compatible_pointers, sized}
+
+-- an object that moves is a whole number, or a pointer to what has a size
+pub no_struct_moves : (ls : List Layer) (b : BaseType) (a : Operand) → layered_moves ls b a ≡ true → layered_struct ls b ≡ None
+no_struct_moves [] base.Int a h = refl
+no_struct_moves [] base.Void a h = refl
+no_struct_moves [] (base.Struct k) a h = never h
+no_struct_moves [] base.Mutex a h = refl
+no_struct_moves [] base.Cond a h = refl
+no_struct_moves [] base.Barrier a h = refl
+no_struct_moves (l ∷ ls) b a h = refl
+
+no_struct_accepts : (ls : List Layer) (b : BaseType) (a : Operand) → layered_accepts ls b a ≡ true → layered_struct ls b ≡ None
+no_struct_accepts [] base.Int a h = refl
+no_struct_accepts [] base.Void a h = refl
+no_struct_accepts [] (base.Struct k) a h = never h
+no_struct_accepts [] base.Mutex a h = refl
+no_struct_accepts [] base.Cond a h = refl
+no_struct_accepts [] base.Barrier a h = refl
+no_struct_accepts (l ∷ ls) b a h = refl
+
+int_moves : (ls : List Layer) (b : BaseType) (a : Operand) → layered_is_int ls b ≡ true → is_whole a ≡ true → layered_moves ls b a ≡ true
+int_moves [] base.Int a h w = w
+int_moves [] base.Void a h w = never h
+int_moves [] (base.Struct k) a h w = never h
+int_moves [] base.Mutex a h w = never h
+int_moves [] base.Cond a h w = never h
+int_moves [] base.Barrier a h w = never h
+int_moves (l ∷ ls) b a h w = never h
+
+number_moves : (t : ObjectType) (a : Operand) → (is_int_type t && is_whole a) ≡ true → moves t a ≡ true
+number_moves t a h = int_moves t.layers t.base a (both (is_int_type t) (is_whole a) h).0 (both (is_int_type t) (is_whole a) h).1
+
+-- it is an object
+abbrev pub IsPlace : Standing → Type 0
+IsPlace (a_place t) = Unit {0}
+IsPlace _ = ⊥
+
+module _ (p : Program) (home : ℕ → Option ℕ) (f : Function) (structs : ℕ) where
+  -- what an object of the type accepts is a word of its kind
+  accepted_layers : (ls : List Layer) (b : BaseType) (a : Operand) (v q : core.Exp) → Gives p home f structs a v q → layered_accepts ls b a ≡ true →
+      is_pointer (if is_pointing (layered_operand ls b) then q else v) ≡ is_pointing (layered_operand ls b)
+  accepted_layers [] base.Int a v q g h = gives_whole p home f structs a v q g h
+  accepted_layers [] base.Void a v q g h = never h
+  accepted_layers [] (base.Struct k) a v q g h = never h
+  accepted_layers [] base.Mutex a v q g h = never h
+  accepted_layers [] base.Cond a v q g h = never h
+  accepted_layers [] base.Barrier a v q g h = never h
+  accepted_layers (layer.Pointer ∷ ls) b a v q g h = g.pointer (compatible_pointers (pointing (record { layers = ls; base = b })) a h).1
+  accepted_layers (layer.Array m ∷ ls) b a v q g h = never h
+
+  pub accepted : (t : ObjectType) (a : Operand) (v q : core.Exp) → Gives p home f structs a v q → accepts t a ≡ true →
+      is_pointer (if is_pointing (type_operand t) then q else v) ≡ is_pointing (type_operand t)
+  accepted t a v q g h = accepted_layers t.layers t.base a v q g h
+
+  pub either_sound : (w : Bool) (a : Operand) (v q : core.Exp) → Gives p home f structs a v q → IsSoundExp p home f (if w then q else v)
+  either_sound true a v q g = g.pointer_sound
+  either_sound false a v q g = g.sound
+
+  -- ---- `=`
+
+  stored_stands : (t : ObjectType) (x : Held) (a : Operand) (v q : core.Exp) (at : Position) → Stands p home f structs (a_place t) x → Gives p home f structs a v q → accepts t a ≡ true →
+      Stands p home f structs (type_value t) (held_value (stored_in x (if is_pointing (type_operand t) then q else v) at))
+  stored_stands t (held_register n loaded) a v q at h g e =
+      let kind = accepted t a v q g e in
+      type_value_stands p home f structs t.layers t.base _ (formed_or_void structs t.layers t.base h.0) (no_struct_accepts t.layers t.base a e)
+      (kind ∙ address_layers t.layers t.base) (h.2 ∙ ap Some (sym kind), either_sound (is_pointing (type_operand t)) a v q g)
+  stored_stands t (held_cells to loaded) a v q at h g e =
+      let kind = accepted t a v q g e in
+      type_value_stands p home f structs t.layers t.base _ (formed_or_void structs t.layers t.base h.0) (no_struct_accepts t.layers t.base a e)
+      (kind ∙ address_layers t.layers t.base) (h.1, h.2, either_sound (is_pointing (type_operand t)) a v q g)
+  stored_stands t (held_zero loaded) a v q at h g e = absurd h
+  stored_stands t (held_value w) a v q at h g e = absurd h
+
+  -- ---- the other ones
+
+  module _ (s : Source) (sizes : (t : ObjectType) → IsFormed structs t → 1 ≤ cells_of_type s.whole t) where
+    number_changes : (x : Held) (o : FlowOp) (a : Operand) (v q : core.Exp) (old : Bool) (at : Position) → Stands p home f structs (a_place (record { layers = []; base = base.Int })) x → Gives p home f structs a v q → is_whole a ≡ true →
+        Stands p home f structs (layered_value [] base.Int) (held_value (changed_by (change.Compute o) x v old at))
+    number_changes (held_register n loaded) o a v q old at h g e = (tt, refl, (h.2, gives_whole p home f structs a v q g e, g.sound))
+    number_changes (held_cells to loaded) o a v q old at h g e = (tt, refl, (h.1, gives_whole p home f structs a v q g e, h.2, g.sound))
+    number_changes (held_zero loaded) o a v q old at h g e = absurd h
+    number_changes (held_value w) o a v q old at h g e = absurd h
+
+    pointer_changes : (ls : List Layer) (b : BaseType) (x : Held) (back : Bool) (a : Operand) (v q : core.Exp) (old : Bool) (at : Position) → Stands p home f structs (a_place (record { layers = layer.Pointer ∷ ls; base = b })) x → Gives p home f structs a v q →
+        is_void (record { layers = ls; base = b }) ≡ false → is_whole a ≡ true →
+        Stands p home f structs (layered_value (layer.Pointer ∷ ls) b) (held_value (changed_by (change.Move (cells_of_type s.whole (record { layers = ls; base = b })) back) x v old at))
+    pointer_changes ls b (held_register n loaded) back a v q old at h g d e =
+        (h.0, refl, (h.2, (gives_whole p home f structs a v q g e, sized p home f structs s sizes (record { layers = ls; base = b }) h.0 d), g.sound))
+    pointer_changes ls b (held_cells to loaded) back a v q old at h g d e =
+        (h.0, refl, (h.1, (gives_whole p home f structs a v q g e, sized p home f structs s sizes (record { layers = ls; base = b }) h.0 d), h.2, g.sound))
+    pointer_changes ls b (held_zero loaded) back a v q old at h g d e = absurd h
+    pointer_changes ls b (held_value w) back a v q old at h g d e = absurd h
+
+    layers_change : (ls : List Layer) (b : BaseType) (x : Held) (o : FlowOp) (a : Operand) (v q : core.Exp) (old : Bool) (at : Position) → Stands p home f structs (a_place (record { layers = ls; base = b })) x → Gives p home f structs a v q → layered_moves ls b a ≡ true →
+        Stands p home f structs (layered_value ls b) (held_value (changed_by (change_of s (layered_operand ls b) o) x v old at))
+    layers_change [] base.Int x o a v q old at h g e = number_changes x o a v q old at h g e
+    layers_change [] base.Void x o a v q old at h g e = never e
+    layers_change [] (base.Struct k) x o a v q old at h g e = never e
+    layers_change [] base.Mutex x o a v q old at h g e = never e
+    layers_change [] base.Cond x o a v q old at h g e = never e
+    layers_change [] base.Barrier x o a v q old at h g e = never e
+    layers_change (layer.Pointer ∷ ls) b x o a v q old at h g e =
+        let are = both (not (is_void (record { layers = ls; base = b }))) (is_whole a) e in
+        pointer_changes ls b x _ a v q old at h g (not_true (is_void (record { layers = ls; base = b })) are.0) are.1
+    layers_change (layer.Array m ∷ ls) b x o a v q old at h g e = never e
+
+    pub changed_stands : (t : ObjectType) (x : Held) (o : FlowOp) (a : Operand) (v q : core.Exp) (old : Bool) (at : Position) → Stands p home f structs (a_place t) x → Gives p home f structs a v q → moves t a ≡ true →
+        Stands p home f structs (type_value t) (held_value (changed_by (change_of s (type_operand t) o) x v old at))
+    changed_stands t x o a v q old at h g e = layers_change t.layers t.base x o a v q old at h g e
+
+    -- ---- `++` and `--`
+
+    one_gives : (at : Position) → Gives p home f structs whole (core.number (pos 1) at) (core.number (pos 1) at)
+    one_gives at = record { typed = refl; formed = tt; kind = refl; sound = tt; pointer = λ w. never w; pointer_sound = tt }
+
+    pub stepped_stands : (sa : Standing) (x : Held) (o : FlowOp) (old : Bool) (at : Position) → Stands p home f structs sa x → IsPlace sa → steps (standing_type sa) ≡ true →
+        Stands p home f structs (stepped sa) (held_value (stepped_in s o (part_by sa x) old at))
+    stepped_stands no_type x o old at h place e = absurd place
+    stepped_stands zero_literal x o old at h place e = absurd place
+    stepped_stands null_literal x o old at h place e = absurd place
+    stepped_stands (a_value t) x o old at h place e = absurd place
+    stepped_stands (a_place t) x o old at h place e = where_true p home f structs (moves t whole) (type_value t) no_type _ e (changed_stands t x o whole _ _ old at h (one_gives at) e)
+
+    -- ---- assignments
+
+    assigned_at : (t : ObjectType) (x : Held) (o : AssignOp) (b : Part) (at : Position) → Stands p home f structs (a_place t) x → PartGives p home f structs b → assigns o t (operand_in b) ≡ true →
+        Stands p home f structs (type_value t) (held_value (assigned_in s o (part_by (a_place t) x) b at))
+    assigned_at t x assign_op.Assign b at h g e = stored_stands t x (operand_in b) (value_in b) (wanted_in true b) at h g e
+    assigned_at t x assign_op.Add b at h g e = changed_stands t x (changing_operator assign_op.Add) (operand_in b) (value_in b) (wanted_in true b) false at h g e
+    assigned_at t x assign_op.Subtract b at h g e = changed_stands t x (changing_operator assign_op.Subtract) (operand_in b) (value_in b) (wanted_in true b) false at h g e
+    assigned_at t x assign_op.Multiply b at h g e = changed_stands t x (changing_operator assign_op.Multiply) (operand_in b) (value_in b) (wanted_in true b) false at h g (number_moves t (operand_in b) e)
+    assigned_at t x assign_op.Divide b at h g e = changed_stands t x (changing_operator assign_op.Divide) (operand_in b) (value_in b) (wanted_in true b) false at h g (number_moves t (operand_in b) e)
+    assigned_at t x assign_op.Remainder b at h g e = changed_stands t x (changing_operator assign_op.Remainder) (operand_in b) (value_in b) (wanted_in true b) false at h g (number_moves t (operand_in b) e)
+    assigned_at t x assign_op.And b at h g e = changed_stands t x (changing_operator assign_op.And) (operand_in b) (value_in b) (wanted_in true b) false at h g (number_moves t (operand_in b) e)
+    assigned_at t x assign_op.Or b at h g e = changed_stands t x (changing_operator assign_op.Or) (operand_in b) (value_in b) (wanted_in true b) false at h g (number_moves t (operand_in b) e)
+    assigned_at t x assign_op.Xor b at h g e = changed_stands t x (changing_operator assign_op.Xor) (operand_in b) (value_in b) (wanted_in true b) false at h g (number_moves t (operand_in b) e)
+    assigned_at t x assign_op.ShiftLeft b at h g e = changed_stands t x (changing_operator assign_op.ShiftLeft) (operand_in b) (value_in b) (wanted_in true b) false at h g (number_moves t (operand_in b) e)
+    assigned_at t x assign_op.ShiftRight b at h g e = changed_stands t x (changing_operator assign_op.ShiftRight) (operand_in b) (value_in b) (wanted_in true b) false at h g (number_moves t (operand_in b) e)
+
+    pub assigned_stands : (sa : Standing) (x : Held) (o : AssignOp) (b : Part) (at : Position) → Stands p home f structs sa x → IsPlace sa → PartGives p home f structs b → assigns_to o (standing_type sa) (operand_in b) ≡ true →
+        Stands p home f structs (assign_standing o sa (operand_in b)) (held_value (assigned_in s o (part_by sa x) b at))
+    assigned_stands no_type x o b at h place g e = absurd place
+    assigned_stands zero_literal x o b at h place g e = absurd place
+    assigned_stands null_literal x o b at h place g e = absurd place
+    assigned_stands (a_value t) x o b at h place g e = absurd place
+    assigned_stands (a_place t) x o b at h place g e =
+        where_true p home f structs (assigns o t (operand_in b) && is_typed (operand_in b)) (type_value t) no_type _ (and_from _ _ e g.typed) (assigned_at t x o b at h g e)

@@ -1,0 +1,148 @@
+-- The layouts of a whole file without a fault fit: those of each definition.
+use Rattle.std.proofs.Common.{◌≡◌, ℕ, zero, suc, ◌+◌, Bool, true, false, ◌&&◌, ◌==◌, List, [], ◌∷◌, length, replicate, Option, Some, None, is_some, is_none, refl, sym, ap, ◌∙◌, subst}
+use Rattle.std.proofs.lemmas.Bool.{or_parts}
+use Rattle.flow_code.specs.Valid.{layout_fits}
+use Rattle.c_lexer.specs.Bytes.{Text}
+use Rattle.c_lexer.specs.Names.{entry_of}
+use Rattle.c_tree.specs.declared.name.Name.{Name}
+use Rattle.c_tree.specs.declared.ctype.Specifier.{Specifier}
+use Rattle.c_tree.specs.declared.program.Param.{Param}
+use Rattle.c_tree.specs.Tree.{Declared, Code, defined, prototype, Fields, fields, Outer, structure, function, objects}
+use Rattle.c_types.specs.declared.types.BaseType.{BaseType}
+use Rattle.c_types.specs.declared.types.Layer.TheVariants as layer
+use Rattle.c_types.specs.declared.library.StarredType.{StarredType}
+use Rattle.c_types.specs.declared.fault.FaultKind.TheVariants as fault
+use Rattle.c_types.specs.Found.{where_it_comes}
+use Rattle.c_types.specs.Scopes.{Known, Scope, Members, Meaning, variable, function_of, base_of, starred, is_complete, opened}
+use Rattle.c_types.specs.Faults.{name_place, mismatch, specifier_faults}
+use Rattle.c_types.specs.Declarators.{declared_name, is_void_specifier, is_struct_specifier, declarator_faults, size_faults, has_member, one_member_faults, some_members_faults, with_member, with_members, fields_faults, struct_cells, is_struct_defined, cannot_pass, passed_by, param_type, param_place, param_name_faults, param_faults, params_faults, after_param, after_params, listed_params}
+use Rattle.c_types.specs.Programs.{signature_of, after_function, body_faults, is_definition, after_outer}
+use Rattle.c_types.specs.Addresses.{count_of_outer}
+use Rattle.c_types.specs.Spots.{Spot, spot_named, file_level, in_function, holder_in, is_cell_in, is_kept, declared_lengths, layout_by, lengths_allocations, parts_spots, members_allocations, fields_allocations, formal_spot, formals_spots, code_spots, outer_spots, outers_spots}
+use Rattle.c_elaborate.specs.Here.{Source, global_named}
+use Rattle.source_sound.proofs.Environment.{IsFormed}
+use Rattle.source_sound.proofs.FileLists.{append_nil, nil3, nil4, where_nil}
+use Rattle.source_sound.proofs.Structs.{AreSmall}
+use Rattle.source_sound.proofs.DeclaredTypes.{IsDeclared, AreDeclarable, base_known, complete_specifier, declared_formed, only_pointers}
+use Rattle.source_sound.proofs.FileScope.{AllOf, IsEntry}
+use Rattle.source_sound.proofs.FileObjects.{IsWhole, IsPlace, has_structs}
+use Rattle.source_sound.proofs.FileOuters.{AreSoundFrom, OneOn, one_on, function_is}
+use Rattle.source_sound.proofs.TypedExpressions.{IsTypedName, AreTypedScopes}
+use Rattle.source_sound.proofs.Layouts.{AllLaidOut, laid, pointers_fit}
+use Rattle.source_sound.proofs.SpotLayouts.{IsAt, opened_at, declare_at, kept_laid, declared_lengths_laid, objects_laid, parts_laid}
+
+-- ---- parameters
+
+stars_declarable : (stars : ℕ) → AreDeclarable (replicate stars layer.Pointer)
+stars_declarable zero = tt
+stars_declarable (suc k) = only_pointers k
+
+passed_complete : (known : Known) (sp : Specifier) (stars : ℕ) (b : BaseType) → specifier_faults known (stars == 0) sp ≡ [] → cannot_pass sp stars ≡ false → base_of known sp ≡ Some b → is_complete known (starred stars b) ≡ true
+passed_complete known sp zero b h pass is = complete_specifier known sp b h (or_parts (is_void_specifier sp) (is_struct_specifier sp) pass).0 is
+passed_complete known sp (suc k) b h pass is = refl
+
+-- the type of a parameter without a fault
+record IsParam (known : Known) (q : Param) : Type 0 where
+  base : BaseType
+  is : param_type known q ≡ Some (starred q.stars base)
+  declared : IsDeclared known (starred q.stars base)
+
+param_is : (known : Known) (is_def : Bool) (q : Param) → param_faults known is_def q ≡ [] → IsParam known q
+param_is known is_def q e =
+    let p = nil4 (specifier_faults known (q.stars == 0) q.specifier) (mismatch (cannot_pass q.specifier q.stars) (param_place q)) (mismatch (is_def && is_none q.name) (param_place q)) (param_name_faults known q.name) e in
+    let bk = base_known known (q.stars == 0) q.specifier p.0 in
+    let pass = where_nil _ _ _ p.1 in
+    record {
+      base = bk.0;
+      is = ap (λ c. passed_by c (base_of known q.specifier) q.stars) pass ∙ ap (λ o. passed_by false o q.stars) bk.1;
+      declared = record { layers = stars_declarable q.stars; base = bk.2; complete = passed_complete known q.specifier q.stars bk.0 p.0 pass bk.1 };
+    }
+
+module _ (s : Source) (n : ℕ) (whole : IsWhole s n) (small : AreSmall s.kinds) (size : length s.kinds ≡ n) where
+  abbrev At : Known → Type 0
+  At known = IsAt s n whole small size known
+
+  abbrev Fit : List Spot → Type 0
+  Fit xs = AllLaidOut s.kinds xs
+
+  param_formed : (known : Known) (q : Param) → At known → (o : IsParam known q) → IsFormed n (starred q.stars o.base)
+  param_formed known q h o = subst (λ k. IsFormed k (starred q.stars o.base)) h.structs (declared_formed known (starred q.stars o.base) o.declared)
+
+  param_at : (known : Known) (is_def : Bool) (q : Param) → At known → param_faults known is_def q ≡ [] → At (after_param known q)
+  param_at known is_def q h e =
+      let o = param_is known is_def q e in
+      let typed : (name : Text) → IsTypedName n name (variable (param_type known q)) = λ name. subst (λ z. IsTypedName n name (variable z)) (sym o.is) (param_formed known q h o, o.declared.layers) in
+      elim q.name as (λ x. At (after_param known (record q { name = x }))) [ None ↦ h | Some name ↦ declare_at s n whole small size known name.text (variable (param_type known q)) h (typed name.text) ]
+
+  module _ (f : Text) (ns : List ℕ) where
+    formal_laid : (known : Known) (m : ℕ) (is_def : Bool) (q : Param) (x : Option Name) → At known → param_faults known is_def q ≡ [] → Fit (formal_spot (in_function f ns) known m q x)
+    formal_laid known m is_def q None h e = tt
+    formal_laid known m is_def q (Some name) h e =
+        let o = param_is known is_def q e in
+        let fits = pointers_fit s.kinds n small size (starred q.stars o.base) (param_formed known q h o) (only_pointers q.stars) in
+        kept_laid s n whole small size (is_cell_in (in_function f ns) m (is_kept q.specifier q.stars [])) (spot_named (holder_in (in_function f ns) name.text) name (param_type known q)) (subst (λ z. layout_fits (layout_by s.kinds z) ≡ true) (sym o.is) fits)
+
+    formals_laid : (known : Known) (m : ℕ) (is_def : Bool) (qs : List Param) → At known → params_faults known is_def qs ≡ [] → Fit (formals_spots (in_function f ns) known m qs) × At (after_params known qs)
+    formals_laid known m is_def [] h e = (tt, h)
+    formals_laid known m is_def (q ∷ qs) h e =
+        let p = append_nil (param_faults known is_def q) (params_faults (after_param known q) is_def qs) e in
+        let more = formals_laid (after_param known q) (m + 1) is_def qs (param_at known is_def q h p.0) p.1 in
+        (laid s.kinds n small size (formal_spot (in_function f ns) known m q q.name) (formals_spots (in_function f ns) (after_param known q) (m + 1) qs) (formal_laid known m is_def q q.name h p.0) more.0, more.1)
+
+    code_laid : (known : Known) (m : ℕ) (result : Option StarredType) (qs : List Param) (code : Code) → At known → params_faults (opened known) (is_definition code) qs ≡ [] → body_faults (after_params (opened known) qs) result code ≡ [] → Fit (code_spots (in_function f ns) known m qs code)
+    code_laid known m result qs prototype h e b = tt
+    code_laid known m result qs (defined parts at) h e b =
+        let formals = formals_laid (opened known) m true qs (opened_at s n whole small size known h) e in
+        laid s.kinds n small size (formals_spots (in_function f ns) (opened known) m qs) (parts_spots (in_function f ns) (after_params (opened known) qs) (m + length qs) parts) formals.0
+        (parts_laid s n whole small size f ns result (after_params (opened known) qs) (m + length qs) false parts formals.1 b)
+
+  -- ---- structs
+
+  members_laid : (known : Known) (sp : Specifier) (ms : Members) (ds : List Declared) → At known → some_members_faults known sp ms ds ≡ [] → Fit (members_allocations known ds)
+  members_laid known sp ms [] h e = tt
+  members_laid known sp ms (d ∷ ds) h e =
+      let p = append_nil (one_member_faults known sp ms d) (some_members_faults known sp (with_member known sp ms d) ds) e in
+      let q = append_nil (declarator_faults known sp d) (where_it_comes (has_member ms (declared_name d).text) fault.DuplicateName (name_place (declared_name d))) p.0 in
+      laid s.kinds n small size (lengths_allocations known (declared_lengths d)) (members_allocations known ds) (declared_lengths_laid s n whole small size known sp d h q.0) (members_laid known sp (with_member known sp ms d) ds h p.1)
+
+  fields_laid : (known : Known) (ms : Members) (fs : List Fields) → At known → fields_faults known ms fs ≡ [] → Fit (fields_allocations known fs)
+  fields_laid known ms [] h e = tt
+  fields_laid known ms (fields sp ds at ∷ fs) h e =
+      let p = append_nil (some_members_faults known sp ms ds) (fields_faults known (with_members known sp ms ds) fs) e in
+      laid s.kinds n small size (members_allocations known ds) (fields_allocations known fs) (members_laid known sp ms ds h p.0) (fields_laid known (with_members known sp ms ds) fs h p.1)
+
+  -- ---- a place between definitions
+
+  entry_typed : (G : Text → Type 0) (name : Text) (m : Meaning) → IsEntry n G name m → IsTypedName n name m
+  entry_typed G name (variable None) h = absurd h
+  entry_typed G name (variable (Some t)) h = (h.0, h.1)
+  entry_typed G name (function_of f) h = h.1
+
+  entries_typed : (G : Text → Type 0) (es : Scope) → AllOf (IsEntry n G) es → AllOf (IsTypedName n) es
+  entries_typed G [] h = tt
+  entries_typed G (e ∷ es) h = (entry_typed G e.0 e.1 h.0, entries_typed G es h.1)
+
+  place_at_file : (known : Known) (scope : Scope) → IsPlace s n known scope → At known
+  place_at_file known scope h = record {
+    names = subst (λ ss. AreTypedScopes n ss) (sym h.file.scopes) (entries_typed (λ x. is_some (entry_of s.globals x) ≡ true) scope h.file.entries, tt);
+    has = has_structs s n known scope h;
+    structs = h.file.structs;
+  }
+
+  module _ (Good : ℕ → Type 0) (good : (name : Text) → is_some (entry_of s.globals name) ≡ true → Good (global_named s name)) (ns : List ℕ) where
+    outer_laid : (known : Known) (scope : Scope) (m : ℕ) (o : Outer) (os : List Outer) → AreSoundFrom s n whole Good good ns known scope m (o ∷ os) → OneOn s n whole Good good ns known scope m o os → Fit (outer_spots ns known m o)
+    outer_laid known scope m (structure name fs) os h one =
+        let p = nil3 (where_it_comes (is_struct_defined known name.text) fault.DuplicateName (name_place name)) (fields_faults known [] fs) (size_faults (struct_cells known fs) name) one.own in
+        fields_laid known [] fs (place_at_file known scope h.place) p.1
+    outer_laid known scope m (function is_static sp stars name ps code) os h one =
+        let f = signature_of known sp stars ps in
+        let after = after_function known name f code in
+        let is = function_is s n whole Good good ns known scope sp stars name ps code h.place one.own in
+        code_laid name.text ns after m f.result (listed_params ps) code (place_at_file after one.goes.scope one.goes.place) is.params is.body
+    outer_laid known scope m (objects is_static sp xs at) os h one = objects_laid s n whole small size file_level known m sp xs (place_at_file known scope h.place) one.own
+
+    pub all_laid : (known : Known) (scope : Scope) (m : ℕ) (os : List Outer) → AreSoundFrom s n whole Good good ns known scope m os → Fit (outers_spots ns known m os)
+    all_laid known scope m [] h = tt
+    all_laid known scope m (o ∷ os) h =
+        let one = one_on s n whole Good good ns known scope m o os h in
+        laid s.kinds n small size (outer_spots ns known m o) (outers_spots ns (after_outer known o) (m + count_of_outer o) os) (outer_laid known scope m o os h one) (all_laid (after_outer known o) one.goes.scope (m + count_of_outer o) os one.rest)

@@ -1,0 +1,181 @@
+-- The core tree of a source without a fault is sound.
+use Rattle.std.proofs.Common.{◌≡◌, ℕ, ◌+◌, ◌^◌, ◌≤◌, true, List, [], ◌∷◌, map, length, Option, Some, None, is_some, slice_get, ◌⊎◌, inl, inr, refl, sym, ap, ◌∙◌, subst, arith}
+use Rattle.std.proofs.lemmas.Bool.{and_from}
+use Rattle.std.proofs.lemmas.List.{length-map}
+use Rattle.rr_base.specs.Words.{pack}
+use Rattle.rr_base.specs.declared.layout.CellKind.{CellKind}
+use Rattle.rr_base.specs.declared.layout.Site.{Site}
+use Rattle.flow_code.specs.Threads.{size_of}
+use Rattle.flow_code.specs.Valid.{sites_fit}
+use Rattle.c_lexer.specs.Bytes.{Text}
+use Rattle.c_lexer.specs.Names.{entry_of}
+use Rattle.c_tree.specs.Tree.{Outer}
+use Rattle.c_types.specs.Scopes.{Known}
+use Rattle.c_types.specs.Programs.{known_at_start}
+use Rattle.c_types.specs.Addresses.{program_addressed}
+use Rattle.c_types.specs.Spots.{Spot, site_of, known_behind, kinds_of_structs, program_spots, program_sites}
+use Rattle.c_types.specs.Whole.{first_fault}
+use Rattle.c_core.specs.Core.{Program}
+use Rattle.c_elaborate.specs.Here.{Source, global_named}
+use Rattle.c_elaborate.specs.Globals.{global_kinds}
+use Rattle.c_elaborate.specs.Whole.{outers_functions, outers_words, source_of, core_of_source}
+use Rattle.flow_lower.specs.Sound.{IsAddress, IsSoundFunction, LiesAt, AreAtHome, IsSound}
+use Rattle.source_sound.proofs.Faultless.{IsFaultless, faultless}
+use Rattle.source_sound.proofs.Sited.{AreSited, all_sited, counted}
+use Rattle.source_sound.proofs.FileStructs.{AreStructs}
+use Rattle.source_sound.proofs.Homes.{IsHome, Apart, home_from, size_from, kinds_in, home_found, homes_apart, globals_good, named_good, all_named, site_there, size_there}
+use Rattle.source_sound.proofs.Words.{words_length, word_got}
+use Rattle.source_sound.proofs.FileObjects.{IsWhole, GoesOn}
+use Rattle.source_sound.proofs.Grown.{outers_grow}
+use Rattle.source_sound.specs.Members.{StructsHaveMembers}
+use Rattle.source_sound.proofs.FileOuters.{AreSoundFrom, words_on}
+use Rattle.source_sound.proofs.FileFunctions.{AllAre, one_is, names_of, IsOfFile, all_of_file, names_on, one_main}
+use Rattle.source_sound.proofs.AllStructs.{all_structs, structs_counted}
+use Rattle.source_sound.proofs.Bodies.{DefinitionsAreSound}
+use Rattle.source_sound.proofs.Premises.{HaveSpots}
+use Rattle.source_sound.proofs.Among.{among_all}
+use Rattle.source_sound.proofs.FileBodies.{all_sound}
+use Rattle.source_sound.proofs.FileLayouts.{all_laid}
+use Rattle.source_sound.proofs.Layouts.{AllLaidOut}
+
+all_fit : (ks : List (List CellKind)) (xs : List Spot) → AllLaidOut ks xs → sites_fit (map (site_of ks) xs) ≡ true
+all_fit ks [] h = refl
+all_fit ks (x ∷ xs) h = and_from _ _ h.0 (all_fit ks xs h.1)
+
+-- ---- the program, as it is unfolded
+
+abbrev pub program_of : List Outer → Program
+program_of os = record {
+  functions = outers_functions (source_of os) (program_addressed os) (known_at_start os) 0 os;
+  sites = program_sites os;
+  globals = outers_words (source_of os) (known_at_start os) os;
+  global_kinds = global_kinds (program_spots os) (program_sites os);
+}
+
+pub program_is : (os : List Outer) → core_of_source os ≡ program_of os
+unfolding core_of_source
+program_is os = refl
+
+have_spots : (p : Program) (sites : List Site) (xs : List Spot) → p.sites ≡ sites → AreSited sites xs → HaveSpots p sites xs
+have_spots p sites [] e h = tt
+have_spots p sites (x ∷ xs) e h =
+    let c = counted sites x.place h.0 in
+    let long : length p.sites ≡ length sites = ap length e in
+    ((c.0, omega (arith, c.1, long)), have_spots p sites xs e h.1)
+
+module _ (os : List Outer) (h : IsFaultless os) (members : StructsHaveMembers os) where
+  abbrev spots : List Spot
+  spots = program_spots os
+
+  abbrev kinds : List (List CellKind)
+  kinds = kinds_of_structs os
+
+  abbrev start : Known
+  start = known_at_start os
+
+  abbrev structs : ℕ
+  structs = length start.struct_names
+
+  abbrev p : Program
+  p = program_of os
+
+  -- where each global lies
+  abbrev pub home : ℕ → Option ℕ
+  home = home_from kinds 1 0 spots
+
+  first_structs : AreStructs start
+  first_structs = record { sized = record { sizes = refl; small = tt; many = refl }; members = tt }
+
+  pub whole : IsWhole (source_of os) structs
+  whole = record {
+    structs = all_structs start os members h.faults first_structs;
+    many = ap (λ xs. length xs) (outers_grow start os).struct_names;
+    kinds = refl;
+  }
+
+  many : length (source_of os).whole.structs ≡ structs
+  many = structs_counted start [] os h.faults (record { names = refl; many = refl }) ∙ ap (λ xs. length xs) (outers_grow start os).struct_names
+
+  -- ---- addresses
+
+  address : (t b : ℕ) → home t ≡ Some b → IsAddress p home (pack t b (size_from kinds 1 spots t) 0)
+  address t b e = (t, b, e, ap (λ z. pack t b z 0) (sym (size_there kinds 0 spots t b e)))
+
+  pub good : (name : Text) → is_some (entry_of (source_of os).globals name) ≡ true → IsAddress p home (global_named (source_of os) name)
+  good name e = named_good kinds (IsAddress p home) (source_of os).globals name (globals_good kinds (IsAddress p home) 1 0 [] spots address tt) e
+
+  from_start : AreSoundFrom (source_of os) structs whole (IsAddress p home) good (program_addressed os) start [] 0 os
+  from_start = record {
+    place = record { file = record { scopes = refl; structs = refl; entries = tt }; structs = first_structs; more = (source_of os).whole.structs; later = refl };
+    members = members;
+    faults = h.faults;
+    names = all_named kinds 1 0 [] spots;
+    behind = refl;
+  }
+
+  words : GoesOn (source_of os) structs whole (IsAddress p home) good start (known_behind start os) (kinds_in kinds spots) p.globals
+  words = words_on (source_of os) structs whole (IsAddress p home) good (program_addressed os) start [] 0 os from_start
+
+  cells : length p.global_kinds ≡ length p.globals
+  cells = words_length (IsAddress p home) (kinds_in kinds spots) p.globals words.words_are
+
+  lies : (s b : ℕ) (is : IsHome kinds 1 0 spots (kinds_in kinds spots) s b) → LiesAt p (site_of kinds is.spot) b
+  lies s b is = record {
+    within = let place = is.place in let inside = is.within in omega (arith, place, inside, cells);
+    kinds = λ k cell e. let place = is.place in let at : b + k ≡ is.offset + k = omega (arith, place) in ap (λ z. slice_get p.global_kinds z) at ∙ is.kinds_are k cell e;
+  }
+
+  abbrev IsApart : (s t b c : ℕ) → Type 0
+  IsApart s t b c = (b + size_of p.sites s ≤ c) ⊎ (c + size_of p.sites t ≤ b)
+
+  apart_by : (s t b c : ℕ) → home s ≡ Some b → home t ≡ Some c → Apart kinds 1 spots s t b c → IsApart s t b c
+  apart_by s t b c e g (inl le) = inl (subst (λ z. b + z ≤ c) (sym (size_there kinds 0 spots s b e)) le)
+  apart_by s t b c e g (inr le) = inr (subst (λ z. c + z ≤ b) (sym (size_there kinds 0 spots t c g)) le)
+
+  pub at_home : AreAtHome p home
+  at_home = record {
+    there = λ s b e. let is = home_found kinds 1 0 spots s b e in (site_of kinds is.spot, site_there kinds 0 spots s b is, lies s b is);
+    apart = λ s t b c e g ne. apart_by s t b c e g (homes_apart kinds 1 0 spots s t b c e g ne);
+    words = λ k w e g. word_got (IsAddress p home) (kinds_in kinds spots) p.globals words.words_are k w e g;
+  }
+
+  few_cells : length p.globals ≤ 2 ^ 20
+  few_cells = let count = words.count in let few = words.few (omega arith) in omega (arith, count, few)
+
+  -- ---- functions
+
+  of_file : AllAre (λ f. IsOfFile structs (known_behind start os) f) p.functions
+  of_file = all_of_file (source_of os) structs whole (IsAddress p home) good (program_addressed os) start [] 0 os from_start
+
+  names : start.defined ≡ names_of p.functions
+  names = names_on (source_of os) structs whole (IsAddress p home) good (program_addressed os) start [] 0 os from_start tt
+
+  laid_out : AllLaidOut kinds spots
+  laid_out = all_laid (source_of os) structs whole whole.structs.sized.small (whole.structs.sized.many ∙ many) (IsAddress p home) good (program_addressed os) start [] 0 os from_start
+
+  -- where definitions are sound
+  module _ (definitions : DefinitionsAreSound p home structs (source_of os)) (few : length p.functions ≤ 2 ^ 20) where
+    all_functions : AllAre (λ f. IsSoundFunction p home f) p.functions
+    all_functions =
+        all_sound p home (source_of os) structs whole many good (program_addressed os) (known_behind start os) ((outers_grow start os).defined ∙ names) of_file refl definitions start [] 0 os from_start refl
+        (among_all (program_addressed os)) (have_spots p p.sites spots refl (all_sited kinds spots))
+
+    pub program_sound : IsSound p
+    program_sound = record {
+      home = home;
+      homes = at_home;
+      functions = λ k f e. one_is (λ z. IsSoundFunction p home z) p.functions all_functions k f e;
+      one_main = one_main os p.functions names h.main;
+      main_alone = λ k f e is. (one_is (λ z. IsOfFile structs (known_behind start os) z) p.functions of_file k f e).alone is;
+      cell_kinds = cells;
+      layouts = all_fit kinds spots laid_out;
+      few_functions = few;
+      few_sites = let long = length-map spots (site_of kinds) in let le = h.sites in omega (arith, long, le);
+      few_cells = few_cells;
+    }
+
+-- where each definition without a fault is sound, the core tree of a source without one is
+pub law_sound : ((p : Program) (home : ℕ → Option ℕ) (n : ℕ) (s : Source) → DefinitionsAreSound p home n s) → (os : List Outer) → StructsHaveMembers os → first_fault os ≡ None → length (core_of_source os).functions ≤ 2 ^ 20 → IsSound (core_of_source os)
+law_sound definitions os members none few =
+    let h = faultless os none in
+    subst (λ p. IsSound p) (sym (program_is os)) (program_sound os h members (definitions (program_of os) (home os h members) (length (known_at_start os).struct_names) (source_of os)) (subst (λ p. length p.functions ≤ 2 ^ 20) (program_is os) few))
