@@ -1,0 +1,8 @@
+pub mod Ascents
+pub mod Basing
+pub mod Besides
+pub mod Bools
+pub mod Firsts
+pub mod Names
+pub mod Putting
+pub mod Unique

@@ -1,0 +1,4 @@
+pub mod Chosen
+pub mod Listed
+pub mod Loops
+pub mod Tables

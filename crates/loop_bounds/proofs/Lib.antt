@@ -1,0 +1,9 @@
+pub mod Borne
+pub mod Making
+pub mod Marks
+pub mod Pointing
+pub mod Raising
+pub mod Regions
+pub mod Steps
+pub mod Touched
+pub mod Turning

@@ -1,0 +1,9 @@
+use Rattle.std.proofs.Common.{◌≡◌, ◌≤◌}
+use Rattle.weak_facts.specs.Ranges as spec
+use Rattle.loop_bounds.proofs.makers.maker_at.Given as goal
+
+abbrev pub invariant-loop-place : goal.invariant-loop-place
+invariant-loop-place l = (l.place ≤ l.before) × (spec.maker_at l.instrs l.place l.register ≡ spec.maker_at l.instrs l.before l.register)
+
+abbrev pub decreases-loop-place : goal.decreases-loop-place
+decreases-loop-place l = l.place

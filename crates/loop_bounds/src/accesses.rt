@@ -1,0 +1,224 @@
+//! The accesses of a code whose elements are known where their loop is entered.
+ghost use Rattle.std.specs.Prelude.{◌≡◌, ◌<◌, ◌+◌, ◌^◌, ◌++◌, Some, slice_get, length, option_to_list, IfOk, OnOk};
+ghost use Rattle.std.specs.Option.{option_copied};
+ghost use Rattle.facts.specs.Blocks.{AreStarts};
+ghost use Rattle.facts.specs.PointsTo.{list_at};
+ghost use Rattle.weak_facts.specs.Loops as loops;
+ghost use Rattle.weak_facts.specs.Ranges.{HasRegisters};
+ghost use Rattle.weak_facts.specs.Ranges as spec;
+
+use crate::acts::{is_mark, nth, pointer_of};
+use crate::loops::{counted_of, following};
+use crate::makers::only_maker;
+use crate::shifts::moved_shift;
+use crate::spans::{behind, calls_nothing, is_target, loop_code};
+use facts::{PointsTo, block_starts};
+use flow_code::{Act, Code, Function, Instr, LoopInfo, site_at};
+use rr_base::{List, Place};
+use std::alloc::{AllocError, Global};
+use weak_facts::Range;
+
+// Whether a loop round an instruction begins with another.
+fn begins_round(instrs: &[Instr], at: usize, mark: usize) -> bool
+    ensures { result ≡ spec.begins_round instrs.now at mark }
+{
+    is_mark(nth(instrs, mark)) && is_target(behind(instrs, at), mark)
+}
+
+/// The last instruction before one with which a loop round it begins.
+fn mark_before(instrs: &[Instr], at: usize) -> Option<usize>
+    requires { at < length instrs.now }
+    ensures { result ≡ spec.mark_before instrs.now at at }
+{
+    let mut place = at;
+    while place > 0 {
+        place -= 1;
+        if begins_round(instrs, at, place) {
+            return Some(place);
+        }
+    }
+    None
+}
+
+// Whether the loop is the innermost one of any kind round the instruction.
+fn is_innermost(instrs: &[Instr], at: usize, counted: &LoopInfo) -> bool
+    requires { at < length instrs.now }
+    ensures { result ≡ spec.is_innermost instrs.now at counted.now }
+{
+    at <= counted.last as usize && mark_before(instrs, at) == Some(counted.at as usize)
+}
+
+/// The first of the loops that is the innermost one round the instruction and calls nothing.
+fn loop_round<'a>(instrs: &[Instr], at: usize, loops: &'a [LoopInfo]) -> Option<&'a LoopInfo>
+    requires { at < length instrs.now }
+    ensures { option_copied result ≡ spec.loop_round instrs.now at loops.now }
+{
+    for counted in loops {
+        if is_innermost(instrs, at, counted) && calls_nothing(loop_code(instrs, counted)) {
+            return Some(counted);
+        }
+    }
+    None
+}
+
+fn has_single_cells(code: &Code, place: Place) -> bool
+    ensures { result ≡ spec.has_single_cells code.now place }
+{
+    match site_at(code.sites.as_slice(), place.site) {
+        Some(site) => site.layout.element == 1,
+        None => true,
+    }
+}
+
+fn have_single_cells(code: &Code, places: &[Place]) -> bool
+    ensures { result ≡ spec.have_single_cells code.now places.now }
+{
+    places.iter().all(|place| has_single_cells(code, *place))
+}
+
+/// A function, with its number, the places where its blocks begin, and its counted loops.
+#[derive(Clone, Copy)]
+struct Body<'a> {
+    number: u32,
+    function: &'a Function,
+    starts: &'a [bool],
+    loops: &'a [LoopInfo],
+}
+
+/// The places to which a register of the function may point.
+fn places_of<'a>(code: &Code, points: &'a PointsTo, body: &Body<'_>, register: u32) -> &'a [Place]
+    requires lists { HasRegisters code.now points.now }
+    requires function { slice_get code.now.functions body.now.number ≡ Some body.now.function.now }
+    ensures { result.now ≡ list_at points.now.registers body.now.number register }
+{
+    if register < body.function.registers {
+        points.of_register(body.number, register).as_slice()
+    } else {
+        &[]
+    }
+}
+
+/// The range of an access by a register in a loop.
+fn range_in(
+    code: &Code,
+    points: &PointsTo,
+    body: &Body<'_>,
+    at: usize,
+    register: u32,
+    counted: &LoopInfo,
+) -> Option<Range>
+    requires lists { HasRegisters code.now points.now }
+    requires function { slice_get code.now.functions body.now.number ≡ Some body.now.function.now }
+    requires starts { AreStarts body.now.function.now.instrs body.now.starts.now }
+    requires length { length body.now.starts.now ≡ length body.now.function.now.instrs }
+    requires at { at < length body.now.function.now.instrs }
+    requires number { at < 2 ^ 32 }
+    ensures { result ≡ spec.range_in code.now points.now body.now.number body.now.function.now.instrs at register counted.now }
+{
+    let instrs = body.function.instrs.as_slice();
+    let maker = only_maker(instrs, counted, at, register)?;
+    let shift = moved_shift(instrs, body.starts, counted, maker)?;
+    if have_single_cells(code, places_of(code, points, body, register)) {
+        Some(Range {
+            function: body.number,
+            instr: at as u32,
+            loop_at: counted.at,
+            shift,
+        })
+    } else {
+        None
+    }
+}
+
+/// The range of an instruction, if it is an access that has one.
+fn range_at(code: &Code, points: &PointsTo, body: &Body<'_>, at: usize, act: &Act) -> Option<Range>
+    requires lists { HasRegisters code.now points.now }
+    requires function { slice_get code.now.functions body.now.number ≡ Some body.now.function.now }
+    requires starts { AreStarts body.now.function.now.instrs body.now.starts.now }
+    requires length { length body.now.starts.now ≡ length body.now.function.now.instrs }
+    requires at { at < length body.now.function.now.instrs }
+    requires number { at < 2 ^ 32 }
+    ensures { result ≡ spec.range_at code.now points.now body.now.number body.now.function.now.instrs body.now.loops.now at act.now }
+{
+    let instrs = body.function.instrs.as_slice();
+    let register = pointer_of(act)?;
+    let counted = loop_round(instrs, at, body.loops)?;
+    range_in(code, points, body, at, register, counted)
+}
+
+fn push_range(found: Option<Range>, out: &mut List<Range>) -> Result<(), AllocError>
+    ensures { OnOk result (out.new ≡ out.old ++ option_to_list found) }
+{
+    match found {
+        Some(range) => out.push(range),
+        None => Ok(()),
+    }
+}
+
+/// The ranges of a function's instructions.
+fn push_ranges(
+    code: &Code,
+    points: &PointsTo,
+    body: &Body<'_>,
+    out: &mut List<Range>,
+) -> Result<(), AllocError>
+    requires lists { HasRegisters code.now points.now }
+    requires function { slice_get code.now.functions body.now.number ≡ Some body.now.function.now }
+    requires starts { AreStarts body.now.function.now.instrs body.now.starts.now }
+    requires length { length body.now.starts.now ≡ length body.now.function.now.instrs }
+    ensures { OnOk result (out.new ≡ out.old ++ spec.ranges_in code.now points.now body.now.number body.now.function.now.instrs body.now.loops.now 0 body.now.function.now.instrs) }
+{
+    let instrs = body.function.instrs.as_slice();
+    number_of(instrs.len())?;
+    for at in 0..instrs.len() {
+        push_range(range_at(code, points, body, at, &instrs[at].act), out)?;
+    }
+    Ok(())
+}
+
+/// The number of 32 bits. More instructions than there are such numbers don't fit the machine's memory either.
+fn number_of(count: usize) -> Result<u32, AllocError>
+    ensures { IfOk result (λ n. n ≡ count) }
+{
+    u32::try_from(count).map_err(|_| AllocError)
+}
+
+fn push_function(
+    alloc: Global,
+    code: &Code,
+    points: &PointsTo,
+    number: u32,
+    function: &Function,
+    out: &mut List<Range>,
+) -> Result<(), AllocError>
+    requires lists { HasRegisters code.now points.now }
+    requires function { slice_get code.now.functions number ≡ Some function.now }
+    ensures { OnOk result (out.new ≡ out.old ++ spec.ranges_in code.now points.now number function.now.instrs (loops.counted_of function.now) 0 function.now.instrs) }
+{
+    let counted = counted_of(alloc, function)?;
+    let starts = block_starts(alloc, function.instrs.as_slice())?;
+    let body = Body {
+        number,
+        function,
+        starts: starts.as_slice(),
+        loops: counted.as_slice(),
+    };
+    push_ranges(code, points, &body, out)
+}
+
+/// The accesses of a code whose elements are known where their loop is entered, by function and then by instruction: those
+/// of a counted loop that calls nothing, which is the innermost one round them, by a pointer that is moved from a base which
+/// the loop keeps by the counter and a constant, where all that they may touch has elements of one cell.
+/// The points-to answer must have a list for each register of the code's functions.
+pub fn ranges(alloc: Global, code: &Code, points: &PointsTo) -> Result<List<Range>, AllocError>
+    requires { HasRegisters code.now points.now }
+    ensures { IfOk result (λ rs. rs ≡ spec.ranges_of code.now points.now) }
+{
+    let mut out = List::new(alloc);
+    let mut number = 0;
+    for function in code.functions.as_slice() {
+        push_function(alloc, code, points, number, function, &mut out)?;
+        number = following(number)?;
+    }
+    Ok(out)
+}

@@ -1,0 +1,19 @@
+//! The counted loops of a code, and the accesses in them whose elements are known where the loop is entered. It stands on
+//! `rr_base`, `flow_code`, `facts` and `weak_facts`.
+#![tactic(auto)]
+
+mod accesses;
+mod acts;
+mod counted;
+mod laws;
+mod loops;
+mod makers;
+mod shifts;
+mod spans;
+
+pub use accesses::ranges;
+pub use laws::{law_counter, law_element, law_form, law_kept, law_step};
+pub use loops::counted_loops;
+
+#[cfg(test)]
+mod tests;

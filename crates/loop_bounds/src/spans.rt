@@ -1,0 +1,141 @@
+//! Parts of a function's instructions: what they assign and call, and where one enters them.
+ghost use Rattle.std.specs.Prelude.{◌≡◌, ◌+◌, ◌<◌, ◌^◌, take, drop, slice_range, length, IsTrue};
+ghost use Rattle.facts.specs.Blocks as blocks;
+ghost use Rattle.facts.specs.Paths as paths;
+ghost use Rattle.weak_facts.specs.Loops as loops;
+ghost use Rattle.weak_facts.specs.Ranges as ranges;
+
+use crate::acts::{assigns, is_call};
+use flow_code::{Act, Bound, Instr, LoopInfo};
+
+fn front(instrs: &[Instr], count: usize) -> &[Instr]
+    ensures { result.now ≡ take count instrs.now }
+{
+    if count < instrs.len() {
+        &instrs[..count]
+    } else {
+        instrs
+    }
+}
+
+/// The instructions from a place on.
+pub fn behind(instrs: &[Instr], from: usize) -> &[Instr]
+    ensures { result.now ≡ drop from instrs.now }
+{
+    if from < instrs.len() {
+        &instrs[from..]
+    } else {
+        &[]
+    }
+}
+
+/// The instructions from a place to another.
+pub fn part(instrs: &[Instr], from: usize, to: usize) -> &[Instr]
+    ensures { result.now ≡ slice_range instrs.now from to }
+{
+    front(behind(instrs, from), to.saturating_sub(from))
+}
+
+/// The instructions of a loop, from its Mark to its jump back.
+pub fn loop_code<'a>(instrs: &'a [Instr], counted: &LoopInfo) -> &'a [Instr]
+    ensures { result.now ≡ loops.loop_code instrs.now counted.now }
+{
+    part(instrs, counted.at as usize, counted.last as usize + 2)
+}
+
+pub fn is_never_assigned(instrs: &[Instr], register: u32) -> bool
+    ensures { result ≡ paths.is_never_assigned instrs.now register }
+{
+    instrs.iter().all(|instr| !assigns(register, &instr.act))
+}
+
+/// Whether one instruction alone assigns the register.
+pub fn has_one_maker(instrs: &[Instr], register: u32) -> bool
+    ensures { result ≡ ranges.has_one_maker instrs.now register }
+{
+    instrs
+        .iter()
+        .filter(|instr| assigns(register, &instr.act))
+        .count()
+        == 1
+}
+
+pub fn calls_nothing(instrs: &[Instr]) -> bool
+    ensures { result ≡ ranges.calls_nothing instrs.now }
+{
+    instrs.iter().all(|instr| !is_call(&instr.act))
+}
+
+fn goes_to(target: usize, act: &Act) -> bool
+    ensures { result ≡ blocks.goes_to target act.now }
+{
+    match act {
+        Act::Jump { to } => *to as usize == target,
+        Act::Branch {
+            on: _,
+            then_at,
+            else_at,
+        } => *then_at as usize == target || *else_at as usize == target,
+        _ => false,
+    }
+}
+
+/// Whether a jump or branch goes there.
+pub fn is_target(instrs: &[Instr], target: usize) -> bool
+    ensures { result ≡ blocks.is_target instrs.now target }
+{
+    instrs.iter().any(|instr| goes_to(target, &instr.act))
+}
+
+fn is_within(from: usize, to: usize, at: u32) -> bool
+    ensures { result ≡ loops.is_within from to at }
+{
+    from < at as usize && at as usize <= to
+}
+
+// Whether a jump or branch goes to an instruction behind the one and not behind the other.
+fn goes_into(from: usize, to: usize, act: &Act) -> bool
+    ensures { result ≡ loops.goes_into from to act.now }
+{
+    match act {
+        Act::Jump { to: target } => is_within(from, to, *target),
+        Act::Branch {
+            on: _,
+            then_at,
+            else_at,
+        } => is_within(from, to, *then_at) || is_within(from, to, *else_at),
+        _ => false,
+    }
+}
+
+fn none_goes_into(from: usize, to: usize, instrs: &[Instr]) -> bool
+    ensures { result ≡ loops.none_goes_into from to instrs.now }
+{
+    instrs.iter().all(|instr| !goes_into(from, to, &instr.act))
+}
+
+/// Whether jumps and branches of others go only to the first of the instructions from the one to the other.
+pub fn is_entered_at(instrs: &[Instr], from: usize, to: usize) -> bool
+    requires { to + 1 < 2 ^ 64 }
+    ensures { result ≡ loops.is_entered_at instrs.now from to }
+{
+    none_goes_into(from, to, front(instrs, from))
+        && none_goes_into(from, to, behind(instrs, to + 1))
+}
+
+/// Whether nothing of the loop assigns the register.
+pub fn keeps(instrs: &[Instr], counted: &LoopInfo, register: u32) -> bool
+    ensures { result ≡ loops.keeps instrs.now counted.now register }
+{
+    is_never_assigned(loop_code(instrs, counted), register)
+}
+
+/// Whether nothing of the loop assigns a register that is its bound.
+pub fn keeps_bound(instrs: &[Instr], counted: &LoopInfo, bound: Bound) -> bool
+    ensures { result ≡ loops.keeps_bound instrs.now counted.now bound }
+{
+    match bound {
+        Bound::Number(_) => true,
+        Bound::Register(register) => keeps(instrs, counted, register),
+    }
+}

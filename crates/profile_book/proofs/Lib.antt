@@ -1,0 +1,4 @@
+pub mod PairOrder
+pub mod Values
+pub mod ReadBack
+pub mod OneAnswer

@@ -1,0 +1,18 @@
+//! Profiles as JSON texts, both ways: `{"pairs":[["f","g"],["f","main"]]}`. It stands on `facts`, which has the
+//! profile, and on `serde_json`. What is written of a profile's pairs is read back as those pairs.
+#![tactic(auto)]
+
+mod fault;
+mod gather;
+mod law;
+mod listing;
+mod read;
+mod write;
+
+pub use fault::ProfileFault;
+pub use law::{law_one_answer, law_reads_back};
+pub use read::read_profile;
+pub use write::write_profile;
+
+#[cfg(test)]
+mod tests;

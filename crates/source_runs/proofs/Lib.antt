@@ -1,0 +1,15 @@
+pub mod Arrives
+pub mod Labels
+pub mod Makings
+pub mod NoStripes
+pub mod Outcomes
+pub mod OwnSteps
+pub mod Parts
+pub mod Phases
+pub mod Proper
+pub mod Simulates
+pub mod Sources
+pub mod StartWorlds
+pub mod Starts
+pub mod WalkRuns
+pub mod Worlds

@@ -1,0 +1,32 @@
+-- Each run of the code of a sound core tree is a run of the source.
+use Rattle.std.proofs.Common.{◌≡◌, List, Some, refl, subst}
+use Rattle.sync_objects.specs.Setup.{SetupView, IsWithinLimits}
+use Rattle.flow_code.proofs.Runnable.{valid_runnable}
+use Rattle.c_core.specs.Core.{Program}
+use Rattle.flow_lower.specs.Lowered.{lowered}
+use Rattle.flow_lower.specs.Sound.{IsSound}
+use Rattle.flow_lower.proofs.Valid.{valid}
+use Rattle.flow_lower.proofs.SoundWithin.{sound_within}
+use Rattle.core_run.specs.Histories.{run_of}
+use Rattle.core_run.specs.Machine.{Told, start_state}
+use Rattle.runs.specs.Labels.{Label}
+use Rattle.runs.specs.Steps.{State}
+use Rattle.core_run.specs.Walks.{walk_of}
+use Rattle.sync_objects.specs.declared.entry.Entry.{Entry}
+use Rattle.source_runs.specs.RunEvents.{events_of_run}
+use Rattle.source_runs.specs.WalkEvents.{labels_of_walk, events_of_walk}
+use Rattle.source_runs.proofs.WalkRuns.{walk_is_run}
+use Rattle.source_runs.specs.SourceRuns.{IsSourceRun, IsBeforeEntry}
+use Rattle.source_runs.proofs.Arrives.{MakesRun}
+use Rattle.source_runs.proofs.NoStripes.{all_kept}
+use Rattle.source_runs.proofs.Starts.{making, starts_run}
+use Rattle.source_runs.proofs.StartWorlds.{made_run}
+
+pub source_run : (p : Program) (s : SetupView) (labels : List Label) (end : State Told) → IsSound p → IsWithinLimits s → run_of (lowered p) s labels ≡ Some end → IsSourceRun p s IsBeforeEntry (events_of_run (lowered p) s labels)
+source_run p s labels end sound limits h =
+    let runnable = valid_runnable (lowered p) (valid p sound) in
+    subst (IsSourceRun p s IsBeforeEntry) (all_kept (lowered p) s refl labels (start_state (lowered p) s) end h)
+    (made_run p s (lowered p) refl refl sound.cell_kinds limits runnable IsBeforeEntry (MakesRun (lowered p) s runnable) (making p s runnable) (starts_run p s (sound_within p sound) runnable limits) labels end h)
+
+pub walk_events : (p : Program) (s : SetupView) (es : List Entry) (end : State Told) → IsSound p → IsWithinLimits s → walk_of (lowered p) s es (start_state (lowered p) s) ≡ Some end → IsSourceRun p s IsBeforeEntry (events_of_walk (lowered p) s es)
+walk_events p s es end sound limits h = source_run p s (labels_of_walk (lowered p) s es) end sound limits (walk_is_run (lowered p) s es end h)

@@ -1,0 +1,53 @@
+-- The threads of a source's code begin where those of the source do.
+use Rattle.std.proofs.Common.{◌≡◌, ℕ, zero, suc, ◌+◌, cond, not, nat_lt, List, [], ◌∷◌, length, map, Some, None, refl, sym, ap, subst, ◌∙◌}
+use Rattle.std.specs.Prelude.{slice_get, unwrap_or}
+use Rattle.std.specs.List.{position_or_len}
+use Rattle.std.proofs.lemmas.List.{length-map}
+use Rattle.sync_objects.specs.Setup.{SetupView, IsWithinLimits}
+use Rattle.flow_code.specs.declared.thread.Phase.TheVariants as phase
+use Rattle.flow_code.specs.Threads.{is_main_in}
+use Rattle.flow_code.specs.Settle.{IsRunnable}
+use Rattle.c_core.specs.Core.{Function, Program}
+use Rattle.c_core.specs.Meaning as meaning
+use Rattle.flow_lower.specs.Lowered.{lowered, function_code}
+use Rattle.flow_lower.specs.Follows.{IsAtStart}
+use Rattle.flow_lower.specs.Within.{IsWithin}
+use Rattle.flow_lower.proofs.Threads.{follows}
+use Rattle.core_run.specs.Machine.{Told, start_thread, start_state}
+use Rattle.core_run.specs.Machine as core_machine
+use Rattle.core_run.proofs.ThreadRanges.{start_thread_is}
+use Rattle.source_runs.specs.SourceRuns.{IsBeforeEntry}
+use Rattle.source_runs.proofs.Arrives.{MakesRun, arrives_at}
+use Rattle.source_runs.proofs.Makings.{IsMaking}
+use Rattle.source_runs.proofs.NoStripes.{no_lock}
+use Rattle.source_runs.proofs.Proper.{run_proper}
+
+module _ (p : Program) (s : SetupView) where
+  same_place : (fs : List Function) → position_or_len (λ f. is_main_in (Some f)) (map function_code fs) ≡ position_or_len meaning.is_main fs
+  same_place [] = refl
+  same_place (f ∷ fs) = ap (λ n. cond (not (meaning.is_main f)) (1 + n) 0) (same_place fs)
+
+  -- the code's `main` has the number of the source's
+  same_main : core_machine.main_of (lowered p) ≡ meaning.main_of p
+  same_main =
+      let at = position_or_len meaning.is_main p.functions in
+      ap (λ n. unwrap_or (cond (nat_lt n (length (map function_code p.functions))) (Some n) None) 0) (same_place p.functions)
+      ∙ ap (λ m. unwrap_or (cond (nat_lt at m) (Some at) None) 0) (length-map p.functions function_code)
+
+  at_start : (t : ℕ) → IsAtStart p s t (start_thread (lowered p) s t)
+  at_start zero = record { phase = ap phase.Begun same_main; count = refl; arena = refl; printed = refl; below = refl; stripes = refl }
+  at_start (suc k) = record { phase = refl; count = refl; arena = refl; printed = refl; below = refl; stripes = refl }
+
+  pub starts : (t : ℕ) (told : Told) → slice_get (start_state (lowered p) s).threads t ≡ Some told → IsAtStart p s t told.thread
+  starts t told e = subst (λ (z : Told). IsAtStart p s t z.thread) (sym (start_thread_is (lowered p) s t told e)) (at_start t)
+
+  -- each thread has its whole run before it
+  pub starts_run : IsWithin p → (runnable : IsRunnable (lowered p)) → IsWithinLimits s → (t : ℕ) → MakesRun (lowered p) s runnable t (meaning.run_of p s t) (start_thread (lowered p) s t)
+  starts_run fine runnable limits t = (run_proper p s t, follows p s t (start_thread (lowered p) s t) fine limits.some_event (at_start t))
+
+  -- what the threads of the code make; it has no stripe that could be revoked
+  pub making : (runnable : IsRunnable (lowered p)) → IsMaking (lowered p) s IsBeforeEntry (MakesRun (lowered p) s runnable)
+  making runnable = record {
+    arrives = λ t r th h. arrives_at (lowered p) s runnable t r th h;
+    revoked = λ t r th lock stripe has may h. absurd (no_lock (lowered p) s refl lock stripe has);
+  }

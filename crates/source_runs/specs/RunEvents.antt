@@ -1,0 +1,73 @@
+-- What the threads of a machine do in a run, read off step by step.
+use Rattle.std.specs.Prelude.{ℕ, ℤ, pos, Bool, true, false, if◌then◌else◌, List, [], ◌∷◌, ◌++◌, Option, Some, None, slice_get, slice_index}
+use Rattle.sync_objects.specs.Advance.{Advance, NotAllowed, Advances, advanced}
+use Rattle.sync_objects.specs.Setup.{SetupView}
+use Rattle.sync_objects.specs.declared.object.ObjId.TheVariants as object
+use Rattle.sync_objects.specs.declared.operation.Op.TheVariants as op
+use Rattle.flow_code.specs.declared.code.Code.{Code}
+use Rattle.flow_code.specs.declared.thread.Due.{Due}
+use Rattle.flow_code.specs.declared.thread.Due.TheVariants as due
+use Rattle.flow_code.specs.declared.thread.Action.{Action}
+use Rattle.flow_code.specs.declared.thread.Action.TheVariants as action
+use Rattle.flow_code.specs.Values.{number}
+use Rattle.flow_code.specs.Threads.{Thread, line_of}
+use Rattle.flow_code.specs.Next.{due_of, action_of}
+use Rattle.flow_code.specs.Settle.{settled}
+use Rattle.c_core.specs.Runs.{Event, done, trapped}
+use Rattle.core_run.specs.Words.{cells_of, place_of}
+use Rattle.core_run.specs.Machine.{Told, machine, start_state}
+use Rattle.runs.specs.Labels.{Label, Go, Revoke, Stop, Close, label_thread}
+use Rattle.runs.specs.Steps.{State, stepped}
+use Rattle.source_runs.specs.SourceRuns.{Deed, own, stops, closes, ThreadDeed}
+
+abbrev pub answer_in : Advance → ℤ
+answer_in NotAllowed = pos 0
+answer_in (Advances new answer) = answer
+
+module _ (code : Code) (s : SetupView) where
+  -- what these words answer to an action of thread t
+  abbrev pub answer_of : List ℕ → ℕ → Action → ℤ
+  answer_of ws t (action.Load cell) = number (slice_index ws cell)
+  answer_of ws t (action.Operate o obj) = answer_in (advanced o t (slice_index ws (place_of (cells_of code s) obj)))
+  answer_of ws t _ = pos 0
+
+  -- the event of a thread in which this comes next
+  abbrev pub event_of : List ℕ → ℕ → Thread → Due → Event
+  event_of ws t th (due.Trap why) = trapped why (line_of code th.phase th.top)
+  event_of ws t th d = done (action_of d) (answer_of ws t (action_of d))
+
+  -- what a label does; a thread's own event comes after its quiet steps
+  abbrev pub deed_of : List ℕ → Label → Thread → Deed
+  deed_of ws (Go t) th = own (event_of ws t (settled code s t th) (due_of code s t (settled code s t th)))
+  deed_of ws (Revoke t lock stripe) th = own (done (action.Operate op.Revoke (object.Weak lock stripe)) (answer_of ws t (action.Operate op.Revoke (object.Weak lock stripe))))
+  deed_of ws (Stop t) th = stops
+  deed_of ws (Close t) th = closes
+
+  abbrev pub deed_at : List ℕ → Label → Option Told → List ThreadDeed
+  deed_at ws l None = []
+  deed_at ws l (Some told) = record { thread = label_thread l; deed = deed_of ws l told.thread } ∷ []
+
+  abbrev pub deeds_on : (State Told → List ThreadDeed) → Option (State Told) → List ThreadDeed
+  deeds_on rest None = []
+  deeds_on rest (Some st) = rest st
+
+  abbrev pub deeds_from : List Label → State Told → List ThreadDeed
+  deeds_from [] st = []
+  deeds_from (l ∷ ls) st = deed_at st.words l (slice_get st.threads (label_thread l)) ++ deeds_on (deeds_from ls) (stepped (machine code s) st l)
+
+  -- the events of a run from the start, with their threads
+  abbrev pub events_of_run : List Label → List ThreadDeed
+  events_of_run labels = deeds_from labels (start_state code s)
+
+-- operations on stripes of weak locks, which no source makes
+abbrev pub is_stripe : Action → Bool
+is_stripe (action.Operate o (object.Weak lock stripe)) = true
+is_stripe _ = false
+
+abbrev pub is_of_stripe : Deed → Bool
+is_of_stripe (own (done a answer)) = is_stripe a
+is_of_stripe _ = false
+
+abbrev pub without_stripes : List ThreadDeed → List ThreadDeed
+without_stripes [] = []
+without_stripes (d ∷ ds) = if is_of_stripe d.deed then without_stripes ds else d ∷ without_stripes ds

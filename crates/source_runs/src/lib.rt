@@ -1,0 +1,8 @@
+//! Each run of the machine of a source's code is a run of the source. This crate joins `flow_lower`, whose `law_events`
+//! tells what one thread of the code makes, and `core_run`, the machine of all threads. What a run of a source is stands in
+//! `specs/SourceRuns.antt`.
+#![tactic(auto)]
+
+mod laws;
+
+pub use laws::{law_own_events, law_source_run, law_start, law_walk_events, law_walk_run};

@@ -1,0 +1,15 @@
+//! Watches: a formula together with the caller's own test of it. It stands on `core_run`. It promises that a watch
+//! answers at each access exactly whether this meets the formula, and that the first hit in a list is the first access
+//! that does.
+#![tactic(auto)]
+
+mod access_test;
+mod hit;
+#[cfg(test)]
+mod tests;
+mod watch;
+
+pub use access_test::AccessTest;
+pub use core_run::{Access, Formula};
+pub use hit::first_hit;
+pub use watch::{Watch, watch_of};

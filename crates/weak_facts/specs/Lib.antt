@@ -1,0 +1,3 @@
+pub mod Grains
+pub mod Loops
+pub mod Ranges

@@ -1,0 +1,177 @@
+-- The counted loops of a code: those of the loops that a function lists which its instructions bear out. The code of
+--     for (..; i < b; i += c) ..
+-- is a Mark; four instructions that copy i, put b into a register, compare the two, and branch to the body or behind the
+-- loop; the body; five that copy i, put c into a register, add the two, copy the sum to i, and give the expression's value,
+-- which nothing uses, a register of its own; and a jump back to the Mark. The code of `i++`, `++i` and `i = i + c` is the
+-- same but for that value, so no other form need be known.
+use Rattle.std.specs.Prelude.{ℕ, ◌+◌, ◌-◌, ◌==◌, nat_lt, nat_le, ◌&&◌, ◌||◌, Bool, true, false, not, if◌then◌else◌, ℤ, pos, int_lt, List, [], ◌∷◌, ◌++◌, map, take, drop, Option, Some, None, slice_get, slice_range}
+use Rattle.std.specs.List.{filter, list_all}
+use Rattle.std.specs.Option.{option_and_then}
+use Rattle.std.specs.Ordering.{int_eq}
+use Rattle.flow_code.specs.declared.act.Act.{Act}
+use Rattle.flow_code.specs.declared.act.Act.TheVariants as act
+use Rattle.flow_code.specs.declared.act.Instr.{Instr}
+use Rattle.flow_code.specs.declared.code.Code.{Code}
+use Rattle.flow_code.specs.declared.code.Function.{Function}
+use Rattle.flow_code.specs.declared.code.LoopInfo.{LoopInfo}
+use Rattle.flow_code.specs.declared.region.Bound.{Bound}
+use Rattle.flow_code.specs.declared.region.Bound.TheVariants as bound
+use Rattle.flow_code.specs.declared.work.Work.TheVariants as work
+use Rattle.flow_code.specs.declared.work.BinaryOp.TheVariants as op
+use Rattle.flow_code.specs.Kinds.{has_whole}
+use Rattle.flow_code.specs.Next.{act_in}
+use Rattle.flow_code.specs.Order.{is_mark}
+use Rattle.flow_code.specs.Regions.{bound_is_whole}
+use Rattle.facts.specs.Paths.{is_never_assigned}
+use Rattle.weak_facts.specs.declared.loop_at.LoopAt.{LoopAt}
+
+infixl 10 ◌>>=◌
+abbrev pub ◌>>=◌ : {A B : Type 0} → Option A → (A → Option B) → Option B
+o >>= f = option_and_then f o
+
+abbrev pub nth : List Instr → ℕ → Option Act
+nth is k = act_in (slice_get is k)
+
+-- the instructions of a loop, from its Mark to its jump back
+abbrev pub loop_code : List Instr → LoopInfo → List Instr
+loop_code is l = slice_range is l.at (l.last + 2)
+
+-- ---- single instructions
+
+-- the register into which register r is copied
+abbrev pub copy_into : ℕ → Option Act → Option ℕ
+copy_into r (Some (act.Compute into (work.Copy q))) = if q == r then Some into else None
+copy_into r _ = None
+
+-- the register into which the number is put
+abbrev pub number_into : ℤ → Option Act → Option ℕ
+number_into z (Some (act.Compute into (work.Constant y))) = if int_eq y z then Some into else None
+number_into z _ = None
+
+abbrev pub bound_into : Bound → Option Act → Option ℕ
+bound_into (bound.Number z) a = number_into z a
+bound_into (bound.Register r) a = copy_into r a
+
+abbrev pub are_apart : (x y left right : ℕ) → Bool
+are_apart x y left right = (left == x) && (right == y) && not (x == y)
+
+-- the register into which it is put whether register x is less than y, another register
+abbrev pub less_into : (x y : ℕ) → Option Act → Option ℕ
+less_into x y (Some (act.Compute into (work.Binary op.Less left right))) = if are_apart x y left right then Some into else None
+less_into x y _ = None
+
+-- the register into which the sum of register x and of y, another register, is put
+abbrev pub sum_into : (x y : ℕ) → Option Act → Option ℕ
+sum_into x y (Some (act.Compute into (work.Binary op.Add left right))) = if are_apart x y left right then Some into else None
+sum_into x y _ = None
+
+-- the instruction branches on the register
+abbrev pub is_branch : (on : Option ℕ) → (then_at else_at : ℕ) → Option Act → Bool
+is_branch (Some r) m n (Some (act.Branch on then_at else_at)) = (on == r) && (then_at == m) && (else_at == n)
+is_branch _ m n _ = false
+
+-- the instruction copies the register into register r
+abbrev pub is_copy : (from : Option ℕ) → (r : ℕ) → Option Act → Bool
+is_copy (Some q) r (Some (act.Compute into (work.Copy from))) = (from == q) && (into == r)
+is_copy _ r _ = false
+
+-- the instruction copies some register
+abbrev pub is_any_copy : Option Act → Bool
+is_any_copy (Some (act.Compute into (work.Copy from))) = true
+is_any_copy _ = false
+
+abbrev pub is_jump : (to : ℕ) → Option Act → Bool
+is_jump k (Some (act.Jump to)) = to == k
+is_jump k _ = false
+
+-- ---- ways in
+
+abbrev pub is_within : (a b k : ℕ) → Bool
+is_within a b k = nat_lt a k && nat_le k b
+
+-- a jump or branch goes to an instruction behind a and not behind b
+abbrev pub goes_into : (a b : ℕ) → Act → Bool
+goes_into a b (act.Jump to) = is_within a b to
+goes_into a b (act.Branch on then_at else_at) = is_within a b then_at || is_within a b else_at
+goes_into a b _ = false
+
+abbrev pub none_goes_into : (a b : ℕ) → List Instr → Bool
+none_goes_into a b is = list_all (λ i. not (goes_into a b i.act)) is
+
+-- of the instructions from a to b, jumps and branches of others go only to a
+abbrev pub is_entered_at : List Instr → (a b : ℕ) → Bool
+is_entered_at is a b = none_goes_into a b (take a is) && none_goes_into a b (drop (b + 1) is)
+
+-- ---- counted loops
+
+-- the counter is a whole number, as the bound is, and is raised by more than 0
+abbrev pub are_numbers : Function → LoopInfo → Bool
+are_numbers fn l = has_whole fn l.counter && bound_is_whole fn l.bound && int_lt (pos 0) l.step
+
+-- the condition has four instructions, and the last part five, behind the body
+abbrev pub has_places : LoopInfo → Bool
+has_places l = (l.first == l.at + 5) && nat_le (l.first + 4) l.last
+
+-- the register that tells whether the counter is less than the bound
+abbrev pub tested : List Instr → LoopInfo → Option ℕ
+tested is l = do
+  i ← copy_into l.counter (nth is (l.at + 1))
+  b ← bound_into l.bound (nth is (l.at + 2))
+  less_into i b (nth is (l.at + 3))
+
+-- a Mark and the condition
+abbrev pub begins_so : List Instr → LoopInfo → Bool
+begins_so is l = is_mark (nth is l.at) && is_branch (tested is l) l.first (l.last + 2) (nth is (l.at + 4))
+
+-- the register that gets the counter and the step together
+abbrev pub raised : List Instr → LoopInfo → Option ℕ
+raised is l = do
+  i ← copy_into l.counter (nth is (l.last - 4))
+  c ← number_into l.step (nth is (l.last - 3))
+  sum_into i c (nth is (l.last - 2))
+
+-- the last part and the jump back
+abbrev pub ends_so : List Instr → LoopInfo → Bool
+ends_so is l = is_copy (raised is l) l.counter (nth is (l.last - 1)) && is_any_copy (nth is l.last) && is_jump l.at (nth is (l.last + 1))
+
+-- only the last part assigns the counter
+abbrev pub keeps_counter : List Instr → LoopInfo → Bool
+keeps_counter is l = is_never_assigned (slice_range is l.at (l.last - 1)) l.counter && is_never_assigned (slice_range is l.last (l.last + 2)) l.counter
+
+-- nothing of the loop assigns the register
+abbrev pub keeps : List Instr → LoopInfo → ℕ → Bool
+keeps is l r = is_never_assigned (loop_code is l) r
+
+abbrev pub keeps_bound : List Instr → LoopInfo → Bound → Bool
+keeps_bound is l (bound.Number z) = true
+keeps_bound is l (bound.Register r) = keeps is l r
+
+-- the loop is entered at its Mark, as its condition is, and its last part where it begins
+abbrev pub is_entered_so : List Instr → LoopInfo → Bool
+is_entered_so is l = is_entered_at is l.at (l.last + 1) && is_entered_at is l.at (l.at + 4) && is_entered_at is (l.last - 4) (l.last + 1)
+
+abbrev pub has_form : List Instr → LoopInfo → Bool
+has_form is l = has_places l && begins_so is l && ends_so is l
+
+abbrev pub keeps_numbers : List Instr → LoopInfo → Bool
+keeps_numbers is l = keeps_counter is l && keeps_bound is l l.bound
+
+abbrev pub is_counted : Function → LoopInfo → Bool
+is_counted fn l = are_numbers fn l && has_form fn.instrs l && keeps_numbers fn.instrs l && is_entered_so fn.instrs l
+
+-- ---- their list
+
+-- those of a function, in the order in which it lists them
+abbrev pub counted_of : Function → List LoopInfo
+counted_of fn = filter (is_counted fn) fn.loops
+
+abbrev pub loop_in : (f : ℕ) → LoopInfo → LoopAt
+loop_in f l = record { function = f; counted = l }
+
+-- those of these functions, numbered from f on
+abbrev pub counted_from : (f : ℕ) → List Function → List LoopAt
+counted_from f [] = []
+counted_from f (fn ∷ fns) = map (loop_in f) (counted_of fn) ++ counted_from (f + 1) fns
+
+abbrev pub counted_loops_of : Code → List LoopAt
+counted_loops_of code = counted_from 0 code.functions
