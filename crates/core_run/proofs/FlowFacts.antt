@@ -2,27 +2,28 @@
 use Rattle.std.proofs.Common.{◌≡◌, ℕ, ◌<◌, false, refl, ℤ, subst, sym, ap, ◌∙◌, arith}
 use Rattle.sync_objects.specs.Setup.{SetupView, IsWithinLimits}
 use Rattle.flow_code.specs.declared.code.Code.{Code}
-use Rattle.flow_code.specs.declared.thread.Due.{Due}
+use Rattle.abstract_machine.specs.declared.event.Due.{Due}
 use Rattle.flow_code.specs.Threads.{Thread}
-use Rattle.flow_code.specs.Next.{due_of, after_due, stepped, gave_up, stopped, shut, has_ended, most_entries, most_revokes}
+use Rattle.flow_code.specs.Next.{due_of, after_due, stepped, gave_up, stopped, shut, has_ended}
+use Rattle.abstract_machine.specs.Limits.{most_entries, most_revokes}
 use Rattle.flow_code.specs.Settle.{IsRunnable}
 use Rattle.flow_code.proofs.Ranges.{stepped_in_range, gave_up_in_range, stopped_in_range, shut_in_range, count_fits, arena_fits}
 use Rattle.flow_code.proofs.Counts.{stepped_is}
-use Rattle.core_run.specs.Flows.{Fits, IsSoundFlow}
+use Rattle.core_run.specs.Flows.{Fits, most_extra, IsSoundFlow}
 use Rattle.core_run.specs.Machine.{start_thread}
 use Rattle.core_run.proofs.ThreadRanges.{start_in_range}
 
 pub fits_of : (code : Code) (s : SetupView) (t : ℕ) (th : Thread) → IsSoundFlow code s t th → Fits th
 fits_of code s t th f =
-    let c = count_fits code s t th f.limits f.range in
-    let a = arena_fits code s t th f.runnable f.limits f.number f.range in
+    let c = count_fits code s most_extra t th f.limits f.range in
+    let a = arena_fits code s most_extra t th f.runnable f.limits f.number f.range in
     let e = f.range.few_entries in
     let m = f.range.few_made in
     let p = f.range.few_printed in
     record { count = omega arith; entries = omega arith; made = omega arith; arena = omega arith; printed = omega arith }
 
 pub sound_step : (code : Code) (s : SetupView) (t : ℕ) (th : Thread) (answer : ℤ) → IsSoundFlow code s t th → IsSoundFlow code s t (stepped code s t th answer)
-sound_step code s t th answer f = record { runnable = f.runnable; limits = f.limits; number = f.number; range = stepped_in_range code s t th answer f.range }
+sound_step code s t th answer f = record { runnable = f.runnable; limits = f.limits; number = f.number; range = stepped_in_range code s most_extra t th answer f.range }
 
 pub sound_after : (code : Code) (s : SetupView) (t : ℕ) (th : Thread) (answer : ℤ) → IsSoundFlow code s t th → IsSoundFlow code s t (after_due code s t th (due_of code s t th) answer)
 sound_after code s t th answer f = subst (IsSoundFlow code s t) (stepped_is code s t th (due_of code s t th) answer refl) (sound_step code s t th answer f)
@@ -31,13 +32,13 @@ pub fits_after : (code : Code) (s : SetupView) (t : ℕ) (th : Thread) (answer :
 fits_after code s t th answer f = fits_of code s t _ (sound_after code s t th answer f)
 
 pub sound_give_up : (code : Code) (s : SetupView) (t : ℕ) (th : Thread) (lock stripe : ℕ) → th.entries < most_entries → th.revokes < most_revokes → IsSoundFlow code s t th → IsSoundFlow code s t (gave_up th lock stripe)
-sound_give_up code s t th lock stripe e r f = record { runnable = f.runnable; limits = f.limits; number = f.number; range = gave_up_in_range code s t th lock stripe e r f.range }
+sound_give_up code s t th lock stripe e r f = record { runnable = f.runnable; limits = f.limits; number = f.number; range = gave_up_in_range code s most_extra t th lock stripe e r f.range }
 
 pub sound_stop : (code : Code) (s : SetupView) (t : ℕ) (th : Thread) → has_ended th.phase ≡ false → IsSoundFlow code s t th → IsSoundFlow code s t (stopped th)
-sound_stop code s t th lives f = record { runnable = f.runnable; limits = f.limits; number = f.number; range = stopped_in_range code s t th lives f.range }
+sound_stop code s t th lives f = record { runnable = f.runnable; limits = f.limits; number = f.number; range = stopped_in_range code s most_extra t th lives f.range }
 
 pub sound_shut : (code : Code) (s : SetupView) (t : ℕ) (th : Thread) → has_ended th.phase ≡ false → IsSoundFlow code s t th → IsSoundFlow code s t (shut th)
-sound_shut code s t th lives f = record { runnable = f.runnable; limits = f.limits; number = f.number; range = shut_in_range code s t th lives f.range }
+sound_shut code s t th lives f = record { runnable = f.runnable; limits = f.limits; number = f.number; range = shut_in_range code s most_extra t th lives f.range }
 
 -- the same, for what the code computes
 
@@ -52,7 +53,7 @@ next_is code s t th q d answer e h = h ∙ sym (stepped_is code s t th d answer 
 
 -- a thread at its start is sound
 pub sound_start : (code : Code) (s : SetupView) (t : ℕ) → IsRunnable code → IsWithinLimits s → t < s.slots → IsSoundFlow code s t (start_thread code s t)
-sound_start code s t r l n = record { runnable = r; limits = l; number = n; range = start_in_range code s t }
+sound_start code s t r l n = record { runnable = r; limits = l; number = n; range = start_in_range code s most_extra t }
 
 pub sound_given_up : (code : Code) (s : SetupView) (t : ℕ) (th q : Thread) (lock stripe : ℕ) → IsSoundFlow code s t th → th.entries < most_entries → th.revokes < most_revokes → q ≡ gave_up th lock stripe → IsSoundFlow code s t q
 sound_given_up code s t th q lock stripe f e r h = subst (IsSoundFlow code s t) (sym h) (sound_give_up code s t th lock stripe e r f)

@@ -14,13 +14,13 @@ use Rattle.sync_objects.specs.declared.operation.OpName.{OpName}
 use Rattle.sync_objects.specs.declared.operation.OpName.TheVariants as name
 use Rattle.sync_objects.proofs.Soundness.{number_rises}
 use Rattle.flow_code.specs.declared.code.Code.{Code}
-use Rattle.flow_code.specs.declared.thread.Action.{Action}
-use Rattle.flow_code.specs.declared.thread.Action.TheVariants as action
-use Rattle.flow_code.specs.Values.{number}
+use Rattle.abstract_machine.specs.declared.event.Action.{Action}
+use Rattle.abstract_machine.specs.declared.event.Action.TheVariants as action
+use Rattle.abstract_machine.specs.Values.{number}
 use Rattle.flow_code.specs.Threads.{Thread}
 use Rattle.flow_code.specs.Next.{stepped, action_at, gave_up, stopped, shut}
 use Rattle.flow_code.specs.Settle.{settled, IsRunnable}
-use Rattle.flow_code.proofs.Calls.{is_from_outside}
+use Rattle.abstract_machine.proofs.Calls.{is_from_outside}
 use Rattle.flow_code.proofs.Counts.{Counts, action_counts, step_grows, settled_count}
 use Rattle.flow_code.proofs.Asked.{own_action}
 use Rattle.core_run.specs.Words.{cells_of, has_object}

@@ -1,6 +1,8 @@
 pub mod Beginnings
+pub mod Changing
 pub mod FlowFacts
 pub mod Lawful
+pub mod Listed
 pub mod Places
 pub mod Reached
 pub mod Retakes
@@ -8,6 +10,7 @@ pub mod SoundWords
 pub mod ThreadRanges
 pub mod Told
 pub mod WholeRuns
+pub mod PairSteps
 pub mod PartFacts
 pub mod Performed
 pub mod Outside

@@ -11,7 +11,7 @@ use Rattle.sync_objects.specs.declared.object.ObjId.{ObjId}
 use Rattle.sync_objects.specs.declared.operation.Op.{Op}
 use Rattle.sync_objects.specs.declared.operation.Op.TheVariants as op
 use Rattle.flow_code.specs.declared.code.Code.{Code}
-use Rattle.flow_code.specs.declared.thread.Action.TheVariants as action
+use Rattle.abstract_machine.specs.declared.event.Action.TheVariants as action
 use Rattle.flow_code.specs.Threads.{Thread}
 use Rattle.flow_code.specs.Next.{stepped, act_at, action_at}
 use Rattle.flow_code.specs.Settle.{IsRunnable}
@@ -24,7 +24,7 @@ use Rattle.core_run.specs.declared.parts.Made.{Made}
 use Rattle.core_run.proofs.PartFacts.{effect_here}
 use Rattle.runs.specs.Labels.{Go, label_of}
 use Rattle.flow_code.specs.Settle.{settled}
-use Rattle.flow_code.specs.declared.thread.Action.{Action}
+use Rattle.abstract_machine.specs.declared.event.Action.{Action}
 use Rattle.std.specs.Prelude.{nat_lt}
 use Rattle.runs.specs.Same.{same_entry}
 use Rattle.runs.specs.Steps.{Refused, Operates, Loads, Stores, Change, Blocked, Leaves, change_outcome, changed_outcome}

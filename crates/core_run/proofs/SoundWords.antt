@@ -16,8 +16,8 @@ use Rattle.sync_objects.specs.declared.operation.Op.{Op}
 use Rattle.sync_objects.specs.declared.operation.Op.TheVariants as op
 use Rattle.sync_objects.proofs.Soundness.{start_is_sound, number_rises, keeps_sound}
 use Rattle.flow_code.specs.declared.code.Code.{Code}
-use Rattle.flow_code.specs.declared.thread.Action.{Action}
-use Rattle.flow_code.specs.declared.thread.Action.TheVariants as action
+use Rattle.abstract_machine.specs.declared.event.Action.{Action}
+use Rattle.abstract_machine.specs.declared.event.Action.TheVariants as action
 use Rattle.flow_code.specs.Threads.{Thread}
 use Rattle.flow_code.specs.Next.{stepped as thread_stepped, action_at, gave_up, stopped, shut}
 use Rattle.flow_code.specs.Settle.{settled, IsRunnable}

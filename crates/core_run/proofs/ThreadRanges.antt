@@ -12,11 +12,12 @@ use Rattle.sync_objects.specs.declared.operation.Op.{Op}
 use Rattle.sync_objects.specs.declared.operation.Op.TheVariants as op
 use Rattle.sync_objects.specs.Names.{name_of}
 use Rattle.flow_code.specs.declared.code.Code.{Code}
-use Rattle.flow_code.specs.declared.thread.Action.{Action}
-use Rattle.flow_code.specs.declared.thread.Action.TheVariants as action
-use Rattle.flow_code.specs.Values.{number}
+use Rattle.abstract_machine.specs.declared.event.Action.{Action}
+use Rattle.abstract_machine.specs.declared.event.Action.TheVariants as action
+use Rattle.abstract_machine.specs.Values.{number}
 use Rattle.flow_code.specs.Threads.{Thread}
-use Rattle.flow_code.specs.Next.{most_entries, most_revokes, holds, stepped as thread_stepped, action_at, gave_up, stopped, shut, has_ended, has_begun}
+use Rattle.flow_code.specs.Next.{holds, stepped as thread_stepped, action_at, gave_up, stopped, shut, has_ended, has_begun}
+use Rattle.abstract_machine.specs.Limits.{most_entries, most_revokes}
 use Rattle.flow_code.specs.Settle.{settled}
 use Rattle.flow_code.specs.Ranges.{InRange, within}
 use Rattle.flow_code.proofs.Ranges.{stepped_in_range, settled_in_range, gave_up_in_range, stopped_in_range, shut_in_range}
@@ -30,8 +31,8 @@ use Rattle.runs.specs.Steps.{Becomes, Leaves, Effect, Refused, Marks, Loads, Sto
 use Rattle.runs.proofs.Swap.{load_inv, change_inv, steps_of}
 
 -- a thread at the start
-pub start_in_range : (code : Code) (s : SetupView) (k : ℕ) → InRange code s k (start_thread code s k)
-start_in_range code s k = record {
+pub start_in_range : (code : Code) (s : SetupView) (extra k : ℕ) → InRange code s extra k (start_thread code s k)
+start_in_range code s extra k = record {
   counted = within (omega arith);
   few_entries = omega arith;
   few_revokes = omega arith;
@@ -52,7 +53,7 @@ pub start_thread_is : (code : Code) (s : SetupView) (t : ℕ) (told : Told) → 
 start_thread_is code s t told e = let t_is : 0 + t ≡ t = omega arith in start_threads code s 0 s.slots t told e ∙ ap (start_told code s) t_is
 
 pub start_all_in_range : (code : Code) (s : SetupView) → AreInRange code s (start_state code s).threads
-start_all_in_range code s = record { each = λ t told e. subst (λ (z : Told). InRange code s t z.thread) (sym (start_thread_is code s t told e)) (start_in_range code s t) }
+start_all_in_range code s = record { each = λ t told e. subst (λ (z : Told). InRange code s 0 t z.thread) (sym (start_thread_is code s t told e)) (start_in_range code s 0 t) }
 
 -- what may be done to a thread by others
 
@@ -62,8 +63,14 @@ revoke_parts th lock stripe e =
     let b = and_parts (not (has_ended th.phase) && holds th.stripes lock stripe) (nat_lt th.entries most_entries) a.0 in
     (ltb-true th.entries most_entries b.1, ltb-true th.revokes most_revokes a.1)
 
-pub revoked_in_range : (code : Code) (s : SetupView) (t : ℕ) (th : Thread) (lock stripe : ℕ) → may_revoke th lock stripe ≡ true → InRange code s t th → InRange code s t (gave_up th lock stripe)
-revoked_in_range code s t th lock stripe e h = let p = revoke_parts th lock stripe e in gave_up_in_range code s t th lock stripe p.0 p.1 h
+pub revoked_in_range : (code : Code) (s : SetupView) (t : ℕ) (th : Thread) (lock stripe : ℕ) → may_revoke th lock stripe ≡ true → InRange code s 0 t th → InRange code s 0 t (gave_up th lock stripe)
+revoked_in_range code s t th lock stripe e h = let p = revoke_parts th lock stripe e in gave_up_in_range code s 0 t th lock stripe p.0 p.1 h
+
+pub revoke_lives : (th : Thread) (lock stripe : ℕ) → may_revoke th lock stripe ≡ true → has_ended th.phase ≡ false
+revoke_lives th lock stripe e =
+    let a = and_parts (not (has_ended th.phase) && holds th.stripes lock stripe && nat_lt th.entries most_entries) (nat_lt th.revokes most_revokes) e in
+    let b = and_parts (not (has_ended th.phase) && holds th.stripes lock stripe) (nat_lt th.entries most_entries) a.0 in
+    not-true (has_ended th.phase) (and_parts (not (has_ended th.phase)) (holds th.stripes lock stripe) b.0).0
 
 pub stop_lives : (th : Thread) → may_stop th ≡ true → has_ended th.phase ≡ false
 stop_lives th e = not-true (has_ended th.phase) (and_parts (has_begun th.phase) (not (has_ended th.phase)) e).1
@@ -75,57 +82,57 @@ module _ (code : Code) (s : SetupView) where
   -- an effect leaves the thread's numbers in range
   abbrev KeepsRange : ℕ → Effect Told → Type 0
   KeepsRange t Refused = Unit {0}
-  KeepsRange t (Marks told) = InRange code s t told.thread
-  KeepsRange t (Loads c next) = (w : ℕ) → InRange code s t (next w).thread
-  KeepsRange t (Stores c w told) = InRange code s t told.thread
-  KeepsRange t (Operates e change) = (old new : ℕ) (answer : ℤ) (told : Told) → change old ≡ Becomes new answer told → InRange code s t told.thread
+  KeepsRange t (Marks told) = InRange code s 0 t told.thread
+  KeepsRange t (Loads c next) = (w : ℕ) → InRange code s 0 t (next w).thread
+  KeepsRange t (Stores c w told) = InRange code s 0 t told.thread
+  KeepsRange t (Operates e change) = (old new : ℕ) (answer : ℤ) (told : Told) → change old ≡ Becomes new answer told → InRange code s 0 t told.thread
 
   if_keeps : (t : ℕ) (b : Bool) (e : Effect Told) → (b ≡ true → KeepsRange t e) → KeepsRange t (if b then e else Refused)
   if_keeps t true e h = h refl
   if_keeps t false e h = tt
 
-  operation_keeps : (t : ℕ) (told : Told) (o : Op) (obj : ObjId) (printed : List (List ℕ)) (after : ℤ → Thread) → ((answer : ℤ) → InRange code s t (after answer)) → KeepsRange t (operation code s t told o obj printed after)
+  operation_keeps : (t : ℕ) (told : Told) (o : Op) (obj : ObjId) (printed : List (List ℕ)) (after : ℤ → Thread) → ((answer : ℤ) → InRange code s 0 t (after answer)) → KeepsRange t (operation code s t told o obj printed after)
   operation_keeps t told o obj printed after h =
       if_keeps t (has_object code s obj) _ (λ has old new answer q e.
-      subst (λ (z : Told). InRange code s t z.thread) (sym (change_is told (entry_of t told.thread (name_of o) obj) printed after old (advanced o t old) new answer q e).1) (h answer))
+      subst (λ (z : Told). InRange code s 0 t z.thread) (sym (change_is told (entry_of t told.thread (name_of o) obj) printed after old (advanced o t old) new answer q e).1) (h answer))
 
-  action_keeps : (t : ℕ) (told : Told) (st : Thread) (a : Action) → InRange code s t st → KeepsRange t (action_effect code s t told st a)
+  action_keeps : (t : ℕ) (told : Told) (st : Thread) (a : Action) → InRange code s 0 t st → KeepsRange t (action_effect code s t told st a)
   action_keeps t told st action.Quiet h = tt
-  action_keeps t told st (action.Load c) h = if_keeps t (nat_lt c (cells_of code s)) _ (λ lt w. stepped_in_range code s t st (number w) h)
-  action_keeps t told st (action.Store c w) h = if_keeps t (nat_lt c (cells_of code s)) _ (λ lt. stepped_in_range code s t st (pos 0) h)
-  action_keeps t told st action.Mark h = stepped_in_range code s t st (pos 0) h
-  action_keeps t told st (action.Operate o obj) h = operation_keeps t (record told { thread = st }) o obj (piece_next code st o) (λ answer. thread_stepped code s t st answer) (λ answer. stepped_in_range code s t st answer h)
+  action_keeps t told st (action.Load c) h = if_keeps t (nat_lt c (cells_of code s)) _ (λ lt w. stepped_in_range code s 0 t st (number w) h)
+  action_keeps t told st (action.Store c w) h = if_keeps t (nat_lt c (cells_of code s)) _ (λ lt. stepped_in_range code s 0 t st (pos 0) h)
+  action_keeps t told st action.Mark h = stepped_in_range code s 0 t st (pos 0) h
+  action_keeps t told st (action.Operate o obj) h = operation_keeps t (record told { thread = st }) o obj (piece_next code st o) (λ answer. thread_stepped code s t st answer) (λ answer. stepped_in_range code s 0 t st answer h)
   action_keeps t told st action.Ended h = tt
 
-  effect_keeps : (l : Label) (told : Told) → InRange code s (label_thread l) told.thread → KeepsRange (label_thread l) (effect_of code s l told)
-  effect_keeps (Go t) told h = subst (KeepsRange t) (sym (effect_go code s t told)) (action_keeps t told (settled code s t told.thread) (action_at code s t (settled code s t told.thread)) (settled_in_range code s t told.thread h))
+  effect_keeps : (l : Label) (told : Told) → InRange code s 0 (label_thread l) told.thread → KeepsRange (label_thread l) (effect_of code s l told)
+  effect_keeps (Go t) told h = subst (KeepsRange t) (sym (effect_go code s t told)) (action_keeps t told (settled code s t told.thread) (action_at code s t (settled code s t told.thread)) (settled_in_range code s 0 t told.thread h))
   effect_keeps (Revoke t lock stripe) told h =
       subst (KeepsRange t) (sym (effect_revoke code s t lock stripe told)) (if_keeps t (may_revoke told.thread lock stripe) _ (λ m. operation_keeps t told op.Revoke (object.Weak lock stripe) [] (λ answer. gave_up told.thread lock stripe) (λ answer. revoked_in_range code s t told.thread lock stripe m h)))
   effect_keeps (Stop t) told h =
-      subst (KeepsRange t) (sym (effect_stop code s t told)) (if_keeps t (may_stop told.thread) _ (λ m. operation_keeps t told op.Stop object.Halt [] (λ answer. stopped told.thread) (λ answer. stopped_in_range code s t told.thread (stop_lives told.thread m) h)))
+      subst (KeepsRange t) (sym (effect_stop code s t told)) (if_keeps t (may_stop told.thread) _ (λ m. operation_keeps t told op.Stop object.Halt [] (λ answer. stopped told.thread) (λ answer. stopped_in_range code s 0 t told.thread (stop_lives told.thread m) h)))
   effect_keeps (Close t) told h =
-      subst (KeepsRange t) (sym (effect_close code s t told)) (if_keeps t (may_close told.thread) _ (λ m. operation_keeps t told op.Close (object.Slot t) [] (λ answer. shut told.thread) (λ answer. shut_in_range code s t told.thread (close_lives told.thread m) h)))
+      subst (KeepsRange t) (sym (effect_close code s t told)) (if_keeps t (may_close told.thread) _ (λ m. operation_keeps t told op.Close (object.Slot t) [] (λ answer. shut told.thread) (λ answer. shut_in_range code s 0 t told.thread (close_lives told.thread m) h)))
 
-  outcome_keeps : (t : ℕ) (words after : List ℕ) (e : Effect Told) (told : Told) → KeepsRange t e → outcome (machine code s) words e ≡ Leaves after told → InRange code s t told.thread
+  outcome_keeps : (t : ℕ) (words after : List ℕ) (e : Effect Told) (told : Told) → KeepsRange t e → outcome (machine code s) words e ≡ Leaves after told → InRange code s 0 t told.thread
   outcome_keeps t words after Refused told h e = cc
-  outcome_keeps t words after (Marks th) told h e = let same : th ≡ told = cc in subst (λ (z : Told). InRange code s t z.thread) same h
+  outcome_keeps t words after (Marks th) told h e = let same : th ≡ told = cc in subst (λ (z : Told). InRange code s 0 t z.thread) same h
   outcome_keeps t words after (Loads c next) told h e =
       let i = load_inv words next (slice_get words c) after told e in
-      subst (λ (z : Told). InRange code s t z.thread) (sym i.3) (h i.0)
+      subst (λ (z : Told). InRange code s 0 t z.thread) (sym i.3) (h i.0)
   outcome_keeps t words after (Stores c w th) told h e =
       let i = change_inv words c (λ v. Becomes w (pos 0) th) (slice_get words c) after told e in
       let becomes : Becomes w (pos 0) th ≡ Becomes i.1 i.2 told = i.4 in
       let same : th ≡ told = cc in
-      subst (λ (z : Told). InRange code s t z.thread) same h
+      subst (λ (z : Told). InRange code s 0 t z.thread) same h
   outcome_keeps t words after (Operates x change) told h e =
       let p = (machine code s).place x.obj in
       let i = change_inv words p change (slice_get words p) after told e in
       h i.0 i.1 i.2 told i.4
 
-  set_in_range : (threads : List Told) (t : ℕ) (before after : Told) → slice_get threads t ≡ Some before → InRange code s t after.thread → AreInRange code s threads → AreInRange code s (slice_set threads t after)
+  set_in_range : (threads : List Told) (t : ℕ) (before after : Told) → slice_get threads t ≡ Some before → InRange code s 0 t after.thread → AreInRange code s threads → AreInRange code s (slice_set threads t after)
   set_in_range threads t before after at h k = record {
     each = λ u told e. ⊎_elim
-        (λ same. subst (λ n. InRange code s n told.thread) (sym same) (subst (λ (z : Told). InRange code s t z.thread) (same_Some after told (sym (slice_get-set_same threads t after before at) ∙ ap (slice_get (slice_set threads t after)) (sym same) ∙ e)) h))
+        (λ same. subst (λ n. InRange code s 0 n told.thread) (sym same) (subst (λ (z : Told). InRange code s 0 t z.thread) (same_Some after told (sym (slice_get-set_same threads t after before at) ∙ ap (slice_get (slice_set threads t after)) (sym same) ∙ e)) h))
         (λ ne. k.each u told (sym (slice_get-set_other threads t u after ne) ∙ e))
         (cases_eq u t);
   }

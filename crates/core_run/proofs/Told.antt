@@ -14,8 +14,8 @@ use Rattle.sync_objects.specs.declared.object.ObjId.TheVariants as object
 use Rattle.sync_objects.specs.declared.operation.Op.{Op}
 use Rattle.sync_objects.specs.declared.operation.Op.TheVariants as op
 use Rattle.flow_code.specs.declared.code.Code.{Code}
-use Rattle.flow_code.specs.declared.thread.Action.{Action}
-use Rattle.flow_code.specs.declared.thread.Action.TheVariants as action
+use Rattle.abstract_machine.specs.declared.event.Action.{Action}
+use Rattle.abstract_machine.specs.declared.event.Action.TheVariants as action
 use Rattle.flow_code.specs.Threads.{Thread}
 use Rattle.flow_code.specs.Next.{stepped as thread_stepped, action_at, gave_up, stopped, shut}
 use Rattle.flow_code.specs.Settle.{settled}
@@ -61,14 +61,14 @@ module _ (code : Code) (s : SetupView) where
   action_tells t told st (action.Operate o obj) = operation_tells t told (record told { thread = st }) o obj (piece_next code st o) (λ answer. thread_stepped code s t st answer) refl
   action_tells t told st action.Ended = tt
 
-  effect_tells : (l : Label) (told : Told) → Tells (label_thread l) told (effect_of code s l told)
+  pub effect_tells : (l : Label) (told : Told) → Tells (label_thread l) told (effect_of code s l told)
   effect_tells (Go t) told = subst (Tells t told) (sym (effect_go code s t told)) (action_tells t told (settled code s t told.thread) (action_at code s t (settled code s t told.thread)))
   effect_tells (Revoke t lock stripe) told = subst (Tells t told) (sym (effect_revoke code s t lock stripe told)) (if_tells t told (may_revoke told.thread lock stripe) _ (operation_tells t told told op.Revoke (object.Weak lock stripe) [] (λ answer. gave_up told.thread lock stripe) refl))
   effect_tells (Stop t) told = subst (Tells t told) (sym (effect_stop code s t told)) (if_tells t told (may_stop told.thread) _ (operation_tells t told told op.Stop object.Halt [] (λ answer. stopped told.thread) refl))
   effect_tells (Close t) told = subst (Tells t told) (sym (effect_close code s t told)) (if_tells t told (may_close told.thread) _ (operation_tells t told told op.Close (object.Slot t) [] (λ answer. shut told.thread) refl))
 
   -- the entries that are added are the thread's, and are appended to its list
-  outcome_tells : (t : ℕ) (words after : List ℕ) (e : Effect Told) (told q : Told) → Tells t told e → outcome (machine code s) words e ≡ Leaves after q →
+  pub outcome_tells : (t : ℕ) (words after : List ℕ) (e : Effect Told) (told q : Told) → Tells t told e → outcome (machine code s) words e ≡ Leaves after q →
       (q.entries ≡ told.entries ++ effect_entry (machine code s) words e) × (entries_of t (effect_entry (machine code s) words e) ≡ effect_entry (machine code s) words e) × ((u : ℕ) → u ≢ t → entries_of u (effect_entry (machine code s) words e) ≡ [])
   outcome_tells t words after Refused told q h e = cc
   outcome_tells t words after (Marks th) told q h e =

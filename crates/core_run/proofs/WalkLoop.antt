@@ -102,7 +102,7 @@ module _ (code : Code) (s : SetupView) (es : List Entry) (f : Formula) (at : ℕ
       take_front [] ys = refl
       take_front (x ∷ xs) ys = ap (λ z. x ∷ z) (take_front xs ys)
 
-  pub walked_wrong : (e : Entry) (rest : List Entry) → (w : Walked code s es f at (e ∷ rest) flows words reads out) → part (machine code s) e w.state ≡ None → IsRefusedAt code s es at
+  pub walked_wrong : (e : Entry) (rest : List Entry) → (w : Walked code s es f at (e ∷ rest) flows words reads out) → part (machine code s) e w.state ≡ None → IsRefusedAt code s (start_state code s) es at
   walked_wrong e rest w p = record {
     within = omega (arith, ap length w.split ∙ length-append w.front (e ∷ rest), w.count);
     before = w.state;
@@ -121,7 +121,7 @@ module _ (code : Code) (s : SetupView) (es : List Entry) (f : Formula) (at : ℕ
   walked_kept rest runnable limits w = kept code s runnable limits w.state (reaches_solo code s w.front (start_state code s) (start_state code s) w.state ([], refl) (solo_of_walk (machine code s) w.front (start_state code s) w.state w.walked))
 
   pub walked_usable : (rest : List Entry) → IsRunnable code → IsWithinLimits s → Walked code s es f at rest flows words reads out → AreUsable code s words
-  walked_usable rest runnable limits w = subst (AreUsable code s) (sym w.shown.words_are) (sound_more code s (2 ^ 31) (2 ^ 32 - 2) w.state.words (omega arith) (walked_kept rest runnable limits w).sound)
+  walked_usable rest runnable limits w = subst (AreUsable code s) (sym w.shown.words_are) (sound_more code s (2 ^ 25) (2 ^ 32 - 2) w.state.words (omega arith) (walked_kept rest runnable limits w).sound)
 
   pub walked_threads : (rest : List Entry) → IsRunnable code → IsWithinLimits s → Walked code s es f at rest flows words reads out → length flows ≡ s.slots
   walked_threads rest runnable limits w = sym (length-map flows running_thread) ∙ ap length w.shown.threads_are ∙ length-map w.state.threads told_thread ∙ (walked_kept rest runnable limits w).threads
@@ -200,7 +200,7 @@ module _ (code : Code) (s : SetupView) (es : List Entry) (f : Formula) (at : ℕ
   walked_all : walk_of code s es (start_state code s) ≡ Some w.state
   walked_all = ap (λ z. walk_of code s z (start_state code s)) all_is ∙ w.walked
 
-  pub walked_unfinished : all_ended flows ≡ false → IsUnfinished code s es at
+  pub walked_unfinished : all_ended flows ≡ false → IsUnfinished code s (start_state code s) es at
   walked_unfinished h = record {
     all = sym w.count ∙ ap length (sym all_is);
     last = w.state;
@@ -208,10 +208,10 @@ module _ (code : Code) (s : SetupView) (es : List Entry) (f : Formula) (at : ℕ
     open_end = λ ended. let clash : true ≡ false = sym (ended_all flows w.state.threads w.shown.threads_are ended) ∙ h in cc clash;
   }
 
-  whole : all_ended flows ≡ true → IsWhole code s es w.state
+  whole : all_ended flows ≡ true → IsWhole code s (start_state code s) es w.state
   whole h = record { walked = walked_all; ended = ended_at flows w.state.threads w.shown.threads_are h }
 
-  shows : all_ended flows ≡ true → (o : List ℕ) (r : List Access) (e : List Ending) → o ≡ out → r ≡ flat_map (λ xs. xs) reads → e ≡ endings flows → Shows code s es f w.state o r e
+  shows : all_ended flows ≡ true → (o : List ℕ) (r : List Access) (e : List Ending) → o ≡ out → r ≡ flat_map (λ xs. xs) reads → e ≡ endings flows → Shows code s (start_state code s) es f w.state o r e
   shows h o r e a b c = record {
     whole = whole h;
     out_is = a ∙ w.out_is ∙ ap (λ z. out_of code s z (start_state code s)) (sym all_is);

@@ -14,11 +14,12 @@ use Rattle.sync_objects.specs.declared.operation.OpName.{OpName}
 use Rattle.flow_code.specs.declared.code.Code.{Code}
 use Rattle.flow_code.specs.declared.thread.Phase.{Phase}
 use Rattle.flow_code.specs.declared.thread.Phase.TheVariants as phase
-use Rattle.flow_code.specs.declared.thread.Action.{Action}
-use Rattle.flow_code.specs.declared.thread.Action.TheVariants as action
-use Rattle.flow_code.specs.Values.{number}
+use Rattle.abstract_machine.specs.declared.event.Action.{Action}
+use Rattle.abstract_machine.specs.declared.event.Action.TheVariants as action
+use Rattle.abstract_machine.specs.Values.{number}
 use Rattle.flow_code.specs.Threads.{Frame, Thread, arena_start, is_main_in}
-use Rattle.flow_code.specs.Next.{stepped, action_at, most_entries, most_revokes, holds, gave_up, stopped, shut, has_ended, has_begun}
+use Rattle.flow_code.specs.Next.{stepped, action_at, holds, gave_up, stopped, shut, has_ended, has_begun}
+use Rattle.abstract_machine.specs.Limits.{most_entries, most_revokes}
 use Rattle.flow_code.specs.Settle.{settled}
 use Rattle.core_run.specs.declared.access.Access.{Access}
 use Rattle.core_run.specs.Words.{cells_of, has_object, place_of, start_words}

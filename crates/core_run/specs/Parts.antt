@@ -8,10 +8,10 @@ use Rattle.sync_objects.specs.declared.entry.Entry.{Entry}
 use Rattle.sync_objects.specs.declared.object.ObjId.{ObjId}
 use Rattle.sync_objects.specs.declared.operation.Op.{Op}
 use Rattle.sync_objects.specs.declared.operation.Op.TheVariants as op
-use Rattle.flow_code.specs.declared.thread.Action.TheVariants as action
+use Rattle.abstract_machine.specs.declared.event.Action.TheVariants as action
 use Rattle.core_run.specs.Kept.{AreSound}
 use Rattle.flow_code.specs.declared.code.Code.{Code}
-use Rattle.flow_code.specs.declared.thread.Action.{Action}
+use Rattle.abstract_machine.specs.declared.event.Action.{Action}
 use Rattle.flow_code.specs.Threads.{Thread}
 use Rattle.core_run.specs.Machine.{Told, effect_of, action_effect, marked, accessed, operated, entry_of}
 use Rattle.core_run.specs.Words.{cells_of, has_object, place_of}

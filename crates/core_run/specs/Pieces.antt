@@ -5,9 +5,10 @@ use Rattle.sync_objects.specs.declared.operation.Op.TheVariants as op
 use Rattle.flow_code.specs.declared.act.Act.{Act}
 use Rattle.flow_code.specs.declared.act.Act.TheVariants as act
 use Rattle.flow_code.specs.declared.code.Code.{Code}
-use Rattle.flow_code.specs.Library.{piece_of}
+use Rattle.abstract_machine.specs.Library.{piece_of}
 use Rattle.flow_code.specs.Threads.{Thread}
-use Rattle.flow_code.specs.Next.{act_at, words_of}
+use Rattle.flow_code.specs.Next.{act_at}
+use Rattle.abstract_machine.specs.Registers.{words_of}
 
 -- the bytes of the call at which the thread stands
 abbrev pub piece_at : Option Act → List ℕ → List ℕ

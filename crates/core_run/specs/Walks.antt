@@ -5,7 +5,7 @@ use Rattle.sync_objects.specs.Setup.{SetupView}
 use Rattle.sync_objects.specs.declared.entry.Entry.{Entry}
 use Rattle.rr_base.specs.declared.trap.Trap.{Trap}
 use Rattle.flow_code.specs.declared.code.Code.{Code}
-use Rattle.flow_code.specs.Values.{number}
+use Rattle.abstract_machine.specs.Values.{number}
 use Rattle.core_run.specs.declared.access.Access.{Access}
 use Rattle.core_run.specs.declared.access.Formula.{Formula}
 use Rattle.core_run.specs.declared.outcome.Ending.{Ending}
@@ -97,34 +97,38 @@ module _ (code : Code) (s : SetupView) where
   out_of [] st = []
   out_of (e ∷ es) st = out_on (out_of es) e st (part (machine code s) e st)
 
-  -- all entries have a walk from the start, which ends in this state with each thread ended
-  pub record IsWhole (es : List Entry) (st : State Told) : Type 0 where
-    pub walked : walk_of es (start_state code s) ≡ Some st
+  -- all entries have a walk from the one state, which ends in the other with each thread ended
+  pub record IsWhole (from : State Told) (es : List Entry) (st : State Told) : Type 0 where
+    pub walked : walk_of es from ≡ Some st
     pub ended : AllEnded (machine code s) st
 
   -- the entries before the one at this position have a walk, and with it they have none
-  pub record IsRefusedAt (es : List Entry) (at : ℕ) : Type 0 where
+  pub record IsRefusedAt (from : State Told) (es : List Entry) (at : ℕ) : Type 0 where
     pub within : at < length es
     pub before : State Told
-    pub front : walk_of (take at es) (start_state code s) ≡ Some before
-    pub refused : walk_of (take (at + 1) es) (start_state code s) ≡ None
+    pub front : walk_of (take at es) from ≡ Some before
+    pub refused : walk_of (take (at + 1) es) from ≡ None
 
   -- all entries have a walk, and some thread has not ended in its last state
-  pub record IsUnfinished (es : List Entry) (at : ℕ) : Type 0 where
+  pub record IsUnfinished (from : State Told) (es : List Entry) (at : ℕ) : Type 0 where
     pub all : at ≡ length es
     pub last : State Told
-    pub walked : walk_of es (start_state code s) ≡ Some last
+    pub walked : walk_of es from ≡ Some last
     pub open_end : AllEnded (machine code s) last → ⊥
 
   -- what is shown of a whole walk: its bytes, the accesses that meet the formula, and how the threads have ended
-  pub record Shows (es : List Entry) (f : Formula) (st : State Told) (out : List ℕ) (reads : List Access) (ends : List Ending) : Type 0 where
-    pub whole : IsWhole es st
-    pub out_is : out ≡ out_of es (start_state code s)
+  pub record Shows (from : State Told) (es : List Entry) (f : Formula) (st : State Told) (out : List ℕ) (reads : List Access) (ends : List Ending) : Type 0 where
+    pub whole : IsWhole from es st
+    pub out_is : out ≡ out_of es from
     pub reads_are : reads ≡ reads_of f st
     pub ends_are : ends ≡ ends_of st
 
-  -- what the walk of the entries comes to
+  -- what the walk of the entries comes to, from this state on, where so many entries of the log stand before them
+  abbrev pub WalkFrom : State Told → ℕ → List Entry → Formula → Walk → Type 0
+  WalkFrom from first es f (walk.Done out reads ends) = (st : State Told) × Shows from es f st out reads ends × (first_trap 0 st.threads ≡ NoTrap)
+  WalkFrom from first es f (walk.Trapped kind thread line out reads ends) = (st : State Told) × Shows from es f st out reads ends × (first_trap 0 st.threads ≡ TrapOf thread kind line)
+  WalkFrom from first es f (walk.Wrong at) = (k : ℕ) × (at ≡ first + k) × (IsRefusedAt from es k ⊎ IsUnfinished from es k)
+
+  -- what the walk of a whole log comes to
   abbrev pub WalkIs : List Entry → Formula → Walk → Type 0
-  WalkIs es f (walk.Done out reads ends) = (st : State Told) × Shows es f st out reads ends × (first_trap 0 st.threads ≡ NoTrap)
-  WalkIs es f (walk.Trapped kind thread line out reads ends) = (st : State Told) × Shows es f st out reads ends × (first_trap 0 st.threads ≡ TrapOf thread kind line)
-  WalkIs es f (walk.Wrong at) = IsRefusedAt es at ⊎ IsUnfinished es at
+  WalkIs es f w = WalkFrom (start_state code s) 0 es f w

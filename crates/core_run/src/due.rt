@@ -1,8 +1,10 @@
 // What is due in a thread, by its code, its limits and the stripes that it owes.
 ghost use Rattle.std.specs.Prelude.{◌≡◌, nat_le, Option};
-ghost use Rattle.flow_code.specs.Next.{limited as limited_of, owing as owing_of, listed as listed_of, first_owed as first_owed_of, action_of as action_of_due, is_free_of_limit as is_free, retake as retake_of};
+ghost use Rattle.flow_code.specs.Next.{limited as limited_of, owing as owing_of, listed as listed_of, first_owed as first_owed_of, action_of as action_of_due, retake as retake_of};
+ghost use Rattle.abstract_machine.specs.Limits.{is_free_of_limit as is_free};
 
-use flow_code::{Action, Due, Stripe};
+use abstract_machine::{Action, Due};
+use flow_code::Stripe;
 use rr_base::Trap;
 use sync_objects::{ObjId, Op};
 
@@ -45,7 +47,20 @@ pub(crate) fn first_owed(stripes: &[Stripe]) -> Option<Stripe>
     None
 }
 
-// A thread that owes stripes makes no access and no mark, but takes the least of them again.
+fn retake(stripe: Stripe) -> Due
+    ensures { result ≡ retake_of stripe }
+{
+    Due::Operate {
+        op: Op::Retake,
+        obj: ObjId::Weak {
+            lock: stripe.lock,
+            stripe: stripe.stripe,
+        },
+    }
+}
+
+// A thread that owes stripes makes no access, no mark and no other operation on a stripe, but takes the least of them
+// again.
 pub(crate) fn owing(owed: Option<Stripe>, due: Due) -> Due
     ensures { result ≡ owing_of owed due }
 {
@@ -53,14 +68,15 @@ pub(crate) fn owing(owed: Option<Stripe>, due: Due) -> Due
         return due;
     };
     match due {
-        Due::Load { .. } | Due::Store { .. } | Due::Mark => Due::Operate {
-            op: Op::Retake,
-            obj: ObjId::Weak {
-                lock: stripe.lock,
-                stripe: stripe.stripe,
-            },
-        },
-        Due::Nothing | Due::Quiet | Due::Operate { .. } | Due::Trap(_) => due,
+        Due::Load { .. } | Due::Store { .. } | Due::Mark => retake(stripe),
+        Due::Operate { op, obj } => {
+            if op.name().is_weak() {
+                retake(stripe)
+            } else {
+                Due::Operate { op, obj }
+            }
+        }
+        Due::Nothing | Due::Quiet | Due::Trap(_) => due,
     }
 }
 

@@ -2,7 +2,8 @@
 ghost use Rattle.std.specs.Prelude.{◌≡◌, ◌<◌, ◌≤◌, ◌^◌, ◌+◌, ◌∷◌, [], ◌++◌, length, pos, true};
 ghost use Rattle.std.specs.Vec.{vec_len, vec_capacity};
 ghost use Rattle.flow_code.specs.Threads.{fitted, objects_in, placed, registers_in};
-ghost use Rattle.flow_code.specs.Next.{words_of, one_made, or_else, entered};
+ghost use Rattle.flow_code.specs.Next.{one_made, or_else, entered};
+ghost use Rattle.abstract_machine.specs.Registers.{words_of};
 ghost use Rattle.flow_code.specs.declared.thread.Phase.TheVariants as phase;
 ghost use Rattle.std.specs.Prelude.{slice_get};
 

@@ -1,6 +1,7 @@
 // The interpreter of one thread.
 ghost use Rattle.std.specs.Prelude.{◌≡◌, ◌<◌, ◌≤◌, ◌^◌, ◌+◌, true, false, OnOk, IfOk, ◌≢◌, length};
-ghost use Rattle.flow_code.specs.Next.{action_at, stepped, gave_up, stopped, shut, has_ended, has_begun, holds as holds_stripe, most_entries, most_revokes};
+ghost use Rattle.flow_code.specs.Next.{action_at, stepped, gave_up, stopped, shut, has_ended, has_begun, holds as holds_stripe};
+ghost use Rattle.abstract_machine.specs.Limits.{most_entries, most_revokes};
 ghost use Rattle.flow_code.specs.Settle.{IsRunnable, weight, settled};
 ghost use Rattle.core_run.specs.Flows.{is_ready, needs};
 ghost use Rattle.core_run.specs.Machine.{start_thread, start_phase as start_phase_of};
@@ -13,7 +14,8 @@ use crate::next::main_function;
 use crate::outcome::Ending;
 use crate::place::arena_start;
 use crate::state::ThreadState;
-use flow_code::{Action, Code, Phase};
+use abstract_machine::Action;
+use flow_code::{Code, Phase};
 use rr_base::{Bytes, Trap};
 use std::alloc::{AllocError, Global};
 use std::marker::Model;
@@ -153,12 +155,13 @@ impl<'a> Flow<'a> {
         }
     }
 
-    /// All quiet steps. After an Err some of them are made.
+    /// All quiet steps. After an Err some of them are made, and the others are still to come.
     pub fn settle(&mut self) -> Result<(), AllocError>
         ensures code { self.new.code ≡ self.old.code }
         ensures setup { self.new.setup ≡ self.old.setup }
         ensures number { self.new.number ≡ self.old.number }
         ensures thread { OnOk result (self.new.kept.thread ≡ settled self.old.code self.old.setup self.old.number self.old.kept.thread) }
+        ensures rest { settled self.new.code self.new.setup self.new.number self.new.kept.thread ≡ settled self.old.code self.old.setup self.old.number self.old.kept.thread }
         ensures quiet { OnOk result (action_at self.new.code self.new.setup self.new.number self.new.kept.thread ≢ Action.Quiet) }
     {
         while let Action::Quiet = self.next_action() {

@@ -1,6 +1,6 @@
 // One frame of a thread.
 ghost use Rattle.std.specs.Prelude.{◌≡◌, ◌<◌, ◌^◌, ◌+◌, slice_set};
-ghost use Rattle.flow_code.specs.Works.{register as register_of};
+ghost use Rattle.abstract_machine.specs.Registers.{register as register_of};
 ghost use Rattle.flow_code.specs.Next.{past as past_of, jumped, with_register, given, one_made};
 
 use std::marker::Model;

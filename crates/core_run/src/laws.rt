@@ -24,8 +24,8 @@ pub fn law_machine()
         IsLawful (machine code setup) }
 {}
 
-/// Law: in each state that can be reached the threads' numbers are in range, and each object's word is one that its
-/// kind can have, after fewer operations than its number has room for.
+/// Law: in each state that can be reached the threads' numbers are in range, a log allows each thread's entries, of
+/// which at most two are ending ones, and each object's word is one that its kind can have, after at most 2^25 operations.
 pub fn law_kept()
     ensures { (code : Code) (setup : SetupView) (state : State Told) →
         IsRunnable code →

@@ -1,7 +1,7 @@
 //! Runs of flow code: the machine whose threads run a code over shared words, the one interpreter of a thread, and
-//! the two kinds of steps of which a walk by a log is made. It stands on `flow_code` and `runs`. It promises that the
-//! interpreter makes the steps of its thread's definition, that a walk's steps are the machine's, and that every law
-//! of `runs` holds of the machine. What a whole walk comes to is defined in `specs/Walks.antt`.
+//! the walk by a log. It stands on `flow_code` and `runs`. It promises that the interpreter makes the steps of its
+//! thread's definition, that every law of `runs` holds of the machine, and that a walk comes to what `specs/Walks.antt`
+//! says.
 #![tactic(auto)]
 
 mod access;
@@ -10,6 +10,7 @@ mod enter;
 mod finish;
 mod flow;
 mod frame;
+mod giving;
 mod laws;
 mod making;
 mod next;
@@ -22,17 +23,16 @@ mod same;
 mod start;
 mod state;
 mod step;
+mod stripes;
+mod taking;
 mod walker;
 mod walking;
 
+pub use abstract_machine::Action;
 pub use access::{Access, Formula};
 pub use flow::Flow;
-pub use flow_code::{Action, Phase};
+pub use flow_code::Phase;
 pub use laws::{law_converge, law_kept, law_machine, law_merges, law_written_merge};
-pub use making::make_entry;
 pub use outcome::{Ending, Walk};
-pub use parts::{Made, Own, own_step};
-pub use start::{start_flows, start_words};
 pub use sync_objects::{Entry, Noted, Setup};
-pub use walker::make_part;
 pub use walking::walk;

@@ -14,7 +14,7 @@ ghost use Rattle.std.specs.Prelude.{slice_set};
 use crate::flow::Flow;
 use crate::parts::{Made, has_object, perform, place_of, word_at};
 use crate::same::same_entry;
-use flow_code::Action;
+use abstract_machine::Action;
 use std::alloc::AllocError;
 use sync_objects::{Entry, ObjId, Op, OpName, advance};
 
@@ -234,7 +234,7 @@ fn close(flow: &mut Flow, words: &mut Vec<u64>, cells: u32, entry: Entry) -> Mad
 /// The operation that makes the entry, if it is allowed: a revoke, stop or close at the thread as it stands, and any
 /// other one as the thread's next after its quiet steps. `cells` is how many of the words are cells. After an Err some
 /// quiet steps may be made.
-pub fn make_entry(
+pub(crate) fn make_entry(
     flow: &mut Flow,
     words: &mut Vec<u64>,
     cells: u32,

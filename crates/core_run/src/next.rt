@@ -3,9 +3,13 @@ ghost use Rattle.std.specs.Prelude.{◌≡◌, ◌<◌, ◌≤◌, ◌^◌, ◌+
 ghost use Rattle.std.specs.Option.{option_copied};
 ghost use Rattle.sync_objects.specs.Setup.{IsWithinLimits};
 ghost use Rattle.flow_code.specs.Threads.{arena_end as arena_end_of, is_main as is_main_of, is_main_in};
-ghost use Rattle.flow_code.specs.Next.{quiet_unless as quiet_unless_of, load_due as load_due_of, store_due as store_due_of, malloc_due as malloc_due_of, is_size as is_size_of, cells_in as cells_in_of, enter_due as enter_due_of, end_due as end_due_of, return_due as return_due_of, act_due as act_due_of, act_in, act_at, begun_due as begun_due_of, phase_due as phase_due_of, due_of, access_kind as access_kind_of, value_of as value_of_register, pointers_of};
-ghost use Rattle.flow_code.specs.Pointers.{resolved as resolved_of};
-ghost use Rattle.flow_code.specs.Works.{register as register_of, is_pointer as is_pointer_of};
+ghost use Rattle.flow_code.specs.Next.{quiet_unless as quiet_unless_of, load_due as load_due_of, store_due as store_due_of, malloc_due as malloc_due_of, enter_due as enter_due_of, end_due as end_due_of, return_due as return_due_of, act_due as act_due_of, act_in, act_at, begun_due as begun_due_of, phase_due as phase_due_of, due_of, value_of as value_of_register, pointers_of, caller as caller_of};
+ghost use Rattle.abstract_machine.specs.Cells.{is_size as is_size_of, cells_in as cells_in_of, access_kind as access_kind_of};
+ghost use Rattle.abstract_machine.specs.Registers.{words_of};
+ghost use Rattle.abstract_machine.specs.Library.{library_due as library_due_of};
+ghost use Rattle.abstract_machine.specs.Pointers.{resolved as resolved_of};
+ghost use Rattle.flow_code.specs.Works.{is_pointer as is_pointer_of};
+ghost use Rattle.abstract_machine.specs.Registers.{register as register_of};
 ghost use Rattle.flow_code.specs.declared.act.Act.TheVariants as act;
 ghost use Rattle.std.specs.Prelude.{Some, None, position, IfSome};
 ghost use Rattle.core_run.specs.Machine.{main_of};
@@ -13,10 +17,10 @@ ghost use Rattle.core_run.specs.Machine.{main_of};
 use crate::due::{first_owed, limited, listed, owing};
 use crate::place::{arena_end, function_at, instr_at, instrs_at, pointers_at};
 use crate::state::ThreadState;
-use flow_code::{
-    Act, Caller, Code, Due, Function, LibraryCall, Phase, compute, fitted_in, is_main, is_pointer,
-    library_due, number, register, resolved, size_of,
+use abstract_machine::{
+    Caller, Due, LibraryCall, library_due, number, register, resolved, size_of,
 };
+use flow_code::{Act, Code, Function, Phase, compute, fitted_in, is_main, is_pointer};
 use rr_base::{CellKind, Trap};
 use sync_objects::{ObjId, Op, Setup};
 
@@ -188,6 +192,22 @@ impl ThreadState {
         end_due(is_main_function(code, function), thread, made, value)
     }
 
+    // What is due in a call, before which the thread has no stripes to give.
+    fn plain_call_due(
+        &self,
+        code: &Code,
+        setup: &Setup,
+        thread: u8,
+        call: &LibraryCall,
+        arguments: &[u32],
+    ) -> Due
+        ensures { result ≡ library_due_of (caller_of code.now setup.now thread self.now.thread) call.now (words_of self.now.thread.top.registers arguments.now) self.now.thread.top.made self.now.thread.top.kept }
+    {
+        let caller = Caller::new(code.sites.as_slice(), setup, thread, self.printed);
+        let (made, kept) = self.top.events();
+        library_due(&caller, call, self.top.registers(), arguments, made, kept)
+    }
+
     fn call_due(
         &self,
         code: &Code,
@@ -198,9 +218,8 @@ impl ThreadState {
     ) -> Due
         ensures { result ≡ act_due_of code.now setup.now thread self.now.thread (Some (act.Library call.now arguments.now None)) }
     {
-        let caller = Caller::new(code.sites.as_slice(), setup, thread, self.printed);
-        let (made, kept) = self.top.events();
-        library_due(&caller, call, self.top.registers(), arguments, made, kept)
+        let due = self.plain_call_due(code, setup, thread, call, arguments);
+        self.parting_due(call, due)
     }
 
     fn access_due(&self, code: &Code, through: u32, other: u32) -> Result<u32, Trap>
@@ -268,7 +287,9 @@ impl ThreadState {
                 into: _,
             } => { self.call_due(code, setup, thread, call, arguments.as_slice()) }
             Act::Return { value } => self.return_due(code, thread, value_of(registers, *value)),
-            Act::Jump { to: _ } | Act::Branch { .. } | Act::Take(_) | Act::Give(_) => Due::Quiet,
+            Act::Take(region) => self.take_due(code, *region),
+            Act::Give(region) => self.give_due(code, *region),
+            Act::Jump { to: _ } | Act::Branch { .. } => Due::Quiet,
         }
     }
 

@@ -4,21 +4,22 @@ ghost use Rattle.sync_objects.specs.Setup.{IsWithinLimits};
 ghost use Rattle.flow_code.specs.Settle.{IsRunnable};
 ghost use Rattle.flow_code.specs.Next.{action_at};
 ghost use Rattle.flow_code.specs.Settle.{settled};
-ghost use Rattle.flow_code.specs.declared.thread.Action.TheVariants as action;
+ghost use Rattle.abstract_machine.specs.declared.event.Action.TheVariants as action;
 ghost use Rattle.core_run.specs.Machine.{Told};
 ghost use Rattle.core_run.specs.Words.{cells_of, has_object as has_object_of, place_of as place_of_object};
 ghost use Rattle.core_run.specs.Parts.{OwnOf, OwnIs, KeepsObjects, is_print as is_print_of, PerformedIs, AreUsable};
 
 use crate::access::Access;
 use crate::flow::Flow;
-use flow_code::{Action, Code};
+use abstract_machine::Action;
+use flow_code::Code;
 use rr_base::Bytes;
 use std::alloc::AllocError;
 use sync_objects::{ObjId, Op, Setup, advance};
 
 /// What a thread's own step has come to.
 #[derive(Clone, Copy)]
-pub enum Own {
+pub(crate) enum Own {
     /// None was to be made: the thread operates next, or has ended.
     Stays,
     Marked,
@@ -27,7 +28,7 @@ pub enum Own {
 
 /// What the operation for an entry has come to.
 #[derive(Drop)]
-pub enum Made {
+pub(crate) enum Made {
     /// It isn't the thread's next one there, or its object doesn't allow it.
     Refused,
     Silent,
@@ -115,7 +116,7 @@ fn mark(flow: &mut Flow, thread: u8) -> Result<Own, AllocError>
 
 /// One own step of a thread that makes no entry, if its next is one: all its quiet steps, and then a load, a store or a
 /// mark. `cells` is how many of the words are cells. After an Err some quiet steps may be made.
-pub fn own_step(
+pub(crate) fn own_step(
     flow: &mut Flow,
     words: &mut Vec<u64>,
     cells: u32,

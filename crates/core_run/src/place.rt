@@ -4,8 +4,9 @@ ghost use Rattle.std.specs.Option.{option_copied};
 ghost use Rattle.sync_objects.specs.Setup.{IsWithinLimits};
 ghost use Rattle.flow_code.specs.Threads.{instr_in, arena_end as arena_end_of, arena_start as arena_start_of, line_of_function, line_in, is_main as is_main_of, registers_in, instrs_in};
 ghost use Rattle.flow_code.specs.Next.{pointers_in};
+ghost use Rattle.flow_code.specs.Holding.{region_in};
 
-use flow_code::{Code, Function, Instr};
+use flow_code::{Code, Function, Instr, Region};
 use sync_objects::Setup;
 
 pub(crate) fn function_at(code: &Code, function: u32) -> Option<&Function>
@@ -26,6 +27,16 @@ pub(crate) fn instr_at(code: &Code, function: u32, instr: usize) -> Option<&Inst
                 None
             }
         }
+        None => None,
+    }
+}
+
+// A region of a function.
+pub(crate) fn region_at(code: &Code, function: u32, region: u32) -> Option<&Region>
+    ensures { option_copied result ≡ region_in (slice_get code.now.functions function) region }
+{
+    match function_at(code, function) {
+        Some(f) => f.regions.get(region as usize),
         None => None,
     }
 }

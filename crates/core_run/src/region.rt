@@ -1,13 +1,12 @@
 // One open region of a thread.
-use rr_base::List;
 use std::marker::Model;
 
 /// A region that is open: the frame and the Take that opened it, and its stripes.
 #[derive(Drop)]
 pub(crate) struct OpenRegion {
-    pub(crate) frame: u32,
+    pub(crate) frame: usize,
     pub(crate) instr: usize,
-    pub(crate) stripes: List<(u16, u8)>,
+    pub(crate) stripes: Vec<(u16, u8)>,
 }
 
 impl Model for OpenRegion {
@@ -15,5 +14,5 @@ impl Model for OpenRegion {
 
     ghost Value = { RegionView };
 
-    ghost view = { λ r. record { frame = r.frame; instr = r.instr; stripes = r.stripes } };
+    ghost view = { λ r. record { frame = r.frame; instr = r.instr; stripes = r.stripes.items } };
 }

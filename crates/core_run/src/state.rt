@@ -5,7 +5,7 @@ ghost use Rattle.sync_objects.specs.Names.{name_of};
 ghost use Rattle.flow_code.specs.Next.{computed, allocated, end_onward, back_in, went_on, counted, in_frame, past as past_of, result_of, gave_up, stopped, shut, lost, repaid, with_owed, same_stripe, act_in, holds as holds_stripe};
 ghost use Rattle.flow_code.specs.Threads.{Frame as FrameView, instrs_in};
 ghost use Rattle.std.specs.Option.{option_copied};
-ghost use Rattle.core_run.specs.Flows.{Kept, is_ready, needs};
+ghost use Rattle.core_run.specs.Flows.{Kept, is_ready, needs, needs_pairs};
 ghost use Rattle.core_run.specs.Machine.{no_frame};
 ghost use Rattle.std.specs.Prelude.{OnOk, IfOk};
 ghost use Rattle.core_run.specs.Pieces.{piece_at};
@@ -14,7 +14,8 @@ ghost use Rattle.flow_code.specs.Next.{act_at};
 use crate::frame::Frame;
 use crate::place::{instr_at, instrs_at, registers_at};
 use crate::region::OpenRegion;
-use flow_code::{Act, Code, Instr, Onward, Phase, Stripe, piece, pointer_at};
+use abstract_machine::{Onward, piece, pointer_at};
+use flow_code::{Act, Code, Instr, Phase, Stripe};
 use rr_base::{Bytes, Trap};
 use std::alloc::{AllocError, Global};
 use std::marker::Model;
@@ -34,6 +35,8 @@ pub(crate) struct ThreadState {
     pub(crate) spare: Vec<u64>,
     pub(crate) stripes: Vec<Stripe>,
     pub(crate) regions: Vec<OpenRegion>,
+    // For the stripes of the next region.
+    pub(crate) pairs: Vec<(u16, u8)>,
 }
 
 impl Model for ThreadState {
@@ -47,6 +50,9 @@ impl Model for ThreadState {
       thread = record { count = s.count; arena = s.arena; entries = s.entries; revokes = s.revokes; printed = s.printed; phase = s.phase; top = s.top; below = s.below.items; stripes = s.stripes.items; regions = s.regions.items };
       has_place = nat_lt (vec_len s.below) (vec_capacity s.below);
       registers = vec_capacity s.spare;
+      has_stripe = nat_lt (vec_len s.stripes) (vec_capacity s.stripes);
+      has_region = nat_lt (vec_len s.regions) (vec_capacity s.regions);
+      pairs = vec_capacity s.pairs;
     } };
 }
 
@@ -73,6 +79,7 @@ impl ThreadState {
             spare: Vec::new(alloc),
             stripes: Vec::new(alloc),
             regions: Vec::new(alloc),
+            pairs: Vec::new(alloc),
         }
     }
 
@@ -98,15 +105,57 @@ impl ThreadState {
         }
     }
 
-    /// Makes room for one more step.
-    pub(crate) fn reserve(&mut self, code: &Code) -> Result<(), AllocError>
+    // For how many stripes of a region the next step needs room.
+    fn needed_pairs(&self, code: &Code) -> usize
+        ensures { result ≡ needs_pairs code.now self.now.thread }
+    {
+        let (function, instr) = self.top.place();
+        match instr_at(code, function, instr) {
+            Some(
+                Instr {
+                    act: Act::Take(region),
+                    ..
+                },
+            ) => self.needed_of(code, *region),
+            _ => 0,
+        }
+    }
+
+    // Makes room for one more frame.
+    fn reserve_frame(&mut self, code: &Code) -> Result<(), AllocError>
         ensures same { self.new.thread ≡ self.old.thread }
-        ensures ready { OnOk result (is_ready code.now self.new ≡ true) }
+        ensures place { OnOk result (self.new.has_place ≡ true) }
+        ensures registers { OnOk result (needs code.now self.new.thread ≤ self.new.registers) }
     {
         self.below.reserve(1)?;
         let needed = self.needed(code);
         self.spare.clear();
         self.spare.reserve(needed as usize)
+    }
+
+    // Makes room for one more stripe and one more open region, with its stripes.
+    fn reserve_stripes(&mut self, code: &Code) -> Result<(), AllocError>
+        ensures same { self.new.thread ≡ self.old.thread }
+        ensures place { self.new.has_place ≡ self.old.has_place }
+        ensures registers { self.new.registers ≡ self.old.registers }
+        ensures stripe { OnOk result (self.new.has_stripe ≡ true) }
+        ensures region { OnOk result (self.new.has_region ≡ true) }
+        ensures pairs { OnOk result (needs_pairs code.now self.new.thread ≤ self.new.pairs) }
+    {
+        self.stripes.reserve(1)?;
+        self.regions.reserve(1)?;
+        let needed = self.needed_pairs(code);
+        self.pairs.clear();
+        self.pairs.reserve(needed)
+    }
+
+    /// Makes room for one more step.
+    pub(crate) fn reserve(&mut self, code: &Code) -> Result<(), AllocError>
+        ensures same { self.new.thread ≡ self.old.thread }
+        ensures ready { OnOk result (is_ready code.now self.new ≡ true) }
+    {
+        self.reserve_frame(code)?;
+        self.reserve_stripes(code)
     }
 
     // The bytes that the call at which the thread stands prints.

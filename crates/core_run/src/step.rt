@@ -1,22 +1,24 @@
 // One step of a thread, with its answer.
 ghost use Rattle.std.specs.Prelude.{◌≡◌, ◌<◌, ◌≤◌, ◌^◌, ◌+◌, ◌-◌, length, slice_get, true, Some};
 ghost use Rattle.flow_code.specs.Threads.{registers_in, Frame as FrameView, line_of as line_of_phase, instrs_in};
-ghost use Rattle.flow_code.specs.Next.{returned as returned_of, act_after, phase_after, after_due as after_due_of, branch_to as branch_to_of, computed, pointers_of, allocated, cells_in as cells_in_of, in_frame, past as past_of, with_register, jumped, counted, repaid};
+ghost use Rattle.flow_code.specs.Next.{returned as returned_of, act_after, call_after, phase_after, after_due as after_due_of, branch_to as branch_to_of, computed, pointers_of, allocated, in_frame, past as past_of, with_register, jumped, counted, repaid};
+ghost use Rattle.abstract_machine.specs.Cells.{cells_in as cells_in_of};
 ghost use Rattle.sync_objects.specs.declared.operation.Op.TheVariants as op;
 ghost use Rattle.flow_code.specs.declared.thread.Phase.TheVariants as phase;
-ghost use Rattle.flow_code.specs.Works.{work_of, register as register_of};
-ghost use Rattle.flow_code.specs.Values.{number as number_of, word as word_of};
-ghost use Rattle.core_run.specs.Flows.{needs, needs_of_act, is_retake as is_retake_of, Fits};
+ghost use Rattle.flow_code.specs.Works.{work_of};
+ghost use Rattle.abstract_machine.specs.Registers.{register as register_of};
+ghost use Rattle.abstract_machine.specs.Values.{number as number_of, word as word_of};
+ghost use Rattle.core_run.specs.Flows.{needs, needs_of_act, needs_pairs, pairs_of_act, is_retake as is_retake_of, Fits};
 ghost use Rattle.flow_code.specs.Next.{act_at};
 ghost use Rattle.flow_code.specs.declared.act.Act.TheVariants as act;
 
 use crate::next::{cells_in, is_main_function, value_of};
 use crate::place::{instr_at, line_at, line_at_function, pointers_at};
 use crate::state::ThreadState;
-use flow_code::{
-    Act, Caller, Code, Due, LibraryCall, Phase, Work, compute, count_in, library_onward, number,
-    piece_len, register, word,
+use abstract_machine::{
+    Caller, Due, LibraryCall, count_in, library_onward, number, piece_len, register, word,
 };
+use flow_code::{Act, Code, Phase, Work, compute};
 use rr_base::Trap;
 use std::alloc::Global;
 use sync_objects::{Op, Setup};
@@ -58,9 +60,9 @@ impl ThreadState {
         answer: i64,
     )
         requires instr { self.old.thread.top.instr + 1 < 2 ^ 64 }
-        requires made { (act_after code.now setup.now thread self.old.thread (Some (act.Library call.now arguments.now into)) answer).top.made < 2 ^ 8 }
-        requires printed { (act_after code.now setup.now thread self.old.thread (Some (act.Library call.now arguments.now into)) answer).printed < 2 ^ 32 }
-        ensures { self.new.thread ≡ act_after code.now setup.now thread self.old.thread (Some (act.Library call.now arguments.now into)) answer }
+        requires made { (call_after code.now setup.now thread self.old.thread call.now arguments.now into answer).top.made < 2 ^ 8 }
+        requires printed { (call_after code.now setup.now thread self.old.thread call.now arguments.now into answer).printed < 2 ^ 32 }
+        ensures { self.new.thread ≡ call_after code.now setup.now thread self.old.thread call.now arguments.now into answer }
     {
         let caller = Caller::new(code.sites.as_slice(), setup, thread, self.printed);
         let (made, kept) = self.top.events();
@@ -75,6 +77,28 @@ impl ThreadState {
         );
         self.printed += piece_len(call, self.top.registers(), arguments) as u32;
         self.go_onward(into, onward);
+    }
+
+    fn take_library(
+        &mut self,
+        code: &Code,
+        setup: &Setup,
+        thread: u8,
+        call: &LibraryCall,
+        arguments: &[u32],
+        into: Option<u32>,
+        answer: i64,
+    )
+        requires instr { self.old.thread.top.instr + 1 < 2 ^ 64 }
+        requires made { (act_after code.now setup.now thread self.old.thread (Some (act.Library call.now arguments.now into)) answer).top.made < 2 ^ 8 }
+        requires printed { (act_after code.now setup.now thread self.old.thread (Some (act.Library call.now arguments.now into)) answer).printed < 2 ^ 32 }
+        ensures { self.new.thread ≡ act_after code.now setup.now thread self.old.thread (Some (act.Library call.now arguments.now into)) answer }
+    {
+        if self.is_parting(call) {
+            self.part();
+        } else {
+            self.take_call(code, setup, thread, call, arguments, into, answer);
+        }
     }
 
     fn take_work(&mut self, code: &Code, setup: &Setup, into: u32, work: &Work)
@@ -130,6 +154,9 @@ impl ThreadState {
         requires thread { thread < setup.now.slots }
         requires place { self.old.has_place ≡ true }
         requires room { needs_of_act code.now (Some act.now) ≤ self.old.registers }
+        requires stripe { self.old.has_stripe ≡ true }
+        requires region { self.old.has_region ≡ true }
+        requires pairs { pairs_of_act code.now self.old.thread (Some act.now) ≤ self.old.pairs }
         requires instr { self.old.thread.top.instr + 1 < 2 ^ 64 }
         requires before { self.old.thread.top.made + 1 < 2 ^ 8 }
         requires caller { (f : FrameView) → slice_get self.old.thread.below (length self.old.thread.below - 1) ≡ Some f → f.instr < length (instrs_in (slice_get code.now.functions f.function)) }
@@ -151,7 +178,7 @@ impl ThreadState {
                 arguments,
                 into,
             } => {
-                self.take_call(
+                self.take_library(
                     code,
                     setup,
                     thread,
@@ -177,7 +204,9 @@ impl ThreadState {
                 size: Some(size),
             } => self.take_alloc(*into, *site, *size),
             Act::LoadCell { into, through: _ } => self.take_load(*into, answer),
-            Act::StoreCell { .. } | Act::Mark | Act::Take(_) | Act::Give(_) => self.pass(),
+            Act::StoreCell { .. } | Act::Mark => self.pass(),
+            Act::Take(region) => self.take_region(alloc, code, *region),
+            Act::Give(region) => self.give_region(code, *region),
             Act::Jump { to } => self.top.jump(*to),
             Act::Branch {
                 on,
@@ -193,6 +222,9 @@ impl ThreadState {
         requires thread { thread < setup.now.slots }
         requires place { self.old.has_place ≡ true }
         requires room { needs code.now self.old.thread ≤ self.old.registers }
+        requires stripe { self.old.has_stripe ≡ true }
+        requires region { self.old.has_region ≡ true }
+        requires pairs { needs_pairs code.now self.old.thread ≤ self.old.pairs }
         requires before { self.old.thread.top.made + 1 < 2 ^ 8 }
         requires caller { (f : FrameView) → slice_get self.old.thread.below (length self.old.thread.below - 1) ≡ Some f → f.instr < length (instrs_in (slice_get code.now.functions f.function)) }
         requires made { (phase_after code.now setup.now thread self.old.thread self.old.thread.phase answer).top.made < 2 ^ 8 }
@@ -277,6 +309,9 @@ impl ThreadState {
         requires thread { thread < setup.now.slots }
         requires place { self.old.has_place ≡ true }
         requires room { needs code.now self.old.thread ≤ self.old.registers }
+        requires stripe { self.old.has_stripe ≡ true }
+        requires region { self.old.has_region ≡ true }
+        requires pairs { needs_pairs code.now self.old.thread ≤ self.old.pairs }
         requires before { self.old.thread.top.made + 1 < 2 ^ 8 }
         requires caller { (f : FrameView) → slice_get self.old.thread.below (length self.old.thread.below - 1) ≡ Some f → f.instr < length (instrs_in (slice_get code.now.functions f.function)) }
         requires fits { Fits (after_due_of code.now setup.now thread self.old.thread due answer) }

@@ -1,5 +1,5 @@
 -- What each step does to the counts of a thread, and whether it has ended.
-use Rattle.std.proofs.Common.{◌≡◌, ℕ, zero, suc, ◌+◌, ◌-◌, ◌≤◌, ◌⊎◌, inl, inr, ⊎_elim, ◌==◌, Bool, true, false, if◌then◌else◌, length, Option, Some, None, Result, Ok, Err, refl, sym, ap, subst, ◌∙◌, ℤ, pos, arith}
+use Rattle.std.proofs.Common.{◌≡◌, ℕ, zero, suc, ◌+◌, ◌-◌, ◌≤◌, ◌⊎◌, inl, inr, ⊎_elim, ◌==◌, Bool, true, false, if◌then◌else◌, List, [], ◌∷◌, length, Option, Some, None, Result, Ok, Err, refl, sym, ap, subst, ◌∙◌, ℤ, pos, arith}
 use Rattle.std.specs.Prelude.{slice_get}
 use Rattle.std.proofs.lemmas.Bool.{true≢false}
 use Rattle.sync_objects.specs.Setup.{SetupView}
@@ -7,58 +7,59 @@ use Rattle.sync_objects.specs.Names.{name_of, is_ending, is_weak}
 use Rattle.sync_objects.specs.declared.object.ObjId.{ObjId}
 use Rattle.sync_objects.specs.declared.operation.Op.{Op}
 use Rattle.sync_objects.specs.declared.operation.Op.TheVariants as op
-use Rattle.sync_objects.specs.declared.operation.OpName.{OpName}
-use Rattle.sync_objects.specs.declared.operation.OpName.TheVariants as name
 use Rattle.rr_base.specs.declared.trap.Trap.{Trap}
 use Rattle.flow_code.specs.declared.act.Act.{Act}
 use Rattle.flow_code.specs.declared.act.Act.TheVariants as act
 use Rattle.flow_code.specs.declared.code.Code.{Code}
 use Rattle.flow_code.specs.declared.thread.Phase.{Phase}
 use Rattle.flow_code.specs.declared.thread.Phase.TheVariants as phase
-use Rattle.flow_code.specs.declared.thread.Due.{Due}
-use Rattle.flow_code.specs.declared.thread.Due.TheVariants as due
-use Rattle.flow_code.specs.declared.thread.Action.{Action}
-use Rattle.flow_code.specs.declared.thread.Action.TheVariants as action
-use Rattle.flow_code.specs.declared.thread.Onward.{Onward}
-use Rattle.flow_code.specs.declared.thread.Onward.TheVariants as onward
+use Rattle.flow_code.specs.declared.region.Region.{Region}
+use Rattle.flow_code.specs.declared.thread.Stripe.{Stripe}
+use Rattle.abstract_machine.specs.declared.event.Due.{Due}
+use Rattle.abstract_machine.specs.declared.event.Due.TheVariants as due
+use Rattle.abstract_machine.specs.declared.event.Action.{Action}
+use Rattle.abstract_machine.specs.declared.event.Action.TheVariants as action
+use Rattle.abstract_machine.specs.declared.event.Onward.{Onward}
+use Rattle.abstract_machine.specs.declared.event.Onward.TheVariants as onward
 use Rattle.flow_code.specs.Works.{work_of}
-use Rattle.flow_code.specs.Library.{piece_of, library_onward}
+use Rattle.abstract_machine.specs.Library.{piece_of, library_onward}
 use Rattle.flow_code.specs.Threads.{Frame, Thread, is_main}
-use Rattle.flow_code.specs.Next.{words_of, value_of, act_at, pointers_of, caller, phase_due, due_of, computed, went_on, returned, end_onward, back_in, act_after, begun_after, phase_after, counted, repaid, one_more, after_due, has_ended, action_of, action_at, stepped}
+use Rattle.flow_code.specs.Next.{value_of, act_at, pointers_of, caller, phase_due, due_of, computed, went_on, returned, end_onward, back_in, on_unless, act_after, begun_after, phase_after, counted, repaid, one_more, after_due, has_ended, action_of, action_at, stepped}
+use Rattle.abstract_machine.specs.Registers.{words_of}
+use Rattle.flow_code.specs.Holding.{region_of, lacked, taken, open_place, to_give, gives_at, parting, left_behind}
 use Rattle.flow_code.specs.Settle.{settled}
+use Rattle.abstract_machine.proofs.Calls.{is_retake}
 use Rattle.flow_code.proofs.Dues.{quiet_by_code, nothing_by_code, nothing_due, IsAccess, access_by_code}
 use Rattle.flow_code.proofs.Goings.{Runs, ThreadGoes, thread_goes}
 use Rattle.flow_code.proofs.Settle.{settled_keeps, action_is}
 
--- the counts, the stripes and the open regions are the same
+-- the counts are the same
 pub record KeepsRest (th q : Thread) : Type 0 where
   pub count : q.count ≡ th.count
   pub entries : q.entries ≡ th.entries
   pub revokes : q.revokes ≡ th.revokes
-  pub stripes : q.stripes ≡ th.stripes
-  pub regions : q.regions ≡ th.regions
 
-rest : (th q : Thread) → q.count ≡ th.count → q.entries ≡ th.entries → q.revokes ≡ th.revokes → q.stripes ≡ th.stripes → q.regions ≡ th.regions → KeepsRest th q
-rest th q a b c d e = record { count = a; entries = b; revokes = c; stripes = d; regions = e }
+rest : (th q : Thread) → q.count ≡ th.count → q.entries ≡ th.entries → q.revokes ≡ th.revokes → KeepsRest th q
+rest th q a b c = record { count = a; entries = b; revokes = c }
 
 computed_keeps : (th : Thread) (into : ℕ) (r : Result ℕ Trap) → KeepsRest th (computed th into r)
-computed_keeps th into (Ok w) = rest th _ refl refl refl refl refl
-computed_keeps th into (Err k) = rest th _ refl refl refl refl refl
+computed_keeps th into (Ok w) = rest th _ refl refl refl
+computed_keeps th into (Err k) = rest th _ refl refl refl
 
 went_on_keeps : (th : Thread) (n : ℕ) (into : Option ℕ) (o : Onward) → KeepsRest th (went_on (record th { printed = n }) into o)
-went_on_keeps th n into (onward.Stays kept) = rest th _ refl refl refl refl refl
-went_on_keeps th n into (onward.Gives w) = rest th _ refl refl refl refl refl
-went_on_keeps th n into onward.Ends = rest th _ refl refl refl refl refl
+went_on_keeps th n into (onward.Stays kept) = rest th _ refl refl refl
+went_on_keeps th n into (onward.Gives w) = rest th _ refl refl refl
+went_on_keeps th n into onward.Ends = rest th _ refl refl refl
 
 back_keeps : (code : Code) (th : Thread) (value : ℕ) (o : Option Frame) → KeepsRest th (back_in code th value o)
-back_keeps code th value None = rest th _ refl refl refl refl refl
-back_keeps code th value (Some f) = rest th _ refl refl refl refl refl
+back_keeps code th value None = rest th _ refl refl refl
+back_keeps code th value (Some f) = rest th _ refl refl refl
 
 end_keeps : (m : Bool) (th : Thread) (made : ℕ) → KeepsRest th (end_onward m th made)
-end_keeps true th made = rest th _ refl refl refl refl refl
-end_keeps false th zero = rest th _ refl refl refl refl refl
-end_keeps false th (suc zero) = rest th _ refl refl refl refl refl
-end_keeps false th (suc (suc n)) = rest th _ refl refl refl refl refl
+end_keeps true th made = rest th _ refl refl refl
+end_keeps false th zero = rest th _ refl refl refl
+end_keeps false th (suc zero) = rest th _ refl refl refl
+end_keeps false th (suc (suc n)) = rest th _ refl refl refl
 
 returned_keeps : (code : Code) (th : Thread) (value : ℕ) → KeepsRest th (returned code th value)
 returned_keeps code th value = by (length th.below == 0)
@@ -67,44 +68,60 @@ returned_keeps code th value = by (length th.below == 0)
     by true = end_keeps (is_main code th.top.function) th th.top.made
     by false = back_keeps code th value (slice_get th.below (length th.below - 1))
 
+take_keeps : (code : Code) (th : Thread) (r : Option Region) (next : Option ℕ) → KeepsRest th (on_unless next (taken code th r next))
+take_keeps code th None None = rest th _ refl refl refl
+take_keeps code th None (Some n) = rest th _ refl refl refl
+take_keeps code th (Some r) None = rest th _ refl refl refl
+take_keeps code th (Some r) (Some n) = rest th _ refl refl refl
+
+give_keeps : (th : Thread) (place : Option ℕ) (next : Option (ℕ × ℕ)) → KeepsRest th (on_unless next (gives_at th place next))
+give_keeps th None None = rest th _ refl refl refl
+give_keeps th None (Some n) = rest th _ refl refl refl
+give_keeps th (Some i) None = rest th _ refl refl refl
+give_keeps th (Some i) (Some n) = rest th _ refl refl refl
+
+parting_keeps : (th : Thread) (xs : List Stripe) (q : Thread) → KeepsRest th q → KeepsRest th (left_behind th xs q)
+parting_keeps th [] q h = h
+parting_keeps th (x ∷ xs) q h = rest th _ refl refl refl
+
 act_keeps : (code : Code) (s : SetupView) (t : ℕ) (th : Thread) (o : Option Act) (answer : ℤ) → KeepsRest th (act_after code s t th o answer)
-act_keeps code s t th None answer = rest th _ refl refl refl refl refl
+act_keeps code s t th None answer = rest th _ refl refl refl
 act_keeps code s t th (Some (act.Compute into work)) answer = computed_keeps th into (work_of s.slots code.sites (pointers_of code th.top) th.top.registers work)
-act_keeps code s t th (Some (act.Alloc into site None)) answer = rest th _ refl refl refl refl refl
-act_keeps code s t th (Some (act.Alloc into site (Some size))) answer = rest th _ refl refl refl refl refl
-act_keeps code s t th (Some (act.LoadCell into through)) answer = rest th _ refl refl refl refl refl
-act_keeps code s t th (Some (act.StoreCell through from)) answer = rest th _ refl refl refl refl refl
-act_keeps code s t th (Some act.Mark) answer = rest th _ refl refl refl refl refl
-act_keeps code s t th (Some (act.Call function arguments into)) answer = rest th _ refl refl refl refl refl
+act_keeps code s t th (Some (act.Alloc into site None)) answer = rest th _ refl refl refl
+act_keeps code s t th (Some (act.Alloc into site (Some size))) answer = rest th _ refl refl refl
+act_keeps code s t th (Some (act.LoadCell into through)) answer = rest th _ refl refl refl
+act_keeps code s t th (Some (act.StoreCell through from)) answer = rest th _ refl refl refl
+act_keeps code s t th (Some act.Mark) answer = rest th _ refl refl refl
+act_keeps code s t th (Some (act.Call function arguments into)) answer = rest th _ refl refl refl
 act_keeps code s t th (Some (act.Library call arguments into)) answer =
-    went_on_keeps th (th.printed + length (piece_of call (words_of th.top.registers arguments))) into (library_onward (caller code s t th) call (words_of th.top.registers arguments) th.top.made th.top.kept answer)
-act_keeps code s t th (Some (act.Jump to)) answer = rest th _ refl refl refl refl refl
-act_keeps code s t th (Some (act.Branch on then_at else_at)) answer = rest th _ refl refl refl refl refl
+    parting_keeps th (parting call th.top.made th.stripes) _ (went_on_keeps th (th.printed + length (piece_of call (words_of th.top.registers arguments))) into (library_onward (caller code s t th) call (words_of th.top.registers arguments) th.top.made th.top.kept answer))
+act_keeps code s t th (Some (act.Jump to)) answer = rest th _ refl refl refl
+act_keeps code s t th (Some (act.Branch on then_at else_at)) answer = rest th _ refl refl refl
 act_keeps code s t th (Some (act.Return value)) answer = returned_keeps code th (value_of th.top.registers value)
-act_keeps code s t th (Some (act.Take region)) answer = rest th _ refl refl refl refl refl
-act_keeps code s t th (Some (act.Give region)) answer = rest th _ refl refl refl refl refl
+act_keeps code s t th (Some (act.Take region)) answer = take_keeps code th (region_of code th.top region) (lacked code th (region_of code th.top region))
+act_keeps code s t th (Some (act.Give region)) answer = give_keeps th (open_place code th region) (to_give code th region)
 
 begun_keeps : (code : Code) (s : SetupView) (t : ℕ) (th : Thread) (f : ℕ) (answer : ℤ) → KeepsRest th (begun_after code s t th f answer)
-begun_keeps code s zero th f answer = rest th _ refl refl refl refl refl
-begun_keeps code s (suc k) th f answer = rest th _ refl refl refl refl refl
+begun_keeps code s zero th f answer = rest th _ refl refl refl
+begun_keeps code s (suc k) th f answer = rest th _ refl refl refl
 
 pub phase_keeps : (code : Code) (s : SetupView) (t : ℕ) (th : Thread) (p : Phase) (answer : ℤ) → KeepsRest th (phase_after code s t th p answer)
-phase_keeps code s t th phase.Fresh answer = rest th _ refl refl refl refl refl
+phase_keeps code s t th phase.Fresh answer = rest th _ refl refl refl
 phase_keeps code s t th (phase.Begun f) answer = begun_keeps code s t th f answer
-phase_keeps code s t th (phase.Loaded f w) answer = rest th _ refl refl refl refl refl
+phase_keeps code s t th (phase.Loaded f w) answer = rest th _ refl refl refl
 phase_keeps code s t th phase.Running answer = act_keeps code s t th (act_at code th.top) answer
-phase_keeps code s t th phase.Ended answer = rest th _ refl refl refl refl refl
-phase_keeps code s t th phase.Halted answer = rest th _ refl refl refl refl refl
-phase_keeps code s t th (phase.Trapped kind line) answer = rest th _ refl refl refl refl refl
-phase_keeps code s t th phase.Stopped answer = rest th _ refl refl refl refl refl
-phase_keeps code s t th phase.Closed answer = rest th _ refl refl refl refl refl
+phase_keeps code s t th phase.Ended answer = rest th _ refl refl refl
+phase_keeps code s t th phase.Halted answer = rest th _ refl refl refl
+phase_keeps code s t th (phase.Trapped kind line) answer = rest th _ refl refl refl
+phase_keeps code s t th phase.Stopped answer = rest th _ refl refl refl
+phase_keeps code s t th phase.Closed answer = rest th _ refl refl refl
 
 -- the state after what is due
 pub stepped_is : (code : Code) (s : SetupView) (t : ℕ) (th : Thread) (d : Due) (answer : ℤ) → due_of code s t th ≡ d → stepped code s t th answer ≡ after_due code s t th d answer
 unfolding stepped
 stepped_is code s t th d answer e = ap (λ z. after_due code s t th z answer) e
 
--- a quiet step changes nothing but the frames and the arena
+-- a quiet step changes no count, no phase, and nothing of what is printed
 pub record KeepsAll (th q : Thread) : Type 0 where
   pub rest : KeepsRest th q
   pub printed : q.printed ≡ th.printed
@@ -120,12 +137,12 @@ settled_keeps_all code s t th =
     settled_keeps code s t (KeepsAll th)
     (λ q e h. let k = quiet_keeps code s t q (pos 0) e in
     record {
-      rest = rest th (stepped code s t q (pos 0)) (k.rest.count ∙ h.rest.count) (k.rest.entries ∙ h.rest.entries) (k.rest.revokes ∙ h.rest.revokes) (k.rest.stripes ∙ h.rest.stripes) (k.rest.regions ∙ h.rest.regions);
+      rest = rest th (stepped code s t q (pos 0)) (k.rest.count ∙ h.rest.count) (k.rest.entries ∙ h.rest.entries) (k.rest.revokes ∙ h.rest.revokes);
       printed = k.printed ∙ h.printed;
       phase = k.phase ∙ h.phase;
     })
     th
-    (record { rest = rest th th refl refl refl refl refl; printed = refl; phase = refl })
+    (record { rest = rest th th refl refl refl; printed = refl; phase = refl })
 
 pub settled_count : (code : Code) (s : SetupView) (t : ℕ) (th : Thread) → (settled code s t th).count ≡ th.count
 settled_count code s t th = (settled_keeps_all code s t th).rest.count
@@ -167,8 +184,8 @@ pub after_operate : (code : Code) (s : SetupView) (t : ℕ) (th : Thread) (o : O
 after_operate code s t th op.Retake obj answer = inl (refl, refl)
 after_operate code s t th o obj answer = inr refl
 
-pub operate_after : (code : Code) (s : SetupView) (t : ℕ) (th : Thread) (o : Op) (obj : ObjId) (answer : ℤ) → is_weak (name_of o) ≡ false → after_due code s t th (due.Operate o obj) answer ≡ counted o (phase_after code s t th th.phase answer)
-operate_after code s t th o obj answer strong = ⊎_elim (λ h. absurd (true≢false (sym (ap (λ z. is_weak (name_of z)) h.0) ∙ strong))) (λ h. h) (after_operate code s t th o obj answer)
+pub operate_after : (code : Code) (s : SetupView) (t : ℕ) (th : Thread) (o : Op) (obj : ObjId) (answer : ℤ) → is_retake (name_of o) ≡ false → after_due code s t th (due.Operate o obj) answer ≡ counted o (phase_after code s t th th.phase answer)
+operate_after code s t th o obj answer first = ⊎_elim (λ h. absurd (true≢false (sym (ap (λ z. is_retake (name_of z)) h.0) ∙ first))) (λ h. h) (after_operate code s t th o obj answer)
 
 -- no step lowers the count
 
@@ -194,49 +211,6 @@ due_grows code s t th (due.Trap kind) answer = omega arith
 
 pub step_grows : (code : Code) (s : SetupView) (t : ℕ) (th : Thread) (answer : ℤ) → th.count ≤ (stepped code s t th answer).count
 step_grows code s t th answer = subst (λ z. th.count ≤ z.count) (sym (stepped_is code s t th (due_of code s t th) answer refl)) (due_grows code s t th (due_of code s t th) answer)
-
--- an operation is an event, or an entry that isn't an ending one
-
-name_rises : (n : OpName) (count entries : ℕ) → count + entries + 1 ≤ (if is_weak n then count else count + 1) + (if is_ending n then entries else entries + 1)
-name_rises name.Take count entries = omega arith
-name_rises name.Retake count entries = omega arith
-name_rises name.Give count entries = omega arith
-name_rises name.Revoke count entries = omega arith
-name_rises name.End count entries = omega arith
-name_rises name.Leave count entries = omega arith
-name_rises name.HaltAll count entries = omega arith
-name_rises name.TrapHere count entries = omega arith
-name_rises name.Stop count entries = omega arith
-name_rises name.Close count entries = omega arith
-name_rises n count entries = omega arith
-
-pub counted_rises : (o : Op) (q : Thread) → q.count + q.entries + 1 ≤ (counted o q).count + (counted o q).entries
-counted_rises o q = name_rises (name_of o) q.count q.entries
-
-counts_more : (o : Op) (th q r : Thread) → r ≡ counted o q → q.count ≡ th.count → q.entries ≡ th.entries → th.count + th.entries + 1 ≤ r.count + r.entries
-counts_more o th q r e c n =
-    let rises = counted_rises o q in
-    let count_is = ap (λ (z : Thread). z.count) e in
-    let entries_is = ap (λ (z : Thread). z.entries) e in
-    omega arith
-
-due_rises : (code : Code) (s : SetupView) (t : ℕ) (th : Thread) (d : Due) (o : Op) (obj : ObjId) (answer : ℤ) → action_of d ≡ action.Operate o obj → th.count + th.entries + 1 ≤ (after_due code s t th d answer).count + (after_due code s t th d answer).entries
-due_rises code s t th due.Nothing o obj answer e = cc
-due_rises code s t th due.Quiet o obj answer e = cc
-due_rises code s t th (due.Load c) o obj answer e = cc
-due_rises code s t th (due.Store c w) o obj answer e = cc
-due_rises code s t th due.Mark o obj answer e = cc
-due_rises code s t th (due.Operate p q) o obj answer e =
-    ⊎_elim
-    (λ h. counts_more op.Retake th (record th { stripes = repaid th.stripes }) (after_due code s t th (due.Operate p q) answer) h.1 refl refl)
-    (λ h. let k = phase_keeps code s t th th.phase answer in counts_more p th (phase_after code s t th th.phase answer) (after_due code s t th (due.Operate p q) answer) h k.count k.entries)
-    (after_operate code s t th p q answer)
-due_rises code s t th (due.Trap kind) o obj answer e = omega arith
-
-pub operation_rises : (code : Code) (s : SetupView) (t : ℕ) (th : Thread) (o : Op) (obj : ObjId) (answer : ℤ) → action_at code s t th ≡ action.Operate o obj → th.count + th.entries + 1 ≤ (stepped code s t th answer).count + (stepped code s t th answer).entries
-operation_rises code s t th o obj answer e =
-    subst (λ z. th.count + th.entries + 1 ≤ z.count + z.entries) (sym (stepped_is code s t th (due_of code s t th) answer refl))
-    (due_rises code s t th (due_of code s t th) o obj answer (sym (action_is code s t th) ∙ e))
 
 -- nothing is due in a thread that has ended, and else only behind the last instruction of a function
 

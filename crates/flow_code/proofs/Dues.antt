@@ -3,7 +3,7 @@
 use Rattle.std.proofs.Common.{◌≡◌, ℕ, ◌<◌, ◌⊎◌, inl, inr, ⊎_elim, Bool, true, false, if◌then◌else◌, Option, Some, None, refl, sym, ap, subst, ◌∙◌, nat_le}
 use Rattle.std.proofs.lemmas.Bool.{leb-false}
 use Rattle.sync_objects.specs.Setup.{SetupView}
-use Rattle.sync_objects.specs.Names.{name_of, is_ending}
+use Rattle.sync_objects.specs.Names.{name_of, is_ending, is_weak}
 use Rattle.sync_objects.specs.declared.object.ObjId.{ObjId}
 use Rattle.sync_objects.specs.declared.object.ObjId.TheVariants as object
 use Rattle.sync_objects.specs.declared.operation.Op.{Op}
@@ -12,10 +12,11 @@ use Rattle.rr_base.specs.declared.trap.Trap.{Trap}
 use Rattle.rr_base.specs.declared.trap.Trap.TheVariants as trap
 use Rattle.flow_code.specs.declared.code.Code.{Code}
 use Rattle.flow_code.specs.declared.thread.Stripe.{Stripe}
-use Rattle.flow_code.specs.declared.thread.Due.{Due}
-use Rattle.flow_code.specs.declared.thread.Due.TheVariants as due
+use Rattle.abstract_machine.specs.declared.event.Due.{Due}
+use Rattle.abstract_machine.specs.declared.event.Due.TheVariants as due
 use Rattle.flow_code.specs.Threads.{Thread}
-use Rattle.flow_code.specs.Next.{most_entries, is_free_of_limit, limited, first_owed, retake, owing, listed, phase_due, due_of}
+use Rattle.flow_code.specs.Next.{limited, first_owed, retake, owing, listed, phase_due, due_of}
+use Rattle.abstract_machine.specs.Limits.{most_entries, is_free_of_limit}
 
 -- what needs a count below the limit
 abbrev pub NeedsCount : Due → Type 0
@@ -50,6 +51,13 @@ limited_is true (due.Operate o obj) = by (is_free_of_limit o)
     by false = inr refl
 limited_is true (due.Trap kind) = inl (refl, λ h. absurd h)
 
+owing_op : (x : Stripe) (o : Op) (obj : ObjId) → (owing (Some x) (due.Operate o obj) ≡ due.Operate o obj) ⊎ ((y : Stripe) × (owing (Some x) (due.Operate o obj) ≡ retake y))
+owing_op x o obj = by (is_weak (name_of o))
+  where
+    by : (b : Bool) → ((if b then retake x else due.Operate o obj) ≡ due.Operate o obj) ⊎ ((y : Stripe) × ((if b then retake x else due.Operate o obj) ≡ retake y))
+    by true = inr (x, refl)
+    by false = inl refl
+
 owing_is : (first : Option Stripe) (d : Due) → (owing first d ≡ d) ⊎ ((x : Stripe) × (owing first d ≡ retake x))
 owing_is None d = inl refl
 owing_is (Some x) due.Nothing = inl refl
@@ -57,7 +65,7 @@ owing_is (Some x) due.Quiet = inl refl
 owing_is (Some x) (due.Load c) = inr (x, refl)
 owing_is (Some x) (due.Store c w) = inr (x, refl)
 owing_is (Some x) due.Mark = inr (x, refl)
-owing_is (Some x) (due.Operate o obj) = inl refl
+owing_is (Some x) (due.Operate o obj) = owing_op x o obj
 owing_is (Some x) (due.Trap kind) = inl refl
 
 listed_is : (full : Bool) (d : Due) → (listed full d ≡ d) × (NeedsRoom d → full ≡ false) ⊎ (listed full d ≡ due.Trap trap.LogFull)

@@ -1,5 +1,5 @@
 -- What is due in a thread by its code alone, with what becomes of the thread.
-use Rattle.std.proofs.Common.{◌≡◌, ℕ, zero, suc, ◌+◌, ◌-◌, ◌≤◌, ◌⊎◌, inl, inr, ◌==◌, Bool, true, false, if◌then◌else◌, List, [], ◌∷◌, ◌++◌, length, Option, Some, None, Result, Ok, Err, refl, sym, ap, subst, ◌∙◌, nat_le, ℤ, pos, arith, length-append}
+use Rattle.std.proofs.Common.{◌≡◌, ℕ, zero, suc, ◌+◌, ◌-◌, ◌≤◌, ◌⊎◌, inl, inr, ◌==◌, Bool, true, false, if◌then◌else◌, List, [], ◌∷◌, ◌++◌, length, drop, Option, Some, None, Result, Ok, Err, refl, sym, ap, subst, ◌∙◌, nat_le, ℤ, pos, arith, length-append}
 use Rattle.std.specs.Prelude.{slice_get}
 use Rattle.std.proofs.lemmas.Bool.{leb-true, leb-false}
 use Rattle.sync_objects.specs.Setup.{SetupView, IsWithinLimits}
@@ -12,28 +12,46 @@ use Rattle.rr_base.specs.declared.trap.Trap.{Trap}
 use Rattle.rr_base.specs.declared.trap.Trap.TheVariants as trap
 use Rattle.flow_code.specs.declared.act.Act.{Act}
 use Rattle.flow_code.specs.declared.act.Act.TheVariants as act
-use Rattle.flow_code.specs.declared.act.LibraryCall.{LibraryCall}
+use Rattle.abstract_machine.specs.declared.library_call.LibraryCall.{LibraryCall}
+use Rattle.abstract_machine.specs.declared.library_call.LibraryCall.TheVariants as call
+use Rattle.flow_code.specs.declared.region.Region.{Region}
+use Rattle.flow_code.specs.declared.thread.Stripe.{Stripe}
+use Rattle.flow_code.specs.Holding.{region_of, lacked, take_or_quiet, give_or_quiet, taken, open_place, to_give, gives_at, parting, owes, parting_due, held, keeping, left_behind}
 use Rattle.flow_code.specs.declared.code.Code.{Code}
 use Rattle.flow_code.specs.declared.thread.Phase.{Phase}
 use Rattle.flow_code.specs.declared.thread.Phase.TheVariants as phase
-use Rattle.flow_code.specs.declared.thread.Due.{Due}
-use Rattle.flow_code.specs.declared.thread.Due.TheVariants as due
-use Rattle.flow_code.specs.declared.thread.Onward.{Onward}
-use Rattle.flow_code.specs.declared.thread.Onward.TheVariants as onward
-use Rattle.flow_code.specs.Values.{number, word}
-use Rattle.flow_code.specs.Pointers.{resolved}
-use Rattle.flow_code.specs.Works.{register, is_pointer, work_of}
-use Rattle.flow_code.specs.Library.{Caller, piece_of, library_due, library_onward, most_printed, count_in}
-use Rattle.flow_code.specs.Threads.{Frame, Thread, arena_end, size_of, is_main, objects_in, fitted}
-use Rattle.flow_code.specs.Next.{most_frames, past, jumped, with_register, words_of, value_of, act_at, pointers_of, access_kind, quiet_unless, load_due, store_due, is_size, cells_in, malloc_due, mark_if, enter_due, end_due, return_due, caller, act_due, begun_due, phase_due, in_frame, computed, entered, one_made, end_onward, returned, back_in, went_on, branch_to, allocated, act_after, begun_after, phase_after, counted, has_ended}
-use Rattle.flow_code.specs.Settle.{IsSoundCall}
-use Rattle.flow_code.proofs.Calls.{IsAsked, GoesOn, CallOperates, goes, ends_slot, leaves_all, CallGoes, call_goes}
+use Rattle.abstract_machine.specs.declared.event.Due.{Due}
+use Rattle.abstract_machine.specs.declared.event.Due.TheVariants as due
+use Rattle.abstract_machine.specs.declared.event.Onward.{Onward}
+use Rattle.abstract_machine.specs.declared.event.Onward.TheVariants as onward
+use Rattle.abstract_machine.specs.Values.{number, word}
+use Rattle.abstract_machine.specs.Pointers.{resolved}
+use Rattle.flow_code.specs.Works.{is_pointer, work_of}
+use Rattle.abstract_machine.specs.Registers.{register}
+use Rattle.abstract_machine.specs.Library.{Caller, piece_of, library_due, library_onward, most_printed, count_in}
+use Rattle.flow_code.specs.Threads.{Frame, Thread, OpenRegion, arena_end, is_main, objects_in, fitted}
+use Rattle.abstract_machine.specs.Cells.{size_of}
+use Rattle.flow_code.specs.Next.{past, jumped, with_register, value_of, act_at, pointers_of, quiet_unless, load_due, store_due, malloc_due, mark_if, enter_due, end_due, return_due, caller, act_due, begun_due, phase_due, in_frame, computed, entered, one_made, end_onward, returned, back_in, went_on, branch_to, allocated, on_unless, act_after, begun_after, phase_after, counted, has_ended}
+use Rattle.abstract_machine.specs.Limits.{most_frames}
+use Rattle.flow_code.specs.Ranges.{most_made}
+use Rattle.abstract_machine.specs.Registers.{words_of}
+use Rattle.abstract_machine.specs.Cells.{access_kind, is_size, cells_in}
+use Rattle.abstract_machine.specs.Library.{IsSoundCall}
+use Rattle.abstract_machine.proofs.Calls.{IsAsked, GoesOn, CallOperates, goes, ends_slot, leaves_all, CallGoes, call_goes}
 use Rattle.flow_code.proofs.Shapes.{IsShaped, StandsIn, stands_in, each_more, framed, printed_more, in_phase, goes_shaped, entered_shaped, back_shaped}
 
 -- what holds of both parts of a choice holds of it
 either_each : {A : Type 0} (P : A → Type 0) (b : Bool) (x y : A) → (b ≡ true → P x) → (b ≡ false → P y) → P (if b then x else y)
 either_each P true x y f g = f refl
 either_each P false x y f g = g refl
+
+-- once its first event is made, a call gives nothing more
+parting_later : (c : LibraryCall) (made : ℕ) (xs : List Stripe) → parting c (made + 1) xs ≡ []
+parting_later c made xs = let more : suc made ≡ made + 1 = omega arith in subst (λ n. parting c n xs ≡ []) more (by c)
+  where
+    by : (k : LibraryCall) → parting k (suc made) xs ≡ []
+    by call.Exit = refl
+    by _ = refl
 
 -- the call that the instruction is, if it is one, is sound
 abbrev pub IsSoundCallAt : Option Act → Type 0
@@ -46,7 +64,7 @@ module _ (code : Code) (s : SetupView) (t : ℕ) (th : Thread) where
     pub lives : has_ended q.phase ≡ false
     pub shaped : IsShaped code s t th → IsShaped code s t q
 
-  -- nothing but the frames and the arena has changed
+  -- nothing but the frames, the arena, the stripes and the open regions has changed
   pub record StaysQuiet (q : Thread) : Type 0 where
     pub same_phase : q.phase ≡ th.phase
     pub same_printed : q.printed ≡ th.printed
@@ -72,7 +90,7 @@ module _ (code : Code) (s : SetupView) (t : ℕ) (th : Thread) where
   in_frame_quiet : (f : Frame) → f.made ≡ 0 → StaysQuiet (in_frame th f)
   in_frame_quiet f e = record { same_phase = refl; same_printed = refl; shaped = framed code s t th f (omega arith) }
 
-  in_frame_runs : (f : Frame) → th.phase ≡ phase.Running → f.made ≤ 3 → Runs (in_frame th f)
+  in_frame_runs : (f : Frame) → th.phase ≡ phase.Running → f.made ≤ most_made → Runs (in_frame th f)
   in_frame_runs f run e = record { lives = ap has_ended run; shaped = framed code s t th f e }
 
   compute_goes : (into : ℕ) (r : Result ℕ Trap) → ThreadGoes (computed th into r) (quiet_unless r)
@@ -119,10 +137,10 @@ module _ (code : Code) (s : SetupView) (t : ℕ) (th : Thread) where
   end_goes : (v : Option ℕ) (m : Bool) (made : ℕ) → th.phase ≡ phase.Running → act_at code th.top ≡ Some (act.Return v) → (length th.below == 0) ≡ true → is_main code th.top.function ≡ m → th.top.made ≡ made →
       ThreadGoes (end_onward m th made) (end_due m t made (value_of th.top.registers v))
   end_goes v true made run at first main is =
-      (record { fits = refl; own = refl; strong = refl }, (λ l f. tt), thread_ends (inr refl) refl (in_phase code s t th phase.Halted))
+      (record { fits = refl; own = refl; first = refl }, (λ l f. tt), thread_ends (inr refl) refl (in_phase code s t th phase.Halted))
   end_goes v false zero run at first main is = in_frame_runs (one_made th.top (pos 0)) run (omega (arith, is))
   end_goes v false (suc zero) run at first main is = (
-    record { fits = refl; own = refl; strong = refl },
+    record { fits = refl; own = refl; first = refl },
     (λ l f. tt),
     slot_ends refl (in_frame_runs (one_made th.top (pos 0)) run (omega (arith, is)))
         (ap (phase_due code s t (counted op.End (in_frame th (one_made th.top (pos 0))))) run ∙ ap (act_due code s t (counted op.End (in_frame th (one_made th.top (pos 0))))) at ∙ next (length th.below == 0) (is_main code th.top.function) th.top.made first main is),
@@ -131,7 +149,7 @@ module _ (code : Code) (s : SetupView) (t : ℕ) (th : Thread) where
       next : (b m : Bool) (n : ℕ) → b ≡ true → m ≡ false → n ≡ 1 → (if b then end_due m t (n + 1) (value_of th.top.registers v) else due.Quiet) ≡ due.Operate op.Leave object.Threads
       next b m n e f g = rw (e, f, g) refl
   end_goes v false (suc (suc n)) run at first main is =
-      (record { fits = refl; own = refl; strong = refl }, (λ l f. tt), thread_ends (inl refl) refl (in_phase code s t th phase.Ended))
+      (record { fits = refl; own = refl; first = refl }, (λ l f. tt), thread_ends (inl refl) refl (in_phase code s t th phase.Ended))
 
   return_goes : (v : Option ℕ) → th.phase ≡ phase.Running → act_at code th.top ≡ Some (act.Return v) → ThreadGoes (returned code th (value_of th.top.registers v)) (return_due code t th (value_of th.top.registers v))
   return_goes v run at = by (length th.below == 0) refl
@@ -177,6 +195,7 @@ module _ (code : Code) (s : SetupView) (t : ℕ) (th : Thread) where
         phase_due code s t (counted op.End (after_call (onward.Stays kept))) (counted op.End (after_call (onward.Stays kept))).phase ≡ due.Operate op.Leave object.Threads
     leave_next kept run at h =
         ap (phase_due code s t (counted op.End (after_call (onward.Stays kept)))) run ∙ ap (act_due code s t (counted op.End (after_call (onward.Stays kept)))) at
+        ∙ ap (λ z. parting_due z (library_due (caller code s t (counted op.End (after_call (onward.Stays kept)))) c given_words (th.top.made + 1) kept)) (parting_later c th.top.made th.stripes)
         ∙ h (caller code s t (counted op.End (after_call (onward.Stays kept)))) kept
 
     call_operates : (o : Op) → th.phase ≡ phase.Running → act_at code th.top ≡ Some (act.Library c arguments into) → CallOperates (caller code s t th) c given_words th.top.made th.top.kept answer o → ThreadOperates o (after_call leads_to)
@@ -197,6 +216,42 @@ module _ (code : Code) (s : SetupView) (t : ℕ) (th : Thread) where
     library_goes (due.Operate o obj) run at h = (h.0, (λ l small. h.1 l (subst IsSoundCallAt at small)), call_operates o run at h.2)
     library_goes (due.Trap kind) run at h = tt
 
+  -- a thread with other stripes and open regions is as before in all else
+  held_runs : (xs : List Stripe) (rs : List OpenRegion) → th.phase ≡ phase.Running → Runs (record th { stripes = xs; regions = rs })
+  held_runs xs rs run = record { lives = ap has_ended run; shaped = λ h. record { few_printed = h.few_printed; few_made = h.few_made; few_frames = h.few_frames; room = h.room; callers = h.callers } }
+
+  held_quiet : (xs : List Stripe) (rs : List OpenRegion) → StaysQuiet (record th { stripes = xs; regions = rs })
+  held_quiet xs rs = record { same_phase = refl; same_printed = refl; shaped = λ h. record { few_printed = h.few_printed; few_made = h.few_made; few_frames = h.few_frames; room = h.room; callers = h.callers } }
+
+  -- the same where the thread goes on to its next instruction
+  on_quiet : (rs : List OpenRegion) → StaysQuiet (record th { top = past th.top; regions = rs })
+  on_quiet rs = record { same_phase = refl; same_printed = refl; shaped = λ h. record { few_printed = h.few_printed; few_made = omega arith; few_frames = h.few_frames; room = h.room; callers = h.callers } }
+
+  -- an operation on a stripe
+  weak_goes : (o : Op) (lock stripe : ℕ) (q : Thread) → IsAsked o (object.Weak lock stripe) → is_ending (name_of o) ≡ false → IsInRange o → Runs q → ThreadGoes q (due.Operate o (object.Weak lock stripe))
+  weak_goes o lock stripe q a e r h = (a, (λ l f. r), runs e h)
+
+  take_goes : (r : Option Region) (next : Option ℕ) → th.phase ≡ phase.Running → ThreadGoes (on_unless next (taken code th r next)) (take_or_quiet next)
+  take_goes None None run = on_quiet th.regions
+  take_goes (Some r) None run = on_quiet _
+  take_goes None (Some n) run = weak_goes op.Take _ _ _ (record { fits = refl; own = refl; first = refl }) refl tt (held_runs th.stripes th.regions run)
+  take_goes (Some r) (Some n) run = weak_goes op.Take _ _ _ (record { fits = refl; own = refl; first = refl }) refl tt (held_runs _ _ run)
+
+  give_goes : (place : Option ℕ) (next : Option (ℕ × ℕ)) → th.phase ≡ phase.Running → ThreadGoes (on_unless next (gives_at th place next)) (give_or_quiet next)
+  give_goes None None run = on_quiet th.regions
+  give_goes (Some i) None run = on_quiet _
+  give_goes None (Some n) run = weak_goes op.Give _ _ _ (record { fits = refl; own = refl; first = refl }) refl tt (held_runs th.stripes th.regions run)
+  give_goes (Some i) (Some n) run = weak_goes op.Give _ _ _ (record { fits = refl; own = refl; first = refl }) refl tt (held_runs _ _ run)
+
+  -- before its first event pthread_exit forgets what is owed and gives what is held
+  parting_goes : (xs : List Stripe) (q : Thread) (d : Due) → th.phase ≡ phase.Running → ThreadGoes q d → ThreadGoes (left_behind th xs q) (parting_due xs d)
+  parting_goes [] q d run h = h
+  parting_goes (x ∷ xs) q d run h = by (owes (x ∷ xs))
+    where
+      by : (b : Bool) → ThreadGoes (keeping th (if b then held (x ∷ xs) else drop 1 (x ∷ xs))) (if b then due.Quiet else due.Operate op.Give (object.Weak x.lock x.stripe))
+      by true = held_quiet _ _
+      by false = weak_goes op.Give _ _ _ (record { fits = refl; own = refl; first = refl }) refl tt (held_runs _ _ run)
+
   -- an instruction
   act_goes : (o : Option Act) (answer : ℤ) → th.phase ≡ phase.Running → act_at code th.top ≡ o → ThreadGoes (act_after code s t th o answer) (act_due code s t th o)
   act_goes None answer run at = inr (run, at)
@@ -209,12 +264,14 @@ module _ (code : Code) (s : SetupView) (t : ℕ) (th : Thread) where
   act_goes (Some (act.Call function arguments into)) answer run at =
       enter_goes (length th.below + 1) function (th.below ++ one_made th.top (pos 0) ∷ []) (words_of th.top.registers arguments) (length-append th.below (one_made th.top (pos 0) ∷ []))
       (λ h. each_more (StandsIn code) th.below (one_made th.top (pos 0)) h.callers (stands_in code th.top (act.Call function arguments into) at))
-  act_goes (Some (act.Library call arguments into)) answer run at = library_goes call arguments into answer (library_due (caller code s t th) call (words_of th.top.registers arguments) th.top.made th.top.kept) run at (call_goes (caller code s t th) call (words_of th.top.registers arguments) th.top.made th.top.kept answer)
+  act_goes (Some (act.Library call arguments into)) answer run at =
+      parting_goes (parting call th.top.made th.stripes) _ (library_due (caller code s t th) call (words_of th.top.registers arguments) th.top.made th.top.kept) run
+      (library_goes call arguments into answer (library_due (caller code s t th) call (words_of th.top.registers arguments) th.top.made th.top.kept) run at (call_goes (caller code s t th) call (words_of th.top.registers arguments) th.top.made th.top.kept answer))
   act_goes (Some (act.Jump to)) answer run at = in_frame_quiet (jumped th.top to) refl
   act_goes (Some (act.Branch on then_at else_at)) answer run at = in_frame_quiet (jumped th.top (branch_to (register th.top.registers on) then_at else_at)) refl
   act_goes (Some (act.Return value)) answer run at = return_goes value run at
-  act_goes (Some (act.Take region)) answer run at = in_frame_quiet (past th.top) refl
-  act_goes (Some (act.Give region)) answer run at = in_frame_quiet (past th.top) refl
+  act_goes (Some (act.Take region)) answer run at = take_goes (region_of code th.top region) (lacked code th (region_of code th.top region)) run
+  act_goes (Some (act.Give region)) answer run at = give_goes (open_place code th region) (to_give code th region) run
 
   empty_below : (k : ℕ) (g : Frame) → slice_get [] k ≡ Some g → StandsIn code g
   empty_below k g e = cc
@@ -226,7 +283,7 @@ begun_goes code s (suc k) th f answer = record { lives = refl; shaped = in_phase
 
 goes_in : (code : Code) (s : SetupView) (t : ℕ) (th : Thread) (p : Phase) (answer : ℤ) → th.phase ≡ p → ThreadGoes code s t th (phase_after code s t th p answer) (phase_due code s t th p)
 goes_in code s t th phase.Fresh answer e =
-    (record { fits = refl; own = refl; strong = refl }, (λ l f. tt), runs refl (record { lives = refl; shaped = in_phase code s t th (phase.Begun (count_in answer)) }))
+    (record { fits = refl; own = refl; first = refl }, (λ l f. tt), runs refl (record { lives = refl; shaped = in_phase code s t th (phase.Begun (count_in answer)) }))
 goes_in code s t th (phase.Begun f) answer e = begun_goes code s t th f answer
 goes_in code s t th (phase.Loaded f w) answer e = enter_goes code s t th 0 f [] (w ∷ []) refl (λ h. empty_below code s t th)
 goes_in code s t th phase.Running answer e = act_goes code s t th (act_at code th.top) answer e refl

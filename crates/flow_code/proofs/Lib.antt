@@ -1,14 +1,15 @@
 pub mod Asked
-pub mod Calls
+pub mod Counting
 pub mod Counts
 pub mod Dues
+pub mod Endings
 pub mod Filling
 pub mod Goings
 pub mod Placing
-pub mod Printed
-pub mod Prints
 pub mod Quietly
 pub mod Ranges
 pub mod Runnable
 pub mod Settle
 pub mod Shapes
+mod StripeRows
+pub mod ValidParts

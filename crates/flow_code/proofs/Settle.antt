@@ -4,13 +4,14 @@ use Rattle.std.specs.Prelude.{slice_get, sum_by, fold}
 use Rattle.std.proofs.lemmas.Bool.{true≢false}
 use Rattle.sync_objects.specs.Setup.{SetupView}
 use Rattle.flow_code.specs.declared.code.Code.{Code}
-use Rattle.flow_code.specs.declared.thread.Due.{Due}
-use Rattle.flow_code.specs.declared.thread.Due.TheVariants as due
-use Rattle.flow_code.specs.declared.thread.Action.TheVariants as action
+use Rattle.abstract_machine.specs.declared.event.Due.{Due}
+use Rattle.flow_code.specs.declared.thread.Stripe.{Stripe}
+use Rattle.abstract_machine.specs.declared.event.Due.TheVariants as due
+use Rattle.abstract_machine.specs.declared.event.Action.TheVariants as action
 use Rattle.flow_code.specs.Threads.{Frame, Thread, instrs_in}
 use Rattle.flow_code.specs.Next.{due_of, action_of, action_at, stepped}
 use Rattle.flow_code.specs.Settle.{is_quiet, left_in, weight, settle_on, settle, settled, IsRunnable}
-use Rattle.flow_code.proofs.Quietly.{Moves, on, to_mark, back, quiet_moves, quiet_stands, quiet_answer, mark_is_due}
+use Rattle.flow_code.proofs.Quietly.{Moves, on, to_mark, back, forgets, quiet_moves, quiet_stands, quiet_answer, mark_is_due}
 
 -- sums over all frames but the last one
 
@@ -43,13 +44,13 @@ quiet_or_not (due.Trap kind) = inr refl
 not_quiet : (d : Due) → (d ≡ due.Quiet → ⊥) → is_quiet d ≡ false
 not_quiet d h = ⊎_elim (λ e. absurd (h e)) (λ e. e) (quiet_or_not d)
 
-pub weight_quiet : (code : Code) (s : SetupView) (t : ℕ) (th : Thread) → due_of code s t th ≡ due.Quiet → weight code s t th ≡ 1 + left_in code th.top + sum_by (left_in code) th.below
+pub weight_quiet : (code : Code) (s : SetupView) (t : ℕ) (th : Thread) → due_of code s t th ≡ due.Quiet → weight code s t th ≡ 1 + left_in code th.top + sum_by (left_in code) th.below + length th.stripes
 unfolding weight
-weight_quiet code s t th e = ap (λ d. if is_quiet d then 1 + left_in code th.top + sum_by (left_in code) th.below else 0) e
+weight_quiet code s t th e = ap (λ d. if is_quiet d then 1 + left_in code th.top + sum_by (left_in code) th.below + length th.stripes else 0) e
 
 pub weight_none : (code : Code) (s : SetupView) (t : ℕ) (th : Thread) → is_quiet (due_of code s t th) ≡ false → weight code s t th ≡ 0
 unfolding weight
-weight_none code s t th e = ap (λ b. if b then 1 + left_in code th.top + sum_by (left_in code) th.below else 0) e
+weight_none code s t th e = ap (λ b. if b then 1 + left_in code th.top + sum_by (left_in code) th.below + length th.stripes else 0) e
 
 left_by : (code : Code) (f g : Frame) → f.function ≡ g.function → left_in code f ≡ length (instrs_in (slice_get code.functions g.function)) - f.instr
 left_by code f g e = ap (λ k. length (instrs_in (slice_get code.functions k)) - f.instr) e
@@ -59,18 +60,26 @@ module _ (code : Code) (s : SetupView) (t : ℕ) (runnable : IsRunnable code) wh
   weight_moves th q e m = ⊎_elim (λ h. by h m) (λ h. let w = weight_quiet code s t th e in let v = weight_none code s t q h in omega arith) (quiet_or_not (due_of code s t q))
     where
       by : due_of code s t q ≡ due.Quiet → Moves code th q → weight code s t q < weight code s t th
-      by h (on below function further) =
+      by h (on below function further stripes) =
           let w = weight_quiet code s t th e in
           let v = weight_quiet code s t q h in
           let same = ap (sum_by (left_in code)) below in
+          let kept = ap (λ (z : List Stripe). length z) stripes in
           let left = left_by code q.top th.top function in
           let stands : th.top.instr < length (instrs_in (slice_get code.functions th.top.function)) = quiet_stands code s t th e in
           omega arith
-      by h (to_mark at) = absurd (mark_is_due code s t q at h)
-      by h (back f at below function further) =
+      by h (forgets below top fewer) =
           let w = weight_quiet code s t th e in
           let v = weight_quiet code s t q h in
           let same = ap (sum_by (left_in code)) below in
+          let left = ap (left_in code) top in
+          omega arith
+      by h (to_mark at) = absurd (mark_is_due code s t q at h)
+      by h (back f at below function further stripes) =
+          let w = weight_quiet code s t th e in
+          let v = weight_quiet code s t q h in
+          let same = ap (sum_by (left_in code)) below in
+          let kept = ap (λ (z : List Stripe). length z) stripes in
           let left = left_by code q.top f function in
           let rest = sum_without (left_in code) th.below (length th.below - 1) f at in
           let stands : th.top.instr < length (instrs_in (slice_get code.functions th.top.function)) = quiet_stands code s t th e in

@@ -12,7 +12,7 @@ use Rattle.flow_code.specs.declared.act.Instr.{Instr}
 use Rattle.flow_code.specs.declared.code.Code.{Code}
 use Rattle.flow_code.specs.declared.code.Function.{Function}
 use Rattle.flow_code.specs.declared.work.Work.TheVariants as work
-use Rattle.flow_code.specs.Pointers.{same_kind}
+use Rattle.abstract_machine.specs.Pointers.{same_kind}
 use Rattle.flow_code.specs.Kinds.{is_address}
 
 -- the address that an instruction computes

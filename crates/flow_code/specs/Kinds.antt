@@ -3,18 +3,19 @@ use Rattle.std.specs.Prelude.{ℕ, ◌+◌, ◌==◌, nat_lt, nat_le, ◌&&◌, 
 use Rattle.rr_base.specs.Words.{site_of, base_of, length_of, offset_of}
 use Rattle.flow_code.specs.declared.act.Act.{Act}
 use Rattle.flow_code.specs.declared.act.Act.TheVariants as act
-use Rattle.flow_code.specs.declared.act.LibraryCall.{LibraryCall}
-use Rattle.flow_code.specs.declared.act.LibraryCall.TheVariants as call
-use Rattle.flow_code.specs.declared.act.Piece.{Piece}
-use Rattle.flow_code.specs.declared.act.Piece.TheVariants as piece
+use Rattle.abstract_machine.specs.declared.library_call.LibraryCall.{LibraryCall}
+use Rattle.abstract_machine.specs.declared.library_call.LibraryCall.TheVariants as call
+use Rattle.abstract_machine.specs.declared.library_call.Piece.{Piece}
+use Rattle.abstract_machine.specs.declared.library_call.Piece.TheVariants as piece
 use Rattle.flow_code.specs.declared.code.Code.{Code}
 use Rattle.flow_code.specs.declared.code.Function.{Function}
 use Rattle.flow_code.specs.declared.work.Work.{Work}
 use Rattle.flow_code.specs.declared.work.Work.TheVariants as work
-use Rattle.flow_code.specs.declared.work.BinaryOp.{BinaryOp}
-use Rattle.flow_code.specs.declared.work.BinaryOp.TheVariants as op
+use Rattle.abstract_machine.specs.declared.operator.BinaryOp.{BinaryOp}
+use Rattle.abstract_machine.specs.declared.operator.BinaryOp.TheVariants as op
 use Rattle.flow_code.specs.Works.{is_pointer}
-use Rattle.flow_code.specs.Threads.{is_main_in, size_of}
+use Rattle.flow_code.specs.Threads.{is_main_in}
+use Rattle.abstract_machine.specs.Cells.{size_of}
 
 -- ---- registers
 

@@ -1,13 +1,13 @@
 pub mod Addresses
+pub mod Constants
+pub mod Holding
 pub mod Kinds
-pub mod Library
 pub mod Next
 pub mod Order
-pub mod Pointers
 pub mod Ranges
 pub mod Regions
 pub mod Settle
+pub mod Stripes
 pub mod Threads
 pub mod Valid
-pub mod Values
 pub mod Works

@@ -13,32 +13,27 @@ use Rattle.rr_base.specs.declared.layout.CellKind.TheVariants as kind
 use Rattle.flow_code.specs.declared.act.Act.{Act}
 use Rattle.flow_code.specs.declared.act.Act.TheVariants as act
 use Rattle.flow_code.specs.declared.act.Instr.{Instr}
+use Rattle.abstract_machine.specs.declared.library_call.LibraryCall.{LibraryCall}
 use Rattle.flow_code.specs.declared.code.Code.{Code}
 use Rattle.flow_code.specs.declared.code.Function.{Function}
 use Rattle.flow_code.specs.declared.thread.Phase.{Phase}
 use Rattle.flow_code.specs.declared.thread.Phase.TheVariants as phase
 use Rattle.flow_code.specs.declared.thread.Stripe.{Stripe}
-use Rattle.flow_code.specs.declared.thread.Due.{Due}
-use Rattle.flow_code.specs.declared.thread.Due.TheVariants as due
-use Rattle.flow_code.specs.declared.thread.Action.{Action}
-use Rattle.flow_code.specs.declared.thread.Action.TheVariants as action
-use Rattle.flow_code.specs.declared.thread.Onward.{Onward}
-use Rattle.flow_code.specs.declared.thread.Onward.TheVariants as onward
-use Rattle.flow_code.specs.Values.{number, word}
-use Rattle.flow_code.specs.Pointers.{resolved, pointer_at}
-use Rattle.flow_code.specs.Works.{register, is_pointer, work_of}
-use Rattle.flow_code.specs.Library.{Caller, count_in, library_due, library_onward, piece_of}
-use Rattle.flow_code.specs.Threads.{Frame, Thread, arena_end, argument_cell, result_cell, instr_at, line_of, is_main, size_of, objects_in, fitted, first_frame}
-
--- the most frames of a thread, the most entries that aren't ending ones, and the most of these that are revokes
-abbrev pub most_frames : ℕ
-most_frames = 1000
-
-abbrev pub most_entries : ℕ
-most_entries = 2 ^ 20
-
-abbrev pub most_revokes : ℕ
-most_revokes = 2 ^ 14
+use Rattle.abstract_machine.specs.declared.event.Due.{Due}
+use Rattle.abstract_machine.specs.declared.event.Due.TheVariants as due
+use Rattle.abstract_machine.specs.declared.event.Action.{Action}
+use Rattle.abstract_machine.specs.declared.event.Action.TheVariants as action
+use Rattle.abstract_machine.specs.declared.event.Onward.{Onward}
+use Rattle.abstract_machine.specs.declared.event.Onward.TheVariants as onward
+use Rattle.abstract_machine.specs.Values.{number, word}
+use Rattle.abstract_machine.specs.Pointers.{resolved, pointer_at}
+use Rattle.flow_code.specs.Works.{is_pointer, work_of}
+use Rattle.abstract_machine.specs.Registers.{register, words_of}
+use Rattle.abstract_machine.specs.Library.{Caller, count_in, library_due, library_onward, piece_of}
+use Rattle.flow_code.specs.Holding.{region_of, lacked, take_due, taken, to_give, give_due, gave, parting, parting_due, left_behind}
+use Rattle.flow_code.specs.Threads.{Frame, Thread, arena_end, instr_at, line_of, is_main, objects_in, fitted, first_frame}
+use Rattle.abstract_machine.specs.Cells.{argument_cell, result_cell, size_of, access_kind, cells_in, is_size}
+use Rattle.abstract_machine.specs.Limits.{is_free_of_limit, most_entries, most_frames}
 
 -- ---- frames
 
@@ -58,10 +53,6 @@ abbrev pub given : Frame → Option ℕ → ℕ → Frame
 given f None w = f
 given f (Some r) w = with_register f r w
 
--- the registers' words of some arguments
-abbrev pub words_of : List ℕ → List ℕ → List ℕ
-words_of registers arguments = map (register registers) arguments
-
 abbrev pub value_of : List ℕ → Option ℕ → ℕ
 value_of registers None = 0
 value_of registers (Some r) = register registers r
@@ -80,11 +71,6 @@ pointers_in (Some f) = f.pointers
 abbrev pub pointers_of : Code → Frame → List Bool
 pointers_of code frame = pointers_in (slice_get code.functions frame.function)
 
--- the kind of an access, by whether its other register is a pointer
-abbrev pub access_kind : Bool → CellKind
-access_kind true = kind.Pointer
-access_kind false = kind.Whole
-
 -- ---- what comes next by the code alone
 
 abbrev pub quiet_unless : Result ℕ Trap → Due
@@ -98,15 +84,6 @@ load_due (Err t) = due.Trap t
 abbrev pub store_due : Result ℕ Trap → ℕ → Due
 store_due (Ok c) w = due.Store c w
 store_due (Err t) w = due.Trap t
-
--- a size that `malloc` can give: 1 to 65,535 cells, and a whole number of the site's objects
-abbrev pub is_size : ℕ → ℤ → Bool
-is_size unit (pos n) = nat_le 1 n && nat_le n 65535 && not (unit == 0) && (n % unit == 0)
-is_size unit (negsuc n) = false
-
-abbrev pub cells_in : ℤ → ℕ
-cells_in (pos n) = n
-cells_in (negsuc n) = 0
 
 -- `malloc` (C99 7.20.3.3)
 abbrev pub malloc_due : ℕ → ℕ → ℕ → ℤ → Due
@@ -146,12 +123,12 @@ act_due code s t th (Some (act.LoadCell into through)) = load_due (resolved code
 act_due code s t th (Some (act.StoreCell through from)) = store_due (resolved code.sites (register th.top.registers through) (access_kind (is_pointer (pointers_of code th.top) from))) (register th.top.registers from)
 act_due code s t th (Some act.Mark) = due.Mark
 act_due code s t th (Some (act.Call function arguments into)) = enter_due code s t th (length th.below + 1) function
-act_due code s t th (Some (act.Library call arguments into)) = library_due (caller code s t th) call (words_of th.top.registers arguments) th.top.made th.top.kept
+act_due code s t th (Some (act.Library call arguments into)) = parting_due (parting call th.top.made th.stripes) (library_due (caller code s t th) call (words_of th.top.registers arguments) th.top.made th.top.kept)
 act_due code s t th (Some (act.Jump to)) = due.Quiet
 act_due code s t th (Some (act.Branch on then_at else_at)) = due.Quiet
 act_due code s t th (Some (act.Return value)) = return_due code t th (value_of th.top.registers value)
-act_due code s t th (Some (act.Take region)) = due.Quiet
-act_due code s t th (Some (act.Give region)) = due.Quiet
+act_due code s t th (Some (act.Take region)) = take_due code th (region_of code th.top region)
+act_due code s t th (Some (act.Give region)) = give_due code th region
 
 -- thread 0 has begun at the start and enters `main` by a Mark; any other thread begins, and loads its argument first
 abbrev pub begun_due : Code → SetupView → ℕ → Thread → ℕ → Due
@@ -166,10 +143,6 @@ phase_due code s t th phase.Running = act_due code s t th (act_at code th.top)
 phase_due code s t th _ = due.Nothing
 
 -- ---- limits, and stripes that are owed
-
--- operations that a thread at its limit still makes: those with which it ends, and those on stripes
-abbrev pub is_free_of_limit : Op → Bool
-is_free_of_limit o = is_ending (name_of o) || is_weak (name_of o)
 
 -- any other event needs a count below the limit
 abbrev pub limited : Bool → Due → Due
@@ -187,12 +160,14 @@ first_owed (x ∷ xs) = if x.owed then Some x else first_owed xs
 abbrev pub retake : Stripe → Due
 retake x = due.Operate op.Retake (object.Weak x.lock x.stripe)
 
--- while stripes are owed, the thread makes no access and no mark, but takes the least of them again
+-- while stripes are owed, the thread makes no access, no mark and no other operation on a stripe, but takes the least of
+-- them again
 abbrev pub owing : Option Stripe → Due → Due
 owing None d = d
 owing (Some x) (due.Load c) = retake x
 owing (Some x) (due.Store c w) = retake x
 owing (Some x) due.Mark = retake x
+owing (Some x) (due.Operate o obj) = if is_weak (name_of o) then retake x else due.Operate o obj
 owing (Some x) d = d
 
 -- an operation that isn't an ending one needs room in the thread's list of entries
@@ -269,6 +244,15 @@ branch_to w then_at else_at = if w == 0 then else_at else then_at
 abbrev pub allocated : Thread → ℕ → ℕ → ℕ → Thread
 allocated th into site cells = record th { top = past (with_register th.top into (pointer_at site th.arena cells)); arena = th.arena + cells }
 
+-- a call of the library, with the answer to its event
+abbrev pub call_after : Code → SetupView → ℕ → Thread → LibraryCall → List ℕ → Option ℕ → ℤ → Thread
+call_after code s t th call arguments into answer = went_on (record th { printed = th.printed + length (piece_of call (words_of th.top.registers arguments)) }) into (library_onward (caller code s t th) call (words_of th.top.registers arguments) th.top.made th.top.kept answer)
+
+-- a Take or Give goes on once it has no operation left
+abbrev pub on_unless : {A : Type 0} → Option A → Thread → Thread
+on_unless None th = in_frame th (past th.top)
+on_unless (Some x) th = th
+
 abbrev pub act_after : Code → SetupView → ℕ → Thread → Option Act → ℤ → Thread
 act_after code s t th None answer = th
 act_after code s t th (Some (act.Compute into work)) answer = computed th into (work_of s.slots code.sites (pointers_of code th.top) th.top.registers work)
@@ -278,12 +262,12 @@ act_after code s t th (Some (act.LoadCell into through)) answer = in_frame th (p
 act_after code s t th (Some (act.StoreCell through from)) answer = in_frame th (past th.top)
 act_after code s t th (Some act.Mark) answer = in_frame th (past th.top)
 act_after code s t th (Some (act.Call function arguments into)) answer = entered code s t th (th.below ++ one_made th.top (pos 0) ∷ []) function (words_of th.top.registers arguments)
-act_after code s t th (Some (act.Library call arguments into)) answer = went_on (record th { printed = th.printed + length (piece_of call (words_of th.top.registers arguments)) }) into (library_onward (caller code s t th) call (words_of th.top.registers arguments) th.top.made th.top.kept answer)
+act_after code s t th (Some (act.Library call arguments into)) answer = left_behind th (parting call th.top.made th.stripes) (call_after code s t th call arguments into answer)
 act_after code s t th (Some (act.Jump to)) answer = in_frame th (jumped th.top to)
 act_after code s t th (Some (act.Branch on then_at else_at)) answer = in_frame th (jumped th.top (branch_to (register th.top.registers on) then_at else_at))
 act_after code s t th (Some (act.Return value)) answer = returned code th (value_of th.top.registers value)
-act_after code s t th (Some (act.Take region)) answer = in_frame th (past th.top)
-act_after code s t th (Some (act.Give region)) answer = in_frame th (past th.top)
+act_after code s t th (Some (act.Take region)) answer = on_unless (lacked code th (region_of code th.top region)) (taken code th (region_of code th.top region) (lacked code th (region_of code th.top region)))
+act_after code s t th (Some (act.Give region)) answer = on_unless (to_give code th region) (gave code th region)
 
 abbrev pub begun_after : Code → SetupView → ℕ → Thread → ℕ → ℤ → Thread
 begun_after code s zero th f answer = entered code s zero th [] f []

@@ -4,26 +4,28 @@ use Rattle.sync_objects.specs.Setup.{SetupView}
 use Rattle.sync_objects.specs.declared.object.ObjId.TheVariants as object
 use Rattle.sync_objects.specs.declared.operation.Op.TheVariants as op
 use Rattle.flow_code.specs.declared.code.Code.{Code}
-use Rattle.flow_code.specs.declared.thread.Due.TheVariants as due
-use Rattle.flow_code.specs.Library.{most_printed}
+use Rattle.abstract_machine.specs.declared.event.Due.TheVariants as due
+use Rattle.abstract_machine.specs.Library.{most_printed}
 use Rattle.flow_code.specs.Threads.{Frame, Thread, arena_end, instrs_in}
-use Rattle.flow_code.specs.Next.{most_frames, most_entries, most_revokes, due_of, has_ended}
+use Rattle.flow_code.specs.Next.{due_of, has_ended}
+use Rattle.abstract_machine.specs.Limits.{most_frames, most_entries, most_revokes}
 
 -- a thread makes no more events than the limit says, but for those with which it ends: it has one more behind it where it
--- is about to leave the live threads, and at most two more once it has ended
-pub data IsCounted (code : Code) (s : SetupView) (t : ℕ) (th : Thread) : Type 0 where
-  within : th.count ≤ s.limit → IsCounted code s t th
-  leaving : th.count ≤ s.limit + 1 → due_of code s t th ≡ due.Operate op.Leave object.Threads → IsCounted code s t th
-  over : th.count ≤ s.limit + 2 → has_ended th.phase ≡ true → IsCounted code s t th
+-- is about to leave the live threads, and at most two more once it has ended. A thread that didn't start with the run may
+-- have begun with some events beyond the limit: `extra` is how many at most
+pub data IsCounted (code : Code) (s : SetupView) (extra t : ℕ) (th : Thread) : Type 0 where
+  within : th.count ≤ s.limit + extra → IsCounted code s extra t th
+  leaving : th.count ≤ s.limit + extra + 1 → due_of code s t th ≡ due.Operate op.Leave object.Threads → IsCounted code s extra t th
+  over : th.count ≤ s.limit + extra + 2 → has_ended th.phase ≡ true → IsCounted code s extra t th
 
--- the most events that an instruction has made before it makes its last one
+-- the most events of one instruction that a thread has made
 abbrev pub most_made : ℕ
-most_made = 3
+most_made = 8
 
--- what holds of the numbers of thread t from its start on: its events, entries, revokes and printed bytes are within their
+-- what holds of the numbers of thread t from its beginning on: its events, entries, revokes and printed bytes are within their
 -- limits, its arena isn't used up beyond its end, and each frame below stands at an instruction of its function
-pub record InRange (code : Code) (s : SetupView) (t : ℕ) (th : Thread) : Type 0 where
-  pub counted : IsCounted code s t th
+pub record InRange (code : Code) (s : SetupView) (extra t : ℕ) (th : Thread) : Type 0 where
+  pub counted : IsCounted code s extra t th
   pub few_entries : th.entries ≤ most_entries
   pub few_revokes : th.revokes ≤ most_revokes
   pub few_printed : th.printed ≤ most_printed

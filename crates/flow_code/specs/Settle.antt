@@ -4,12 +4,13 @@ use Rattle.sync_objects.specs.Setup.{SetupView}
 use Rattle.flow_code.specs.declared.act.Act.{Act}
 use Rattle.flow_code.specs.declared.act.Act.TheVariants as act
 use Rattle.flow_code.specs.declared.act.Instr.{Instr}
-use Rattle.flow_code.specs.declared.act.LibraryCall.{LibraryCall}
-use Rattle.flow_code.specs.declared.act.LibraryCall.TheVariants as call
+use Rattle.abstract_machine.specs.declared.library_call.LibraryCall.{LibraryCall}
+use Rattle.abstract_machine.specs.declared.library_call.LibraryCall.TheVariants as call
 use Rattle.flow_code.specs.declared.code.Code.{Code}
-use Rattle.flow_code.specs.declared.thread.Due.{Due}
-use Rattle.flow_code.specs.declared.thread.Due.TheVariants as due
-use Rattle.flow_code.specs.declared.thread.Action.{Action}
+use Rattle.abstract_machine.specs.declared.event.Due.{Due}
+use Rattle.abstract_machine.specs.declared.event.Due.TheVariants as due
+use Rattle.abstract_machine.specs.declared.event.Action.{Action}
+use Rattle.abstract_machine.specs.Library.{IsSoundCall}
 use Rattle.flow_code.specs.Threads.{Frame, Thread, instrs_in}
 use Rattle.flow_code.specs.Next.{due_of, action_at, stepped, act_in}
 
@@ -21,9 +22,10 @@ is_quiet _ = false
 abbrev pub left_in : Code → Frame → ℕ
 left_in code f = length (instrs_in (slice_get code.functions f.function)) - f.instr
 
--- how many quiet steps may come at most: none where what is due isn't one
+-- how many quiet steps may come at most: none where what is due isn't one, else one for each instruction that may be passed
+-- and one for each stripe that may be forgotten
 unfoldable pub weight : Code → SetupView → ℕ → Thread → ℕ
-weight code s t th = if is_quiet (due_of code s t th) then 1 + left_in code th.top + sum_by (left_in code) th.below else 0
+weight code s t th = if is_quiet (due_of code s t th) then 1 + left_in code th.top + sum_by (left_in code) th.below + length th.stripes else 0
 
 abbrev pub settle_on : (Thread → Thread) → Code → SetupView → ℕ → Thread → Bool → Thread
 settle_on next code s t th true = next (stepped code s t th (pos 0))
@@ -49,11 +51,6 @@ after code s t th answer = stepped code s t (settled code s t th) answer
 -- each jump goes on, or back to a Mark
 abbrev pub IsJump : List Instr → ℕ → ℕ → Type 0
 IsJump is at to = (at < to) ⊎ (act_in (slice_get is to) ≡ Some act.Mark)
-
--- a function with which a thread is started has a number that its slot's word can hold
-abbrev pub IsSoundCall : LibraryCall → Type 0
-IsSoundCall (call.Create function) = function < 2 ^ 20
-IsSoundCall _ = Unit {0}
 
 abbrev pub IsSoundAct : List Instr → ℕ → Option Act → Type 0
 IsSoundAct is at (Some (act.Jump to)) = IsJump is at to

@@ -11,7 +11,8 @@ use Rattle.flow_code.specs.declared.code.Function.{Function}
 use Rattle.flow_code.specs.declared.thread.Phase.{Phase}
 use Rattle.flow_code.specs.declared.thread.Phase.TheVariants as phase
 use Rattle.flow_code.specs.declared.thread.Stripe.{Stripe}
-use Rattle.flow_code.specs.Pointers.{site_at, pointer_at}
+use Rattle.abstract_machine.specs.Pointers.{site_at, pointer_at}
+use Rattle.abstract_machine.specs.Cells.{size_of}
 
 -- a frame: its function and instruction, how many events of this instruction are made and the last answer that it
 -- keeps, and its registers
@@ -44,13 +45,6 @@ pub record Thread : Type 0 where
   pub regions : List OpenRegion
 
 -- cells: two hand-off cells for each slot, then the globals, then one arena for each slot
-
--- the cell by which thread k is handed its argument, and the one by which it hands back its result
-abbrev pub argument_cell : ℕ → ℕ
-argument_cell k = 2 * k
-
-abbrev pub result_cell : ℕ → ℕ
-result_cell k = 2 * k + 1
 
 -- the first cell of the arena of thread k, and the first behind it
 abbrev pub arena_start : Code → SetupView → ℕ → ℕ
@@ -92,14 +86,6 @@ abbrev pub is_main : Code → ℕ → Bool
 is_main code f = is_main_in (slice_get code.functions f)
 
 -- entering a function
-
--- the size of the site's objects
-abbrev pub size_in : Option Site → ℕ
-size_in None = 0
-size_in (Some site) = site.layout.size
-
-abbrev pub size_of : List Site → ℕ → ℕ
-size_of sites k = size_in (site_at sites k)
 
 -- an object that a function has from its entry on: the register that gets its pointer, and its site
 pub data Object : Type 0 where

@@ -57,8 +57,12 @@ mains_have_no_formals fs = list_all (λ f. not (is_main_function f) || (f.formal
 abbrev pub has_one_main : List Function → Bool
 has_one_main fs = (mains_in fs == 1) && mains_have_no_formals fs
 
+-- the most weak locks: one for each of 64 classes of each of 1,023 sites
+abbrev pub most_locks : ℕ
+most_locks = 65472
+
 abbrev pub is_within_limits : Code → Bool
-is_within_limits code = nat_le (length code.functions) (2 ^ 20) && nat_le (length code.sites) 1023 && nat_le (length code.globals) (2 ^ 20)
+is_within_limits code = nat_le (length code.functions) (2 ^ 20) && nat_le (length code.sites) 1023 && nat_le (length code.globals) (2 ^ 20) && nat_le (length code.locks) most_locks
 
 -- a code is valid where it is within the limits; the cells of each site have kinds; each weak lock has a site and 1 or 8
 -- stripes; one function is `main`; what each function names is there, each register is used as the kind that it is, and

@@ -5,34 +5,16 @@ use Rattle.rr_base.specs.declared.trap.Trap.{Trap}
 use Rattle.rr_base.specs.declared.layout.Site.{Site}
 use Rattle.flow_code.specs.declared.work.Work.{Work}
 use Rattle.flow_code.specs.declared.work.Work.TheVariants as work
-use Rattle.flow_code.specs.declared.work.BinaryOp.{BinaryOp}
-use Rattle.flow_code.specs.declared.work.BinaryOp.TheVariants as op
-use Rattle.flow_code.specs.Values.{number, word, fitting, truth, binary_of}
-use Rattle.flow_code.specs.Pointers.{moved, moved_by, directed, compared, elements_between, pointer_to, number_from}
-
--- the word in a register
-abbrev pub register : List ℕ → ℕ → ℕ
-register registers r = slice_index_or registers r 0
+use Rattle.abstract_machine.specs.declared.operator.BinaryOp.{BinaryOp}
+use Rattle.abstract_machine.specs.declared.operator.BinaryOp.TheVariants as op
+use Rattle.abstract_machine.specs.Values.{number, word, fitting, truth, binary_of}
+use Rattle.abstract_machine.specs.Pointers.{moved, moved_by, directed, compared, elements_between, pointer_to, number_from}
+use Rattle.abstract_machine.specs.Registers.{register}
+use Rattle.abstract_machine.specs.Operators.{based, either_binary_of}
 
 -- whether a register holds a pointer
 abbrev pub is_pointer : List Bool → ℕ → Bool
 is_pointer pointers r = slice_index_or pointers r false
-
--- the address with its base counted from cell 0 in place of the first global cell
-abbrev pub based : ℕ → ℕ → ℕ
-based slots address = (address + 2 * slots * 2 ^ 32) % 2 ^ 64
-
--- an operator on two pointers: they compare by their offsets
-abbrev pub pointer_binary_of : List Site → BinaryOp → ℕ → ℕ → Result ℕ Trap
-pointer_binary_of sites op.Less v w = compared sites v w (truth (nat_lt (offset_of v) (offset_of w)))
-pointer_binary_of sites op.LessEqual v w = compared sites v w (truth (nat_le (offset_of v) (offset_of w)))
-pointer_binary_of sites op.Greater v w = compared sites v w (truth (nat_lt (offset_of w) (offset_of v)))
-pointer_binary_of sites op.GreaterEqual v w = compared sites v w (truth (nat_le (offset_of w) (offset_of v)))
-pointer_binary_of sites o v w = binary_of o v w
-
-abbrev pub either_binary_of : Bool → List Site → BinaryOp → ℕ → ℕ → Result ℕ Trap
-either_binary_of true sites o v w = pointer_binary_of sites o v w
-either_binary_of false sites o v w = binary_of o v w
 
 -- what a work gives: its word, or its trap
 abbrev pub work_of : ℕ → List Site → List Bool → List ℕ → Work → Result ℕ Trap

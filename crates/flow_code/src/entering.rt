@@ -3,12 +3,11 @@ ghost use Rattle.std.specs.Prelude.{◌≡◌, ◌≤◌, length, codes, nat_eq,
 ghost use Rattle.std.specs.Cmp.Lexicographic.{pointwise};
 ghost use Rattle.std.specs.Vec.{vec_capacity};
 ghost use Rattle.flow_code.specs.Threads as spec;
-ghost use Rattle.flow_code.specs.Next.{words_of};
+ghost use Rattle.abstract_machine.specs.Registers.{words_of};
 
 use crate::act::{Act, Instr};
-use crate::library::argument;
-use crate::pointers::{pointer_at, site_at};
 use crate::works::set_register;
+use abstract_machine::{argument, pointer_at, size_of};
 use rr_base::Site;
 
 /// Whether a function of this name is the program's `main` (C99 5.1.2.2.1).
@@ -16,16 +15,6 @@ pub fn is_main(name: &[u8]) -> bool
     ensures { result ≡ pointwise nat_eq name.now (codes "main") }
 {
     name == b"main".as_slice()
-}
-
-/// The size in cells of the site's objects, and 0 where the code doesn't have the site.
-pub fn size_of(sites: &[Site], site: u16) -> u32
-    ensures { result ≡ spec.size_of sites.now site }
-{
-    match site_at(sites, site) {
-        Some(site) => site.layout.size,
-        None => 0,
-    }
 }
 
 // The register and the site of the instruction's object, if it makes one at the entry.

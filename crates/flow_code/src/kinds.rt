@@ -3,11 +3,12 @@ ghost use Rattle.std.specs.Prelude.{◌≡◌, take, Some, None};
 ghost use Rattle.std.specs.Option.{option_copied};
 ghost use Rattle.flow_code.specs.Kinds as spec;
 
-use crate::act::{Act, LibraryCall, Piece};
+use crate::act::Act;
 use crate::code::{Code, Function};
-use crate::entering::{is_main, size_of};
-use crate::work::{BinaryOp, Work};
+use crate::entering::is_main;
+use crate::work::Work;
 use crate::works::is_pointer;
+use abstract_machine::{BinaryOp, LibraryCall, Piece, size_of};
 use rr_base::PtrWord;
 
 pub(crate) fn has_register(function: &Function, r: u32) -> bool

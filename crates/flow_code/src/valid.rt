@@ -1,11 +1,13 @@
 // Which codes are valid.
 ghost use Rattle.std.specs.Prelude.{◌≡◌, true};
+ghost use Rattle.flow_code.specs.Constants.{constants_fit as constants_fit_of};
 ghost use Rattle.flow_code.specs.Settle.{IsRunnable};
 ghost use Rattle.flow_code.specs.Valid as spec;
 
 use crate::act::Instr;
 use crate::addresses::globals_fit;
 use crate::code::{Code, Function, LockInfo, LoopInfo};
+use crate::constants::constants_fit;
 use crate::entering::is_main;
 use crate::kinds::act_fits;
 use crate::order::order_fits;
@@ -113,10 +115,16 @@ fn has_one_main(functions: &[Function]) -> bool
     mains_in(functions) == 1 && mains_have_no_formals(functions)
 }
 
+// One weak lock for each of 64 classes of each of 1,023 sites.
+const MOST_LOCKS: usize = 65_472;
+
 fn is_within_limits(code: &Code) -> bool
     ensures { result ≡ spec.is_within_limits code.now }
 {
-    code.functions.len() <= 1 << 20 && code.sites.len() <= 1023 && code.globals.len() <= 1 << 20
+    code.functions.len() <= 1 << 20
+        && code.sites.len() <= 1023
+        && code.globals.len() <= 1 << 20
+        && code.locks.len() <= MOST_LOCKS
 }
 
 fn conditions_hold(code: &Code) -> bool
@@ -134,6 +142,8 @@ fn conditions_hold(code: &Code) -> bool
 pub fn is_valid(code: &Code) -> bool
     ensures value { result ≡ spec.is_valid code.now }
     ensures runnable { result ≡ true → IsRunnable code.now }
+    ensures constants { result ≡ true → constants_fit_of code.now ≡ true }
 {
-    conditions_hold(code)
+    let holds = conditions_hold(code);
+    constants_fit(code) && holds
 }

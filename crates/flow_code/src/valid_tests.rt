@@ -1,7 +1,5 @@
-use crate::{
-    Act, Base, BinaryOp, Bound, Code, Function, Instr, LibraryCall, LockInfo, Piece, Region, Span,
-    Work, is_valid,
-};
+use crate::{Act, Base, Bound, Code, Function, Instr, LockInfo, Region, Span, Work, is_valid};
+use abstract_machine::{BinaryOp, LibraryCall, Piece};
 use rr_base::{Bytes, CellKind, Layout, List, PtrWord, Site};
 use std::alloc::{AllocError, Global};
 use std::test::Fail;

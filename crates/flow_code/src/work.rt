@@ -1,3 +1,4 @@
+use abstract_machine::BinaryOp;
 use rr_base::PtrWord;
 
 /// What an instruction computes from registers. The numbers are registers but where said otherwise.
@@ -40,25 +41,4 @@ pub enum Work {
     ToPointer(u32),
     /// A pointer cast to a number.
     ToNumber(u32),
-}
-
-/// A binary operator of C99 6.5.5 to 6.5.12.
-#[derive(Clone, Copy, Debug, PartialEq, Eq)]
-pub enum BinaryOp {
-    Add,
-    Subtract,
-    Multiply,
-    Divide,
-    Remainder,
-    And,
-    Or,
-    Xor,
-    ShiftLeft,
-    ShiftRight,
-    Less,
-    LessEqual,
-    Greater,
-    GreaterEqual,
-    Equal,
-    NotEqual,
 }

@@ -2,17 +2,12 @@
 ghost use Rattle.std.specs.Prelude.{◌≡◌, slice_set};
 ghost use Rattle.flow_code.specs.Works as spec;
 
-use crate::evaluate::{binary, negate, number, truth, word};
-use crate::pointers::{compared, elements_between, moved, moved_by, number_from, pointer_to};
-use crate::work::{BinaryOp, Work};
-use rr_base::{PtrWord, Site, Trap};
-
-/// The word in a register, and 0 in one that the frame doesn't have.
-pub fn register(registers: &[u64], r: u32) -> u64
-    ensures { result ≡ spec.register registers.now r }
-{
-    registers.get(r as usize).copied().unwrap_or(0)
-}
+use crate::work::Work;
+use abstract_machine::{
+    based, compared, either_binary, elements_between, moved, moved_by, negate, number, number_from,
+    pointer_to, register, truth, word,
+};
+use rr_base::{Site, Trap};
 
 /// Writes a word into a register, where the frame has it.
 pub fn set_register(registers: &mut Vec<u64>, r: u32, word: u64)
@@ -28,46 +23,6 @@ pub fn is_pointer(pointers: &[bool], r: u32) -> bool
     ensures { result ≡ spec.is_pointer pointers.now r }
 {
     pointers.get(r as usize).copied().unwrap_or(false)
-}
-
-fn based(slots: u8, address: PtrWord) -> u64
-    ensures { result ≡ spec.based slots address }
-{
-    address
-        .word()
-        .wrapping_add(2 * u64::from(slots) * (1 << 32))
-}
-
-fn pointer_binary(sites: &[Site], op: BinaryOp, left: u64, right: u64) -> Result<u64, Trap>
-    ensures { result ≡ spec.pointer_binary_of sites.now op left right }
-{
-    let (from, to) = (
-        PtrWord::from_word(left).offset(),
-        PtrWord::from_word(right).offset(),
-    );
-    match op {
-        BinaryOp::Less => compared(sites, left, right, truth(from < to)),
-        BinaryOp::LessEqual => compared(sites, left, right, truth(from <= to)),
-        BinaryOp::Greater => compared(sites, left, right, truth(from > to)),
-        BinaryOp::GreaterEqual => compared(sites, left, right, truth(from >= to)),
-        _ => binary(op, left, right),
-    }
-}
-
-fn either_binary(
-    are_pointers: bool,
-    sites: &[Site],
-    op: BinaryOp,
-    left: u64,
-    right: u64,
-) -> Result<u64, Trap>
-    ensures { result ≡ spec.either_binary_of are_pointers sites.now op left right }
-{
-    if are_pointers {
-        pointer_binary(sites, op, left, right)
-    } else {
-        binary(op, left, right)
-    }
 }
 
 /// What a work gives in a code with these sites, of a function with these pointers, in a frame with these registers,

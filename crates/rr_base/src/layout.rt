@@ -39,3 +39,10 @@ pub struct Place {
     pub site: u16,
     pub class: u8,
 }
+
+/// The object of a global: its site, and its first cell, counted from the first cell of all globals.
+#[derive(Clone, Copy, Debug, PartialEq, Eq)]
+pub struct GlobalObject {
+    pub site: u16,
+    pub base: u32,
+}

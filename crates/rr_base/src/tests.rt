@@ -7,7 +7,7 @@ fn bytes_of(alloc: Global, text: &str) -> Result<Bytes, Fail> {
 }
 
 #[test]
-fn pointer_words(rt: HostRuntime) -> Result<(), Fail> {
+fn parts_of_pointer_words(rt: HostRuntime) -> Result<(), Fail> {
     let word = PtrWord::pack(1, 34, 8, 7);
     let parts = (word.site(), word.base(), word.length(), word.offset());
     assert_eq!(rt; parts, (1, 34, 8, 7));
@@ -16,7 +16,12 @@ fn pointer_words(rt: HostRuntime) -> Result<(), Fail> {
     assert_eq!(rt; word.cell(), Ok(41));
     assert_eq!(rt; word.place(5), Place { site: 1, class: 2 });
     assert_eq!(rt; word.place(65), Place { site: 1, class: 0 });
+    Ok(())
+}
 
+#[test]
+fn moved_pointers(rt: HostRuntime) -> Result<(), Fail> {
+    let word = PtrWord::pack(1, 34, 8, 7);
     let behind = PtrWord::pack(1, 34, 8, 8);
     assert_eq!(rt; word.moved(1), Ok(behind));
     assert_eq!(rt; behind.cell(), Err(Trap::OutOfObject));
@@ -25,7 +30,11 @@ fn pointer_words(rt: HostRuntime) -> Result<(), Fail> {
     assert_eq!(rt; behind.moved(i64::MAX), Err(Trap::OutOfObject));
     assert_eq!(rt; PtrWord::null().moved(0), Err(Trap::BadDereference));
     assert_eq!(rt; PtrWord::null().cell(), Err(Trap::BadDereference));
+    Ok(())
+}
 
+#[test]
+fn numbers_in_pointer_words(rt: HostRuntime) -> Result<(), Fail> {
     // A number, and the word that holds it: 54 bits, two's complement.
     let rows = [
         (0, 0),
@@ -48,7 +57,13 @@ fn pointer_words(rt: HostRuntime) -> Result<(), Fail> {
     }
     assert_eq!(rt; PtrWord::of_number(9007199254740992), Err(Trap::CastRange));
     assert_eq!(rt; PtrWord::of_number(-9007199254740993), Err(Trap::CastRange));
+    let word = PtrWord::pack(1, 34, 8, 7);
     assert_eq!(rt; word.to_number(), Err(Trap::PointerToNumber));
+    Ok(())
+}
+
+#[test]
+fn numbers_of_traps(rt: HostRuntime) -> Result<(), Fail> {
     assert_eq!(rt;
         (Trap::DivideByZero.number(), Trap::LogFull.number()),
         (1, 17)
@@ -57,7 +72,7 @@ fn pointer_words(rt: HostRuntime) -> Result<(), Fail> {
 }
 
 #[test]
-fn lists(rt: HostRuntime) -> Result<(), Fail> {
+fn growing_lists(rt: HostRuntime) -> Result<(), Fail> {
     let alloc = rt.alloc();
     let mut list = List::with_capacity(alloc, 4)?;
     list.push(1u8)?;
@@ -69,11 +84,25 @@ fn lists(rt: HostRuntime) -> Result<(), Fail> {
         (list.first(), list.last(), list.get(5)),
         (Some(&7), Some(&6), None)
     );
+    Ok(())
+}
+
+#[test]
+fn equal_lists(rt: HostRuntime) -> Result<(), Fail> {
+    let alloc = rt.alloc();
+    let list = List::from_slice(alloc, &[7u8, 1, 4, 5, 6])?;
     let copy = list.copied(alloc)?;
     let clone = list.clone()?;
     assert_eq!(rt; copy, clone);
     assert!(rt; copy < List::from_slice(alloc, &[7, 2])?);
     assert_eq!(rt; list.iter().rev().count(), 5);
+    Ok(())
+}
+
+#[test]
+fn shrinking_lists(rt: HostRuntime) -> Result<(), Fail> {
+    let alloc = rt.alloc();
+    let mut list = List::from_slice(alloc, &[7u8, 1, 4, 5, 6])?;
     list.truncate(4);
     assert_eq!(rt; list.len(), 4);
     list.set(0, 8);
@@ -81,21 +110,28 @@ fn lists(rt: HostRuntime) -> Result<(), Fail> {
     assert_eq!(rt; list.remove(1), 4);
     assert_eq!(rt; list.pop(), Some(5));
     assert_eq!(rt; list.as_slice(), [1].as_slice());
-    let mut sum = 0;
-    for item in &copy {
-        sum ^= *item;
-    }
-    for item in clone {
-        sum ^= item;
-    }
-    assert_eq!(rt; sum, 0);
     list.clear();
     assert!(rt; list.is_empty());
     Ok(())
 }
 
 #[test]
-fn sources_and_sinks(rt: HostRuntime) -> Result<(), Fail> {
+fn loops_over_lists(rt: HostRuntime) -> Result<(), Fail> {
+    let list = List::from_slice(rt.alloc(), &[7u8, 1, 4])?;
+    let mut sum = 0;
+    for item in &list {
+        sum ^= *item;
+    }
+    assert_eq!(rt; sum, 2);
+    for item in list {
+        sum ^= item;
+    }
+    assert_eq!(rt; sum, 0);
+    Ok(())
+}
+
+#[test]
+fn reads_to_the_end(rt: HostRuntime) -> Result<(), Fail> {
     let alloc = rt.alloc();
     // The call that is to fail, how much may be read and written in one call, and what then comes.
     let reads = [
@@ -112,6 +148,12 @@ fn sources_and_sinks(rt: HostRuntime) -> Result<(), Fail> {
         let got = read_to_end(alloc, &mut source, most);
         assert_eq!(rt; got.map(|bytes| bytes.len()), want, "at {fails}");
     }
+    Ok(())
+}
+
+#[test]
+fn sound_sources(rt: HostRuntime) -> Result<(), Fail> {
+    let alloc = rt.alloc();
     let mut source = SoundSource::sound(bytes_of(alloc, "chimera")?);
     let mut into = [0; 3];
     assert_eq!(rt; source.read(&mut into), Ok(3));
@@ -122,7 +164,12 @@ fn sources_and_sinks(rt: HostRuntime) -> Result<(), Fail> {
         bytes_of(alloc, "mera")?
     );
     assert!(rt; source.bytes().is_empty());
+    Ok(())
+}
 
+#[test]
+fn writes_all(rt: HostRuntime) -> Result<(), Fail> {
+    let alloc = rt.alloc();
     let writes = [
         (9, 3, Ok(()), "> goat"),
         (9, 1, Ok(()), "> goat"),
@@ -142,20 +189,31 @@ fn sources_and_sinks(rt: HostRuntime) -> Result<(), Fail> {
         );
         assert_eq!(rt; sink.bytes().as_slice(), held.as_bytes(), "at {fails}");
     }
+    Ok(())
+}
+
+#[test]
+fn sound_sinks(rt: HostRuntime) -> Result<(), Fail> {
+    let alloc = rt.alloc();
     let mut sink = SoundSink::sound(bytes_of(alloc, "")?, 2);
     assert_eq!(rt; sink.write(alloc, "lion".as_bytes()), Ok(2));
     assert_eq!(rt; sink.bytes().as_slice(), "li".as_bytes());
     Ok(())
 }
 
-#[test]
-fn shelves(rt: HostRuntime) -> Result<(), Fail> {
-    let alloc = rt.alloc();
+// A shelf whose file `a` is put twice, and whose calls with these numbers fail.
+fn shelf_of(alloc: Global, fails: &[u64]) -> Result<MemShelf, Fail> {
     let mut files = List::new(alloc);
     for (name, content) in [("a", "old"), ("b", ""), ("a", "snake")] {
         files.push((bytes_of(alloc, name)?, bytes_of(alloc, content)?))?;
     }
-    let mut shelf = MemShelf::new(files, List::from_slice(alloc, &[4, 5])?);
+    Ok(MemShelf::new(files, List::from_slice(alloc, fails)?))
+}
+
+#[test]
+fn gets_files(rt: HostRuntime) -> Result<(), Fail> {
+    let alloc = rt.alloc();
+    let mut shelf = shelf_of(alloc, &[4])?;
     let gets = [
         ("a", 2, Ok(3)),
         ("a", 4, Ok(5)),
@@ -167,6 +225,13 @@ fn shelves(rt: HostRuntime) -> Result<(), Fail> {
         let got = shelf.get(alloc, name, most);
         assert_eq!(rt; got.map(|bytes| bytes.len()), want, "at {name} {most}");
     }
+    Ok(())
+}
+
+#[test]
+fn puts_files(rt: HostRuntime) -> Result<(), Fail> {
+    let alloc = rt.alloc();
+    let mut shelf = shelf_of(alloc, &[0])?;
     assert_eq!(rt;
         shelf.put(alloc, "c", "lion".as_bytes()),
         Err(ShelfEnd::Failed)

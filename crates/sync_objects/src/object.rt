@@ -8,7 +8,7 @@ use crate::rows::{halt, lock, slot, threads};
 use crate::word::word_of;
 
 /// A synchronisation object. Mutexes, conditions and barriers are named by their cell.
-#[derive(Clone, Copy, Debug, PartialEq, Eq)]
+#[derive(Clone, Copy, Debug, PartialEq, Eq, Hash)]
 pub enum ObjId {
     Mutex(u32),
     Cond(u32),

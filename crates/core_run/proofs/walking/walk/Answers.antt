@@ -34,13 +34,13 @@ pub returns-then-not-made : goal.returns-then-not-made
 returns-then-not-made c =
     let split = rest_is c.args.entries.now c.loop-at.at c.at-entry.result.now c.at-entry.ensures in
     let w = walked_as c.args.code.now c.args.setup.now c.args.entries.now c.args.formula.now c.loop-at.at _ _ c.loop-at.flows.items c.loop-at.words.items c.loop-at.reads.items c.loop-at.out split c.loop-at.invariant.walked in
-    inl (walked_wrong c.args.code.now c.args.setup.now c.args.entries.now c.args.formula.now c.loop-at.at c.loop-at.flows.items c.loop-at.words.items c.loop-at.reads.items c.loop-at.out _ _ w (subst (PartStep c.args.code.now c.args.setup.now c.args.formula.now c.at-entry.result.now w.state c.make_part.new.flows.items c.make_part.new.words.items c.make_part.new.reads.items c.loop-at.out c.make_part.new.out) c.if-not-made.true (c.in_ok-made.ensures.part w.state w.shown)))
+    (c.loop-at.at, omega arith, inl (walked_wrong c.args.code.now c.args.setup.now c.args.entries.now c.args.formula.now c.loop-at.at c.loop-at.flows.items c.loop-at.words.items c.loop-at.reads.items c.loop-at.out _ _ w (subst (PartStep c.args.code.now c.args.setup.now c.args.formula.now c.at-entry.result.now w.state c.make_part.new.flows.items c.make_part.new.words.items c.make_part.new.reads.items c.loop-at.out c.make_part.new.out) c.if-not-made.true (c.in_ok-made.ensures.part w.state w.shown))))
 
 pub returns-then-not-have_ended : goal.returns-then-not-have_ended
 returns-then-not-have_ended c =
     let past : length c.args.entries.now ≤ c.loop-at.at = omega (arith, c.len-in-loop-at.ensures, c.loop-at-test.false) in
     let w = walked_as c.args.code.now c.args.setup.now c.args.entries.now c.args.formula.now c.loop-at.at _ _ c.loop-at.flows.items c.loop-at.words.items c.loop-at.reads.items c.loop-at.out (no_rest c.args.entries.now c.loop-at.at past) c.loop-at.invariant.walked in
-    inr (walked_unfinished c.args.code.now c.args.setup.now c.args.entries.now c.args.formula.now c.loop-at.at c.loop-at.flows.items c.loop-at.words.items c.loop-at.reads.items c.loop-at.out w (ap all_ended (sym c.deref.ensures.value) ∙ sym c.have_ended.ensures ∙ c.if-not-have_ended.true))
+    (c.loop-at.at, omega arith, inr (walked_unfinished c.args.code.now c.args.setup.now c.args.entries.now c.args.formula.now c.loop-at.at c.loop-at.flows.items c.loop-at.words.items c.loop-at.reads.items c.loop-at.out w (ap all_ended (sym c.deref.ensures.value) ∙ sym c.have_ended.ensures ∙ c.if-not-have_ended.true)))
 
 pub shown-requires : goal.shown-requires
 shown-requires c =

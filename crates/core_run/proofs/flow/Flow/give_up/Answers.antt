@@ -1,5 +1,5 @@
 use Rattle.std.proofs.Common.{◌<◌, ap, arith}
-use Rattle.flow_code.specs.Next.{most_entries, most_revokes}
+use Rattle.abstract_machine.specs.Limits.{most_entries, most_revokes}
 use Rattle.core_run.specs.Flows.{Running}
 use Rattle.core_run.proofs.FlowFacts.{sound_given_up}
 use Rattle.core_run.proofs.flow.Flow.give_up.Goals as goal

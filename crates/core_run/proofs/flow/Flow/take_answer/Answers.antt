@@ -1,7 +1,7 @@
 use Rattle.std.proofs.Common.{◌≡◌, ◌<◌, rules, to_z, of_z, FitsSigned, ap, ◌∙◌, subst}
 use Rattle.std.proofs.lemmas.Int.{to_z-of_z}
 use mir.Syntax.{w64}
-use Rattle.flow_code.specs.declared.thread.Action.TheVariants as action
+use Rattle.abstract_machine.specs.declared.event.Action.TheVariants as action
 use Rattle.flow_code.specs.Next.{after_due, stepped, action_at}
 use Rattle.flow_code.specs.Settle.{weight, settled}
 use Rattle.flow_code.proofs.Settle.{weight_taken, settled_taken}

@@ -1,0 +1,5 @@
+//! Tests of `core_run`: walks of logs on small codes. They stand apart, so that the crate is not proved again for them.
+#![tactic(auto)]
+
+#[cfg(test)]
+mod tests;
