@@ -7,9 +7,9 @@ use Rattle.rr_base.specs.Words.{pack}
 use Rattle.rr_base.specs.declared.layout.CellKind.TheVariants as kind
 use Rattle.rr_base.specs.declared.layout.Site.{Site}
 use Rattle.rr_base.specs.declared.trap.Trap.TheVariants as trap
-use Rattle.flow_code.specs.declared.work.BinaryOp.TheVariants as binary_op
-use Rattle.flow_code.specs.declared.thread.Action.TheVariants as action
-use Rattle.c_core.specs.declared.position.Position.{Position}
+use Rattle.abstract_machine.specs.declared.operator.BinaryOp.TheVariants as binary_op
+use Rattle.abstract_machine.specs.declared.event.Action.TheVariants as action
+use Rattle.rr_base.specs.declared.position.Position.{Position}
 use Rattle.c_core.specs.declared.value.Change.TheVariants as change
 use Rattle.c_core.specs.Core.{Exp, number, register, object, global, load, binary, copy, both, store, set_register, change_register, change_cell, call, no_exp, and_exp, Statement, block, compute, gives, branch, while_loop, do_loop, for_loop, continue_at, no_statement, and_statement, arrives, Function, Program}
 use Rattle.c_core.specs.Runs.{events, done, trapped}

@@ -3,9 +3,9 @@ use Rattle.std.specs.Prelude.{ℕ, ℤ, Bool, List, [], ◌∷◌, Option}
 use Rattle.c_lexer.specs.Bytes.{Text}
 use Rattle.rr_base.specs.declared.layout.CellKind.{CellKind}
 use Rattle.rr_base.specs.declared.layout.Site.{Site}
-use Rattle.flow_code.specs.declared.act.LibraryCall.{LibraryCall}
-use Rattle.flow_code.specs.declared.work.BinaryOp.{BinaryOp}
-use Rattle.c_core.specs.declared.position.Position.{Position}
+use Rattle.abstract_machine.specs.declared.library_call.LibraryCall.{LibraryCall}
+use Rattle.abstract_machine.specs.declared.operator.BinaryOp.{BinaryOp}
+use Rattle.rr_base.specs.declared.position.Position.{Position}
 use Rattle.c_core.specs.declared.value.UnaryOp.{UnaryOp}
 use Rattle.c_core.specs.declared.value.Change.{Change}
 

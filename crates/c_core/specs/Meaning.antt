@@ -8,18 +8,19 @@ use Rattle.rr_base.specs.declared.trap.Trap.{Trap}
 use Rattle.rr_base.specs.declared.trap.Trap.TheVariants as trap
 use Rattle.rr_base.specs.declared.layout.CellKind.{CellKind}
 use Rattle.rr_base.specs.declared.layout.Site.{Site}
-use Rattle.flow_code.specs.declared.act.LibraryCall.{LibraryCall}
-use Rattle.flow_code.specs.declared.thread.Due.{Due}
-use Rattle.flow_code.specs.declared.thread.Due.TheVariants as due
-use Rattle.flow_code.specs.declared.thread.Action.TheVariants as action
-use Rattle.flow_code.specs.declared.thread.Onward.{Onward}
-use Rattle.flow_code.specs.declared.thread.Onward.TheVariants as onward
-use Rattle.flow_code.specs.Values.{number, word, fitting, truth, binary_of}
-use Rattle.flow_code.specs.Pointers.{resolved, moved, moved_by, directed, compared, elements_between, pointer_to, number_from, pointer_at}
-use Rattle.flow_code.specs.Works.{based, either_binary_of}
-use Rattle.flow_code.specs.Library.{Caller, count_in, library_due, library_onward, piece_of}
-use Rattle.flow_code.specs.Threads.{argument_cell, result_cell, size_of}
-use Rattle.flow_code.specs.Next.{access_kind, most_frames, is_size, cells_in}
+use Rattle.abstract_machine.specs.declared.library_call.LibraryCall.{LibraryCall}
+use Rattle.abstract_machine.specs.declared.event.Due.{Due}
+use Rattle.abstract_machine.specs.declared.event.Due.TheVariants as due
+use Rattle.abstract_machine.specs.declared.event.Action.TheVariants as action
+use Rattle.abstract_machine.specs.declared.event.Onward.{Onward}
+use Rattle.abstract_machine.specs.declared.event.Onward.TheVariants as onward
+use Rattle.abstract_machine.specs.Values.{number, word, fitting, truth, binary_of}
+use Rattle.abstract_machine.specs.Pointers.{resolved, moved, moved_by, directed, compared, elements_between, pointer_to, number_from, pointer_at}
+use Rattle.abstract_machine.specs.Operators.{based, either_binary_of}
+use Rattle.abstract_machine.specs.Library.{Caller, count_in, library_due, library_onward, piece_of}
+use Rattle.abstract_machine.specs.Cells.{argument_cell, result_cell, size_of}
+use Rattle.abstract_machine.specs.Cells.{access_kind, is_size, cells_in}
+use Rattle.abstract_machine.specs.Limits.{most_frames}
 use Rattle.c_core.specs.declared.value.UnaryOp.{UnaryOp}
 use Rattle.c_core.specs.declared.value.UnaryOp.TheVariants as unary_op
 use Rattle.c_core.specs.declared.value.Change.{Change}

@@ -2,9 +2,9 @@
 use Rattle.std.specs.Prelude.{ℕ, ◌+◌, nat_le, nat_eq, ◌&&◌, Bool, false, not, if◌then◌else◌, ℤ, List, [], ◌∷◌, Result, Ok, Err}
 use Rattle.rr_base.specs.declared.trap.Trap.{Trap}
 use Rattle.rr_base.specs.declared.trap.Trap.TheVariants as trap
-use Rattle.flow_code.specs.declared.thread.Action.{Action}
-use Rattle.flow_code.specs.declared.thread.Action.TheVariants as action
-use Rattle.flow_code.specs.Next.{is_free_of_limit}
+use Rattle.abstract_machine.specs.declared.event.Action.{Action}
+use Rattle.abstract_machine.specs.declared.event.Action.TheVariants as action
+use Rattle.abstract_machine.specs.Limits.{is_free_of_limit}
 
 pub data Run : Type 0 where
   -- an event, and what follows on its answer

@@ -1,6 +1,6 @@
 -- The plain tree as which a tree of the crate shows.
 use Rattle.std.specs.Prelude.{Option, Some, None, map}
-use Rattle.c_core.specs.declared.position.Position.{Position}
+use Rattle.rr_base.specs.declared.position.Position.{Position}
 use Rattle.c_core.specs.declared.value.Simple.{Simple as RustSimple}
 use Rattle.c_core.specs.declared.value.Simple.TheVariants as simple
 use Rattle.c_core.specs.declared.value.Value.{Value}

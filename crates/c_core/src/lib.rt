@@ -1,13 +1,11 @@
 //! The core tree of a C source: what the source does, with names and types settled. It stands on `rr_base`, `c_tree` and
-//! `flow_code`, whose operators, calls and events it shares. What a core tree does is defined by recursion on it.
+//! `abstract_machine`, whose operators, calls and events it shares. What a core tree does is defined by recursion on it.
 #![tactic(auto)]
 
-mod position;
 mod program;
 mod statement;
 mod value;
 
-pub use position::Position;
 pub use program::{Arrival, Core, CoreFunction};
 pub use statement::Statement;
 pub use value::{Assignment, Call, Change, Choice, Operation, Simple, UnaryOp, Value};

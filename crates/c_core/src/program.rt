@@ -1,6 +1,5 @@
-use crate::position::Position;
 use crate::statement::Statement;
-use rr_base::{Bytes, CellKind, List, Site};
+use rr_base::{Bytes, CellKind, List, Position, Site};
 
 /// A formal that is kept in cells: the register in which its argument arrives, its object, and the place of its name in
 /// the definition.

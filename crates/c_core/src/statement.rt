@@ -1,6 +1,5 @@
-use crate::position::Position;
 use crate::value::Value;
-use rr_base::List;
+use rr_base::{List, Position};
 
 /// A statement (C99 6.8). A declaration in a block is the statements that give its objects their first values.
 #[derive(Drop)]

@@ -1,6 +1,5 @@
-use crate::position::Position;
-use flow_code::{BinaryOp, LibraryCall};
-use rr_base::{List, PtrWord};
+use abstract_machine::{BinaryOp, LibraryCall};
+use rr_base::{List, Position, PtrWord};
 
 /// An operator of C99 6.5.3.3 on a whole number. `Not` takes a pointer too.
 #[derive(Clone, Copy, Debug, PartialEq, Eq)]

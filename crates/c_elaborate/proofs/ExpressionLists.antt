@@ -1,12 +1,13 @@
 -- What expressions with commas between them, calls and steps are, by what was made of their parts.
 use Rattle.std.proofs.Common.{◌≡◌, List, Option, None, true, map, ap, ◌∙◌}
 use Rattle.c_lexer.specs.Bytes.{Text}
-use Rattle.flow_code.specs.declared.work.BinaryOp.{BinaryOp as FlowOp}
+use Rattle.abstract_machine.specs.declared.operator.BinaryOp.{BinaryOp as FlowOp}
 use Rattle.c_tree.specs.declared.expr.Expr.{Expr}
-use Rattle.c_tree.specs.Tree.{Place, call, listed}
+use Rattle.c_tree.specs.Tree.{call, listed}
+use Rattle.rr_base.specs.declared.position.Position.{Position}
 use Rattle.c_tree.specs.View.{exp_of}
 use Rattle.c_types.specs.Standing.{Target, no_target}
-use Rattle.c_core.specs.declared.position.Position.{Position}
+use Rattle.rr_base.specs.declared.position.Position.{Position}
 use Rattle.c_core.specs.Core as core
 use Rattle.c_elaborate.specs.Held.{Held, held_value, Part, value_in}
 use Rattle.c_elaborate.specs.Here.{Here}
@@ -22,7 +23,7 @@ comma_held h first first' rest rest' p tail v at at1 same_first same_rest same_a
     ∙ (ap (λ z. held_value (with_tail (value_of h (exp_of first)) (tail_of h (listed (map exp_of z)) None at1) at1)) same_rest
     ∙ ap (λ z. held_value (with_tail (value_of h (exp_of first)) (tail_of h (listed (map exp_of rest)) None z) z)) same_at))))
 
-pub call_is_held : (h : Here) (w : Target) (at : Place) (name name' : Text) (es es' : List Expr) (v : Held) → name' ≡ name → es' ≡ es → v ≡ held h w (call name' (listed (map exp_of es')) at) → v ≡ held h w (call name (listed (map exp_of es)) at)
+pub call_is_held : (h : Here) (w : Target) (at : Position) (name name' : Text) (es es' : List Expr) (v : Held) → name' ≡ name → es' ≡ es → v ≡ held h w (call name' (listed (map exp_of es')) at) → v ≡ held h w (call name (listed (map exp_of es)) at)
 call_is_held h w at name name' es es' v same_name same_es is =
     is
     ∙ (ap (λ z. held h w (call z (listed (map exp_of es')) at)) same_name

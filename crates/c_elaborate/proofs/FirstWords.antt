@@ -5,7 +5,7 @@ use Rattle.c_tree.specs.declared.declaration.Initial.{Initial}
 use Rattle.c_tree.specs.Tree.{listed_inits}
 use Rattle.c_tree.specs.View.{init_of}
 use Rattle.c_types.specs.Standing.{no_target}
-use Rattle.c_core.specs.declared.position.Position.{Position}
+use Rattle.rr_base.specs.declared.position.Position.{Position}
 use Rattle.c_core.specs.declared.value.Value.{Value}
 use Rattle.c_core.specs.View.{exp_of}
 use Rattle.c_elaborate.specs.Here.{Here}

@@ -1,9 +1,11 @@
 -- A block and a `for` stand in a scope of their own.
 use Rattle.std.proofs.Common.{◌≡◌, ℕ, ◌+◌, List, ◌++◌, [], map, Option, refl, sym, ap, ◌∙◌}
-use Rattle.c_tree.specs.Tree.{Place, place_at, Exp, Start, Statement, Parts, for_loop}
+use Rattle.c_tree.specs.Tree.{Exp, Start, Statement, Parts, for_loop}
+use Rattle.rr_base.specs.declared.position.Position.{Position}
+use Rattle.rr_base.specs.Positions.{position_at}
 use Rattle.c_types.specs.Scopes.{Known, opened}
-use Rattle.c_types.specs.Addresses.{Numbered, inside}
-use Rattle.c_types.proofs.Numbering.{behind_none, behind_both}
+use Rattle.c_sites.specs.Addresses.{Numbered, inside}
+use Rattle.c_sites.proofs.Numbering.{behind_none, behind_both}
 use Rattle.c_core.specs.Core as core
 use Rattle.c_elaborate.specs.Held.{position_of}
 use Rattle.c_elaborate.specs.Here.{Source, Frame, here_in}
@@ -19,7 +21,7 @@ block_made s f before within numbered inner ps made o n m =
     ∙ ap (λ (k : Numbered). all_elaborated (here_in s f (opened before) k) ps) n)
 
 -- a `for` whose scope is open
-abbrev pub for_within : Source → Frame → Known → Numbered → Start → Option Exp → Option Exp → Statement → Place → core.Statement
+abbrev pub for_within : Source → Frame → Known → Numbered → Start → Option Exp → Option Exp → Statement → Position → core.Statement
 for_within s f known numbered begin test next body at =
     core.for_loop
     (start_elaborated (here_in s f known numbered) begin)
@@ -28,7 +30,7 @@ for_within s f known numbered begin test next body at =
     (elaborated (here_after_start (here_in s f known numbered) begin) body)
     (position_of at)
 
-pub for_made : (s : Source) (f : Frame) (before within : Known) (numbered inner : Numbered) (begin : Start) (test next : Option Exp) (body : Statement) (at : Place) (made : core.Statement) →
+pub for_made : (s : Source) (f : Frame) (before within : Known) (numbered inner : Numbered) (begin : Start) (test next : Option Exp) (body : Statement) (at : Position) (made : core.Statement) →
     within ≡ opened before → inner ≡ inside numbered → made ≡ for_within s f within inner begin test next body at →
     made ≡ elaborated (here_in s f before numbered) (for_loop begin test next body at)
 for_made s f before within numbered inner begin test next body at made o n m =

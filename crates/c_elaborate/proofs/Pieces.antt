@@ -6,7 +6,7 @@ use Rattle.c_types.specs.declared.library.LibraryName.{LibraryName}
 use Rattle.c_types.specs.declared.library.LibraryName.TheVariants as library
 use Rattle.c_types.specs.Scopes.{Known}
 use Rattle.c_tree.specs.Tree.{Exps}
-use Rattle.c_core.specs.declared.position.Position.{Position}
+use Rattle.rr_base.specs.declared.position.Position.{Position}
 use Rattle.c_core.specs.declared.value.Value.{Value}
 use Rattle.c_core.specs.Core as core
 use Rattle.c_core.specs.View.{exp_of}

@@ -2,7 +2,7 @@
 use Rattle.std.proofs.Common.{◌≡◌, ℕ, pos, true, false, List, [], ◌∷◌, Some, refl, codes}
 use Rattle.rr_base.specs.Words.{pack}
 use Rattle.rr_base.specs.declared.layout.CellKind.TheVariants as cell
-use Rattle.flow_code.specs.declared.work.BinaryOp.TheVariants as flow
+use Rattle.abstract_machine.specs.declared.operator.BinaryOp.TheVariants as flow
 use Rattle.c_tree.specs.declared.ctype.Specifier.TheVariants as specifier
 use Rattle.c_tree.specs.declared.expr.AssignOp.TheVariants as assign_op
 use Rattle.c_tree.specs.declared.expr.BinaryOp.TheVariants as binary_op
@@ -10,9 +10,9 @@ use Rattle.c_tree.specs.declared.program.Params.TheVariants as params
 use Rattle.c_tree.specs.Tree.{assign, binary, number, declares, compute, gives, no_part, and_declares, and_does, defined, Outer, function, objects}
 use Rattle.c_types.specs.Constants.{constant_named}
 use Rattle.c_types.specs.Library.{library_named}
-use Rattle.c_types.specs.Addresses.{behind}
-use Rattle.c_types.proofs.SiteRows.{at, name_at, plain_at, int, n, first_source}
-use Rattle.c_core.specs.declared.position.Position.{Position}
+use Rattle.c_sites.specs.Addresses.{behind}
+use Rattle.c_sites.proofs.SiteRows.{at, name_at, plain_at, int, n, first_source}
+use Rattle.rr_base.specs.declared.position.Position.{Position}
 use Rattle.c_core.specs.Core as core
 use Rattle.c_elaborate.specs.Whole.{core_of_source}
 

@@ -2,10 +2,10 @@
 -- and the function with which a thread starts are no operands of a call.
 use Rattle.std.specs.Prelude.{ℕ, ◌==◌, nat_lt, Bool, true, false, not, ◌||◌, if◌then◌else◌, pos, List, [], ◌∷◌, ◌++◌, map, Option, Some, None}
 use Rattle.c_lexer.specs.Bytes.{Text}
-use Rattle.flow_code.specs.declared.act.LibraryCall.{LibraryCall}
-use Rattle.flow_code.specs.declared.act.LibraryCall.TheVariants as call
-use Rattle.flow_code.specs.declared.act.Piece.{Piece}
-use Rattle.flow_code.specs.declared.act.Piece.TheVariants as piece
+use Rattle.abstract_machine.specs.declared.library_call.LibraryCall.{LibraryCall}
+use Rattle.abstract_machine.specs.declared.library_call.LibraryCall.TheVariants as call
+use Rattle.abstract_machine.specs.declared.library_call.Piece.{Piece}
+use Rattle.abstract_machine.specs.declared.library_call.Piece.TheVariants as piece
 use Rattle.c_tree.specs.Tree.{Exp, Exps, no_exp, and_exp, named, text}
 use Rattle.c_types.specs.declared.format.Inside.{Inside}
 use Rattle.c_types.specs.declared.format.Inside.TheVariants as inside
@@ -17,8 +17,8 @@ use Rattle.c_types.specs.declared.library.LibraryName.TheVariants as library
 use Rattle.c_types.specs.declared.names.Signature.{Signature}
 use Rattle.c_types.specs.Scopes.{Known, Meaning, variable, function_of, function_numbered}
 use Rattle.c_types.specs.Format.{is_decimal}
-use Rattle.c_types.specs.Roots.{third_name}
-use Rattle.c_core.specs.declared.position.Position.{Position}
+use Rattle.c_sites.specs.Roots.{third_name}
+use Rattle.rr_base.specs.declared.position.Position.{Position}
 use Rattle.c_core.specs.Core as core
 use Rattle.c_elaborate.specs.Held.{Part, value_in, wanted_in}
 use Rattle.c_elaborate.specs.Here.{function_counted}

@@ -1,19 +1,20 @@
 -- The core tree of an expression (C99 6.5). One that is constant, and whose computing doesn't trap, is its value.
 use Rattle.std.specs.Prelude.{ℕ, Bool, true, false, if◌then◌else◌, ℤ, pos, List, [], ◌∷◌, ◌++◌, Option, Some, None, Result, Ok, Err}
 use Rattle.c_lexer.specs.Bytes.{Text}
-use Rattle.flow_code.specs.declared.work.BinaryOp.TheVariants as flow
-use Rattle.c_tree.specs.Tree.{Place, Exp, comma, assign, conditional, binary, prefix, sizeof_exp, sizeof_type, cast, index, member, arrow, post_increment, post_decrement, named, call, number, letter, text, null, paren, Exps, no_exp, and_exp}
+use Rattle.abstract_machine.specs.declared.operator.BinaryOp.TheVariants as flow
+use Rattle.c_tree.specs.Tree.{Exp, comma, assign, conditional, binary, prefix, sizeof_exp, sizeof_type, cast, index, member, arrow, post_increment, post_decrement, named, call, number, letter, text, null, paren, Exps, no_exp, and_exp}
+use Rattle.rr_base.specs.declared.position.Position.{Position}
 use Rattle.c_types.specs.declared.types.ObjectType.{ObjectType}
 use Rattle.c_types.specs.declared.library.Wanted.{Wanted}
 use Rattle.c_types.specs.Numbers.{Computed, is_zero}
 use Rattle.c_types.specs.Constants.{constant_named, is_constant}
-use Rattle.c_types.specs.Sizes.{value_here}
+use Rattle.c_rules.specs.Sizes.{value_here}
 use Rattle.c_types.specs.Scopes.{Known, Meaning, variable, function_of, seen, type_named}
 use Rattle.c_types.specs.Operands.{Standing, operand_of, type_operand}
 use Rattle.c_types.specs.Library.{library_named}
 use Rattle.c_types.specs.Standing.{Target, no_target, assigned_target, cast_target, struct_of, pointed_struct, standing, format_of}
-use Rattle.c_types.specs.Faults.{wants_of}
-use Rattle.c_core.specs.declared.position.Position.{Position}
+use Rattle.c_rules.specs.Faults.{wants_of}
+use Rattle.rr_base.specs.declared.position.Position.{Position}
 use Rattle.c_core.specs.Core as core
 use Rattle.c_elaborate.specs.declared.home.Home.{Home}
 use Rattle.c_elaborate.specs.declared.home.Home.TheVariants as home

@@ -4,14 +4,16 @@ use Rattle.rr_base.specs.declared.layout.Site.{Site}
 use Rattle.c_tree.specs.declared.name.Name.{Name}
 use Rattle.c_tree.specs.declared.ctype.Specifier.{Specifier}
 use Rattle.c_tree.specs.declared.program.Param.{Param}
-use Rattle.c_tree.specs.Tree.{Place, place_at, Declared, declared, Object, Declares, declares, Start, start_declares, start_computes, Statement, block, compute, break_at, continue_at, gives, branch, branch_else, while_loop, do_loop, for_loop, Parts, no_part, and_declares, and_does}
+use Rattle.c_tree.specs.Tree.{Declared, declared, Object, Declares, declares, Start, start_declares, start_computes, Statement, block, compute, break_at, continue_at, gives, branch, branch_else, while_loop, do_loop, for_loop, Parts, no_part, and_declares, and_does}
+use Rattle.rr_base.specs.declared.position.Position.{Position}
+use Rattle.rr_base.specs.Positions.{position_at}
 use Rattle.c_types.specs.declared.library.StarredType.{StarredType}
 use Rattle.c_types.specs.Scopes.{Known}
-use Rattle.c_types.specs.Declarators.{after_params}
-use Rattle.c_types.specs.Statements.{declared_by}
-use Rattle.c_types.specs.Spots.{is_kept}
-use Rattle.c_types.specs.Addresses.{is_among, numbered_from}
-use Rattle.c_core.specs.declared.position.Position.{Position}
+use Rattle.c_programs.specs.Declarators.{after_params}
+use Rattle.c_programs.specs.Statements.{declared_by}
+use Rattle.c_sites.specs.Spots.{is_kept}
+use Rattle.c_sites.specs.Addresses.{is_among, numbered_from}
+use Rattle.rr_base.specs.declared.position.Position.{Position}
 use Rattle.c_core.specs.Core as core
 use Rattle.c_elaborate.specs.declared.home.Home.{Home}
 use Rattle.c_elaborate.specs.declared.home.Home.TheVariants as home
@@ -103,7 +105,7 @@ pointers_of formals locals = map (λ l. l.is_pointer) formals ++ local_pointers 
 -- the site of each that is kept in cells
 abbrev pub sites_of : List Site → List Local → List ℕ
 sites_of sites [] = []
-sites_of sites (l ∷ ls) = (if l.is_kept then site_at sites (place_at l.line l.column) ∷ [] else []) ++ sites_of sites ls
+sites_of sites (l ∷ ls) = (if l.is_kept then site_at sites (position_at l.line l.column) ∷ [] else []) ++ sites_of sites ls
 
 abbrev pub arrivals_of : ℕ → ℕ → List Local → List core.Arrival
 arrivals_of r k [] = []

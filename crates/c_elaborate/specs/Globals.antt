@@ -4,18 +4,18 @@ use Rattle.rr_base.specs.declared.layout.CellKind.{CellKind}
 use Rattle.rr_base.specs.declared.layout.Site.{Site}
 use Rattle.rr_base.specs.Words.{pack}
 use Rattle.c_lexer.specs.Bytes.{Text}
-use Rattle.flow_code.specs.Values.{word}
+use Rattle.abstract_machine.specs.Values.{word}
 use Rattle.c_tree.specs.declared.ctype.Specifier.{Specifier}
 use Rattle.c_tree.specs.Tree.{Exp, named, prefix, paren, Init, value, braces, mutex_start, cond_start, Inits, no_init, and_init, Object, plain, initialised}
 use Rattle.c_types.specs.declared.types.ObjectType.{ObjectType}
 use Rattle.c_types.specs.Numbers.{Computed}
 use Rattle.c_types.specs.Constants.{is_constant}
-use Rattle.c_types.specs.Sizes.{value_here}
+use Rattle.c_rules.specs.Sizes.{value_here}
 use Rattle.c_types.specs.Scopes.{Known, with_name}
-use Rattle.c_types.specs.Declarators.{declared_type}
-use Rattle.c_types.specs.Initials.{part_at, part_type}
-use Rattle.c_types.specs.Statements.{declared_by, after_declared}
-use Rattle.c_types.specs.Spots.{Holder, a_global, a_local, an_allocation, Spot}
+use Rattle.c_programs.specs.Declarators.{declared_type}
+use Rattle.c_programs.specs.Initials.{part_at, part_type}
+use Rattle.c_programs.specs.Statements.{declared_by, after_declared}
+use Rattle.c_sites.specs.Spots.{Holder, a_global, a_local, an_allocation, Spot}
 use Rattle.c_elaborate.specs.Here.{Source, global_named}
 use Rattle.c_elaborate.specs.Initials.{kinds_of_some}
 

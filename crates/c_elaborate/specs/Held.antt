@@ -1,12 +1,12 @@
 -- What stands for an expression of a source, and the word that it gives where a number or a pointer is wanted (C99 6.3.2).
 use Rattle.std.specs.Prelude.{ℕ, Bool, true, false, if◌then◌else◌, pos}
-use Rattle.c_tree.specs.Tree.{Place}
+use Rattle.rr_base.specs.declared.position.Position.{Position}
 use Rattle.c_types.specs.Operands.{Standing, no_type, zero_literal, null_literal, a_value, a_place, Operand, any_operand, whole, zero_operand, null_operand, pointing, no_operand, operand_of}
-use Rattle.c_types.specs.Initials.{layered_is_array}
-use Rattle.c_core.specs.declared.position.Position.{Position}
+use Rattle.c_programs.specs.Initials.{layered_is_array}
+use Rattle.rr_base.specs.declared.position.Position.{Position}
 use Rattle.c_core.specs.Core as core
 
-abbrev pub position_of : Place → Position
+abbrev pub position_of : Position → Position
 position_of at = record { line = at.line; column = at.column }
 
 pub data Held : Type 0 where

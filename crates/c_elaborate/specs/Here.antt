@@ -4,12 +4,12 @@ use Rattle.rr_base.specs.declared.layout.CellKind.{CellKind}
 use Rattle.rr_base.specs.declared.layout.Site.{Site}
 use Rattle.c_lexer.specs.Bytes.{Text}
 use Rattle.c_lexer.specs.Names.{entry_of}
-use Rattle.c_tree.specs.Tree.{Place}
+use Rattle.rr_base.specs.declared.position.Position.{Position}
 use Rattle.c_types.specs.declared.types.ObjectType.{ObjectType}
 use Rattle.c_types.specs.Scopes.{Known, cells_of_some, cells_of_type, member_numbered, members_of}
-use Rattle.c_types.specs.Addresses.{Numbered, number_seen}
+use Rattle.c_sites.specs.Addresses.{Numbered, number_seen}
 use Rattle.c_types.specs.Operands.{Operand, pointing}
-use Rattle.c_core.specs.declared.position.Position.{Position}
+use Rattle.rr_base.specs.declared.position.Position.{Position}
 use Rattle.c_elaborate.specs.declared.home.Home.{Home}
 
 pub record Source : Type 0 where
@@ -39,7 +39,7 @@ here_in s f known numbers = record { source = s; frame = f; known = known; numbe
 
 -- ---- sites
 
-abbrev pub stands_at : Place → Site → Bool
+abbrev pub stands_at : Position → Site → Bool
 stands_at at s = (s.line == at.line) && (s.column == at.column)
 
 -- the first has the number 1
@@ -48,7 +48,7 @@ site_counted None = 0
 site_counted (Some i) = i + 1
 
 -- the number of the site that stands at the place
-abbrev pub site_at : List Site → Place → ℕ
+abbrev pub site_at : List Site → Position → ℕ
 site_at sites at = site_counted (position (stands_at at) sites)
 
 -- ---- names

@@ -8,8 +8,8 @@ use Rattle.c_types.specs.declared.types.ObjectType.{ObjectType}
 use Rattle.c_types.specs.Types.{kinds_of_type}
 use Rattle.c_types.specs.Scopes.{Known, cells_of_some}
 use Rattle.c_types.specs.Standing.{Target, no_target}
-use Rattle.c_types.specs.Initials.{part_at, part_type, value_target}
-use Rattle.c_core.specs.declared.position.Position.{Position}
+use Rattle.c_programs.specs.Initials.{part_at, part_type, value_target}
+use Rattle.rr_base.specs.declared.position.Position.{Position}
 use Rattle.c_core.specs.Core as core
 use Rattle.c_elaborate.specs.declared.home.Home.{Home}
 use Rattle.c_elaborate.specs.declared.home.Home.TheVariants as home

@@ -4,8 +4,8 @@ use Rattle.std.specs.Borrow.{Bor}
 use Rattle.indexmap.specs.IndexMap.{IndexMap}
 use Rattle.c_lexer.specs.Bytes.{Text}
 use Rattle.c_types.specs.Shown.{shown_standing}
-use Rattle.c_types.specs.Table.{known_of}
-use Rattle.c_types.specs.NumberTables.{numbered_of}
+use Rattle.c_programs.specs.Table.{known_of}
+use Rattle.c_sites.specs.NumberTables.{numbered_of}
 use Rattle.c_core.specs.View.{exp_of}
 use Rattle.c_elaborate.specs.declared.held.Held.{Held as RustHeld}
 use Rattle.c_elaborate.specs.declared.held.Held.TheVariants as rust

@@ -4,7 +4,7 @@ ghost use Rattle.std.specs.Option.{option_map};
 ghost use Rattle.c_tree.specs.Tree.{listed};
 ghost use Rattle.c_tree.specs.View as tree;
 ghost use Rattle.c_types.specs.Shown.{shown_meaning};
-ghost use Rattle.c_types.specs.Table.{known_of};
+ghost use Rattle.c_programs.specs.Table.{known_of};
 ghost use Rattle.c_types.specs.declared.format.Inside.TheVariants as met;
 ghost use Rattle.c_core.specs.View.{exp_of};
 ghost use Rattle.c_elaborate.specs.Calls as spec;
@@ -13,11 +13,13 @@ ghost use Rattle.c_elaborate.specs.Views.{part_of};
 use crate::held::Part;
 use crate::here::function_counted;
 use crate::make;
-use c_core::{Position, Value};
+use abstract_machine::{LibraryCall, Piece};
+use c_core::Value;
+use c_programs::Table;
+use c_sites::third_name;
 use c_tree::Expr;
-use c_types::{Inside, LibraryName, Meaning, StarredType, Table, Wanted, third_name};
-use flow_code::{LibraryCall, Piece};
-use rr_base::List;
+use c_types::{Inside, LibraryName, Meaning, StarredType, Wanted};
+use rr_base::{List, Position};
 use std::alloc::{AllocError, Global};
 
 /// The bytes, each as a piece.

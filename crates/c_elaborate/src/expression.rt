@@ -1,12 +1,13 @@
 //! The core tree of an expression (C99 6.5).
 ghost use Rattle.std.specs.Prelude.{◌≡◌, IfOk, None, map};
-ghost use Rattle.c_tree.specs.Tree.{listed, place_at};
+ghost use Rattle.c_tree.specs.Tree.{listed};
+ghost use Rattle.rr_base.specs.Positions.{position_at};
 ghost use Rattle.c_tree.specs.Tree as trees;
 ghost use Rattle.c_tree.specs.View as tree;
 ghost use Rattle.c_types.specs.Shown.{shown_maybe, shown_meaning, shown_standing, shown_target, shown_wants};
 ghost use Rattle.c_types.specs.Scopes.{seen};
 ghost use Rattle.c_types.specs.Standing.{standing};
-ghost use Rattle.c_types.specs.Table.{known_of};
+ghost use Rattle.c_programs.specs.Table.{known_of};
 ghost use Rattle.c_core.specs.View.{exp_of, maybe_of};
 ghost use Rattle.c_elaborate.specs.Held.{held_value, position_of, value_in};
 ghost use Rattle.c_elaborate.specs.Here.{home_of};
@@ -21,20 +22,21 @@ use crate::make;
 use crate::operators::{
     arrow, assigned, binary, cast, conditional, index, member, prefix, stepped,
 };
-use c_core::{Position, Value};
+use abstract_machine::BinaryOp as FlowOp;
+use c_core::Value;
+use c_programs::Table;
+use c_rules::{format_of, is_constant, judge, value_of, wants_of};
 use c_tree::Expr;
 use c_types::{
-    Meaning, Names, Operand, Standing, Table, Target, TypeRef, Wants, assigned_target, cast_target,
-    format_of, is_constant, judge, library_named, pointed_struct, struct_of, type_named, value_of,
-    wants_of,
+    Meaning, Names, Operand, Standing, Target, TypeRef, Wants, assigned_target, cast_target,
+    library_named, pointed_struct, struct_of, type_named,
 };
-use flow_code::BinaryOp as FlowOp;
-use rr_base::List;
+use rr_base::{List, Position};
 use std::alloc::{AllocError, Global};
 
 /// A place of the tree.
 pub fn position(line: u32, column: u32) -> Position
-    ensures { result ≡ position_of (place_at line column) }
+    ensures { result ≡ position_of (position_at line column) }
 {
     Position { line, column }
 }
@@ -399,7 +401,7 @@ fn call_held<'h>(
     es: &[Expr],
     at: (u32, u32),
 ) -> Result<Held, AllocError>
-    ensures { IfOk result (λ h. held_of h ≡ spec.held (here_of here.entry) (shown_target target.entry) (trees.call name.now (listed (map tree.exp_of es.now)) (place_at at.0 at.1))) }
+    ensures { IfOk result (λ h. held_of h ≡ spec.held (here_of here.entry) (shown_target target.entry) (trees.call name.now (listed (map tree.exp_of es.now)) (position_at at.0 at.1))) }
 {
     let _ = target;
     let wants = wants_of(here.table, name, format_of(es));

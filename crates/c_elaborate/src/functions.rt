@@ -2,12 +2,12 @@
 ghost use Rattle.std.specs.Prelude.{◌≡◌, ◌+◌, ◌++◌, IfOk, OnOk, length, map};
 ghost use Rattle.c_tree.specs.Tree.{listed_parts};
 ghost use Rattle.c_tree.specs.View as tree;
-ghost use Rattle.c_types.specs.Addresses as numbering;
-ghost use Rattle.c_types.specs.Addresses.{count_of_parts};
-ghost use Rattle.c_types.specs.Declarators.{after_params};
-ghost use Rattle.c_types.specs.NumberTables.{numbered_of};
-ghost use Rattle.c_types.specs.Statements.{after_parts, declared_by};
-ghost use Rattle.c_types.specs.Table.{known_of};
+ghost use Rattle.c_sites.specs.Addresses as numbering;
+ghost use Rattle.c_sites.specs.Addresses.{count_of_parts};
+ghost use Rattle.c_programs.specs.Declarators.{after_params};
+ghost use Rattle.c_sites.specs.NumberTables.{numbered_of};
+ghost use Rattle.c_programs.specs.Statements.{after_parts, declared_by};
+ghost use Rattle.c_programs.specs.Table.{known_of};
 ghost use Rattle.c_core.specs.View.{arrival_of, function_of, stmt_of};
 ghost use Rattle.c_elaborate.specs.Here.{here_in};
 ghost use Rattle.c_elaborate.specs.Statements as spec_statements;
@@ -20,10 +20,12 @@ use crate::home::Home;
 use crate::initials::sum;
 use crate::local::Local;
 use crate::statement::push_parts;
-use c_core::{Arrival, CoreFunction, Position, Statement};
+use c_core::{Arrival, CoreFunction, Statement};
+use c_programs::{Table, declare_param};
+use c_sites::{Marks, NumberTable, is_kept};
 use c_tree::{Declaration, Declarator, ForStart, Item, Name, Param, Part, Specifier, Stmt};
-use c_types::{Marks, NumberTable, StarredType, Table, declare_param, is_kept};
-use rr_base::{Bytes, List, Site};
+use c_types::StarredType;
+use rr_base::{Bytes, List, Position, Site};
 use std::alloc::{AllocError, Global};
 
 fn formal_of(param: &Param) -> Local

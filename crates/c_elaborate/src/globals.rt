@@ -3,23 +3,23 @@ ghost use Rattle.std.specs.Prelude.{◌≡◌, ◌+◌, ◌++◌, [], true, IfOk
 ghost use Rattle.rr_base.specs.Words.{pack};
 ghost use Rattle.c_tree.specs.Tree.{listed_inits, plain};
 ghost use Rattle.c_tree.specs.View.{declared_of, exp_of, init_of, object_of};
-ghost use Rattle.c_types.specs.Declarators.{declared_type};
-ghost use Rattle.c_types.specs.Initials.{part_at, part_type};
+ghost use Rattle.c_programs.specs.Declarators.{declared_type};
+ghost use Rattle.c_programs.specs.Initials.{part_at, part_type};
 ghost use Rattle.c_types.specs.Scopes.{with_name};
 ghost use Rattle.c_types.specs.Shown.{shown_maybe};
-ghost use Rattle.c_types.specs.SpotViews.{shown_holder, shown_spots};
-ghost use Rattle.c_types.specs.Statements.{after_declared, after_objects};
-ghost use Rattle.c_types.specs.Table.{known_of};
+ghost use Rattle.c_sites.specs.SpotViews.{shown_holder, shown_spots};
+ghost use Rattle.c_programs.specs.Statements.{after_declared, after_objects};
+ghost use Rattle.c_programs.specs.Table.{known_of};
 ghost use Rattle.c_elaborate.specs.Globals as spec;
 ghost use Rattle.c_elaborate.specs.Views.{globals_of, source_in};
 
 use crate::here::Source;
 use crate::initials::{kinds_of_some, sum};
+use c_programs::{Table, copy_of, declare_object, declared_type, part_at, ref_of};
+use c_rules::{is_constant, value_of};
+use c_sites::{Holder, Spot};
 use c_tree::{Declarator, Expr, Initial, Item, Specifier};
-use c_types::{
-    Holder, Names, Spot, Table, TypeRef, copy_of, declare_object, declared_type, is_constant,
-    part_at, ref_of, value_of,
-};
+use c_types::{Names, TypeRef};
 use indexmap::IndexMap;
 use rr_base::{CellKind, List, PtrWord, Site};
 use std::alloc::{AllocError, Global};

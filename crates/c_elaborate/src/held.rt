@@ -6,8 +6,10 @@ ghost use Rattle.c_elaborate.specs.Held as spec;
 ghost use Rattle.c_elaborate.specs.Views.{held_of, part_of};
 
 use crate::make;
-use c_core::{Position, Value};
-use c_types::{Operand, Standing, is_array};
+use c_core::Value;
+use c_programs::is_array;
+use c_types::{Operand, Standing};
+use rr_base::Position;
 use std::alloc::{AllocError, Global};
 
 /// What stands for an expression.

@@ -1,13 +1,15 @@
 //! What is known where an expression stands.
 ghost use Rattle.std.specs.Prelude.{◌≡◌, IfOk, position, slice_get};
-ghost use Rattle.c_tree.specs.Tree.{place_at};
+ghost use Rattle.rr_base.specs.Positions.{position_at};
 ghost use Rattle.c_types.specs.Shown.{shown_operand, shown_maybe};
 ghost use Rattle.c_types.specs.Scopes.{cells_of_some, members_of};
 ghost use Rattle.c_elaborate.specs.Here as spec;
 ghost use Rattle.c_elaborate.specs.Views.{source_in, frame_in, here_of};
 
 use crate::home::Home;
-use c_types::{Names, NumberTable, Operand, Table, TypeRef};
+use c_programs::Table;
+use c_sites::NumberTable;
+use c_types::{Names, Operand, TypeRef};
 use indexmap::IndexMap;
 use rr_base::{CellKind, List, PtrWord, Site};
 use std::alloc::AllocError;
@@ -45,13 +47,13 @@ pub struct Here<'h, 'a> {
 }
 
 fn stands_at(site: &Site, line: u32, column: u32) -> bool
-    ensures { result ≡ spec.stands_at (place_at line column) site.now }
+    ensures { result ≡ spec.stands_at (position_at line column) site.now }
 {
     site.line == line && site.column == column
 }
 
 fn site_placed(sites: &[Site], line: u32, column: u32) -> Option<usize>
-    ensures { result ≡ position (spec.stands_at (place_at line column)) sites.now }
+    ensures { result ≡ position (spec.stands_at (position_at line column)) sites.now }
 {
     sites.iter().position(|site| stands_at(site, line, column))
 }
@@ -59,7 +61,7 @@ fn site_placed(sites: &[Site], line: u32, column: u32) -> Option<usize>
 /// The number of the site that stands at the place, from 1; 0 where none does. More sites than 16 bits can count don't
 /// fit the memory of a machine that runs their source.
 pub fn site_at(sites: &[Site], line: u32, column: u32) -> Result<u16, AllocError>
-    ensures { IfOk result (λ n. n ≡ spec.site_at sites.now (place_at line column)) }
+    ensures { IfOk result (λ n. n ≡ spec.site_at sites.now (position_at line column)) }
 {
     match site_placed(sites, line, column) {
         None => Ok(0),

@@ -3,7 +3,7 @@ ghost use Rattle.std.specs.Prelude.{◌≡◌, ◌+◌, ◌++◌, ◌∷◌, [],
 ghost use Rattle.c_tree.specs.Tree.{listed_inits};
 ghost use Rattle.c_tree.specs.View.{init_of};
 ghost use Rattle.c_types.specs.Shown.{shown_maybe, shown_target};
-ghost use Rattle.c_types.specs.Initials.{value_target};
+ghost use Rattle.c_programs.specs.Initials.{value_target};
 ghost use Rattle.c_core.specs.Core as core;
 ghost use Rattle.c_core.specs.View.{exp_of, stmt_of};
 ghost use Rattle.c_elaborate.specs.Expressions.{is_pointer_type};
@@ -14,10 +14,11 @@ use crate::expression::{is_pointer_type, wanted};
 use crate::here::{Here, Source};
 use crate::home::Home;
 use crate::make;
-use c_core::{Position, Statement, Value};
+use c_core::{Statement, Value};
+use c_programs::{part_at, ref_of, value_target};
 use c_tree::Initial;
-use c_types::{ObjectType, Target, TypeRef, part_at, put_layered, ref_of, value_target};
-use rr_base::{CellKind, List};
+use c_types::{ObjectType, Target, TypeRef, put_layered};
+use rr_base::{CellKind, List, Position};
 use std::alloc::{AllocError, Global};
 
 /// The sum of two numbers of cells. More cells than 32 bits can count don't fit the memory of a machine.

@@ -1,5 +1,5 @@
 //! What a C source does, as a core tree: from a source whose types and names break no rule to the tree in which they are
-//! settled. It stands on `c_types` and `c_core`.
+//! settled. It stands on `c_sites` and `c_core`.
 #![tactic(auto)]
 
 mod calls;

@@ -3,11 +3,9 @@ ghost use Rattle.std.specs.Prelude.{◌≡◌, IfOk, map};
 ghost use Rattle.c_core.specs.Core as core;
 ghost use Rattle.c_core.specs.View.{exp_of, maybe_of, stmt_of};
 
-use c_core::{
-    Assignment, Call, Change, Choice, Operation, Position, Simple, Statement, UnaryOp, Value,
-};
-use flow_code::{BinaryOp, LibraryCall};
-use rr_base::{List, PtrWord};
+use abstract_machine::{BinaryOp, LibraryCall};
+use c_core::{Assignment, Call, Change, Choice, Operation, Simple, Statement, UnaryOp, Value};
+use rr_base::{List, Position, PtrWord};
 use std::alloc::{AllocError, Global};
 
 pub fn number(number: i64, at: Position) -> Value

@@ -10,10 +10,11 @@ ghost use Rattle.c_elaborate.specs.Views.{held_of, part_of, source_in};
 use crate::held::{Held, Part, is_pointing};
 use crate::here::Source;
 use crate::make;
-use c_core::{Change, Position, UnaryOp, Value};
+use abstract_machine::BinaryOp as FlowOp;
+use c_core::{Change, UnaryOp, Value};
 use c_tree::{AssignOp, BinaryOp, PrefixOp};
 use c_types::{Operand, are_whole};
-use flow_code::BinaryOp as FlowOp;
+use rr_base::Position;
 use std::alloc::{AllocError, Global};
 
 /// The operator on two words. `&&` and `||` are none.

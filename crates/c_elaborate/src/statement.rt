@@ -1,12 +1,13 @@
 //! The core tree of statements (C99 6.8). A declaration in a block is the statements that give its objects their first
 //! values.
 ghost use Rattle.std.specs.Prelude.{◌≡◌, ◌++◌, ◌∷◌, [], false, IfOk, OnOk, map};
-ghost use Rattle.c_tree.specs.Tree.{initialised, listed_parts, place_at};
+ghost use Rattle.c_tree.specs.Tree.{initialised, listed_parts};
+ghost use Rattle.rr_base.specs.Positions.{position_at};
 ghost use Rattle.c_tree.specs.View as tree;
-ghost use Rattle.c_types.specs.Addresses as numbering;
-ghost use Rattle.c_types.specs.NumberTables.{numbered_of};
-ghost use Rattle.c_types.specs.Statements as statements;
-ghost use Rattle.c_types.specs.Table.{known_of};
+ghost use Rattle.c_sites.specs.Addresses as numbering;
+ghost use Rattle.c_sites.specs.NumberTables.{numbered_of};
+ghost use Rattle.c_programs.specs.Statements as statements;
+ghost use Rattle.c_programs.specs.Table.{known_of};
 ghost use Rattle.c_tree.specs.Tree as trees;
 ghost use Rattle.c_core.specs.Core as core;
 ghost use Rattle.c_core.specs.View.{exp_of, maybe_of, stmt_of};
@@ -21,8 +22,10 @@ use crate::here::{Frame, Here, Source};
 use crate::initials::push_begun;
 use crate::make::{self, ForHead};
 use c_core::{Statement, Value};
+use c_programs::{Table, copy_of, declare_object, declared_type};
+use c_sites::NumberTable;
 use c_tree::{Declaration, Declarator, Expr, ForStart, Initial, Item, Part, Specifier, Stmt};
-use c_types::{NumberTable, Table, Target, copy_of, declare_object, declared_type};
+use c_types::Target;
 use rr_base::List;
 use std::alloc::{AllocError, Global};
 
@@ -58,7 +61,7 @@ fn push_initialised<'a>(
 ) -> Result<(), AllocError>
     ensures known { OnOk result (known_of table.new ≡ statements.after_declared (known_of table.old) false specifier.now (tree.declared_of declarator.now)) }
     ensures numbers { OnOk result (numbered_of numbers.new ≡ numbering.after_name (numbered_of numbers.old) (tree.declared_of declarator.now)) }
-    ensures out { OnOk result (map stmt_of out.new ≡ map stmt_of out.old ++ spec.object_elaborated (here_in (source_in source.now) (frame_in frame.now) (known_of table.old) (numbered_of numbers.old)) specifier.now (initialised (tree.declared_of declarator.now) (tree.init_of initial.now) (place_at at.0 at.1))) }
+    ensures out { OnOk result (map stmt_of out.new ≡ map stmt_of out.old ++ spec.object_elaborated (here_in (source_in source.now) (frame_in frame.now) (known_of table.old) (numbered_of numbers.old)) specifier.now (initialised (tree.declared_of declarator.now) (tree.init_of initial.now) (position_at at.0 at.1))) }
 {
     let of = declared_type(alloc, &*table, specifier, declarator)?;
     let kept = copy_of(alloc, &of)?;
@@ -283,7 +286,7 @@ fn while_loop<'a>(
 ) -> Result<Statement, AllocError>
     ensures known { OnOk result (known_of table.new ≡ known_of table.old) }
     ensures numbers { OnOk result (numbered_of numbers.new ≡ numbering.behind_statement (numbered_of numbers.old) (tree.stmt_of body.now)) }
-    ensures statement { IfOk result (λ s. stmt_of s ≡ spec.elaborated (here_in (source_in source.now) (frame_in frame.now) (known_of table.old) (numbered_of numbers.old)) (trees.while_loop (tree.exp_of test.now) (tree.stmt_of body.now) (place_at at.0 at.1))) }
+    ensures statement { IfOk result (λ s. stmt_of s ≡ spec.elaborated (here_in (source_in source.now) (frame_in frame.now) (known_of table.old) (numbered_of numbers.old)) (trees.while_loop (tree.exp_of test.now) (tree.stmt_of body.now) (position_at at.0 at.1))) }
 {
     let test = value_at(alloc, source, frame, &*table, &*numbers, test)?;
     let body = statement(alloc, source, frame, table, numbers, body)?;
@@ -303,7 +306,7 @@ fn do_loop<'a>(
 ) -> Result<Statement, AllocError>
     ensures known { OnOk result (known_of table.new ≡ known_of table.old) }
     ensures numbers { OnOk result (numbered_of numbers.new ≡ numbering.behind_statement (numbered_of numbers.old) (tree.stmt_of body.now)) }
-    ensures statement { IfOk result (λ s. stmt_of s ≡ spec.elaborated (here_in (source_in source.now) (frame_in frame.now) (known_of table.old) (numbered_of numbers.old)) (trees.do_loop (tree.stmt_of body.now) (tree.exp_of test.now) (place_at at.0 at.1))) }
+    ensures statement { IfOk result (λ s. stmt_of s ≡ spec.elaborated (here_in (source_in source.now) (frame_in frame.now) (known_of table.old) (numbered_of numbers.old)) (trees.do_loop (tree.stmt_of body.now) (tree.exp_of test.now) (position_at at.0 at.1))) }
 {
     let body = statement(alloc, source, frame, table, numbers, body)?;
     let test = value_at(alloc, source, frame, &*table, &*numbers, test)?;
@@ -372,7 +375,7 @@ fn for_loop<'a>(
 ) -> Result<Statement, AllocError>
     ensures known { OnOk result (known_of table.new ≡ statements.after_start (known_of table.old) (tree.start_of begin.now)) }
     ensures numbers { OnOk result (numbered_of numbers.new ≡ numbering.behind_statement (numbering.after_for_start (numbered_of numbers.old) (tree.start_of begin.now)) (tree.stmt_of body.now)) }
-    ensures statement { let h = (here_in (source_in source.now) (frame_in frame.now) (known_of table.old) (numbered_of numbers.old)) in let after = spec.here_after_start h (tree.start_of begin.now) in IfOk result (λ s. stmt_of s ≡ core.for_loop (spec.start_elaborated h (tree.start_of begin.now)) (spec.maybe_value after (tree.maybe_of test.now)) (spec.maybe_value after (tree.maybe_of step.now)) (spec.elaborated after (tree.stmt_of body.now)) (position_of (place_at at.0 at.1))) }
+    ensures statement { let h = (here_in (source_in source.now) (frame_in frame.now) (known_of table.old) (numbered_of numbers.old)) in let after = spec.here_after_start h (tree.start_of begin.now) in IfOk result (λ s. stmt_of s ≡ core.for_loop (spec.start_elaborated h (tree.start_of begin.now)) (spec.maybe_value after (tree.maybe_of test.now)) (spec.maybe_value after (tree.maybe_of step.now)) (spec.elaborated after (tree.stmt_of body.now)) (position_of (position_at at.0 at.1))) }
 {
     let head = for_head(alloc, source, frame, table, numbers, begin, test, step)?;
     let body = statement(alloc, source, frame, table, numbers, body)?;
@@ -394,8 +397,8 @@ fn for_statement<'a>(
     at: (u32, u32),
 ) -> Result<Statement, AllocError>
     ensures known { OnOk result (known_of table.new ≡ known_of table.old) }
-    ensures numbers { OnOk result (numbered_of numbers.new ≡ numbering.behind_statement (numbered_of numbers.old) (trees.for_loop (tree.start_of begin.now) (tree.maybe_of test.now) (tree.maybe_of step.now) (tree.stmt_of body.now) (place_at at.0 at.1))) }
-    ensures statement { IfOk result (λ s. stmt_of s ≡ spec.elaborated (here_in (source_in source.now) (frame_in frame.now) (known_of table.old) (numbered_of numbers.old)) (trees.for_loop (tree.start_of begin.now) (tree.maybe_of test.now) (tree.maybe_of step.now) (tree.stmt_of body.now) (place_at at.0 at.1))) }
+    ensures numbers { OnOk result (numbered_of numbers.new ≡ numbering.behind_statement (numbered_of numbers.old) (trees.for_loop (tree.start_of begin.now) (tree.maybe_of test.now) (tree.maybe_of step.now) (tree.stmt_of body.now) (position_at at.0 at.1))) }
+    ensures statement { IfOk result (λ s. stmt_of s ≡ spec.elaborated (here_in (source_in source.now) (frame_in frame.now) (known_of table.old) (numbered_of numbers.old)) (trees.for_loop (tree.start_of begin.now) (tree.maybe_of test.now) (tree.maybe_of step.now) (tree.stmt_of body.now) (position_at at.0 at.1))) }
 {
     table.open(alloc)?;
     numbers.open(alloc)?;

@@ -2,13 +2,13 @@
 ghost use Rattle.std.specs.Prelude.{◌≡◌, ◌+◌, ◌++◌, ◌∷◌, [], IfOk, OnOk, length, map};
 ghost use Rattle.c_tree.specs.Tree.{listed_parts};
 ghost use Rattle.c_tree.specs.View.{code_of, fields_of, outer_of, part_of, program_of};
-ghost use Rattle.c_types.specs.Addresses.{count_of_code, count_of_outer, count_of_parts, program_addressed};
-ghost use Rattle.c_types.specs.Declarators.{after_struct, listed_params};
-ghost use Rattle.c_types.specs.Programs as programs;
+ghost use Rattle.c_sites.specs.Addresses.{count_of_code, count_of_outer, count_of_parts, program_addressed};
+ghost use Rattle.c_programs.specs.Declarators.{after_struct, listed_params};
+ghost use Rattle.c_programs.specs.Programs as programs;
 ghost use Rattle.c_types.specs.Scopes.{opened};
-ghost use Rattle.c_types.specs.Spots.{program_sites, program_spots};
-ghost use Rattle.c_types.specs.Table.{known_of};
-ghost use Rattle.c_types.specs.Typed.{program_in};
+ghost use Rattle.c_sites.specs.Spots.{program_sites, program_spots};
+ghost use Rattle.c_programs.specs.Table.{known_of};
+ghost use Rattle.c_sites.specs.Typed.{program_in};
 ghost use Rattle.c_core.specs.View.{core_of, function_of};
 ghost use Rattle.c_elaborate.specs.Functions.{definition};
 ghost use Rattle.c_elaborate.specs.Globals as spec_globals;
@@ -19,11 +19,10 @@ use crate::functions::definition;
 use crate::globals::{global_kinds, globals_in, push_objects};
 use crate::here::Source;
 use c_core::{Core, CoreFunction};
+use c_programs::{Table, declare_function, listed, note_struct, signature_of};
+use c_sites::{Marks, Typed, addressed_in, kinds_of_structs, spots_in};
 use c_tree::{Body, External, Member, Name, Param, Params, Part, Program, Specifier};
-use c_types::{
-    Marks, StarredType, Table, Typed, addressed_in, declare_function, kinds_of_structs, listed,
-    note_struct, signature_of, spots_in,
-};
+use c_types::StarredType;
 use rr_base::{CellKind, List, Site};
 use std::alloc::{AllocError, Global};
 

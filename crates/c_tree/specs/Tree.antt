@@ -1,6 +1,7 @@
 -- The syntax tree as plain data. The types of the crate show as these: a list of trees of the same kind is data of its
 -- own, and a line and a column are one place.
 use Rattle.std.specs.Prelude.{ℕ, ℤ, Bool, List, [], ◌∷◌, Option}
+use Rattle.rr_base.specs.declared.position.Position.{Position}
 use Rattle.c_tree.specs.declared.name.Name.{Name}
 use Rattle.c_tree.specs.declared.ctype.Specifier.{Specifier}
 use Rattle.c_tree.specs.declared.ctype.CType.{CType}
@@ -9,37 +10,29 @@ use Rattle.c_tree.specs.declared.expr.BinaryOp.{BinaryOp}
 use Rattle.c_tree.specs.declared.expr.AssignOp.{AssignOp}
 use Rattle.c_tree.specs.declared.program.Params.{Params}
 
--- line and column, from 1
-pub record Place : Type 0 where
-  pub line : ℕ
-  pub column : ℕ
-
-abbrev pub place_at : ℕ → ℕ → Place
-place_at line column = record { line = line; column = column }
-
 mutual
   -- expressions, with the place of the own token last
   pub data Exp : Type 0 where
-    comma : Exp → Exps → Place → Exp
-    assign : Exp → AssignOp → Exp → Place → Exp
-    conditional : Exp → Exp → Exp → Place → Exp
-    binary : Exp → BinaryOp → Exp → Place → Exp
-    prefix : PrefixOp → Exp → Place → Exp
-    sizeof_exp : Exp → Place → Exp
-    sizeof_type : CType → Place → Exp
-    cast : CType → Exp → Place → Exp
-    index : Exp → Exp → Place → Exp
-    member : Exp → Name → Place → Exp
-    arrow : Exp → Name → Place → Exp
-    post_increment : Exp → Place → Exp
-    post_decrement : Exp → Place → Exp
-    named : List ℕ → Place → Exp
-    call : List ℕ → Exps → Place → Exp
-    number : ℤ → Place → Exp
-    letter : ℕ → Place → Exp
-    text : List ℕ → Place → Exp
-    null : Place → Exp
-    paren : Exp → Place → Exp
+    comma : Exp → Exps → Position → Exp
+    assign : Exp → AssignOp → Exp → Position → Exp
+    conditional : Exp → Exp → Exp → Position → Exp
+    binary : Exp → BinaryOp → Exp → Position → Exp
+    prefix : PrefixOp → Exp → Position → Exp
+    sizeof_exp : Exp → Position → Exp
+    sizeof_type : CType → Position → Exp
+    cast : CType → Exp → Position → Exp
+    index : Exp → Exp → Position → Exp
+    member : Exp → Name → Position → Exp
+    arrow : Exp → Name → Position → Exp
+    post_increment : Exp → Position → Exp
+    post_decrement : Exp → Position → Exp
+    named : List ℕ → Position → Exp
+    call : List ℕ → Exps → Position → Exp
+    number : ℤ → Position → Exp
+    letter : ℕ → Position → Exp
+    text : List ℕ → Position → Exp
+    null : Position → Exp
+    paren : Exp → Position → Exp
 
   pub data Exps : Type 0 where
     no_exp : Exps
@@ -53,9 +46,9 @@ mutual
   pub data Init : Type 0 where
     value : Exp → Init
     -- and whether a comma stands before the closing brace
-    braces : Inits → Bool → Place → Init
-    mutex_start : Place → Init
-    cond_start : Place → Init
+    braces : Inits → Bool → Position → Init
+    mutex_start : Position → Init
+    cond_start : Position → Init
 
   pub data Inits : Type 0 where
     no_init : Inits
@@ -64,10 +57,10 @@ mutual
 -- one declared object
 pub data Object : Type 0 where
   plain : Declared → Object
-  initialised : Declared → Init → Place → Object
+  initialised : Declared → Init → Position → Object
 
 pub data Declares : Type 0 where
-  declares : Specifier → List Object → Place → Declares
+  declares : Specifier → List Object → Position → Declares
 
 -- how a `for` begins
 pub data Start : Type 0 where
@@ -76,16 +69,16 @@ pub data Start : Type 0 where
 
 mutual
   pub data Statement : Type 0 where
-    block : Parts → Place → Statement
-    compute : Option Exp → Place → Statement
-    break_at : Place → Statement
-    continue_at : Place → Statement
-    gives : Option Exp → Place → Statement
-    branch : Exp → Statement → Place → Statement
-    branch_else : Exp → Statement → Statement → Place → Statement
-    while_loop : Exp → Statement → Place → Statement
-    do_loop : Statement → Exp → Place → Statement
-    for_loop : Start → Option Exp → Option Exp → Statement → Place → Statement
+    block : Parts → Position → Statement
+    compute : Option Exp → Position → Statement
+    break_at : Position → Statement
+    continue_at : Position → Statement
+    gives : Option Exp → Position → Statement
+    branch : Exp → Statement → Position → Statement
+    branch_else : Exp → Statement → Statement → Position → Statement
+    while_loop : Exp → Statement → Position → Statement
+    do_loop : Statement → Exp → Position → Statement
+    for_loop : Start → Option Exp → Option Exp → Statement → Position → Statement
 
   -- what stands in a block
   pub data Parts : Type 0 where
@@ -95,18 +88,18 @@ mutual
 
 -- what follows the parameters of a function
 pub data Code : Type 0 where
-  defined : Parts → Place → Code
+  defined : Parts → Position → Code
   prototype : Code
 
 -- members of one specifier
 pub data Fields : Type 0 where
-  fields : Specifier → List Declared → Place → Fields
+  fields : Specifier → List Declared → Position → Fields
 
 pub data Outer : Type 0 where
   structure : Name → List Fields → Outer
   -- whether `static` stands before it, the specifier, stars, the name
   function : Bool → Specifier → ℕ → Name → Params → Code → Outer
-  objects : Bool → Specifier → List Object → Place → Outer
+  objects : Bool → Specifier → List Object → Position → Outer
 
 -- ---- lists of trees
 

@@ -17,30 +17,32 @@ use Rattle.c_tree.specs.declared.program.Member.{Member}
 use Rattle.c_tree.specs.declared.program.External.{External}
 use Rattle.c_tree.specs.declared.program.External.TheVariants as external
 use Rattle.c_tree.specs.declared.program.Program.{Program}
-use Rattle.c_tree.specs.Tree.{Place, place_at, Exp, comma, assign, conditional, binary, prefix, sizeof_exp, sizeof_type, cast, index, member, arrow, post_increment, post_decrement, named, call, number, letter, text, null, paren, Exps, no_exp, and_exp, Declared, declared, Init, value, braces, mutex_start, cond_start, Inits, no_init, and_init, Object, plain, initialised, Declares, declares, Start, start_declares, start_computes, Statement, block, compute, break_at, continue_at, gives, branch, branch_else, while_loop, do_loop, for_loop, Parts, no_part, Code, defined, prototype, Fields, fields, Outer, structure, function, objects, Part, part_declares, part_does, with_part, listed_parts}
+use Rattle.c_tree.specs.Tree.{Exp, comma, assign, conditional, binary, prefix, sizeof_exp, sizeof_type, cast, index, member, arrow, post_increment, post_decrement, named, call, number, letter, text, null, paren, Exps, no_exp, and_exp, Declared, declared, Init, value, braces, mutex_start, cond_start, Inits, no_init, and_init, Object, plain, initialised, Declares, declares, Start, start_declares, start_computes, Statement, block, compute, break_at, continue_at, gives, branch, branch_else, while_loop, do_loop, for_loop, Parts, no_part, Code, defined, prototype, Fields, fields, Outer, structure, function, objects, Part, part_declares, part_does, with_part, listed_parts}
+use Rattle.rr_base.specs.declared.position.Position.{Position}
+use Rattle.rr_base.specs.Positions.{position_at}
 
 abbrev mutual
   pub exp_of : Expr → Exp
-  exp_of (Comma' p e shape row line column) = comma (exp_of e) (exps_of_row row) (place_at line column)
-  exp_of (Assign' p a op q b line column) = assign (exp_of a) op (exp_of b) (place_at line column)
-  exp_of (Conditional' p a q b r c line column) = conditional (exp_of a) (exp_of b) (exp_of c) (place_at line column)
-  exp_of (Binary' p a op q b line column) = binary (exp_of a) op (exp_of b) (place_at line column)
-  exp_of (Prefix' op p a line column) = prefix op (exp_of a) (place_at line column)
-  exp_of (SizeofExpr' p a line column) = sizeof_exp (exp_of a) (place_at line column)
-  exp_of (SizeofType t line column) = sizeof_type t (place_at line column)
-  exp_of (Cast' t p a line column) = cast t (exp_of a) (place_at line column)
-  exp_of (Index' p a q b line column) = index (exp_of a) (exp_of b) (place_at line column)
-  exp_of (Member' p a name line column) = member (exp_of a) name (place_at line column)
-  exp_of (Arrow' p a name line column) = arrow (exp_of a) name (place_at line column)
-  exp_of (PostIncrement' p a line column) = post_increment (exp_of a) (place_at line column)
-  exp_of (PostDecrement' p a line column) = post_decrement (exp_of a) (place_at line column)
-  exp_of (Name name line column) = named name (place_at line column)
-  exp_of (Call' name shape row line column) = call name (exps_of_row row) (place_at line column)
-  exp_of (Number n line column) = number n (place_at line column)
-  exp_of (Letter n line column) = letter n (place_at line column)
-  exp_of (Text bytes line column) = text bytes (place_at line column)
-  exp_of (Null line column) = null (place_at line column)
-  exp_of (Paren' p a line column) = paren (exp_of a) (place_at line column)
+  exp_of (Comma' p e shape row line column) = comma (exp_of e) (exps_of_row row) (position_at line column)
+  exp_of (Assign' p a op q b line column) = assign (exp_of a) op (exp_of b) (position_at line column)
+  exp_of (Conditional' p a q b r c line column) = conditional (exp_of a) (exp_of b) (exp_of c) (position_at line column)
+  exp_of (Binary' p a op q b line column) = binary (exp_of a) op (exp_of b) (position_at line column)
+  exp_of (Prefix' op p a line column) = prefix op (exp_of a) (position_at line column)
+  exp_of (SizeofExpr' p a line column) = sizeof_exp (exp_of a) (position_at line column)
+  exp_of (SizeofType t line column) = sizeof_type t (position_at line column)
+  exp_of (Cast' t p a line column) = cast t (exp_of a) (position_at line column)
+  exp_of (Index' p a q b line column) = index (exp_of a) (exp_of b) (position_at line column)
+  exp_of (Member' p a name line column) = member (exp_of a) name (position_at line column)
+  exp_of (Arrow' p a name line column) = arrow (exp_of a) name (position_at line column)
+  exp_of (PostIncrement' p a line column) = post_increment (exp_of a) (position_at line column)
+  exp_of (PostDecrement' p a line column) = post_decrement (exp_of a) (position_at line column)
+  exp_of (Name name line column) = named name (position_at line column)
+  exp_of (Call' name shape row line column) = call name (exps_of_row row) (position_at line column)
+  exp_of (Number n line column) = number n (position_at line column)
+  exp_of (Letter n line column) = letter n (position_at line column)
+  exp_of (Text bytes line column) = text bytes (position_at line column)
+  exp_of (Null line column) = null (position_at line column)
+  exp_of (Paren' p a line column) = paren (exp_of a) (position_at line column)
 
   pub exps_of_row : {n : _} → Row_of-Expr n → Exps
   exps_of_row end_of-Expr = no_exp
@@ -52,9 +54,9 @@ declared_of d = declared d.stars d.name (map exp_of d.lengths)
 abbrev mutual
   pub init_of : Initial → Init
   init_of (Value e) = value (exp_of e)
-  init_of (Braces' shape row trailing line column) = braces (inits_of_row row) trailing (place_at line column)
-  init_of (Mutex line column) = mutex_start (place_at line column)
-  init_of (Cond line column) = cond_start (place_at line column)
+  init_of (Braces' shape row trailing line column) = braces (inits_of_row row) trailing (position_at line column)
+  init_of (Mutex line column) = mutex_start (position_at line column)
+  init_of (Cond line column) = cond_start (position_at line column)
 
   pub inits_of_row : {n : _} → Row_of-Initial n → Inits
   inits_of_row end_of-Initial = no_init
@@ -62,10 +64,10 @@ abbrev mutual
 
 abbrev pub object_of : Item → Object
 object_of (item.Plain d) = plain (declared_of d)
-object_of (item.Initialised d i line column) = initialised (declared_of d) (init_of i) (place_at line column)
+object_of (item.Initialised d i line column) = initialised (declared_of d) (init_of i) (position_at line column)
 
 abbrev pub declares_of : Declaration → Declares
-declares_of d = declares d.specifier (map object_of d.items) (place_at d.line d.column)
+declares_of d = declares d.specifier (map object_of d.items) (position_at d.line d.column)
 
 abbrev pub maybe_of : Option Expr → Option Exp
 maybe_of None = None
@@ -75,21 +77,21 @@ abbrev pub start_of : ForStart → Start
 start_of (start.Declares d) = start_declares (declares_of d)
 start_of (start.Computes e) = start_computes (maybe_of e)
 
-abbrev pub branch_by : Exp → Statement → Option Statement → Place → Statement
+abbrev pub branch_by : Exp → Statement → Option Statement → Position → Statement
 branch_by e a None place = branch e a place
 branch_by e a (Some b) place = branch_else e a b place
 
 abbrev mutual
   pub stmt_of : Stmt → Statement
-  stmt_of (Block' shape row line column) = block (parts_of_row row) (place_at line column)
-  stmt_of (Expression e line column) = compute (maybe_of e) (place_at line column)
-  stmt_of (Break line column) = break_at (place_at line column)
-  stmt_of (Continue line column) = continue_at (place_at line column)
-  stmt_of (Return e line column) = gives (maybe_of e) (place_at line column)
-  stmt_of (If' e p a held line column) = branch_by (exp_of e) (stmt_of a) (held_of held) (place_at line column)
-  stmt_of (While' e p a line column) = while_loop (exp_of e) (stmt_of a) (place_at line column)
-  stmt_of (Do' p a e line column) = do_loop (stmt_of a) (exp_of e) (place_at line column)
-  stmt_of (For' begin test next p a line column) = for_loop (start_of begin) (maybe_of test) (maybe_of next) (stmt_of a) (place_at line column)
+  stmt_of (Block' shape row line column) = block (parts_of_row row) (position_at line column)
+  stmt_of (Expression e line column) = compute (maybe_of e) (position_at line column)
+  stmt_of (Break line column) = break_at (position_at line column)
+  stmt_of (Continue line column) = continue_at (position_at line column)
+  stmt_of (Return e line column) = gives (maybe_of e) (position_at line column)
+  stmt_of (If' e p a held line column) = branch_by (exp_of e) (stmt_of a) (held_of held) (position_at line column)
+  stmt_of (While' e p a line column) = while_loop (exp_of e) (stmt_of a) (position_at line column)
+  stmt_of (Do' p a e line column) = do_loop (stmt_of a) (exp_of e) (position_at line column)
+  stmt_of (For' begin test next p a line column) = for_loop (start_of begin) (maybe_of test) (maybe_of next) (stmt_of a) (position_at line column)
 
   pub held_of : Held-Stmt-If-2 → Option Statement
   held_of None' = None
@@ -104,16 +106,16 @@ abbrev mutual
   parts_of_row (more_of-Part p row) = with_part (part_of p) (parts_of_row row)
 
 abbrev pub code_of : Body → Code
-code_of (body.Block parts line column) = defined (listed_parts (map part_of parts)) (place_at line column)
+code_of (body.Block parts line column) = defined (listed_parts (map part_of parts)) (position_at line column)
 code_of body.Prototype = prototype
 
 abbrev pub fields_of : Member → Fields
-fields_of m = fields m.specifier (map declared_of m.declarators) (place_at m.line m.column)
+fields_of m = fields m.specifier (map declared_of m.declarators) (position_at m.line m.column)
 
 abbrev pub outer_of : External → Outer
 outer_of (external.Struct name members) = structure name (map fields_of members)
 outer_of (external.Function is_static specifier stars name params code) = function is_static specifier stars name params (code_of code)
-outer_of (external.Objects is_static specifier items line column) = objects is_static specifier (map object_of items) (place_at line column)
+outer_of (external.Objects is_static specifier items line column) = objects is_static specifier (map object_of items) (position_at line column)
 
 abbrev pub program_of : Program → List Outer
 program_of p = map outer_of p.externals

@@ -3,7 +3,7 @@ use Rattle.std.specs.Prelude.{ℕ, ◌==◌, nat_lt, Bool, true, false, if◌the
 use Rattle.c_types.specs.declared.fault.FaultKind.{FaultKind}
 use Rattle.c_types.specs.declared.fault.FaultKind.TheVariants as fault
 use Rattle.c_types.specs.declared.fault.Found.{Found}
-use Rattle.c_tree.specs.Tree.{Place}
+use Rattle.rr_base.specs.declared.position.Position.{Position}
 
 abbrev pub number_of : FaultKind → ℕ
 number_of fault.UnknownName = 9
@@ -25,7 +25,7 @@ is_before x y =
     then (if x.column == y.column then nat_lt (number_of x.fault) (number_of y.fault) else nat_lt x.column y.column)
     else nat_lt x.line y.line
 
-abbrev pub found_at : FaultKind → Place → Found
+abbrev pub found_at : FaultKind → Position → Found
 found_at kind at = record { fault = kind; line = at.line; column = at.column }
 
 -- the first of what was found before and another one
@@ -39,6 +39,6 @@ first_among before [] = before
 first_among before (x ∷ xs) = first_among (first_of before x) xs
 
 -- a fault where it comes
-abbrev pub where_it_comes : Bool → FaultKind → Place → List Found
+abbrev pub where_it_comes : Bool → FaultKind → Position → List Found
 where_it_comes true kind at = found_at kind at ∷ []
 where_it_comes false kind at = []

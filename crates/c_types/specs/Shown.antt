@@ -15,7 +15,7 @@ use Rattle.c_types.specs.Scopes.{Meaning, variable, function_of}
 use Rattle.c_types.specs.declared.standing.Target.{Target as RustTarget}
 use Rattle.c_types.specs.declared.standing.Target.TheVariants as target
 use Rattle.c_types.specs.declared.library.Wanted.{Wanted}
-use Rattle.c_types.specs.declared.calls.Wants.{Wants}
+use Rattle.c_types.specs.declared.wants.Wants.{Wants}
 use Rattle.c_types.specs.Library.{an_int}
 use Rattle.c_types.specs.Standing.{Target, no_target, some_target, target_of}
 use Rattle.c_types.specs.Types.{bare, int_type, pointer_to}

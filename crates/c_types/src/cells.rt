@@ -144,7 +144,8 @@ fn size_of_base(base: BaseType, sizes: &[u32]) -> u32
     }
 }
 
-pub(crate) fn cells_of_layered(layers: &[Layer], base: BaseType, sizes: &[u32]) -> u32
+/// How many cells an object of these layers and this base has; `MAX_CELLS + 1` where there are more.
+pub fn cells_of_layered(layers: &[Layer], base: BaseType, sizes: &[u32]) -> u32
     ensures { result ≡ min (layered_size sizes.now layers.now base) (MAX_CELLS + 1) }
 {
     match layers {

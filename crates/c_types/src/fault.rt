@@ -1,7 +1,7 @@
 //! Faults of types with their places, and the first of several.
 ghost use Rattle.std.specs.Prelude.{◌≡◌};
 ghost use Rattle.c_types.specs.Found as spec;
-ghost use Rattle.c_tree.specs.Tree.{place_at};
+ghost use Rattle.rr_base.specs.Positions.{position_at};
 
 /// A rule that a source breaks.
 #[derive(Clone, Copy, Debug, PartialEq, Eq)]
@@ -67,7 +67,7 @@ impl Found {
 
 /// Keeps the fault where it comes before the first one that was found so far.
 pub fn note(first: &mut Option<Found>, comes: bool, fault: FaultKind, line: u32, column: u32)
-    ensures { first.new ≡ spec.first_among first.old (spec.where_it_comes comes fault (place_at line column)) }
+    ensures { first.new ≡ spec.first_among first.old (spec.where_it_comes comes fault (position_at line column)) }
 {
     if !comes {
         return;

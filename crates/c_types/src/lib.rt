@@ -1,80 +1,42 @@
-//! The types of a C source in this project's profile, what each of its expressions is, and the first rule that it
-//! breaks. It stands on `c_tree`.
+//! The types of a C source in this project's profile: their cells, the functions of the library, what names mean, and
+//! what each operator makes of its operands. It stands on `c_tree`.
 #![tactic(auto)]
 
-mod addresses;
-mod allocations;
-mod blame;
-mod blame_call;
-mod calls;
 mod cells;
-mod checking;
-mod constants;
-mod declarators;
 mod fault;
 mod format;
-mod function_info;
-mod functions;
-mod initials;
-mod judging;
 mod law;
-mod layouts;
 mod library;
-mod marks;
-mod members;
 mod names;
-mod number_table;
 mod numbers;
-mod objects;
 mod operand;
-mod params;
-mod program_spots;
-mod roots;
 mod rules;
-mod sites;
-mod sizes;
-mod source;
-mod spot;
-mod spots;
 mod standing;
-mod statements;
-mod structs;
-mod table;
 mod type_ref;
-mod typed;
 mod types;
+mod wants;
 
-pub use addresses::addressed_in;
-pub use blame_call::wants_of;
-pub use calls::{Wants, format_of};
-pub use cells::{MAX_CELLS, cells_of, cells_of_structs, layout_of_type, put_layered};
-pub use checking::TypeFault;
-pub use constants::{constant_named, is_constant, value_of};
-pub use declarators::declared_type;
+pub use cells::{
+    MAX_CELLS, cells_of, cells_of_layered, cells_of_structs, element_of, layout_of_type,
+    put_layered,
+};
 pub use fault::{FaultKind, Found, note};
-pub use format::Inside;
-pub use function_info::FunctionInfo;
-pub use functions::{declare_function, listed, signature_of};
-pub use initials::{is_array, part_at, value_target};
-pub use judging::judge;
+pub use format::{Inside, conversions};
 pub use law::law_size;
-pub use layouts::layout_of;
-pub use library::{LibraryName, StarredType, Wanted, library_named};
-pub use marks::Marks;
+pub use library::{LibraryName, StarredType, Wanted, given_by, library_named, wanted_by};
 pub use names::{Meaning, Names, Signature};
-pub use number_table::NumberTable;
-pub use objects::{copy_of, declare_object, ref_of};
+pub use numbers::{binary_of, prefix_of};
 pub use operand::{Operand, Standing};
-pub use params::declare_param;
-pub use program_spots::spots_in;
-pub use roots::third_name;
-pub use rules::are_whole;
-pub use sites::kinds_of_structs;
-pub use source::check;
-pub use spot::{Holder, Spot, is_kept};
-pub use standing::{Target, assigned_target, cast_target, pointed_struct, struct_of, type_named};
-pub use structs::{cells_of_some, note_struct};
-pub use table::{Declared, Table};
-pub use type_ref::TypeRef;
-pub use typed::Typed;
+pub use rules::{
+    accepts, are_compatible, are_whole, assigns, assigns_some, binary_standing, can_choose, moves,
+    takes,
+};
+pub use standing::{
+    Target, assign_standing, assigned_target, base_of, can_index, cast_standing, cast_target,
+    casts_to, conditional_standing, index_standing, is_complete, is_sized, malloc_standing,
+    member_standing, named_standing, pointed_struct, prefix_standing, sizeof_standing,
+    sizeof_type_standing, stepped, struct_of, type_named, type_target,
+};
+pub use type_ref::{TypeRef, have_same_base};
 pub use types::{BaseType, Layer, ObjectType};
+pub use wants::Wants;

@@ -74,6 +74,7 @@ impl<'a> Operand<'a> {
     }
 }
 
+/// Whether both are whole numbers.
 pub fn are_whole(a: Operand, b: Operand) -> bool
     ensures { result ≡ spec.are_whole (shown_operand a.entry) (shown_operand b.entry) }
 {

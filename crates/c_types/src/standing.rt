@@ -72,6 +72,7 @@ pub fn cast_target<'a>(to: Option<TypeRef<'a>>, stars: usize) -> Target<'a>
     }
 }
 
+/// What a `malloc` is: a pointer to what its place makes an object of, if it does of any.
 pub fn malloc_standing<'a>(target: Target<'a>) -> Standing<'a>
     ensures { shown_standing result ≡ spec.malloc_standing (shown_target target.entry) }
 {
@@ -195,7 +196,8 @@ pub fn assign_standing<'a>(op: AssignOp, left: Standing<'a>, right: Operand<'a>)
     }
 }
 
-pub(crate) fn base_of<N: Names>(names: &N, specifier: &Specifier) -> Option<BaseType>
+/// The base of the types that are declared with the specifier, if there is one.
+pub fn base_of<N: Names>(names: &N, specifier: &Specifier) -> Option<BaseType>
     ensures { result ≡ scopes.base_of (N.known names.now) specifier.now }
 {
     match specifier {

@@ -85,6 +85,7 @@ impl<'a> TypeRef<'a> {
     }
 }
 
+/// Whether two bases are one.
 pub fn have_same_base(a: BaseType, b: BaseType) -> bool
     ensures { result ≡ spec.same_base a b }
 {

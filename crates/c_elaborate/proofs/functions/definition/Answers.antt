@@ -1,7 +1,7 @@
 use Rattle.std.proofs.Common.{ℕ, ◌+◌, List, map, ap, ◌∙◌}
 use Rattle.c_tree.specs.Tree.{listed_parts}
 use Rattle.c_tree.specs.View.{part_of}
-use Rattle.c_types.specs.Table.{known_of}
+use Rattle.c_programs.specs.Table.{known_of}
 use Rattle.c_core.specs.View.{function_of, stmt_of}
 use Rattle.c_elaborate.specs.declared.local.Local.{Local}
 use Rattle.c_elaborate.specs.Functions.{frame_of, function_by}

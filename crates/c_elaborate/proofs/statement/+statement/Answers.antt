@@ -1,15 +1,16 @@
 use Rattle.std.proofs.Common.{map, refl, ap, ◌∙◌, arith}
 use Rattle.std.proofs.lemmas.Grind.{common_steps}
-use Rattle.c_tree.specs.Tree.{place_at, listed_parts}
+use Rattle.c_tree.specs.Tree.{listed_parts}
+use Rattle.rr_base.specs.Positions.{position_at}
 use Rattle.c_tree.specs.View.{start_of, maybe_of, stmt_of, part_of}
 use Rattle.c_tree.proofs.Views.{parts_of_row-list}
-use Rattle.c_types.specs.Addresses.{count_of_locals}
-use Rattle.c_types.specs.NumberTables.{numbered_of}
+use Rattle.c_sites.specs.Addresses.{count_of_locals}
+use Rattle.c_sites.specs.NumberTables.{numbered_of}
 use Rattle.c_types.specs.Scopes.{closed}
-use Rattle.c_types.specs.Statements.{after_start, after_parts}
-use Rattle.c_types.specs.Table.{known_of}
-use Rattle.c_types.proofs.Numbering.{block_numbers, for_numbers}
-use Rattle.c_types.proofs.Within.{closed_parts, closed_start}
+use Rattle.c_programs.specs.Statements.{after_start, after_parts}
+use Rattle.c_programs.specs.Table.{known_of}
+use Rattle.c_sites.proofs.Numbering.{block_numbers, for_numbers}
+use Rattle.c_programs.proofs.Within.{closed_parts, closed_start}
 use Rattle.c_core.proofs.Views.{stmts_of_row-list}
 use Rattle.c_elaborate.specs.Views.{frame_in, source_in}
 use Rattle.c_elaborate.proofs.Nested.{block_made, for_made}
@@ -48,7 +49,7 @@ for_statement-returns-clause-numbers t c =
 pub for_statement-returns-clause-statement : goal.for_statement-returns-clause-statement
 for_statement-returns-clause-statement t c =
     for_made (source_in c.args.source.now) (frame_in c.args.frame.now) (known_of c.args.table.now) _ (numbered_of c.args.numbers.now) _
-    (start_of c.args.begin.now) (maybe_of c.args.test.now) (maybe_of c.args.step.now) (stmt_of c.args.body.now) (place_at c.args.at.0 c.args.at.1) _
+    (start_of c.args.begin.now) (maybe_of c.args.test.now) (maybe_of c.args.step.now) (stmt_of c.args.body.now) (position_at c.args.at.0 c.args.at.1) _
     c.in_ok-open.ensures c.in_ok-open-2.ensures c.in_ok-made.ensures.statement
 
 pub statement-returns-in-Block-clause-numbers : goal.statement-returns-in-Block-clause-numbers

@@ -1,10 +1,10 @@
 use Rattle.std.proofs.Common.{◌≡◌, ◌++◌, drop, map}
 use Rattle.c_tree.specs.Tree.{listed_parts}
 use Rattle.c_tree.specs.View.{part_of}
-use Rattle.c_types.specs.Addresses.{behind_parts}
-use Rattle.c_types.specs.NumberTables.{numbered_of}
-use Rattle.c_types.specs.Statements.{after_parts}
-use Rattle.c_types.specs.Table.{known_of}
+use Rattle.c_sites.specs.Addresses.{behind_parts}
+use Rattle.c_sites.specs.NumberTables.{numbered_of}
+use Rattle.c_programs.specs.Statements.{after_parts}
+use Rattle.c_programs.specs.Table.{known_of}
 use Rattle.c_core.specs.View.{stmt_of}
 use Rattle.c_elaborate.specs.Here.{here_in}
 use Rattle.c_elaborate.specs.Statements.{all_elaborated}

@@ -1,9 +1,9 @@
 use Rattle.std.proofs.Common.{◌≡◌, ◌++◌, false, drop, map}
 use Rattle.c_tree.specs.View.{object_of}
-use Rattle.c_types.specs.Addresses.{after_names}
-use Rattle.c_types.specs.NumberTables.{numbered_of}
-use Rattle.c_types.specs.Statements.{after_objects}
-use Rattle.c_types.specs.Table.{known_of}
+use Rattle.c_sites.specs.Addresses.{after_names}
+use Rattle.c_sites.specs.NumberTables.{numbered_of}
+use Rattle.c_programs.specs.Statements.{after_objects}
+use Rattle.c_programs.specs.Table.{known_of}
 use Rattle.c_core.specs.View.{stmt_of}
 use Rattle.c_elaborate.specs.Here.{here_in}
 use Rattle.c_elaborate.specs.Statements.{objects_elaborated}

@@ -1,11 +1,12 @@
 use Rattle.std.proofs.Common.{map, ap, ◌∙◌}
-use Rattle.c_tree.specs.Tree.{place_at, listed_parts, defined}
+use Rattle.c_tree.specs.Tree.{listed_parts, defined}
+use Rattle.rr_base.specs.Positions.{position_at}
 use Rattle.c_tree.specs.View.{part_of}
-use Rattle.c_types.specs.Declarators.{after_params}
+use Rattle.c_programs.specs.Declarators.{after_params}
 use Rattle.c_types.specs.Scopes.{Known, closed}
-use Rattle.c_types.specs.Statements.{after_parts}
-use Rattle.c_types.specs.Table.{known_of}
-use Rattle.c_types.proofs.Within.{closed_body}
+use Rattle.c_programs.specs.Statements.{after_parts}
+use Rattle.c_programs.specs.Table.{known_of}
+use Rattle.c_programs.proofs.Within.{closed_body}
 use Rattle.c_elaborate.specs.Functions.{definition}
 use Rattle.c_elaborate.specs.Views.{source_in}
 use Rattle.c_elaborate.proofs.Made.{definition_pushed}
@@ -17,7 +18,7 @@ returns-clause-known c =
     c.close.ensures
     ∙ ap closed c.in_ok-function.ensures.known
     ∙ ap (λ k. closed (after_parts (after_params k c.args.params.now) parts)) c.in_ok-open.ensures
-    ∙ closed_body (known_of c.args.table.now) c.args.params.now (defined parts (place_at 0 0))
+    ∙ closed_body (known_of c.args.table.now) c.args.params.now (defined parts (position_at 0 0))
 
 pub returns-clause-out : goal.returns-clause-out
 returns-clause-out c =

@@ -1,7 +1,7 @@
 use Rattle.std.proofs.Common.{◌≡◌, ◌-◌, ◌<◌, slice_get, Some, None, sym, arith}
 use Rattle.c_types.specs.Scopes.{members_of}
 use Rattle.c_types.specs.Shown.{shown_maybe}
-use Rattle.c_types.specs.Table.{known_of}
+use Rattle.c_programs.specs.Table.{known_of}
 use Rattle.c_elaborate.proofs.Offsets.{cells_behind, cells_met}
 use Rattle.c_elaborate.proofs.here.Source.cells_of_first.Goals as goal
 

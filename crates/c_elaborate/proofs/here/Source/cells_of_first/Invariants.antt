@@ -1,6 +1,6 @@
 use Rattle.std.proofs.Common.{◌≡◌, ◌+◌, ◌-◌, drop, slice_get}
 use Rattle.c_types.specs.Scopes.{members_of}
-use Rattle.c_types.specs.Table.{known_of}
+use Rattle.c_programs.specs.Table.{known_of}
 use Rattle.c_elaborate.specs.Here.{cells_of_first}
 use Rattle.c_elaborate.proofs.here.Source.cells_of_first.Given as goal
 

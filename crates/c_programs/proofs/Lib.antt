@@ -1,0 +1,5 @@
+pub mod ByName
+pub mod Parts
+pub mod Starts
+pub mod Tables
+pub mod Within

@@ -1,0 +1,12 @@
+use Rattle.std.proofs.Common.{◌≡◌, drop}
+use Rattle.c_types.specs.Found.{first_among}
+use Rattle.c_programs.specs.Table.{known_of}
+use Rattle.c_programs.specs.Declarators.{listed_params, after_params, params_faults}
+use Rattle.c_programs.proofs.params.note_params.Given as goal
+
+-- what is done and the rest make the whole
+abbrev pub invariant-loop-p : goal.invariant-loop-p
+invariant-loop-p l = record {
+  known : after_params (known_of l.table) (drop l.p-index l.p-items) ≡ after_params (known_of l.fn.table) (listed_params l.fn.params);
+  first : first_among l.first (params_faults (known_of l.table) l.is_definition (drop l.p-index l.p-items)) ≡ first_among l.fn.first (params_faults (known_of l.fn.table) l.fn.is_definition (listed_params l.fn.params));
+}

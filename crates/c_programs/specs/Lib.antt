@@ -1,0 +1,6 @@
+pub mod Declarators
+pub mod Initials
+pub mod Members
+pub mod Programs
+pub mod Statements
+pub mod Table

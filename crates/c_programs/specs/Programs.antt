@@ -1,0 +1,159 @@
+-- Functions and whole sources (C99 6.9), and which rules they break.
+use Rattle.std.specs.Prelude.{ℕ, ◌==◌, Bool, true, false, not, ◌&&◌, List, [], ◌∷◌, ◌++◌, map, Option, Some, None}
+use Rattle.c_lexer.specs.Bytes.{Text}
+use Rattle.c_lexer.specs.Names.{entry_of}
+use Rattle.c_tree.specs.declared.name.Name.{Name}
+use Rattle.c_tree.specs.declared.ctype.Specifier.{Specifier}
+use Rattle.c_tree.specs.declared.program.Params.{Params}
+use Rattle.c_tree.specs.Tree.{Code, defined, prototype, Outer, structure, function, objects}
+use Rattle.rr_base.specs.declared.position.Position.{Position}
+use Rattle.c_types.specs.declared.types.BaseType.{BaseType}
+use Rattle.c_types.specs.declared.types.BaseType.TheVariants as base
+use Rattle.c_types.specs.declared.library.StarredType.{StarredType}
+use Rattle.c_types.specs.declared.library.Wanted.{Wanted}
+use Rattle.c_types.specs.declared.library.Wanted.TheVariants as wants
+use Rattle.c_types.specs.declared.names.Signature.{Signature}
+use Rattle.c_types.specs.declared.fault.Found.{Found}
+use Rattle.c_types.specs.declared.fault.FaultKind.TheVariants as fault
+use Rattle.c_types.specs.Found.{where_it_comes, found_at}
+use Rattle.c_types.specs.Scopes.{Known, Meaning, variable, function_of, innermost, base_of, declare, opened, with_text, has_name}
+use Rattle.c_types.specs.Operands.{same_base}
+use Rattle.c_types.specs.Standing.{is_main}
+use Rattle.c_rules.specs.Faults.{name_place, mismatch, specifier_faults}
+use Rattle.c_programs.specs.Declarators.{is_struct_specifier, is_library_name, struct_faults, after_struct, wanted_of, listed_params, params_faults, after_params}
+use Rattle.c_programs.specs.Statements.{objects_faults, after_objects, parts_faults, after_parts}
+
+-- ---- the types of functions
+
+abbrev pub result_by : Bool → Option BaseType → ℕ → Option StarredType
+result_by true b stars = None
+result_by false None stars = None
+result_by false (Some b) stars = Some (record { stars = stars; base = b })
+
+-- no function gives a struct
+abbrev pub cannot_give : Specifier → ℕ → Bool
+cannot_give s stars = (stars == 0) && is_struct_specifier s
+
+abbrev pub result_of : Known → Specifier → ℕ → Option StarredType
+result_of known s stars = result_by (cannot_give s stars) (base_of known s) stars
+
+abbrev pub signature_of : Known → Specifier → ℕ → Params → Signature
+signature_of known s stars ps = record { result = result_of known s stars; params = map (wanted_of known) (listed_params ps) }
+
+abbrev pub same_starred : StarredType → StarredType → Bool
+same_starred s t = (s.stars == t.stars) && same_base s.base t.base
+
+-- a type that isn't known may be the same
+abbrev pub agree_on_result : Option StarredType → Option StarredType → Bool
+agree_on_result (Some s) (Some t) = same_starred s t
+agree_on_result _ _ = true
+
+abbrev pub agree_on_one : Wanted → Wanted → Bool
+agree_on_one (wants.Fits s) (wants.Fits t) = same_starred s t
+agree_on_one _ _ = true
+
+abbrev pub agree_on_params : List Wanted → List Wanted → Bool
+agree_on_params [] [] = true
+agree_on_params (x ∷ xs) (y ∷ ys) = agree_on_one x y && agree_on_params xs ys
+agree_on_params _ _ = false
+
+abbrev pub agree : Signature → Signature → Bool
+agree f g = agree_on_result f.result g.result && agree_on_params f.params g.params
+
+-- `int main(void)`
+abbrev pub int_result : Option StarredType
+int_result = Some (record { stars = 0; base = base.Int })
+
+abbrev pub is_main_signature : Signature → Bool
+is_main_signature f = agree f (record { result = int_result; params = [] })
+
+-- ---- a function
+
+-- a name that is declared already: as an object, as a function of other types, or as one that has a body too
+abbrev pub again_faults : Option Meaning → Bool → Signature → Position → List Found
+again_faults None has_body f at = []
+again_faults (Some (variable t)) has_body f at = found_at fault.DuplicateName at ∷ []
+again_faults (Some (function_of g)) has_body f at = where_it_comes has_body fault.DuplicateName at ++ mismatch (not (agree g f)) at
+
+abbrev pub is_definition : Code → Bool
+is_definition (defined ps at) = true
+is_definition prototype = false
+
+abbrev pub function_name_faults : Known → Name → Signature → Code → List Found
+function_name_faults known name f code =
+    where_it_comes (is_library_name name.text) fault.DuplicateName (name_place name)
+    ++ again_faults (entry_of (innermost known.scopes) name.text) (is_definition code && has_name known.begun name.text) f (name_place name)
+    ++ mismatch (is_main name.text && not (is_main_signature f)) (name_place name)
+
+-- a function is known behind its declarator, in its own body too
+abbrev pub after_function : Known → Name → Signature → Code → Known
+after_function known name f (defined ps at) = record (declare known name.text (function_of f)) { begun = with_text known.begun name.text }
+after_function known name f prototype = declare known name.text (function_of f)
+
+-- the formals stand in one scope with the outermost block of the body
+abbrev pub body_faults : Known → Option StarredType → Code → List Found
+body_faults known result prototype = []
+body_faults known result (defined ps at) = parts_faults known result false ps
+
+abbrev pub after_body : Known → Code → Known
+after_body known prototype = known
+after_body known (defined ps at) = after_parts known ps
+
+abbrev pub function_faults : Known → Specifier → ℕ → Name → Params → Code → List Found
+function_faults known s stars name ps code =
+    let f = signature_of known s stars ps in
+    let inside = opened (after_function known name f code) in
+    specifier_faults known (stars == 0) s
+    ++ mismatch (cannot_give s stars) (name_place name)
+    ++ function_name_faults known name f code
+    ++ params_faults inside (is_definition code) (listed_params ps)
+    ++ body_faults (after_params inside (listed_params ps)) f.result code
+
+-- ---- a source
+
+abbrev pub outer_faults : Known → Outer → List Found
+outer_faults known (structure name fs) = struct_faults known name fs
+outer_faults known (function is_static s stars name ps code) = function_faults known s stars name ps code
+outer_faults known (objects is_static s os at) = objects_faults known true s os
+
+abbrev pub after_outer : Known → Outer → Known
+after_outer known (structure name fs) = after_struct known name fs
+after_outer known (function is_static s stars name ps code) = after_function known name (signature_of known s stars ps) code
+after_outer known (objects is_static s os at) = after_objects known true s os
+
+abbrev pub outers_faults : Known → List Outer → List Found
+outers_faults known [] = []
+outers_faults known (o ∷ os) = outer_faults known o ++ outers_faults (after_outer known o) os
+
+-- the names of the structs that a source defines, in the order of their first definitions
+abbrev pub structs_with : List Text → List Outer → List Text
+structs_with names [] = names
+structs_with names (structure name fs ∷ os) = structs_with (with_text names name.text) os
+structs_with names (function is_static s stars name ps code ∷ os) = structs_with names os
+structs_with names (objects is_static s items at ∷ os) = structs_with names os
+
+abbrev pub named_by : Code → List Text → Text → List Text
+named_by (defined ps at) names name = with_text names name
+named_by prototype names name = names
+
+-- the names of the functions that a source defines
+abbrev pub functions_with : List Text → List Outer → List Text
+functions_with names [] = names
+functions_with names (structure name fs ∷ os) = functions_with names os
+functions_with names (function is_static s stars name ps code ∷ os) = functions_with (named_by code names name.text) os
+functions_with names (objects is_static s items at ∷ os) = functions_with names os
+
+-- what is known where a source begins
+abbrev pub known_at_start : List Outer → Known
+known_at_start os = record {
+  struct_names = structs_with [] os;
+  structs = [];
+  sizes = [];
+  defined = functions_with [] os;
+  begun = [];
+  global_cells = 0;
+  scopes = [] ∷ [];
+}
+
+abbrev pub program_faults : List Outer → List Found
+program_faults os = outers_faults (known_at_start os) os

@@ -1,0 +1,73 @@
+-- Constant expressions at their place: the sizes of what `sizeof` is applied to, and which constants are refused (C99
+-- 6.5.3.4, 6.6, 6.7.5.2).
+use Rattle.std.specs.Prelude.{ℕ, nat_lt, Bool, true, false, not, ◌&&◌, ◌||◌, if◌then◌else◌, ℤ, pos, negsuc, List, ◌++◌, Option, Some, None, is_none, Ok, Err}
+use Rattle.c_types.specs.declared.fault.Found.{Found}
+use Rattle.c_types.specs.declared.fault.FaultKind.TheVariants as fault
+use Rattle.c_tree.specs.Tree.{Exp, sizeof_exp, sizeof_type}
+use Rattle.rr_base.specs.declared.position.Position.{Position}
+use Rattle.c_types.specs.Numbers.{Computed}
+use Rattle.c_types.specs.Constants.{is_constant, value_of}
+use Rattle.c_types.specs.Scopes.{Known, type_named, cells_of_type, cells_of_some}
+use Rattle.c_types.specs.Operands.{Standing, no_type, zero_literal, null_literal, a_value, a_place}
+use Rattle.c_types.specs.Standing.{no_target, standing}
+use Rattle.c_types.specs.Found.{first_among, where_it_comes}
+use Rattle.c_rules.specs.Faults.{first_place, mismatch, expression_faults}
+
+-- how many cells what an expression is takes
+abbrev pub cells_of_standing : Known → Standing → ℕ
+cells_of_standing known no_type = 0
+cells_of_standing known zero_literal = 1
+cells_of_standing known null_literal = 1
+cells_of_standing known (a_value t) = cells_of_type known t
+cells_of_standing known (a_place t) = cells_of_type known t
+
+-- what a `sizeof` gives, in cells
+abbrev pub size_here : Known → Exp → ℕ
+size_here known (sizeof_exp a at) = cells_of_standing known (standing known no_target a)
+size_here known (sizeof_type t at) = cells_of_some known (type_named known t)
+size_here known _ = 0
+
+abbrev pub value_here : Known → Exp → Computed
+value_here known e = value_of (size_here known) e
+
+abbrev pub is_trap : Computed → Bool
+is_trap (Ok n) = false
+is_trap (Err t) = true
+
+-- it breaks no rule
+abbrev pub is_sound : Known → Exp → Bool
+is_sound known e = is_none (first_among None (expression_faults known e))
+
+-- it has no form of a constant, or its computing traps
+abbrev pub constant_faults : Known → Exp → List Found
+constant_faults known e = where_it_comes (not (is_constant e) || (is_sound known e && is_trap (value_here known e))) fault.NotConstant (first_place e)
+
+-- ---- the length of an array
+
+abbrev pub is_positive : ℤ → Bool
+is_positive (pos n) = nat_lt 0 n
+is_positive (negsuc n) = false
+
+-- a value has been computed, which is below 1
+abbrev pub is_short : Computed → Bool
+is_short (Ok n) = not (is_positive n)
+is_short (Err t) = false
+
+abbrev pub is_short_length : Known → Exp → Bool
+is_short_length known e = is_constant e && is_sound known e && is_short (value_here known e)
+
+-- a length below 1 is refused at the declared name
+abbrev pub length_faults : Known → Position → Exp → List Found
+length_faults known at e = expression_faults known e ++ constant_faults known e ++ mismatch (is_short_length known e) at
+
+abbrev pub positive : ℤ → Option ℕ
+positive (pos n) = if nat_lt 0 n then Some n else None
+positive (negsuc n) = None
+
+abbrev pub positive_value : Computed → Option ℕ
+positive_value (Ok n) = positive n
+positive_value (Err t) = None
+
+-- the number of elements, where nothing is wrong with it
+abbrev pub length_of : Known → Exp → Option ℕ
+length_of known e = if is_constant e && is_sound known e then positive_value (value_here known e) else None

@@ -1,0 +1,367 @@
+//! Which rules an expression breaks, and where.
+#![tactic(auto, using(c_types::proofs::First::first_of_both))]
+
+ghost use Rattle.std.specs.Prelude.{◌≡◌};
+ghost use Rattle.rr_base.specs.Positions.{position_at};
+ghost use Rattle.c_types.specs.Found.{first_among};
+ghost use Rattle.c_types.specs.Types.{pointer_to};
+ghost use Rattle.c_types.specs.Operands.{assigns};
+ghost use Rattle.c_rules.specs.Faults as spec;
+ghost use Rattle.c_tree.specs.View.{exp_of};
+ghost use Rattle.c_types.specs.Shown.{shown_type, shown_meaning, shown_standing, shown_operand};
+
+use crate::constants::constant_named;
+use c_tree::{AssignOp, CType, Expr, Name, PrefixOp, Specifier};
+use c_types::{
+    BaseType, FaultKind, Found, Meaning, Names, Operand, Standing, TypeRef, are_compatible,
+    assigns, assigns_some, casts_to, library_named, moves, note, type_named,
+};
+
+/// The place of the expression's own token.
+pub fn own_place(e: &Expr) -> (u32, u32)
+    ensures { position_at result.0 result.1 ≡ spec.own_place (exp_of e.now) }
+{
+    match e {
+        Expr::Comma { line, column, .. }
+        | Expr::Assign { line, column, .. }
+        | Expr::Conditional { line, column, .. }
+        | Expr::Binary { line, column, .. }
+        | Expr::Prefix { line, column, .. }
+        | Expr::SizeofExpr { line, column, .. }
+        | Expr::SizeofType { line, column, .. }
+        | Expr::Cast { line, column, .. }
+        | Expr::Index { line, column, .. }
+        | Expr::Member { line, column, .. }
+        | Expr::Arrow { line, column, .. }
+        | Expr::PostIncrement { line, column, .. }
+        | Expr::PostDecrement { line, column, .. }
+        | Expr::Name { line, column, .. }
+        | Expr::Call { line, column, .. }
+        | Expr::Number { line, column, .. }
+        | Expr::Letter { line, column, .. }
+        | Expr::Text { line, column, .. }
+        | Expr::Null { line, column }
+        | Expr::Paren { line, column, .. } => (*line, *column),
+    }
+}
+
+/// The place of the expression's first token.
+pub fn first_place(e: &Expr) -> (u32, u32)
+    ensures { position_at result.0 result.1 ≡ spec.first_place (exp_of e.now) }
+{
+    match e {
+        Expr::Comma { first, .. } => first_place(first),
+        Expr::Assign { left, .. } => first_place(left),
+        Expr::Conditional { test, .. } => first_place(test),
+        Expr::Binary { left, .. } => first_place(left),
+        Expr::Index { base, .. } => first_place(base),
+        Expr::Member { base, .. } => first_place(base),
+        Expr::Arrow { base, .. } => first_place(base),
+        Expr::PostIncrement { operand, .. } => first_place(operand),
+        Expr::PostDecrement { operand, .. } => first_place(operand),
+        Expr::Prefix { line, column, .. }
+        | Expr::SizeofExpr { line, column, .. }
+        | Expr::SizeofType { line, column, .. }
+        | Expr::Cast { line, column, .. }
+        | Expr::Name { line, column, .. }
+        | Expr::Call { line, column, .. }
+        | Expr::Number { line, column, .. }
+        | Expr::Letter { line, column, .. }
+        | Expr::Text { line, column, .. }
+        | Expr::Null { line, column }
+        | Expr::Paren { line, column, .. } => (*line, *column),
+    }
+}
+
+/// Notes that types don't match at the place, if `comes`.
+pub fn note_mismatch(first: &mut Option<Found>, comes: bool, line: u32, column: u32)
+    ensures { first.new ≡ first_among first.old (spec.mismatch comes (position_at line column)) }
+{
+    note(first, comes, FaultKind::TypeMismatch, line, column);
+}
+
+fn note_place(first: &mut Option<Found>, is_place: bool, line: u32, column: u32)
+    ensures { first.new ≡ first_among first.old (spec.place_faults is_place (position_at line column)) }
+{
+    note(first, !is_place, FaultKind::NotPlace, line, column);
+}
+
+fn is_unknown_struct<N: Names>(names: &N, needs_size: bool, name: &Name) -> bool
+    ensures { result ≡ spec.is_unknown_struct (N.known names.now) needs_size name.now }
+{
+    match names.struct_numbered(name.text.as_slice()) {
+        None => true,
+        Some(number) => needs_size && !names.is_struct_defined(number),
+    }
+}
+
+/// Notes a struct that isn't known, or whose size isn't known where it is needed.
+pub fn note_specifier<N: Names>(
+    names: &N,
+    needs_size: bool,
+    specifier: &Specifier,
+    first: &mut Option<Found>,
+)
+    ensures { first.new ≡ first_among first.old (spec.specifier_faults (N.known names.now) needs_size specifier.now) }
+{
+    match specifier {
+        Specifier::Struct { name, .. } => {
+            let comes = is_unknown_struct(names, needs_size, name);
+            note(first, comes, FaultKind::UnknownName, name.line, name.column);
+        }
+        Specifier::Int { .. } => {}
+        Specifier::Long { .. } => {}
+        Specifier::Void { .. } => {}
+        Specifier::PthreadT { .. } => {}
+        Specifier::PthreadMutexT { .. } => {}
+        Specifier::PthreadCondT { .. } => {}
+        Specifier::PthreadBarrierT { .. } => {}
+    }
+}
+
+fn is_indirect(op: PrefixOp) -> bool
+    ensures { result ≡ spec.is_indirect op }
+{
+    match op {
+        PrefixOp::Indirect => true,
+        PrefixOp::Address
+        | PrefixOp::Plus
+        | PrefixOp::Minus
+        | PrefixOp::Not
+        | PrefixOp::Complement
+        | PrefixOp::Increment
+        | PrefixOp::Decrement => false,
+    }
+}
+
+fn name_can_be_place(seen: Option<Meaning>, name: &[u8]) -> bool
+    ensures { result ≡ spec.name_can_be_place (shown_meaning seen.entry) name.now }
+{
+    match seen {
+        Some(Meaning::Variable(_)) => true,
+        Some(Meaning::Function(_)) => false,
+        None => constant_named(name).is_none() && library_named(name).is_none(),
+    }
+}
+
+/// Whether the expression can be a place, whatever the types of its parts are.
+pub fn can_be_place<N: Names>(names: &N, e: &Expr) -> bool
+    ensures { result ≡ spec.can_be_place (N.known names.now) (exp_of e.now) }
+{
+    match e {
+        Expr::Prefix { op, .. } => is_indirect(*op),
+        Expr::Index { .. } | Expr::Member { .. } | Expr::Arrow { .. } => true,
+        Expr::Name { name, .. } => {
+            name_can_be_place(names.seen(name.as_slice()), name.as_slice())
+        }
+        Expr::Paren { inner, .. } => can_be_place(names, inner),
+        Expr::Comma { .. }
+        | Expr::Assign { .. }
+        | Expr::Conditional { .. }
+        | Expr::Binary { .. }
+        | Expr::SizeofExpr { .. }
+        | Expr::SizeofType { .. }
+        | Expr::Cast { .. }
+        | Expr::PostIncrement { .. }
+        | Expr::PostDecrement { .. }
+        | Expr::Call { .. }
+        | Expr::Number { .. }
+        | Expr::Letter { .. }
+        | Expr::Text { .. }
+        | Expr::Null { .. } => false,
+    }
+}
+
+fn assigns_pointer(op: AssignOp, to: TypeRef, from: Operand) -> bool
+    ensures { result ≡ assigns op (pointer_to (shown_type to.entry)) (shown_operand from.entry) }
+{
+    match op {
+        AssignOp::Assign => are_compatible(Operand::Pointing(to), from),
+        AssignOp::Add | AssignOp::Subtract => !to.is_void() && from.is_whole(),
+        AssignOp::Multiply
+        | AssignOp::Divide
+        | AssignOp::Remainder
+        | AssignOp::And
+        | AssignOp::Or
+        | AssignOp::Xor
+        | AssignOp::ShiftLeft
+        | AssignOp::ShiftRight => false,
+    }
+}
+
+/// Whether the operator may assign the operand to what stands on its left.
+fn assigns_to(op: AssignOp, to: Standing, from: Operand) -> bool
+    ensures { result ≡ spec.assigns_to op (spec.standing_type (shown_standing to.entry)) (shown_operand from.entry) }
+{
+    match to {
+        Standing::NoType => assigns_some(op, from),
+        Standing::Zero => assigns(op, TypeRef::starred(0, BaseType::Int), from),
+        Standing::Whole => assigns(op, TypeRef::starred(0, BaseType::Int), from),
+        Standing::Null => assigns(op, TypeRef::starred(1, BaseType::Void), from),
+        Standing::Pointer(of) => assigns_pointer(op, of, from),
+        Standing::Bare(base) => assigns(op, TypeRef::starred(0, base), from),
+        Standing::Place(of) => assigns(op, of, from),
+    }
+}
+
+/// Whether `++` and `--` can be applied by the type.
+fn steps(of: Standing) -> bool
+    ensures { result ≡ spec.steps (spec.standing_type (shown_standing of.entry)) }
+{
+    match of {
+        Standing::NoType => true,
+        Standing::Zero => true,
+        Standing::Whole => true,
+        Standing::Null => false,
+        Standing::Pointer(to) => !to.is_void(),
+        Standing::Bare(base) => moves(TypeRef::starred(0, base), Operand::Whole),
+        Standing::Place(of) => moves(of, Operand::Whole),
+    }
+}
+
+fn can_follow(of: Operand) -> bool
+    ensures { result ≡ spec.can_follow (shown_operand of.entry) }
+{
+    match of {
+        Operand::Any => true,
+        Operand::Pointing(to) => !to.is_void(),
+        Operand::Whole | Operand::Zero | Operand::Null | Operand::Unfit => false,
+    }
+}
+
+fn prefix_takes(op: PrefixOp, of: Standing) -> bool
+    ensures { result ≡ spec.prefix_takes op (shown_standing of.entry) }
+{
+    let operand = Operand::of(of);
+    match op {
+        PrefixOp::Address => true,
+        PrefixOp::Indirect => can_follow(operand),
+        PrefixOp::Plus | PrefixOp::Minus | PrefixOp::Complement => operand.is_whole(),
+        PrefixOp::Not => operand.is_scalar(),
+        PrefixOp::Increment | PrefixOp::Decrement => steps(of),
+    }
+}
+
+fn needs_place(op: PrefixOp) -> bool
+    ensures { result ≡ spec.needs_place op }
+{
+    match op {
+        PrefixOp::Address | PrefixOp::Increment | PrefixOp::Decrement => true,
+        PrefixOp::Indirect
+        | PrefixOp::Plus
+        | PrefixOp::Minus
+        | PrefixOp::Not
+        | PrefixOp::Complement => false,
+    }
+}
+
+/// Notes what is wrong with a prefix operator.
+pub fn note_prefix<N: Names>(
+    names: &N,
+    op: PrefixOp,
+    operand: &Expr,
+    of: Standing,
+    at: (u32, u32),
+    first: &mut Option<Found>,
+)
+    ensures { first.new ≡ first_among first.old (spec.prefix_faults (N.known names.now) op (exp_of operand.now) (shown_standing of.entry) (position_at at.0 at.1)) }
+{
+    let is_place = !needs_place(op) || can_be_place(names, operand);
+    note_place(first, is_place, at.0, at.1);
+    note_mismatch(first, !prefix_takes(op, of), at.0, at.1);
+}
+
+/// Notes what is wrong with a `++` or `--` behind its operand.
+pub fn note_step<N: Names>(
+    names: &N,
+    operand: &Expr,
+    of: Standing,
+    at: (u32, u32),
+    first: &mut Option<Found>,
+)
+    ensures { first.new ≡ first_among first.old (spec.step_faults (N.known names.now) (exp_of operand.now) (shown_standing of.entry) (position_at at.0 at.1)) }
+{
+    note_place(first, can_be_place(names, operand), at.0, at.1);
+    note_mismatch(first, !steps(of), at.0, at.1);
+}
+
+/// Notes what is wrong with an assignment.
+pub fn note_assign<N: Names>(
+    names: &N,
+    op: AssignOp,
+    left: &Expr,
+    to: Standing,
+    from: Operand,
+    at: (u32, u32),
+    first: &mut Option<Found>,
+)
+    ensures { first.new ≡ first_among first.old (spec.assign_faults (N.known names.now) op (exp_of left.now) (shown_standing to.entry) (shown_operand from.entry) (position_at at.0 at.1)) }
+{
+    note_place(first, can_be_place(names, left), at.0, at.1);
+    note_mismatch(first, !assigns_to(op, to, from), at.0, at.1);
+}
+
+/// Notes what is wrong with the type that a `sizeof` names.
+pub fn note_sizeof_type<N: Names>(names: &N, of: &CType, at: (u32, u32), first: &mut Option<Found>)
+    ensures { first.new ≡ first_among first.old (spec.sizeof_type_faults (N.known names.now) of.now (position_at at.0 at.1)) }
+{
+    let is_void = match type_named(names, of) {
+        Some(of) => of.is_void(),
+        None => false,
+    };
+    note_mismatch(first, is_void, at.0, at.1);
+    note_specifier(names, of.stars == 0, &of.specifier, first);
+}
+
+/// Notes what is wrong with a cast.
+pub fn note_cast<N: Names>(
+    names: &N,
+    to: &CType,
+    from: Operand,
+    at: (u32, u32),
+    first: &mut Option<Found>,
+)
+    ensures { first.new ≡ first_among first.old (spec.cast_faults (N.known names.now) to.now (shown_operand from.entry) (position_at at.0 at.1)) }
+{
+    let allowed = casts_to(type_named(names, to), to.stars) && from.is_scalar();
+    note_mismatch(first, !allowed, at.0, at.1);
+    note_specifier(names, false, &to.specifier, first);
+}
+
+fn lacks_struct(of: Operand, number: Option<usize>) -> bool
+    ensures { result ≡ spec.lacks_struct (shown_operand of.entry) number }
+{
+    match of {
+        Operand::Any => false,
+        Operand::Whole | Operand::Zero | Operand::Null | Operand::Pointing(_) | Operand::Unfit =>
+            number.is_none(),
+    }
+}
+
+fn lacks_member<N: Names>(names: &N, number: Option<usize>, name: &[u8]) -> bool
+    ensures { result ≡ spec.lacks_member (N.known names.now) number name.now }
+{
+    match number {
+        None => false,
+        Some(number) => match names.member_of(number, name) {
+            Some(_) => false,
+            None => true,
+        },
+    }
+}
+
+/// Notes what is wrong with a `.` or `->`.
+pub fn note_member<N: Names>(
+    names: &N,
+    of: Operand,
+    number: Option<usize>,
+    name: &Name,
+    at: (u32, u32),
+    first: &mut Option<Found>,
+)
+    ensures { first.new ≡ first_among first.old (spec.member_faults (N.known names.now) (shown_operand of.entry) number name.now (position_at at.0 at.1)) }
+{
+    note_mismatch(first, lacks_struct(of, number), at.0, at.1);
+    let lacks = lacks_member(names, number, name.text.as_slice());
+    note(first, lacks, FaultKind::UnknownName, name.line, name.column);
+}

@@ -1,0 +1,139 @@
+//! Constant expressions and their values (C99 6.6).
+ghost use Rattle.std.specs.Prelude.{◌≡◌, map};
+ghost use Rattle.c_lexer.specs.Names.{entry_of};
+ghost use Rattle.c_tree.specs.View.{exp_of};
+ghost use Rattle.c_types.specs.Constants as spec;
+ghost use Rattle.c_rules.specs.Sizes.{value_here};
+
+use crate::sizes::size_here;
+use c_tree::{BinaryOp, CType, Expr, PrefixOp, Specifier};
+use c_types::{Names, binary_of, prefix_of};
+use rr_base::Trap;
+
+static CONSTANTS: [(&[u8], i64); 6] = [
+    (b"EOF", -1),
+    (b"EBUSY", 16),
+    (b"EAGAIN", 11),
+    (b"PTHREAD_BARRIER_SERIAL_THREAD", -1),
+    (b"EXIT_SUCCESS", 0),
+    (b"EXIT_FAILURE", 1),
+];
+
+fn constant_in(mut table: &[(&[u8], i64)], name: &[u8]) -> Option<i64>
+    ensures { result ≡ entry_of (map (λ e. (e.0.now, e.1)) table.entry.now) name.now }
+{
+    while let [entry, rest @ ..] = table {
+        if name == entry.0 {
+            return Some(entry.1);
+        }
+        table = rest;
+    }
+    None
+}
+
+/// The value of a constant of the library, if it is one.
+#[tactic(auto, unfolding(c_types::specs::Constants::constant_named))]
+pub fn constant_named(name: &[u8]) -> Option<i64>
+    ensures { result ≡ spec.constant_named name.now }
+{
+    constant_in(&CONSTANTS, name)
+}
+
+fn is_int(of: &CType) -> bool
+    ensures { result ≡ spec.is_int of.now }
+{
+    let is_number = match of.specifier {
+        Specifier::Int { .. } | Specifier::Long { .. } | Specifier::PthreadT { .. } => true,
+        Specifier::Void { .. }
+        | Specifier::Struct { .. }
+        | Specifier::PthreadMutexT { .. }
+        | Specifier::PthreadCondT { .. }
+        | Specifier::PthreadBarrierT { .. } => false,
+    };
+    is_number && of.stars == 0
+}
+
+fn is_of_numbers(op: PrefixOp) -> bool
+    ensures { result ≡ spec.is_of_numbers op }
+{
+    match op {
+        PrefixOp::Plus | PrefixOp::Minus | PrefixOp::Not | PrefixOp::Complement => true,
+        PrefixOp::Address | PrefixOp::Indirect | PrefixOp::Increment | PrefixOp::Decrement => false,
+    }
+}
+
+/// Whether the expression has the form of a constant one, also in those parts that aren't computed.
+pub fn is_constant(e: &Expr) -> bool
+    ensures { result ≡ spec.is_constant (exp_of e.now) }
+{
+    match e {
+        Expr::Conditional { test, yes, no, .. } => {
+            is_constant(test) && is_constant(yes) && is_constant(no)
+        }
+        Expr::Binary { left, right, .. } => is_constant(left) && is_constant(right),
+        Expr::Prefix { op, operand, .. } => is_of_numbers(*op) && is_constant(operand),
+        Expr::Cast { to, operand, .. } => is_int(to) && is_constant(operand),
+        Expr::Paren { inner, .. } => is_constant(inner),
+        Expr::Name { name, .. } => constant_named(name.as_slice()).is_some(),
+        Expr::Number { .. }
+        | Expr::Letter { .. }
+        | Expr::SizeofExpr { .. }
+        | Expr::SizeofType { .. } => true,
+        Expr::Comma { .. }
+        | Expr::Assign { .. }
+        | Expr::Index { .. }
+        | Expr::Member { .. }
+        | Expr::Arrow { .. }
+        | Expr::PostIncrement { .. }
+        | Expr::PostDecrement { .. }
+        | Expr::Call { .. }
+        | Expr::Text { .. }
+        | Expr::Null { .. } => false,
+    }
+}
+
+/// The value of a constant expression at its place, or the trap that computing it meets. It is 0 for what isn't
+/// constant.
+pub fn value_of<N: Names>(names: &N, e: &Expr) -> Result<i64, Trap>
+    ensures { result ≡ value_here (N.known names.now) (exp_of e.now) }
+{
+    match e {
+        Expr::Conditional { test, yes, no, .. } => {
+            if value_of(names, test)? == 0 {
+                value_of(names, no)
+            } else {
+                value_of(names, yes)
+            }
+        }
+        Expr::Binary {
+            left,
+            op,
+            right,
+            ..
+        } => {
+            let a = value_of(names, left)?;
+            match op {
+                BinaryOp::LogicalOr if a != 0 => Ok(1),
+                BinaryOp::LogicalAnd if a == 0 => Ok(0),
+                _ => binary_of(*op, a, value_of(names, right)?),
+            }
+        }
+        Expr::Prefix { op, operand, .. } => prefix_of(*op, value_of(names, operand)?),
+        Expr::SizeofExpr { .. } | Expr::SizeofType { .. } => Ok(i64::from(size_here(names, e))),
+        Expr::Cast { operand, .. } => value_of(names, operand),
+        Expr::Paren { inner, .. } => value_of(names, inner),
+        Expr::Name { name, .. } => Ok(constant_named(name.as_slice()).unwrap_or(0)),
+        Expr::Number { value, .. } => Ok(*value),
+        Expr::Letter { value, .. } => Ok(i64::from(*value)),
+        Expr::Comma { .. }
+        | Expr::Assign { .. }
+        | Expr::Index { .. }
+        | Expr::Member { .. }
+        | Expr::Arrow { .. }
+        | Expr::PostIncrement { .. }
+        | Expr::PostDecrement { .. }
+        | Expr::Call { .. }
+        | Expr::Text { .. }
+        | Expr::Null { .. } => Ok(0),
+    }
+}

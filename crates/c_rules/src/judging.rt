@@ -1,0 +1,253 @@
+//! What an expression is, and the first rule that it breaks (C99 6.5).
+#![tactic(auto, using(c_types::proofs::First::first_of_both))]
+
+ghost use Rattle.std.specs.Prelude.{◌≡◌, ◌++◌, map};
+ghost use Rattle.c_tree.specs.Tree.{listed};
+ghost use Rattle.rr_base.specs.Positions.{position_at};
+ghost use Rattle.c_tree.specs.View.{exp_of};
+ghost use Rattle.c_types.specs.Found.{first_among};
+ghost use Rattle.c_types.specs.Standing as standings;
+ghost use Rattle.c_rules.specs.Faults as spec;
+ghost use Rattle.c_types.specs.Shown.{shown_standing, shown_target, shown_wants};
+
+use crate::blame::{
+    note_assign, note_cast, note_member, note_mismatch, note_prefix, note_sizeof_type, note_step,
+    own_place,
+};
+use crate::blame_call::{is_judged, note_argument, note_call, note_named, wants_of};
+use crate::calls::{
+    behind, call_standing, can_go, fits_wanted, format_of, given_by_call, let_go, number_standing,
+};
+use crate::constants::constant_named;
+use c_tree::Expr;
+use c_types::{
+    FaultKind, Found, Names, Operand, Standing, Target, Wanted, Wants, assign_standing,
+    assigned_target, binary_standing, can_choose, can_index, cast_standing, cast_target,
+    conditional_standing, index_standing, is_sized, member_standing, named_standing, note,
+    pointed_struct, prefix_standing, sizeof_standing, sizeof_type_standing, stepped, struct_of,
+    takes, type_named,
+};
+
+/// Notes that the expression's value is let go though it can't be.
+pub fn note_going(e: &Expr, of: Standing, first: &mut Option<Found>)
+    ensures { first.new ≡ first_among first.old (spec.go_faults (shown_standing of.entry) (exp_of e.now)) }
+{
+    let at = own_place(e);
+    note_mismatch(first, !can_go(of), at.0, at.1);
+}
+
+/// What the expression is, where `target` is what a `malloc` in its place makes an object of. Its faults are noted.
+#[cycle(judge)]
+pub fn judge<'a, N: Names>(
+    names: &'a N,
+    target: Target<'a>,
+    e: &Expr,
+    first: &mut Option<Found>,
+) -> Standing<'a>
+    ensures standing { shown_standing result ≡ standings.standing (N.known names.now) (shown_target target.entry) (exp_of e.now) }
+    ensures first { first.new ≡ first_among first.old (spec.faults (N.known names.now) (shown_target target.entry) (exp_of e.now)) }
+{
+    let at = own_place(e);
+    match e {
+        Expr::Comma {
+            first: head,
+            rest,
+            ..
+        } => {
+            let of = judge_going(names, head, first);
+            judge_rest(names, of, rest.as_slice(), first)
+        }
+        Expr::Assign {
+            left,
+            op,
+            right,
+            ..
+        } => {
+            let to = judge(names, Target::No, left, first);
+            let from = Operand::of(judge(names, assigned_target(*op, to), right, first));
+            note_assign(names, *op, left, to, from, at, first);
+            assign_standing(*op, to, from)
+        }
+        Expr::Conditional { test, yes, no, .. } => {
+            let test = Operand::of(judge(names, Target::No, test, first));
+            let yes = Operand::of(judge(names, Target::No, yes, first));
+            let no = Operand::of(judge(names, Target::No, no, first));
+            let allowed = test.is_scalar() && can_choose(yes, no);
+            note_mismatch(first, !allowed, at.0, at.1);
+            conditional_standing(test, yes, no)
+        }
+        Expr::Binary {
+            left,
+            op,
+            right,
+            ..
+        } => {
+            let a = Operand::of(judge(names, Target::No, left, first));
+            let b = Operand::of(judge(names, Target::No, right, first));
+            note_mismatch(first, !takes(*op, a, b), at.0, at.1);
+            binary_standing(*op, a, b)
+        }
+        Expr::Prefix { op, operand, .. } => {
+            let of = judge(names, Target::No, operand, first);
+            note_prefix(names, *op, operand, of, at, first);
+            prefix_standing(*op, of)
+        }
+        Expr::SizeofExpr { operand, .. } => {
+            let of = judge(names, Target::No, operand, first);
+            note_mismatch(first, !is_sized(names, of), at.0, at.1);
+            sizeof_standing(names, of)
+        }
+        Expr::SizeofType { of, .. } => {
+            note_sizeof_type(names, of, at, first);
+            sizeof_type_standing(names, type_named(names, of))
+        }
+        Expr::Cast { to, operand, .. } => {
+            let named = type_named(names, to);
+            let from = Operand::of(judge(names, cast_target(named, to.stars), operand, first));
+            note_cast(names, to, from, at, first);
+            cast_standing(named, to.stars, from)
+        }
+        Expr::Index { base, index, .. } => {
+            let a = Operand::of(judge(names, Target::No, base, first));
+            let b = Operand::of(judge(names, Target::No, index, first));
+            note_mismatch(first, !can_index(a, b), at.0, at.1);
+            index_standing(a, b)
+        }
+        Expr::Member { base, name, .. } => {
+            let of = judge(names, Target::No, base, first);
+            let number = struct_of(of);
+            note_member(names, Operand::of(of), number, name, at, first);
+            member_standing(names, number, name.text.as_slice())
+        }
+        Expr::Arrow { base, name, .. } => {
+            let of = Operand::of(judge(names, Target::No, base, first));
+            let number = pointed_struct(of);
+            note_member(names, of, number, name, at, first);
+            member_standing(names, number, name.text.as_slice())
+        }
+        Expr::PostIncrement { operand, .. } | Expr::PostDecrement { operand, .. } => {
+            let of = judge(names, Target::No, operand, first);
+            note_step(names, operand, of, at, first);
+            stepped(of)
+        }
+        Expr::Name { name, .. } => {
+            note_named(names, name.as_slice(), at, first);
+            named_standing(names.seen(name.as_slice()), constant_named(name.as_slice()))
+        }
+        Expr::Call {
+            name,
+            arguments,
+            ..
+        } => {
+            let name = name.as_slice();
+            let arguments = arguments.as_slice();
+            let format = format_of(arguments);
+            let gives = given_by_call(names, target, name, format);
+            let wants = wants_of(names, name, format);
+            note_call(names, name, target, arguments, at, first);
+            let fit = judge_arguments(names, wants, at, arguments, first);
+            call_standing(gives, fit)
+        }
+        Expr::Number { value, .. } => number_standing(*value),
+        Expr::Letter { .. } => Standing::Whole,
+        Expr::Text { .. } => {
+            note(first, true, FaultKind::BadCall, at.0, at.1);
+            Standing::NoType
+        }
+        Expr::Null { .. } => Standing::Null,
+        Expr::Paren { inner, .. } => judge(names, target, inner, first),
+    }
+}
+
+// An expression before a comma, or behind one.
+#[cycle(judge)]
+fn judge_going<'a, N: Names>(names: &'a N, e: &Expr, first: &mut Option<Found>) -> Standing<'a>
+    ensures standing { shown_standing result ≡ standings.let_go (standings.standing (N.known names.now) standings.no_target (exp_of e.now)) }
+    ensures first { first.new ≡ first_among first.old (spec.faults (N.known names.now) standings.no_target (exp_of e.now) ++ spec.go_faults (standings.standing (N.known names.now) standings.no_target (exp_of e.now)) (exp_of e.now)) }
+{
+    let of = judge(names, Target::No, e, first);
+    note_going(e, of, first);
+    let_go(of)
+}
+
+// The last of several expressions with commas between them, where the first one is `head`.
+#[cycle(judge)]
+fn judge_rest<'a, N: Names>(
+    names: &'a N,
+    head: Standing<'a>,
+    rest: &[Expr],
+    first: &mut Option<Found>,
+) -> Standing<'a>
+    ensures standing { shown_standing result ≡ standings.last_standing (N.known names.now) (shown_standing head.entry) (listed (map exp_of rest.now)) }
+    ensures first { first.new ≡ first_among first.old (spec.rest_faults (N.known names.now) (listed (map exp_of rest.now))) }
+{
+    let mut last = head;
+    for e in rest {
+        last = behind(last, judge_going(names, e, first));
+    }
+    last.as_value()
+}
+
+// Its faults are noted where it is to be judged as an expression.
+#[cycle(judge)]
+fn judge_where<'a, N: Names>(
+    names: &'a N,
+    is_judged: bool,
+    e: &Expr,
+    first: &mut Option<Found>,
+) -> Standing<'a>
+    ensures standing { shown_standing result ≡ standings.standing (N.known names.now) standings.no_target (exp_of e.now) }
+    ensures first { first.new ≡ first_among first.old (spec.where_judged is_judged (spec.faults (N.known names.now) standings.no_target (exp_of e.now))) }
+{
+    if is_judged {
+        return judge(names, Target::No, e, first);
+    }
+    let mut unnoted = None;
+    judge(names, Target::No, e, &mut unnoted)
+}
+
+// Whether the argument has no fault and is what is wanted.
+#[cycle(judge)]
+fn judge_argument<N: Names>(
+    names: &N,
+    wanted: Wanted,
+    at: (u32, u32),
+    e: &Expr,
+    first: &mut Option<Found>,
+) -> bool
+    ensures fits { result ≡ standings.fits_wanted (N.known names.now) wanted (exp_of e.now) (standings.standing (N.known names.now) standings.no_target (exp_of e.now)) }
+    ensures first { first.new ≡ first_among first.old (spec.one_argument_faults (N.known names.now) wanted (position_at at.0 at.1) (exp_of e.now) (spec.faults (N.known names.now) standings.no_target (exp_of e.now))) }
+{
+    let of = judge_where(names, is_judged(wanted, e), e, first);
+    note_argument(names, wanted, e, of, at, first);
+    fits_wanted(names, wanted, e, of)
+}
+
+// Whether there are as many arguments as are wanted, each of which fits.
+#[cycle(judge)]
+fn judge_arguments<N: Names>(
+    names: &N,
+    wanted: Wants,
+    at: (u32, u32),
+    arguments: &[Expr],
+    first: &mut Option<Found>,
+) -> bool
+    ensures fit { result ≡ standings.fit_wanted (N.known names.now) (shown_wants wanted.entry) (listed (map exp_of arguments.now)) }
+    ensures first { first.new ≡ first_among first.old (spec.arguments_faults (N.known names.now) (shown_wants wanted.entry) (position_at at.0 at.1) (listed (map exp_of arguments.now))) }
+{
+    let mut wants = wanted;
+    let mut fit = true;
+    for e in arguments {
+        match wants.next() {
+            Some((next, others)) => {
+                fit &= judge_argument(names, next, at, e, first);
+                wants = others;
+            }
+            None => {
+                judge(names, Target::No, e, first);
+                fit = false;
+            }
+        }
+    }
+    fit && wants.next().is_none()
+}

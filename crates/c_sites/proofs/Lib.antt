@@ -1,0 +1,9 @@
+pub mod FunctionRows
+pub mod Kept
+pub mod Marking
+pub mod Numbering
+pub mod Programs
+pub mod SiteRows
+pub mod Sizing
+pub mod Spotted
+pub mod Typing
