@@ -4,13 +4,13 @@ use Rattle.c_lexer.specs.declared.token.Kind.{Kind}
 use Rattle.c_lexer.specs.declared.token.Token.{Token}
 use Rattle.c_tree.specs.Kinds.{kinds_of}
 use Rattle.c_tree.specs.Tree.{Outer}
-use Rattle.c_parser.specs.Marks.{Lexeme, Mark, erase, kinds_at}
-use Rattle.c_parser.specs.Parse.{Fault, Outcome, Got, Stuck}
-use Rattle.c_parser.specs.Exact.{IsProgram, Says, IsExact, parsed}
-use Rattle.c_parser.specs.Gives.{limit, lexemes}
+use Rattle.c_grammar.specs.Marks.{Lexeme, Mark, erase, kinds_at}
+use Rattle.c_grammar.specs.Parse.{Fault, Outcome, Got, Stuck}
+use Rattle.c_grammar.specs.Exact.{IsProgram, Says, IsExact, parsed}
+use Rattle.c_parse_rules.specs.Gives.{limit, lexemes}
 use Rattle.c_parser.specs.Answers.{IsTreeOf, StopsAt}
-use Rattle.c_parser.proofs.Exactly.{parsed_exactly, says}
-use Rattle.c_parser.proofs.Prints.{prints}
+use Rattle.c_grammar.proofs.Exactly.{parsed_exactly, says}
+use Rattle.c_grammar.proofs.Prints.{prints}
 
 -- what was read is a tree of the tokens
 pub found : (ts : List Token) (os : List Outer) (rest : List Lexeme) → parsed limit (lexemes ts) ≡ Got os rest → IsTreeOf ts os

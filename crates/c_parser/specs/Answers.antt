@@ -4,14 +4,16 @@ use Rattle.c_lexer.specs.declared.token.Kind.{Kind}
 use Rattle.c_lexer.specs.declared.token.Kind.TheVariants as kind
 use Rattle.c_lexer.specs.declared.token.Token.{Token}
 use Rattle.c_tree.specs.declared.program.Program.{Program}
-use Rattle.c_tree.specs.Tree.{Place, place_at, Outer}
+use Rattle.c_tree.specs.Tree.{Outer}
+use Rattle.rr_base.specs.declared.position.Position.{Position}
+use Rattle.rr_base.specs.Positions.{position_at}
 use Rattle.c_tree.specs.View.{program_of}
 use Rattle.c_parser.specs.declared.fault.ParseFault.{ParseFault}
 use Rattle.c_parser.specs.declared.fault.ParseFault.TheVariants as faults
-use Rattle.c_parser.specs.Marks.{Lexeme, Mark, erase, AllLow}
-use Rattle.c_parser.specs.Parse.{Fault, Syntax, Nesting, Outcome, Got, Stuck}
-use Rattle.c_parser.specs.Exact.{IsProgram, IsFaultOf}
-use Rattle.c_parser.specs.Gives.{limit, lexemes}
+use Rattle.c_grammar.specs.Marks.{Lexeme, Mark, erase, AllLow}
+use Rattle.c_grammar.specs.Parse.{Fault, Syntax, Nesting, Outcome, Got, Stuck}
+use Rattle.c_grammar.specs.Exact.{IsProgram, IsFaultOf}
+use Rattle.c_parse_rules.specs.Gives.{limit, lexemes}
 
 -- these are the tokens of the tree, each within the limit
 abbrev pub IsTreeOf : List Token → List Outer → Type 0
@@ -37,16 +39,16 @@ begins_refused [] = false
 begins_refused (t ∷ ts) = is_refused t.kind
 
 -- the byte after this token
-abbrev pub place_after : Option Token → Place
-place_after None = place_at 1 1
-place_after (Some t) = place_at t.line (t.column + (t.end - t.start))
+abbrev pub place_after : Option Token → Position
+place_after None = position_at 1 1
+place_after (Some t) = position_at t.line (t.column + (t.end - t.start))
 
 -- the byte after the last token
-abbrev pub end_of : List Token → Place
+abbrev pub end_of : List Token → Position
 end_of ts = place_after (slice_get ts (length ts - 1))
 
 -- the first of the rest, or the end of the tokens where none is left
-abbrev pub stands_at : List Lexeme → List Token → Place
+abbrev pub stands_at : List Lexeme → List Token → Position
 stands_at [] ts = end_of ts
 stands_at (t ∷ rest) ts = t.place
 
@@ -56,9 +58,9 @@ abbrev pub StopsAt : Fault → List Lexeme → List Token → Type 0
 StopsAt f rest ts = (front : List Mark) × AllLow limit front × (lexemes ts ≡ erase front ++ rest) × IsFaultOf limit f front rest
 
 abbrev pub IsFault : ParseFault → List Token → Type 0
-IsFault (faults.Syntax line column) ts = (rest : List Lexeme) × StopsAt Syntax rest ts × (begins_refused rest ≡ false) × (place_at line column ≡ stands_at rest ts)
-IsFault (faults.OutOfProfile line column) ts = (rest : List Lexeme) × StopsAt Syntax rest ts × (begins_refused rest ≡ true) × (place_at line column ≡ stands_at rest ts)
-IsFault (faults.Nesting line column) ts = (rest : List Lexeme) × StopsAt Nesting rest ts × (place_at line column ≡ stands_at rest ts)
+IsFault (faults.Syntax line column) ts = (rest : List Lexeme) × StopsAt Syntax rest ts × (begins_refused rest ≡ false) × (position_at line column ≡ stands_at rest ts)
+IsFault (faults.OutOfProfile line column) ts = (rest : List Lexeme) × StopsAt Syntax rest ts × (begins_refused rest ≡ true) × (position_at line column ≡ stands_at rest ts)
+IsFault (faults.Nesting line column) ts = (rest : List Lexeme) × StopsAt Nesting rest ts × (position_at line column ≡ stands_at rest ts)
 IsFault faults.OutOfMemory ts = Unit {0}
 
 -- ---- what the rules find
@@ -66,7 +68,7 @@ IsFault faults.OutOfMemory ts = Unit {0}
 -- the call answers what the rules find in the tokens, unless memory runs out
 abbrev pub Tells : Result Program ParseFault → Outcome (List Outer) → List Token → Type 0
 Tells (Ok p) o ts = (rest : List Lexeme) × (o ≡ Got (program_of p) rest)
-Tells (Err (faults.Syntax line column)) o ts = (rest : List Lexeme) × (o ≡ Stuck Syntax rest) × (begins_refused rest ≡ false) × (place_at line column ≡ stands_at rest ts)
-Tells (Err (faults.OutOfProfile line column)) o ts = (rest : List Lexeme) × (o ≡ Stuck Syntax rest) × (begins_refused rest ≡ true) × (place_at line column ≡ stands_at rest ts)
-Tells (Err (faults.Nesting line column)) o ts = (rest : List Lexeme) × (o ≡ Stuck Nesting rest) × (place_at line column ≡ stands_at rest ts)
+Tells (Err (faults.Syntax line column)) o ts = (rest : List Lexeme) × (o ≡ Stuck Syntax rest) × (begins_refused rest ≡ false) × (position_at line column ≡ stands_at rest ts)
+Tells (Err (faults.OutOfProfile line column)) o ts = (rest : List Lexeme) × (o ≡ Stuck Syntax rest) × (begins_refused rest ≡ true) × (position_at line column ≡ stands_at rest ts)
+Tells (Err (faults.Nesting line column)) o ts = (rest : List Lexeme) × (o ≡ Stuck Nesting rest) × (position_at line column ≡ stands_at rest ts)
 Tells (Err faults.OutOfMemory) o ts = Unit {0}

@@ -4,10 +4,10 @@ use Rattle.std.specs.Borrow.{Bor}
 use Rattle.c_lexer.specs.declared.token.Token.{Token}
 use Rattle.c_tree.specs.declared.statement.Stmt.{Stmt}
 use Rattle.c_tree.specs.View.{stmt_of}
-use Rattle.c_parser.specs.declared.token.Stop.{Stop}
-use Rattle.c_parser.specs.Parse.{Got, run}
-use Rattle.c_parser.specs.Rules.{read, simple_rule, control_rule}
-use Rattle.c_parser.specs.Gives.{limit, lexemes, Stops}
+use Rattle.c_parse_rules.specs.declared.token.Stop.{Stop}
+use Rattle.c_grammar.specs.Parse.{Got, run}
+use Rattle.c_grammar.specs.Rules.{read, simple_rule, control_rule}
+use Rattle.c_parse_rules.specs.Gives.{limit, lexemes, Stops}
 
 -- one of a semicolon or of a jump, or none where the rule of the others decides
 abbrev pub MaySimply : ℕ → List Token → Result (Option (Stmt × Bor (List Token))) Stop → Type 0

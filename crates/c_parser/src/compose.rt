@@ -4,18 +4,17 @@ ghost use Rattle.std.specs.Prelude.{◌≡◌, IfOk, map};
 ghost use Rattle.c_tree.specs.Tree as tree;
 ghost use Rattle.c_tree.specs.View.{exp_of, stmt_of, part_of};
 ghost use Rattle.c_parser.specs.ForHeads.{for_head_of};
-ghost use Rattle.c_parser.specs.Gives.{place_of};
+ghost use Rattle.c_parse_rules.specs.Gives.{place_of};
 
 use crate::short::ForHead;
-use crate::token::Place;
 use c_tree::{Expr, Part, Stmt};
-use rr_base::List;
+use rr_base::{List, Position};
 use std::alloc::{AllocError, Global};
 
-pub(crate) fn block(parts: List<Part>, place: Place) -> Stmt
+pub(crate) fn block(parts: List<Part>, place: Position) -> Stmt
     ensures { stmt_of result ≡ tree.block (tree.listed_parts (map part_of parts)) (place_of place) }
 {
-    let Place { line, column } = place;
+    let Position { line, column } = place;
     Stmt::Block {
         parts,
         line,
@@ -23,10 +22,15 @@ pub(crate) fn block(parts: List<Part>, place: Place) -> Stmt
     }
 }
 
-pub(crate) fn branch(alloc: Global, test: Expr, yes: Stmt, place: Place) -> Result<Stmt, AllocError>
+pub(crate) fn branch(
+    alloc: Global,
+    test: Expr,
+    yes: Stmt,
+    place: Position,
+) -> Result<Stmt, AllocError>
     ensures { IfOk result (λ s. stmt_of s ≡ tree.branch (exp_of test) (stmt_of yes) (place_of place)) }
 {
-    let Place { line, column } = place;
+    let Position { line, column } = place;
     Ok(Stmt::If {
         test,
         yes: Box::new(alloc, yes)?,
@@ -41,11 +45,11 @@ pub(crate) fn branch_else(
     test: Expr,
     yes: Stmt,
     no: Stmt,
-    place: Place,
+    place: Position,
 ) -> Result<Stmt, AllocError>
     ensures { IfOk result (λ s. stmt_of s ≡ tree.branch_else (exp_of test) (stmt_of yes) (stmt_of no) (place_of place)) }
 {
-    let Place { line, column } = place;
+    let Position { line, column } = place;
     Ok(Stmt::If {
         test,
         yes: Box::new(alloc, yes)?,
@@ -59,11 +63,11 @@ pub(crate) fn while_loop(
     alloc: Global,
     test: Expr,
     body: Stmt,
-    place: Place,
+    place: Position,
 ) -> Result<Stmt, AllocError>
     ensures { IfOk result (λ s. stmt_of s ≡ tree.while_loop (exp_of test) (stmt_of body) (place_of place)) }
 {
-    let Place { line, column } = place;
+    let Position { line, column } = place;
     Ok(Stmt::While {
         test,
         body: Box::new(alloc, body)?,
@@ -76,11 +80,11 @@ pub(crate) fn do_loop(
     alloc: Global,
     body: Stmt,
     test: Expr,
-    place: Place,
+    place: Position,
 ) -> Result<Stmt, AllocError>
     ensures { IfOk result (λ s. stmt_of s ≡ tree.do_loop (stmt_of body) (exp_of test) (place_of place)) }
 {
-    let Place { line, column } = place;
+    let Position { line, column } = place;
     Ok(Stmt::Do {
         body: Box::new(alloc, body)?,
         test,
@@ -93,12 +97,12 @@ pub(crate) fn for_loop(
     alloc: Global,
     head: ForHead,
     body: Stmt,
-    place: Place,
+    place: Position,
 ) -> Result<Stmt, AllocError>
     ensures { IfOk result (λ s. let h = for_head_of head in stmt_of s ≡ tree.for_loop h.start h.test h.next (stmt_of body) (place_of place)) }
 {
     let ForHead { start, test, step } = head;
-    let Place { line, column } = place;
+    let Position { line, column } = place;
     Ok(Stmt::For {
         start,
         test,

@@ -3,21 +3,21 @@
 
 ghost use Rattle.std.specs.Prelude.{◌≡◌, ◌+◌, ◌≤◌, IfOk, [], map};
 ghost use Rattle.c_tree.specs.View.{exp_of, declared_of, init_of, object_of, declares_of};
-ghost use Rattle.c_parser.specs.Gives.{limit, place_of, initials_of, Reads, Follows};
-ghost use Rattle.c_parser.specs.Phrase as phrase;
-ghost use Rattle.c_parser.specs.Rules.{braces_rule};
+ghost use Rattle.c_parse_rules.specs.Gives.{limit, place_of, initials_of, Reads, Follows};
+ghost use Rattle.c_grammar.specs.Phrase as phrase;
+ghost use Rattle.c_grammar.specs.Rules.{braces_rule};
 
 use crate::expression::{assignment, conditional};
-use crate::make;
-use crate::token::{Place, Stop, begins_with, name, next_punct, next_word, punct};
-use crate::types::{specifier, specifier_place};
 use c_lexer::{Punct, Token, Word};
+use c_parse_rules::make;
+use c_parse_rules::token::{Stop, begins_with, name, next_punct, next_word, punct};
+use c_parse_rules::types::{specifier, specifier_place};
 use c_tree::{Declaration, Declarator, Expr, Initial, Item};
-use rr_base::List;
+use rr_base::{List, Position};
 use std::alloc::Global;
 
 // The number of stars, each one level above the one before it.
-#[tactic(auto, using(crate::proofs::Steps::raising_stars_rules))]
+#[tactic(auto, using(c_parse_rules::proofs::Steps::raising_stars_rules))]
 fn raising_stars(level: u32, tokens: &[Token]) -> Result<(u32, &[Token]), Stop<'_>>
     requires { level ≤ limit }
     ensures stars { Reads (phrase.raising_stars level 0) (λ n. n) tokens.now result }
@@ -32,7 +32,7 @@ fn raising_stars(level: u32, tokens: &[Token]) -> Result<(u32, &[Token]), Stop<'
     Ok((count, rest))
 }
 
-#[tactic(auto, using(crate::proofs::Steps::declarator_rules))]
+#[tactic(auto, using(c_parse_rules::proofs::Steps::declarator_rules))]
 pub(crate) fn declarator(
     alloc: Global,
     level: u32,
@@ -56,7 +56,7 @@ pub(crate) fn declarator(
 }
 
 /// The lengths of arrays in brackets, each pair one level above the one before it.
-#[tactic(auto, using(crate::proofs::Steps::lengths_rules))]
+#[tactic(auto, using(c_parse_rules::proofs::Steps::lengths_rules))]
 pub(crate) fn lengths(
     alloc: Global,
     level: u32,
@@ -79,7 +79,7 @@ pub(crate) fn lengths(
 }
 
 #[cycle(initials)]
-#[tactic(auto, using(crate::proofs::Steps::initial_rules))]
+#[tactic(auto, using(c_parse_rules::proofs::Steps::initial_rules))]
 pub(crate) fn initial(
     alloc: Global,
     level: u32,
@@ -91,14 +91,14 @@ pub(crate) fn initial(
     if let Some((place, rest)) = next_punct(tokens, Punct::OpenBrace, level + 1)? {
         return braces(alloc, level + 1, place, rest);
     }
-    if let Some((Place { line, column }, rest)) = next_word(
+    if let Some((Position { line, column }, rest)) = next_word(
         tokens,
         Word::PthreadMutexInitializer,
         level + 1,
     )? {
         return Ok((Initial::Mutex { line, column }, rest));
     }
-    if let Some((Place { line, column }, rest)) = next_word(
+    if let Some((Position { line, column }, rest)) = next_word(
         tokens,
         Word::PthreadCondInitializer,
         level + 1,
@@ -114,7 +114,7 @@ pub(crate) fn initial(
 fn braces(
     alloc: Global,
     level: u32,
-    place: Place,
+    place: Position,
     tokens: &[Token],
 ) -> Result<(Initial, &[Token]), Stop<'_>>
     requires { level ≤ limit }
@@ -130,7 +130,7 @@ fn braces(
 
 // The initials with a comma before each, behind those that were found, and whether a comma stands behind the last.
 #[cycle(initials)]
-#[tactic(auto, using(crate::proofs::Steps::more_initials_rules))]
+#[tactic(auto, using(c_parse_rules::proofs::Steps::more_initials_rules))]
 fn more_initials(
     alloc: Global,
     level: u32,
@@ -152,7 +152,7 @@ fn more_initials(
     Ok(((found, false), rest))
 }
 
-#[tactic(auto, using(crate::proofs::Steps::object_rules))]
+#[tactic(auto, using(c_parse_rules::proofs::Steps::object_rules))]
 fn object(alloc: Global, level: u32, tokens: &[Token]) -> Result<(Item, &[Token]), Stop<'_>>
     requires { level ≤ limit }
     ensures { Reads (phrase.object level) (λ o. object_of o) tokens.now result }
@@ -162,7 +162,7 @@ fn object(alloc: Global, level: u32, tokens: &[Token]) -> Result<(Item, &[Token]
 }
 
 /// An object behind its declarator.
-#[tactic(auto, using(crate::proofs::Steps::object_behind_rules))]
+#[tactic(auto, using(c_parse_rules::proofs::Steps::object_behind_rules))]
 pub(crate) fn object_behind(
     alloc: Global,
     level: u32,
@@ -172,7 +172,7 @@ pub(crate) fn object_behind(
     requires { level ≤ limit }
     ensures { Reads (phrase.object_behind level (declared_of declarator)) (λ o. object_of o) tokens.now result }
 {
-    let Some((Place { line, column }, rest)) = next_punct(tokens, Punct::Assign, level)? else {
+    let Some((Position { line, column }, rest)) = next_punct(tokens, Punct::Assign, level)? else {
         return Ok((Item::Plain(declarator), tokens));
     };
     let (initial, rest) = initial(alloc, level, rest)?;
@@ -188,7 +188,7 @@ pub(crate) fn object_behind(
 }
 
 /// The objects with a comma before each, behind those that were found.
-#[tactic(auto, using(crate::proofs::Steps::more_objects_rules))]
+#[tactic(auto, using(c_parse_rules::proofs::Steps::more_objects_rules))]
 pub(crate) fn more_objects(
     alloc: Global,
     level: u32,
@@ -207,7 +207,7 @@ pub(crate) fn more_objects(
     Ok((found, rest))
 }
 
-#[tactic(auto, using(crate::proofs::Steps::declaration_rules))]
+#[tactic(auto, using(c_parse_rules::proofs::Steps::declaration_rules))]
 pub(crate) fn declaration(
     alloc: Global,
     level: u32,
@@ -222,7 +222,7 @@ pub(crate) fn declaration(
     items.push(first)?;
     let (items, rest) = more_objects(alloc, level, items, rest)?;
     let (_, rest) = punct(rest, Punct::Semicolon, level)?;
-    let Place { line, column } = specifier_place(&specifier);
+    let Position { line, column } = specifier_place(&specifier);
     Ok((
         Declaration {
             specifier,

@@ -3,25 +3,25 @@
 
 ghost use Rattle.std.specs.Prelude.{◌≡◌, ◌≤◌, map};
 ghost use Rattle.c_tree.specs.View.{exp_of, maybe_of};
-ghost use Rattle.c_parser.specs.Gives.{place_of, Reads, Follows};
-ghost use Rattle.c_parser.specs.Grammar.{first_place as spec_first_place};
-ghost use Rattle.c_parser.specs.Phrase as phrase;
-ghost use Rattle.c_parser.specs.Rules.{sizeof_rule};
+ghost use Rattle.c_parse_rules.specs.Gives.{place_of, Reads, Follows};
+ghost use Rattle.c_grammar.specs.Grammar.{first_place as spec_first_place};
+ghost use Rattle.c_grammar.specs.Phrase as phrase;
+ghost use Rattle.c_grammar.specs.Rules.{sizeof_rule};
 
-use crate::make;
-use crate::operator::push;
-use crate::token::{
-    Place, Stop, begins_type, begins_with, name, next_assign, next_binary, next_letter, next_name,
+use c_lexer::{Punct, Token, Word};
+use c_parse_rules::make;
+use c_parse_rules::operator::push;
+use c_parse_rules::token::{
+    Stop, begins_type, begins_with, name, next_assign, next_binary, next_letter, next_name,
     next_number, next_prefix, next_punct, next_text, next_word, punct, word,
 };
-use crate::types::type_name;
-use c_lexer::{Punct, Token, Word};
+use c_parse_rules::types::type_name;
 use c_tree::{Expr, Name};
-use rr_base::List;
+use rr_base::{List, Position};
 use std::alloc::Global;
 
 /// Where an expression begins.
-pub(crate) fn first_place(e: &Expr) -> Place
+pub(crate) fn first_place(e: &Expr) -> Position
     ensures { place_of result ≡ spec_first_place (exp_of e.now) }
 {
     match e {
@@ -44,7 +44,7 @@ pub(crate) fn first_place(e: &Expr) -> Place
         | Expr::Letter { line, column, .. }
         | Expr::Text { line, column, .. }
         | Expr::Null { line, column }
-        | Expr::Paren { line, column, .. } => Place {
+        | Expr::Paren { line, column, .. } => Position {
             line: *line,
             column: *column,
         },
@@ -52,7 +52,7 @@ pub(crate) fn first_place(e: &Expr) -> Place
 }
 
 #[cycle(read)]
-#[tactic(auto, using(crate::proofs::Steps::expression_rules))]
+#[tactic(auto, using(c_parse_rules::proofs::Steps::expression_rules))]
 pub(crate) fn expression(
     alloc: Global,
     level: u32,
@@ -75,7 +75,7 @@ pub(crate) fn expression(
 
 // The assignments with a comma before each, behind those that were found.
 #[cycle(read)]
-#[tactic(auto, using(crate::proofs::Steps::more_rules))]
+#[tactic(auto, using(c_parse_rules::proofs::Steps::more_rules))]
 fn more(
     alloc: Global,
     level: u32,
@@ -95,7 +95,7 @@ fn more(
 }
 
 #[cycle(read)]
-#[tactic(auto, using(crate::proofs::Steps::assignment_rules))]
+#[tactic(auto, using(c_parse_rules::proofs::Steps::assignment_rules))]
 pub(crate) fn assignment(
     alloc: Global,
     level: u32,
@@ -113,7 +113,7 @@ pub(crate) fn assignment(
 }
 
 #[cycle(read)]
-#[tactic(auto, using(crate::proofs::Steps::conditional_part_rules))]
+#[tactic(auto, using(c_parse_rules::proofs::Steps::conditional_part_rules))]
 pub(crate) fn conditional(
     alloc: Global,
     level: u32,
@@ -133,7 +133,7 @@ pub(crate) fn conditional(
 }
 
 #[cycle(read)]
-#[tactic(auto, using(crate::proofs::Steps::operands_rules))]
+#[tactic(auto, using(c_parse_rules::proofs::Steps::operands_rules))]
 fn operands(alloc: Global, level: u32, tokens: &[Token]) -> Result<(Expr, &[Token]), Stop<'_>>
     requires { level ≤ 257 }
     ensures { Reads (phrase.operands level) (λ e. exp_of e) tokens.now result }
@@ -144,7 +144,7 @@ fn operands(alloc: Global, level: u32, tokens: &[Token]) -> Result<(Expr, &[Toke
 
 // The operators and operands behind a left operand.
 #[cycle(read)]
-#[tactic(auto, using(crate::proofs::Steps::chain_rules))]
+#[tactic(auto, using(c_parse_rules::proofs::Steps::chain_rules))]
 fn chain(
     alloc: Global,
     level: u32,
@@ -163,7 +163,7 @@ fn chain(
 }
 
 #[cycle(read)]
-#[tactic(auto, using(crate::proofs::Steps::unary_rules))]
+#[tactic(auto, using(c_parse_rules::proofs::Steps::unary_rules))]
 fn unary(alloc: Global, level: u32, tokens: &[Token]) -> Result<(Expr, &[Token]), Stop<'_>>
     requires { level ≤ 257 }
     ensures { Reads (phrase.unary level) (λ e. exp_of e) tokens.now result }
@@ -176,7 +176,7 @@ fn unary(alloc: Global, level: u32, tokens: &[Token]) -> Result<(Expr, &[Token])
 
 // One that begins with no parenthesis.
 #[cycle(read)]
-#[tactic(auto, using(crate::proofs::Steps::unary_plain_rules))]
+#[tactic(auto, using(c_parse_rules::proofs::Steps::unary_plain_rules))]
 fn unary_plain(alloc: Global, level: u32, tokens: &[Token]) -> Result<(Expr, &[Token]), Stop<'_>>
     requires { level ≤ 257 }
     ensures { Reads (phrase.unary_plain level) (λ e. exp_of e) tokens.now result }
@@ -197,7 +197,7 @@ fn unary_plain(alloc: Global, level: u32, tokens: &[Token]) -> Result<(Expr, &[T
 fn sizeof(
     alloc: Global,
     level: u32,
-    place: Place,
+    place: Position,
     tokens: &[Token],
 ) -> Result<(Expr, &[Token]), Stop<'_>>
     requires { level ≤ 256 }
@@ -210,7 +210,7 @@ fn sizeof(
     if begins_type(rest) {
         let (of, rest) = type_name(alloc, level + 2, rest)?;
         let (_, rest) = punct(rest, Punct::CloseParen, level + 2)?;
-        let Place { line, column } = place;
+        let Position { line, column } = place;
         return Ok((Expr::SizeofType { of, line, column }, rest));
     }
     let (operand, rest) = enclosed(alloc, level + 1, there, rest)?;
@@ -219,11 +219,11 @@ fn sizeof(
 
 // Behind a parenthesis at that place: a cast, or an expression and what follows it.
 #[cycle(read)]
-#[tactic(auto, using(crate::proofs::Steps::opened_rules))]
+#[tactic(auto, using(c_parse_rules::proofs::Steps::opened_rules))]
 fn opened(
     alloc: Global,
     level: u32,
-    place: Place,
+    place: Position,
     tokens: &[Token],
 ) -> Result<(Expr, &[Token]), Stop<'_>>
     requires { level ≤ 256 }
@@ -239,11 +239,11 @@ fn opened(
 }
 
 #[cycle(read)]
-#[tactic(auto, using(crate::proofs::Steps::enclosed_rules))]
+#[tactic(auto, using(c_parse_rules::proofs::Steps::enclosed_rules))]
 fn enclosed(
     alloc: Global,
     level: u32,
-    place: Place,
+    place: Position,
     tokens: &[Token],
 ) -> Result<(Expr, &[Token]), Stop<'_>>
     requires { level ≤ 256 }
@@ -256,7 +256,7 @@ fn enclosed(
 }
 
 #[cycle(read)]
-#[tactic(auto, using(crate::proofs::Steps::atom_rules))]
+#[tactic(auto, using(c_parse_rules::proofs::Steps::atom_rules))]
 fn atom(alloc: Global, level: u32, tokens: &[Token]) -> Result<(Expr, &[Token]), Stop<'_>>
     requires { level ≤ 257 }
     ensures { Reads (phrase.atom level) (λ e. exp_of e) tokens.now result }
@@ -267,9 +267,9 @@ fn atom(alloc: Global, level: u32, tokens: &[Token]) -> Result<(Expr, &[Token]),
             return Ok((Expr::Name { name, line, column }, rest));
         };
         let (arguments, rest) = arguments(alloc, level + 1, behind)?;
-        return Ok((make::call(text, arguments, Place { line, column }), rest));
+        return Ok((make::call(text, arguments, Position { line, column }), rest));
     }
-    if let Some(((value, Place { line, column }), rest)) = next_number(tokens, level + 1)? {
+    if let Some(((value, Position { line, column }), rest)) = next_number(tokens, level + 1)? {
         return Ok((
             Expr::Number {
                 value,
@@ -279,7 +279,7 @@ fn atom(alloc: Global, level: u32, tokens: &[Token]) -> Result<(Expr, &[Token]),
             rest,
         ));
     }
-    if let Some(((value, Place { line, column }), rest)) = next_letter(tokens, level + 1)? {
+    if let Some(((value, Position { line, column }), rest)) = next_letter(tokens, level + 1)? {
         return Ok((
             Expr::Letter {
                 value,
@@ -289,7 +289,7 @@ fn atom(alloc: Global, level: u32, tokens: &[Token]) -> Result<(Expr, &[Token]),
             rest,
         ));
     }
-    if let Some(((bytes, Place { line, column }), rest)) = next_text(alloc, tokens, level + 1)? {
+    if let Some(((bytes, Position { line, column }), rest)) = next_text(alloc, tokens, level + 1)? {
         return Ok((
             Expr::Text {
                 bytes,
@@ -299,13 +299,13 @@ fn atom(alloc: Global, level: u32, tokens: &[Token]) -> Result<(Expr, &[Token]),
             rest,
         ));
     }
-    let (Place { line, column }, rest) = word(tokens, Word::Null, level + 1)?;
+    let (Position { line, column }, rest) = word(tokens, Word::Null, level + 1)?;
     Ok((Expr::Null { line, column }, rest))
 }
 
 // The postfix operators behind a base.
 #[cycle(read)]
-#[tactic(auto, using(crate::proofs::Steps::postfix_rules))]
+#[tactic(auto, using(c_parse_rules::proofs::Steps::postfix_rules))]
 fn postfix(
     alloc: Global,
     level: u32,
@@ -344,7 +344,7 @@ fn postfix(
 
 // Behind a parenthesis, with that which closes them.
 #[cycle(read)]
-#[tactic(auto, using(crate::proofs::Steps::arguments_rules))]
+#[tactic(auto, using(c_parse_rules::proofs::Steps::arguments_rules))]
 fn arguments(
     alloc: Global,
     level: u32,
@@ -365,7 +365,7 @@ fn arguments(
 }
 
 /// An expression, or none before this token.
-#[tactic(auto, using(crate::proofs::Steps::maybe_expression_rules))]
+#[tactic(auto, using(c_parse_rules::proofs::Steps::maybe_expression_rules))]
 pub(crate) fn maybe_expression(
     alloc: Global,
     level: u32,

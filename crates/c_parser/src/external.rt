@@ -2,24 +2,24 @@
 
 ghost use Rattle.std.specs.Prelude.{◌≡◌, ◌≤◌, [], map};
 ghost use Rattle.c_tree.specs.View.{code_of, declared_of, fields_of, outer_of};
-ghost use Rattle.c_parser.specs.Gives.{limit, place_of, Reads, Follows};
-ghost use Rattle.c_parser.specs.Grammar.{name_place, is_void_alone as spec_is_void_alone};
-ghost use Rattle.c_parser.specs.Phrase as phrase;
-ghost use Rattle.c_parser.specs.Rules as rules;
+ghost use Rattle.c_parse_rules.specs.Gives.{limit, place_of, Reads, Follows};
+ghost use Rattle.c_grammar.specs.Grammar.{name_place, is_void_alone as spec_is_void_alone};
+ghost use Rattle.c_grammar.specs.Phrase as phrase;
+ghost use Rattle.c_grammar.specs.Rules as rules;
 
 use crate::declaration::{declarator, lengths, more_objects, object_behind};
-use crate::head::{Head, outer_head};
 use crate::statement::parts;
-use crate::token::{Place, Stop, begins_with, name, next_name, next_punct, next_word, punct};
-use crate::types::{specifier, specifier_place, stars};
 use c_lexer::{Punct, Token, Word};
+use c_parse_rules::head::{Head, outer_head};
+use c_parse_rules::token::{Stop, begins_with, name, next_name, next_punct, next_word, punct};
+use c_parse_rules::types::{specifier, specifier_place, stars};
 use c_tree::{Body, Declarator, External, Member, Name, Param, Params, Specifier};
-use rr_base::List;
+use rr_base::{List, Position};
 use std::alloc::Global;
 
 // ---- parameters (C99 6.7.5.3)
 
-#[tactic(auto, using(crate::proofs::Steps::param_rules))]
+#[tactic(auto, using(c_parse_rules::proofs::Steps::param_rules))]
 fn param(alloc: Global, tokens: &[Token]) -> Result<(Param, &[Token]), Stop<'_>>
     ensures { Reads phrase.param (λ x. x) tokens.now result }
 {
@@ -28,7 +28,7 @@ fn param(alloc: Global, tokens: &[Token]) -> Result<(Param, &[Token]), Stop<'_>>
 }
 
 // Behind the specifier.
-#[tactic(auto, using(crate::proofs::Steps::param_behind_rules))]
+#[tactic(auto, using(c_parse_rules::proofs::Steps::param_behind_rules))]
 fn param_behind(
     alloc: Global,
     specifier: Specifier,
@@ -36,7 +36,7 @@ fn param_behind(
 ) -> Result<(Param, &[Token]), Stop<'_>>
     ensures { Reads (phrase.param_behind specifier) (λ x. x) tokens.now result }
 {
-    let Place { line, column } = specifier_place(&specifier);
+    let Position { line, column } = specifier_place(&specifier);
     let (stars, rest) = stars(0, tokens)?;
     let Some((name, behind)) = next_name(alloc, rest, 0)? else {
         return Ok((
@@ -104,7 +104,7 @@ fn params_from(found: List<Param>) -> Params
 }
 
 // Up to the parenthesis that closes them.
-#[tactic(auto, using(crate::proofs::Steps::params_rules))]
+#[tactic(auto, using(c_parse_rules::proofs::Steps::params_rules))]
 fn params(alloc: Global, tokens: &[Token]) -> Result<(Params, &[Token]), Stop<'_>>
     ensures { Reads phrase.params (λ x. x) tokens.now result }
 {
@@ -121,11 +121,11 @@ fn params(alloc: Global, tokens: &[Token]) -> Result<(Params, &[Token]), Stop<'_
 // ---- functions
 
 // What follows the parameters.
-#[tactic(auto, using(crate::proofs::Steps::code_rules))]
+#[tactic(auto, using(c_parse_rules::proofs::Steps::code_rules))]
 fn code(alloc: Global, tokens: &[Token]) -> Result<(Body, &[Token]), Stop<'_>>
     ensures { Reads phrase.code (λ c. code_of c) tokens.now result }
 {
-    if let Some((Place { line, column }, rest)) = next_punct(tokens, Punct::OpenBrace, 0)? {
+    if let Some((Position { line, column }, rest)) = next_punct(tokens, Punct::OpenBrace, 0)? {
         let (parts, rest) = parts(alloc, 0, rest)?;
         let (_, rest) = punct(rest, Punct::CloseBrace, 0)?;
         return Ok((
@@ -160,7 +160,7 @@ fn more_declared(
     Ok((found, rest))
 }
 
-#[tactic(auto, using(crate::proofs::Steps::member_rules))]
+#[tactic(auto, using(c_parse_rules::proofs::Steps::member_rules))]
 fn member(alloc: Global, tokens: &[Token]) -> Result<(Member, &[Token]), Stop<'_>>
     ensures { Reads phrase.member (λ m. fields_of m) tokens.now result }
 {
@@ -170,7 +170,7 @@ fn member(alloc: Global, tokens: &[Token]) -> Result<(Member, &[Token]), Stop<'_
     found.push(first)?;
     let (declarators, rest) = more_declared(alloc, found, rest)?;
     let (_, rest) = punct(rest, Punct::Semicolon, 0)?;
-    let Place { line, column } = specifier_place(&specifier);
+    let Position { line, column } = specifier_place(&specifier);
     Ok((
         Member {
             specifier,
@@ -247,7 +247,7 @@ fn objects(
     alloc: Global,
     is_static: bool,
     specifier: Specifier,
-    place: Place,
+    place: Position,
     stars: u32,
     name: Name,
     tokens: &[Token],
@@ -267,7 +267,7 @@ fn objects(
     found.push(first)?;
     let (items, rest) = more_objects(alloc, 0, found, rest)?;
     let (_, rest) = punct(rest, Punct::Semicolon, 0)?;
-    let Place { line, column } = place;
+    let Position { line, column } = place;
     Ok((
         External::Objects {
             is_static,
@@ -281,12 +281,12 @@ fn objects(
 }
 
 // Behind the specifier. The place is that of the first token.
-#[tactic(auto, using(crate::proofs::Steps::outer_behind_rules))]
+#[tactic(auto, using(c_parse_rules::proofs::Steps::outer_behind_rules))]
 fn outer_behind(
     alloc: Global,
     is_static: bool,
     specifier: Specifier,
-    place: Place,
+    place: Position,
     tokens: &[Token],
 ) -> Result<(External, &[Token]), Stop<'_>>
     ensures { Reads (phrase.outer_behind is_static specifier (place_of place)) (λ o. outer_of o) tokens.now result }
@@ -303,7 +303,7 @@ fn outer_behind(
 // Behind the word `struct` at that place: a struct's members, or what has its name for a specifier.
 fn behind_struct(
     alloc: Global,
-    place: Place,
+    place: Position,
     tokens: &[Token],
 ) -> Result<(External, &[Token]), Stop<'_>>
     ensures { Follows (rules.behind_struct_rule (place_of place)) (λ o. outer_of o) tokens.now result }
@@ -312,7 +312,7 @@ fn behind_struct(
     if begins_with(rest, Punct::OpenBrace) {
         return structure(alloc, name, rest);
     }
-    let Place { line, column } = place;
+    let Position { line, column } = place;
     outer_behind(
         alloc,
         false,
@@ -322,7 +322,7 @@ fn behind_struct(
     )
 }
 
-#[tactic(auto, using(crate::proofs::Steps::outer_rules))]
+#[tactic(auto, using(c_parse_rules::proofs::Steps::outer_rules))]
 fn outer(alloc: Global, tokens: &[Token]) -> Result<(External, &[Token]), Stop<'_>>
     ensures { Reads phrase.outer (λ o. outer_of o) tokens.now result }
 {

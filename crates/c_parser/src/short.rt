@@ -4,16 +4,17 @@
 ghost use Rattle.std.specs.Prelude.{◌≡◌, ◌≤◌};
 ghost use Rattle.c_tree.specs.View.{exp_of, start_of, stmt_of};
 ghost use Rattle.c_parser.specs.ForHeads.{for_head_of as head_of_for};
-ghost use Rattle.c_parser.specs.Gives.{place_of, Reads, Follows};
-ghost use Rattle.c_parser.specs.Phrase as phrase;
-ghost use Rattle.c_parser.specs.Rules as rules;
+ghost use Rattle.c_parse_rules.specs.Gives.{place_of, Reads, Follows};
+ghost use Rattle.c_grammar.specs.Phrase as phrase;
+ghost use Rattle.c_grammar.specs.Rules as rules;
 ghost use Rattle.c_parser.specs.Simple.{MaySimply};
 
 use crate::declaration::declaration;
 use crate::expression::{expression, first_place, maybe_expression};
-use crate::token::{Place, Stop, begins_type, next_punct, next_word, punct, word};
 use c_lexer::{Punct, Token, Word};
+use c_parse_rules::token::{Stop, begins_type, next_punct, next_word, punct, word};
 use c_tree::{Expr, ForStart, Stmt};
+use rr_base::Position;
 use std::alloc::Global;
 
 // The expression of an `if` or its kin, in its parentheses.
@@ -57,7 +58,7 @@ pub(crate) struct ForHead {
 }
 
 // How a `for` begins.
-#[tactic(auto, using(crate::proofs::Steps::start_rules))]
+#[tactic(auto, using(c_parse_rules::proofs::Steps::start_rules))]
 fn start(alloc: Global, level: u32, tokens: &[Token]) -> Result<(ForStart, &[Token]), Stop<'_>>
     requires { level ≤ 256 }
     ensures { Reads (phrase.start level) (λ s. start_of s) tokens.now result }
@@ -92,13 +93,13 @@ pub(crate) fn for_head_of(
 fn returned(
     alloc: Global,
     level: u32,
-    place: Place,
+    place: Position,
     tokens: &[Token],
 ) -> Result<(Stmt, &[Token]), Stop<'_>>
     requires { level ≤ 256 }
     ensures { Follows (rules.return_rule level (place_of place)) (λ s. stmt_of s) tokens.now result }
 {
-    let Place { line, column } = place;
+    let Position { line, column } = place;
     let (value, rest) = maybe_expression(alloc, level, Punct::Semicolon, tokens)?;
     let (_, rest) = punct(rest, Punct::Semicolon, level)?;
     Ok((
@@ -122,7 +123,7 @@ pub(crate) fn computed(
 {
     let (value, rest) = expression(alloc, level, tokens)?;
     let (_, rest) = punct(rest, Punct::Semicolon, level)?;
-    let Place { line, column } = first_place(&value);
+    let Position { line, column } = first_place(&value);
     Ok((
         Stmt::Expression {
             value: Some(value),
@@ -142,7 +143,7 @@ pub(crate) fn simple(
     requires { level ≤ 257 }
     ensures { MaySimply level tokens.now result }
 {
-    if let Some((Place { line, column }, rest)) = next_punct(tokens, Punct::Semicolon, level)? {
+    if let Some((Position { line, column }, rest)) = next_punct(tokens, Punct::Semicolon, level)? {
         let value = None;
         return Ok(Some((
             Stmt::Expression {
@@ -153,11 +154,11 @@ pub(crate) fn simple(
             rest,
         )));
     }
-    if let Some((Place { line, column }, rest)) = next_word(tokens, Word::Break, level)? {
+    if let Some((Position { line, column }, rest)) = next_word(tokens, Word::Break, level)? {
         let (_, rest) = punct(rest, Punct::Semicolon, level)?;
         return Ok(Some((Stmt::Break { line, column }, rest)));
     }
-    if let Some((Place { line, column }, rest)) = next_word(tokens, Word::Continue, level)? {
+    if let Some((Position { line, column }, rest)) = next_word(tokens, Word::Continue, level)? {
         let (_, rest) = punct(rest, Punct::Semicolon, level)?;
         return Ok(Some((Stmt::Continue { line, column }, rest)));
     }

@@ -2,42 +2,42 @@
 
 ghost use Rattle.std.specs.Prelude.{◌≡◌, All, List, [], Err, IfOk, IfErr, map};
 ghost use Rattle.c_lexer.specs.Spans.{IsPlaced};
-ghost use Rattle.c_tree.specs.Tree.{Outer, Place as TreePlace};
+ghost use Rattle.c_tree.specs.Tree.{Outer};
 ghost use Rattle.c_tree.specs.View.{outer_of, program_of};
 ghost use Rattle.c_tree.specs.Kinds.{kinds_of};
-ghost use Rattle.c_parser.specs.Phrase as phrase;
-ghost use Rattle.c_parser.specs.Exact.{parsed};
+ghost use Rattle.c_grammar.specs.Phrase as phrase;
+ghost use Rattle.c_grammar.specs.Exact.{parsed};
 ghost use Rattle.c_parser.specs.Answers.{IsTreeOf, Finds, IsFault, Tells, begins_refused, end_of, stands_at};
-ghost use Rattle.c_parser.specs.Gives.{limit, lexemes, place_of, Stops, Reads};
+ghost use Rattle.c_parse_rules.specs.Gives.{limit, lexemes, place_of, Stops, Reads};
 
 use crate::external::program;
 use crate::fault::ParseFault;
-use crate::token::{Place, Stop};
 use c_lexer::{Kind, Token};
+use c_parse_rules::token::Stop;
 use c_tree::Program;
-use rr_base::List;
+use rr_base::{List, Position};
 use std::alloc::Global;
 
 // The place of the byte after the last token.
-fn end_of(tokens: &[Token]) -> Place
+fn end_of(tokens: &[Token]) -> Position
     requires { All IsPlaced tokens.now }
     ensures { place_of result ≡ end_of tokens.now }
 {
     match tokens.last() {
-        Some(last) => Place {
+        Some(last) => Position {
             line: last.line,
             column: last.column + (last.end - last.start),
         },
-        None => Place { line: 1, column: 1 },
+        None => Position { line: 1, column: 1 },
     }
 }
 
-fn stands_at(rest: &[Token], tokens: &[Token]) -> Place
+fn stands_at(rest: &[Token], tokens: &[Token]) -> Position
     requires { All IsPlaced tokens.now }
     ensures { place_of result ≡ stands_at (lexemes rest.now) tokens.now }
 {
     match rest {
-        [first, ..] => Place {
+        [first, ..] => Position {
             line: first.line,
             column: first.column,
         },
@@ -65,7 +65,7 @@ fn fault_of(stop: Stop<'_>, tokens: &[Token]) -> ParseFault
     match stop {
         Stop::OutOfMemory => ParseFault::OutOfMemory,
         Stop::Syntax(rest) => {
-            let Place { line, column } = stands_at(rest, tokens);
+            let Position { line, column } = stands_at(rest, tokens);
             if begins_refused(rest) {
                 ParseFault::OutOfProfile { line, column }
             } else {
@@ -73,7 +73,7 @@ fn fault_of(stop: Stop<'_>, tokens: &[Token]) -> ParseFault
             }
         }
         Stop::Nesting(rest) => {
-            let Place { line, column } = stands_at(rest, tokens);
+            let Position { line, column } = stands_at(rest, tokens);
             ParseFault::Nesting { line, column }
         }
     }

@@ -3,18 +3,18 @@
 
 ghost use Rattle.std.specs.Prelude.{◌≡◌, ◌≤◌, [], map};
 ghost use Rattle.c_tree.specs.View.{exp_of, stmt_of, part_of};
-ghost use Rattle.c_parser.specs.Gives.{place_of, Reads, Follows};
-ghost use Rattle.c_parser.specs.Grammar.{ends_open as spec_ends_open};
-ghost use Rattle.c_parser.specs.Phrase as phrase;
-ghost use Rattle.c_parser.specs.Rules as rules;
+ghost use Rattle.c_parse_rules.specs.Gives.{place_of, Reads, Follows};
+ghost use Rattle.c_grammar.specs.Grammar.{ends_open as spec_ends_open};
+ghost use Rattle.c_grammar.specs.Phrase as phrase;
+ghost use Rattle.c_grammar.specs.Rules as rules;
 
 use crate::compose;
 use crate::declaration::declaration;
 use crate::short::{computed, do_end, for_head_of, simple, test};
-use crate::token::{Place, Stop, begins_type, begins_with, next_punct, next_word, punct};
 use c_lexer::{Punct, Token, Word};
+use c_parse_rules::token::{Stop, begins_type, begins_with, next_punct, next_word, punct};
 use c_tree::{Expr, Part, Stmt};
-use rr_base::List;
+use rr_base::{List, Position};
 use std::alloc::Global;
 
 /// Whether an `else` behind the statement would belong to it.
@@ -31,7 +31,7 @@ fn ends_open(statement: &Stmt) -> bool
 
 /// A statement in a context at that level.
 #[cycle(statements)]
-#[tactic(auto, using(crate::proofs::Steps::statement_rules))]
+#[tactic(auto, using(c_parse_rules::proofs::Steps::statement_rules))]
 pub(crate) fn statement(
     alloc: Global,
     level: u32,
@@ -55,7 +55,7 @@ pub(crate) fn statement(
 fn block(
     alloc: Global,
     level: u32,
-    place: Place,
+    place: Position,
     tokens: &[Token],
 ) -> Result<(Stmt, &[Token]), Stop<'_>>
     requires { level ≤ 256 }
@@ -88,11 +88,11 @@ fn control(alloc: Global, level: u32, tokens: &[Token]) -> Result<(Stmt, &[Token
 }
 
 #[cycle(statements)]
-#[tactic(auto, using(crate::proofs::Behind::if_by_test))]
+#[tactic(auto, using(c_parse_rules::proofs::Behind::if_by_test))]
 fn branch(
     alloc: Global,
     level: u32,
-    place: Place,
+    place: Position,
     tokens: &[Token],
 ) -> Result<(Stmt, &[Token]), Stop<'_>>
     requires { level ≤ 256 }
@@ -110,7 +110,7 @@ fn otherwise(
     level: u32,
     test: Expr,
     yes: Stmt,
-    place: Place,
+    place: Position,
     tokens: &[Token],
 ) -> Result<(Stmt, &[Token]), Stop<'_>>
     requires { level ≤ 256 }
@@ -127,11 +127,11 @@ fn otherwise(
 }
 
 #[cycle(statements)]
-#[tactic(auto, using(crate::proofs::Behind::while_by_test))]
+#[tactic(auto, using(c_parse_rules::proofs::Behind::while_by_test))]
 fn while_loop(
     alloc: Global,
     level: u32,
-    place: Place,
+    place: Position,
     tokens: &[Token],
 ) -> Result<(Stmt, &[Token]), Stop<'_>>
     requires { level ≤ 256 }
@@ -143,11 +143,11 @@ fn while_loop(
 }
 
 #[cycle(statements)]
-#[tactic(auto, using(crate::proofs::Behind::do_by_end))]
+#[tactic(auto, using(c_parse_rules::proofs::Behind::do_by_end))]
 fn do_loop(
     alloc: Global,
     level: u32,
-    place: Place,
+    place: Position,
     tokens: &[Token],
 ) -> Result<(Stmt, &[Token]), Stop<'_>>
     requires { level ≤ 256 }
@@ -159,11 +159,11 @@ fn do_loop(
 }
 
 #[cycle(statements)]
-#[tactic(auto, using(crate::proofs::Behind::for_by_head))]
+#[tactic(auto, using(c_parse_rules::proofs::Behind::for_by_head))]
 fn for_loop(
     alloc: Global,
     level: u32,
-    place: Place,
+    place: Position,
     tokens: &[Token],
 ) -> Result<(Stmt, &[Token]), Stop<'_>>
     requires { level ≤ 256 }

@@ -3,10 +3,10 @@ use Rattle.std.proofs.lemmas.List.{map_push}
 use Rattle.std.proofs.lemmas.Result.{err_from_is_err_and}
 use Rattle.c_lexer.specs.declared.token.Punct.TheVariants as punct
 use Rattle.c_tree.specs.View.{exp_of}
-use Rattle.c_parser.specs.Gives.{lexemes}
-use Rattle.c_parser.specs.Phrase as phrase
-use Rattle.c_parser.specs.Parse.{sign}
-use Rattle.c_parser.proofs.Turns.{no_longer, shorter, lengths_turn, lengths_stop}
+use Rattle.c_parse_rules.specs.Gives.{lexemes}
+use Rattle.c_grammar.specs.Phrase as phrase
+use Rattle.c_grammar.specs.Parse.{sign}
+use Rattle.c_parse_rules.proofs.Turns.{no_longer, shorter, lengths_turn, lengths_stop}
 use Rattle.c_parser.proofs.declaration.lengths.Goals as goal
 
 pub loop-found-preserved : goal.loop-found-preserved

@@ -1,9 +1,9 @@
 use Rattle.std.proofs.Common.{map, ◌∙◌, sym, arith}
 use Rattle.std.proofs.lemmas.List.{map_push}
 use Rattle.c_tree.specs.View.{object_of}
-use Rattle.c_parser.specs.Gives.{lexemes}
-use Rattle.c_parser.specs.Phrase as phrase
-use Rattle.c_parser.proofs.Turns.{no_longer, more_objects_turn}
+use Rattle.c_parse_rules.specs.Gives.{lexemes}
+use Rattle.c_grammar.specs.Phrase as phrase
+use Rattle.c_parse_rules.proofs.Turns.{no_longer, more_objects_turn}
 use Rattle.c_parser.proofs.declaration.more_objects.Goals as goal
 
 pub loop-found-smaller : goal.loop-found-smaller

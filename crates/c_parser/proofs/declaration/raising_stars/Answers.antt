@@ -1,6 +1,6 @@
 use Rattle.std.proofs.Common.{◌∙◌, ◌+◌, sym, arith}
-use Rattle.c_parser.specs.Gives.{lexemes}
-use Rattle.c_parser.proofs.Turns.{raising_stars_turn}
+use Rattle.c_parse_rules.specs.Gives.{lexemes}
+use Rattle.c_parse_rules.proofs.Turns.{raising_stars_turn}
 use Rattle.c_parser.proofs.declaration.raising_stars.Goals as goal
 
 pub loop-behind-preserved : goal.loop-behind-preserved

@@ -1,7 +1,7 @@
 use Rattle.std.proofs.Common.{◌≡◌, ◌+◌, ◌≤◌, length}
-use Rattle.c_parser.specs.Gives.{limit, lexemes}
-use Rattle.c_parser.specs.Phrase as phrase
-use Rattle.c_parser.specs.Rules.{read}
+use Rattle.c_parse_rules.specs.Gives.{limit, lexemes}
+use Rattle.c_grammar.specs.Phrase as phrase
+use Rattle.c_grammar.specs.Rules.{read}
 use Rattle.c_parser.proofs.declaration.raising_stars.Given as goal
 
 -- the stars so far and those of the rest are all

@@ -2,9 +2,9 @@ use Rattle.std.proofs.Common.{map, ◌+◌, sym, ◌∙◌, arith}
 use Rattle.std.proofs.lemmas.List.{map_push}
 use Rattle.std.proofs.lemmas.Result.{err_from_is_err_and}
 use Rattle.c_tree.specs.View.{exp_of}
-use Rattle.c_parser.specs.Gives.{lexemes, place_of}
-use Rattle.c_parser.specs.Phrase as phrase
-use Rattle.c_parser.proofs.Turns.{no_longer, more_turn, enclosed_stop, opened_stop, index_turn, member_turn, arrow_turn, increment_turn, decrement_turn}
+use Rattle.c_parse_rules.specs.Gives.{lexemes, place_of}
+use Rattle.c_grammar.specs.Phrase as phrase
+use Rattle.c_parse_rules.proofs.Turns.{no_longer, more_turn, enclosed_stop, opened_stop, index_turn, member_turn, arrow_turn, increment_turn, decrement_turn}
 use Rattle.c_parser.proofs.expression.+read.Goals as goal
 
 pub more-loop-found-smaller : goal.more-loop-found-smaller

@@ -1,11 +1,11 @@
 use Rattle.std.proofs.Common.{map, ◌∙◌, sym, arith}
 use Rattle.std.proofs.lemmas.List.{map_push}
 use Rattle.c_tree.specs.View.{declared_of}
-use Rattle.c_parser.specs.Gives.{lexemes}
-use Rattle.c_parser.specs.Phrase as phrase
-use Rattle.c_parser.proofs.Rounds.{no_longer, declared_turn, declared_stuck, declared_over}
+use Rattle.c_parse_rules.specs.Gives.{lexemes}
+use Rattle.c_grammar.specs.Phrase as phrase
+use Rattle.c_parse_rules.proofs.Rounds.{no_longer, declared_turn, declared_stuck, declared_over}
 use Rattle.std.proofs.lemmas.Result.{err_from_is_err_and}
-use Rattle.c_parser.proofs.HeadSteps.{stops_from}
+use Rattle.c_parse_rules.proofs.HeadSteps.{stops_from}
 use Rattle.c_parser.proofs.external.more_declared.Goals as goal
 
 pub declarators-preserved : goal.declarators-preserved

@@ -1,9 +1,9 @@
 use Rattle.std.proofs.Common.{◌∙◌, sym, arith}
-use Rattle.c_parser.specs.Gives.{lexemes}
-use Rattle.c_parser.specs.Phrase as phrase
-use Rattle.c_parser.proofs.Rounds.{no_longer, params_turn, params_stuck, params_over}
+use Rattle.c_parse_rules.specs.Gives.{lexemes}
+use Rattle.c_grammar.specs.Phrase as phrase
+use Rattle.c_parse_rules.proofs.Rounds.{no_longer, params_turn, params_stuck, params_over}
 use Rattle.std.proofs.lemmas.Result.{err_from_is_err_and}
-use Rattle.c_parser.proofs.HeadSteps.{stops_from}
+use Rattle.c_parse_rules.proofs.HeadSteps.{stops_from}
 use Rattle.c_parser.proofs.external.more_params.Goals as goal
 
 pub params-preserved : goal.params-preserved

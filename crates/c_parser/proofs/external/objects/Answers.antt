@@ -1,10 +1,10 @@
 use Rattle.std.proofs.Common.{map}
 use Rattle.std.proofs.lemmas.Result.{err_from_is_err_and}
 use Rattle.c_tree.specs.View.{exp_of, object_of}
-use Rattle.c_parser.specs.Gives.{lexemes, place_of}
-use Rattle.c_parser.specs.Grammar.{name_place}
-use Rattle.c_parser.proofs.HeadSteps.{stops_from}
-use Rattle.c_parser.proofs.Rounds.{objects_stuck}
+use Rattle.c_parse_rules.specs.Gives.{lexemes, place_of}
+use Rattle.c_grammar.specs.Grammar.{name_place}
+use Rattle.c_parse_rules.proofs.HeadSteps.{stops_from}
+use Rattle.c_parse_rules.proofs.Rounds.{objects_stuck}
 use Rattle.c_parser.proofs.external.objects.Goals as goal
 
 pub returns-in_err-rest : goal.returns-in_err-rest

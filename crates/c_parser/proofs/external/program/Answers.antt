@@ -3,10 +3,10 @@ use Rattle.std.proofs.lemmas.Grind.{common_steps}
 use Rattle.std.proofs.lemmas.List.{map_push}
 use Rattle.std.proofs.lemmas.Result.{err_from_is_err_and}
 use Rattle.c_tree.specs.View.{outer_of}
-use Rattle.c_parser.specs.Gives.{lexemes}
-use Rattle.c_parser.specs.Phrase as phrase
-use Rattle.c_parser.proofs.HeadSteps.{stops_from}
-use Rattle.c_parser.proofs.Rounds.{shorter, program_next, program_stops, program_ends}
+use Rattle.c_parse_rules.specs.Gives.{lexemes}
+use Rattle.c_grammar.specs.Phrase as phrase
+use Rattle.c_parse_rules.proofs.HeadSteps.{stops_from}
+use Rattle.c_parse_rules.proofs.Rounds.{shorter, program_next, program_stops, program_ends}
 use Rattle.c_parser.proofs.external.program.Goals as goal
 
 pub externals-preserved : goal.externals-preserved

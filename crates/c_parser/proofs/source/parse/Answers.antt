@@ -1,6 +1,6 @@
 use Rattle.std.proofs.Common.{map}
 use Rattle.c_tree.specs.View.{outer_of}
-use Rattle.c_parser.specs.Gives.{lexemes}
+use Rattle.c_parse_rules.specs.Gives.{lexemes}
 use Rattle.c_parser.proofs.Answering.{found, only, printed}
 use Rattle.c_parser.proofs.source.parse.Goals as goal
 

@@ -4,11 +4,11 @@ use Rattle.std.proofs.lemmas.Result.{err_from_is_err_and}
 use Rattle.c_tree.specs.declared.statement.Stmt.{Stmt}
 use Rattle.c_tree.specs.Tree.{Statement}
 use Rattle.c_tree.specs.View.{exp_of, stmt_of, part_of}
-use Rattle.c_parser.specs.Gives.{lexemes, place_of, Gives}
-use Rattle.c_parser.specs.Parse.{Outcome}
-use Rattle.c_parser.proofs.Behind.{if_then, no_block}
-use Rattle.c_parser.proofs.HeadSteps.{stops_from}
-use Rattle.c_parser.proofs.Rounds.{part_shorter, parts_turn, parts_stuck, parts_over}
+use Rattle.c_parse_rules.specs.Gives.{lexemes, place_of, Gives}
+use Rattle.c_grammar.specs.Parse.{Outcome}
+use Rattle.c_parse_rules.proofs.Behind.{if_then, no_block}
+use Rattle.c_parse_rules.proofs.HeadSteps.{stops_from}
+use Rattle.c_parse_rules.proofs.Rounds.{part_shorter, parts_turn, parts_stuck, parts_over}
 use Rattle.c_parser.proofs.statement.+statements.Goals as goal
 
 pub parts-parts-preserved : goal.parts-parts-preserved

@@ -1,8 +1,8 @@
 use Rattle.std.proofs.Common.{◌≡◌, ◌+◌, ◌*◌, ◌-◌, [], map, length}
 use Rattle.c_tree.specs.View.{part_of}
-use Rattle.c_parser.specs.Gives.{limit, lexemes}
-use Rattle.c_parser.specs.Phrase as phrase
-use Rattle.c_parser.specs.Rules.{read}
+use Rattle.c_parse_rules.specs.Gives.{limit, lexemes}
+use Rattle.c_grammar.specs.Phrase as phrase
+use Rattle.c_grammar.specs.Rules.{read}
 use Rattle.c_parser.proofs.statement.+statements.Given as goal
 
 abbrev pub decreases-statement : goal.decreases-statement

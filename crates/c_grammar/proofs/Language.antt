@@ -1,0 +1,141 @@
+-- What each phrase of the rules may be, by the grammar.
+use Rattle.std.proofs.Common.{◌≡◌, ◌⊎◌, ℕ, suc, ◌+◌, ◌≤◌, Bool, true, false, List, [], ◌∷◌, ◌++◌}
+use Rattle.c_lexer.specs.declared.token.Kind.TheVariants as kind
+use Rattle.c_lexer.specs.declared.token.Punct.TheVariants as punct
+use Rattle.c_tree.specs.declared.name.Name.{Name}
+use Rattle.c_tree.specs.declared.expr.BinaryOp.{BinaryOp}
+use Rattle.c_tree.specs.declared.program.Param.{Param}
+use Rattle.c_tree.specs.declared.program.Params.{Params}
+use Rattle.c_tree.specs.Tree.{Exp, index, member, arrow, post_increment, post_decrement, listed, named, call, number, letter, text, null, Declared, Init, listed_inits, Object, plain, initialised, Part, listed_parts, Code, Fields, Outer, function, objects}
+use Rattle.rr_base.specs.declared.position.Position.{Position}
+use Rattle.rr_base.specs.Positions.{position_at}
+use Rattle.c_tree.specs.Kinds.{p, binary_punct}
+use Rattle.c_grammar.specs.Marks.{Mark, mark, erase, Beginning, own, other, ◌>>◌, maybe, provided}
+use Rattle.c_grammar.specs.Grammar.{specifier_place, binds, is_cast, OfName, OfSpecifier, OfStars, OfType, OfExp, OfExps, OfMore, OfMaybe, OfRaisingStars, OfLengths, OfDeclared, OfInit, OfMoreInits, OfObject, OfMoreObjects, OfObjects, OfDeclares, OfStart, OfStatement, OfParts, OfMaybeName, OfParam, OfMoreParams, OfParams, OfCode, OfMoreDeclared, OfFields, OfMoreFields, OfOuter, OfProgram}
+use Rattle.c_grammar.specs.Phrase as phrase
+use Rattle.c_grammar.specs.Phrase.{Phrase, TreeOf, Head, function_head, object_head, Initials, initials}
+use Rattle.c_grammar.specs.Parse.{Class, sign, Value, kind_of, is_of, passes, Rule, ret, one, heads, choose}
+use Rattle.c_grammar.specs.Parse as rule
+use Rattle.c_grammar.specs.Rules.{push}
+
+-- ---- chains
+
+-- an operator behind a left operand, and its right operand
+pub data Link : Type 0 where
+  link : BinaryOp → Position → Exp → Link
+
+abbrev pub Chained : ℕ → Exp → List Link → Exp → Beginning
+Chained l left [] e ms rest = (e ≡ left) × (ms ≡ rest)
+Chained l left (link op at u ∷ ops) e ms rest = (own (p (binary_punct op)) at (suc (suc l)) >> provided (13 ≤ binds u) (OfExp (suc l) u) >> Chained (suc l) (push left op u at) ops e) ms rest
+
+-- a postfix operator
+pub data Postfix : Type 0 where
+  by_index : Exp → Position → Postfix
+  by_member : Name → Position → Postfix
+  by_arrow : Name → Position → Postfix
+  by_increment : Position → Postfix
+  by_decrement : Position → Postfix
+
+abbrev pub applied : Exp → Postfix → Exp
+applied a (by_index b at) = index a b at
+applied a (by_member name at) = member a name at
+applied a (by_arrow name at) = arrow a name at
+applied a (by_increment at) = post_increment a at
+applied a (by_decrement at) = post_decrement a at
+
+-- all at level l but what is in brackets
+abbrev pub OfPostfix : ℕ → Postfix → Beginning
+OfPostfix l (by_index b at) = own (p punct.OpenBracket) at l >> OfExp l b >> other (p punct.CloseBracket) l
+OfPostfix l (by_member name at) = own (p punct.Dot) at l >> OfName l name
+OfPostfix l (by_arrow name at) = own (p punct.Arrow) at l >> OfName l name
+OfPostfix l (by_increment at) = own (p punct.PlusPlus) at l
+OfPostfix l (by_decrement at) = own (p punct.MinusMinus) at l
+
+abbrev pub Postfixed : ℕ → Exp → List Postfix → Exp → Beginning
+Postfixed l left [] e ms rest = (e ≡ left) × (ms ≡ rest)
+Postfixed l left (op ∷ ops) e ms rest = (OfPostfix (suc (suc l)) op >> Postfixed (suc l) (applied left op) ops e) ms rest
+
+abbrev pub is_atom : Exp → Bool
+is_atom (named name at) = true
+is_atom (call name es at) = true
+is_atom (number n at) = true
+is_atom (letter n at) = true
+is_atom (text x at) = true
+is_atom (null at) = true
+is_atom _ = false
+
+-- ---- heads
+
+abbrev pub OfHead : Head → Beginning
+OfHead (function_head n x at) = OfStars 0 n >> own (kind.Name x) at 0 >> other (p punct.OpenParen) 0
+OfHead (object_head n x at) = OfRaisingStars 0 n >> own (kind.Name x) at n
+
+-- ---- phrases
+
+abbrev pub open_mark : ℕ → Position → Mark
+open_mark l at = mark (p punct.OpenParen) at (suc l)
+
+abbrev pub starts_open : List Mark → Bool
+starts_open ms = passes (is_of (sign punct.OpenParen)) (erase ms)
+
+abbrev pub Of : (n : Phrase) → TreeOf n → Beginning
+Of (phrase.specifier l) s = OfSpecifier l s
+Of (phrase.stars l n) k = λ ms rest. (m : ℕ) × (k ≡ n + m) × OfStars l m ms rest
+Of (phrase.type_name l) t = OfType l t
+Of (phrase.expression l) e = OfExp l e
+Of (phrase.more l es) all = λ ms rest. (more : List Exp) × (all ≡ es ++ more) × OfMore l (listed more) ms rest
+Of (phrase.assignment l) e = provided (1 ≤ binds e) (OfExp l e)
+Of (phrase.conditional_part l) e = provided (2 ≤ binds e) (OfExp l e)
+Of (phrase.operands l) e = provided (3 ≤ binds e) (OfExp l e)
+Of (phrase.chain l left) e = λ ms rest. (ops : List Link) × Chained l left ops e ms rest
+Of (phrase.unary l) e = provided (13 ≤ binds e) (OfExp l e)
+Of (phrase.unary_plain l) e = λ ms rest. (starts_open ms ≡ false) × (13 ≤ binds e) × (is_cast e ≡ false) × OfExp l e ms rest
+Of (phrase.opened l at) e = λ ms rest. (13 ≤ binds e) × OfExp l e (open_mark l at ∷ ms) rest
+Of (phrase.enclosed l at) e = λ ms rest. (13 ≤ binds e) × (is_cast e ≡ false) × OfExp l e (open_mark l at ∷ ms) rest
+Of (phrase.atom l) e = provided (is_atom e ≡ true) (OfExp l e)
+Of (phrase.postfix l left) e = λ ms rest. (ops : List Postfix) × Postfixed l left ops e ms rest
+Of (phrase.arguments l) es = OfExps l (listed es) >> other (p punct.CloseParen) l
+Of (phrase.maybe_expression l stop) e = OfMaybe l e
+Of (phrase.raising_stars l n) k = λ ms rest. (m : ℕ) × (k ≡ n + m) × OfRaisingStars (l + n) m ms rest
+Of (phrase.declarator l) d = OfDeclared l d
+Of (phrase.lengths l es) all = λ ms rest. (more : List Exp) × (all ≡ es ++ more) × OfLengths l more ms rest
+Of (phrase.initial l) i = OfInit l i
+Of (phrase.more_initials l is) r = λ ms rest. (more : List Init) × (trailing : Bool) × (r ≡ initials (is ++ more) trailing) × (OfMoreInits l (listed_inits more) >> maybe trailing (other (p punct.Comma) l)) ms rest
+Of (phrase.object l) o = OfObject l o
+Of (phrase.object_behind l d) o = λ ms rest. ((o ≡ plain d) × (ms ≡ rest)) ⊎ ((i : Init) × (at : Position) × (o ≡ initialised d i at) × (own (p punct.Assign) at l >> OfInit l i) ms rest)
+Of (phrase.more_objects l os) all = λ ms rest. (more : List Object) × (all ≡ os ++ more) × OfMoreObjects l more ms rest
+Of (phrase.declaration l) d = OfDeclares l d
+Of (phrase.start l) s = OfStart l s
+Of (phrase.statement l) s = OfStatement l s
+Of (phrase.parts l ps) all = λ ms rest. (more : List Part) × (all ≡ ps ++ more) × OfParts l (listed_parts more) ms rest
+Of phrase.param x = OfParam x
+Of (phrase.param_behind s) x = λ ms rest. (x.specifier ≡ s) × (position_at x.line x.column ≡ specifier_place s) × (OfStars 0 x.stars >> OfMaybeName x.name) ms rest
+Of (phrase.more_params xs) all = λ ms rest. (more : List Param) × (all ≡ xs ++ more) × OfMoreParams more ms rest
+Of phrase.params xs = OfParams xs
+Of phrase.code c = OfCode c
+Of (phrase.more_declared ds) all = λ ms rest. (more : List Declared) × (all ≡ ds ++ more) × OfMoreDeclared more ms rest
+Of phrase.member f = OfFields f
+Of (phrase.more_members fs) all = λ ms rest. (more : List Fields) × (all ≡ fs ++ more) × OfMoreFields more ms rest
+Of phrase.outer o = OfOuter o
+Of (phrase.outer_behind is_static s at) o = λ ms rest.
+    ((n : ℕ) × (name : Name) × (xs : Params) × (c : Code) × (o ≡ function is_static s n name xs c) × (OfStars 0 n >> OfName 0 name >> other (p punct.OpenParen) 0 >> OfParams xs >> other (p punct.CloseParen) 0 >> OfCode c) ms rest)
+    ⊎ ((os : List Object) × (o ≡ objects is_static s os at) × (OfObjects 0 os >> other (p punct.Semicolon) 0) ms rest)
+Of (phrase.program os) all = λ ms rest. (more : List Outer) × (all ≡ os ++ more) × OfProgram more ms rest
+
+-- ---- what a rule may read
+
+-- whatever the next token
+abbrev pub Lang : {A : Type 0} → Rule A → A → List Mark → List Mark → Type 0
+Lang (ret a) x ms rest = (x ≡ a) × (ms ≡ rest)
+Lang (one c l f) x ms rest = (v : Value c × Position) × (mid : List Mark) × (ms ≡ mark (kind_of c v.0) v.1 l ∷ mid) × Lang (f v.0 v.1) x mid rest
+Lang (rule.call n f) x ms rest = (r : TreeOf n) × (mid : List Mark) × Of n r ms mid × Lang (f r) x mid rest
+Lang (heads f) x ms rest = (h : Head) × (mid : List Mark) × OfHead h ms mid × Lang (f h) x mid rest
+Lang (choose test g h) x ms rest = Lang g x ms rest ⊎ Lang h x ms rest
+
+-- everything that it may read is so
+abbrev pub Holds : {A : Type 0} → Rule A → List Mark → (A → List Mark → Type 0) → Type 0
+Holds (ret a) ms Q = Q a ms
+Holds (one c l f) ms Q = (v : Value c) (at : Position) (mid : List Mark) → ms ≡ mark (kind_of c v) at l ∷ mid → Holds (f v at) mid Q
+Holds (rule.call n f) ms Q = (r : TreeOf n) (mid : List Mark) → Of n r ms mid → Holds (f r) mid Q
+Holds (heads f) ms Q = (h : Head) (mid : List Mark) → OfHead h ms mid → Holds (f h) mid Q
+Holds (choose test g h) ms Q = Holds g ms Q × Holds h ms Q

@@ -1,0 +1,17 @@
+pub mod Tokens
+pub mod Works
+pub mod Language
+pub mod Enough
+pub mod Examples
+pub mod Heads
+pub mod Grouping
+pub mod Sound
+pub mod Reading
+pub mod Ends
+pub mod Ungrouping
+pub mod Expressions
+pub mod Statements
+pub mod Outermost
+pub mod Complete
+pub mod Exactly
+pub mod Prints

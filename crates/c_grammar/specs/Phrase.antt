@@ -1,0 +1,110 @@
+-- The phrases of which the parser's rules speak, and the tree that each gives.
+use Rattle.std.specs.Prelude.{ℕ, Bool, List, Option}
+use Rattle.c_lexer.specs.declared.token.Punct.{Punct}
+use Rattle.c_tree.specs.declared.ctype.Specifier.{Specifier}
+use Rattle.c_tree.specs.declared.ctype.CType.{CType}
+use Rattle.c_tree.specs.declared.program.Params.{Params}
+use Rattle.c_tree.specs.declared.program.Param.{Param}
+use Rattle.c_tree.specs.Tree.{Exp, Declared, Init, Object, Declares, Start, Statement, Part, Code, Fields, Outer}
+use Rattle.rr_base.specs.declared.position.Position.{Position}
+
+-- Stars, a name and its place: of a function, with the parenthesis behind it, or of an object.
+pub data Head : Type 0 where
+  function_head : ℕ → List ℕ → Position → Head
+  object_head : ℕ → List ℕ → Position → Head
+
+-- initials, and whether a comma stands behind the last
+pub data Initials : Type 0 where
+  initials : List Init → Bool → Initials
+
+-- The first number is a level: that of the context, or for types that at which the tokens stand. What is a list, a tree or a number
+-- behind it was read before.
+pub data Phrase : Type 0 where
+  specifier : ℕ → Phrase
+  stars : ℕ → ℕ → Phrase
+  type_name : ℕ → Phrase
+  expression : ℕ → Phrase
+  -- assignments, each with a comma before it
+  more : ℕ → List Exp → Phrase
+  assignment : ℕ → Phrase
+  conditional_part : ℕ → Phrase
+  operands : ℕ → Phrase
+  -- operators and operands behind a left operand
+  chain : ℕ → Exp → Phrase
+  unary : ℕ → Phrase
+  -- one that begins with no parenthesis
+  unary_plain : ℕ → Phrase
+  -- behind a parenthesis at that place: a cast, or an expression and what follows it
+  opened : ℕ → Position → Phrase
+  enclosed : ℕ → Position → Phrase
+  atom : ℕ → Phrase
+  postfix : ℕ → Exp → Phrase
+  -- with the parenthesis that closes them
+  arguments : ℕ → Phrase
+  -- an expression, or none before this token
+  maybe_expression : ℕ → Punct → Phrase
+  raising_stars : ℕ → ℕ → Phrase
+  declarator : ℕ → Phrase
+  lengths : ℕ → List Exp → Phrase
+  initial : ℕ → Phrase
+  more_initials : ℕ → List Init → Phrase
+  object : ℕ → Phrase
+  object_behind : ℕ → Declared → Phrase
+  more_objects : ℕ → List Object → Phrase
+  declaration : ℕ → Phrase
+  start : ℕ → Phrase
+  statement : ℕ → Phrase
+  parts : ℕ → List Part → Phrase
+  param : Phrase
+  param_behind : Specifier → Phrase
+  more_params : List Param → Phrase
+  params : Phrase
+  code : Phrase
+  more_declared : List Declared → Phrase
+  member : Phrase
+  more_members : List Fields → Phrase
+  outer : Phrase
+  outer_behind : Bool → Specifier → Position → Phrase
+  program : List Outer → Phrase
+
+abbrev pub TreeOf : Phrase → Type 0
+TreeOf (specifier l) = Specifier
+TreeOf (stars l n) = ℕ
+TreeOf (type_name l) = CType
+TreeOf (expression l) = Exp
+TreeOf (more l es) = List Exp
+TreeOf (assignment l) = Exp
+TreeOf (conditional_part l) = Exp
+TreeOf (operands l) = Exp
+TreeOf (chain l e) = Exp
+TreeOf (unary l) = Exp
+TreeOf (unary_plain l) = Exp
+TreeOf (opened l place) = Exp
+TreeOf (enclosed l place) = Exp
+TreeOf (atom l) = Exp
+TreeOf (postfix l e) = Exp
+TreeOf (arguments l) = List Exp
+TreeOf (maybe_expression l stop) = Option Exp
+TreeOf (raising_stars l n) = ℕ
+TreeOf (declarator l) = Declared
+TreeOf (lengths l es) = List Exp
+TreeOf (initial l) = Init
+TreeOf (more_initials l is) = Initials
+TreeOf (object l) = Object
+TreeOf (object_behind l d) = Object
+TreeOf (more_objects l os) = List Object
+TreeOf (declaration l) = Declares
+TreeOf (start l) = Start
+TreeOf (statement l) = Statement
+TreeOf (parts l ps) = List Part
+TreeOf param = Param
+TreeOf (param_behind s) = Param
+TreeOf (more_params xs) = List Param
+TreeOf params = Params
+TreeOf code = Code
+TreeOf (more_declared ds) = List Declared
+TreeOf member = Fields
+TreeOf (more_members fs) = List Fields
+TreeOf outer = Outer
+TreeOf (outer_behind is_static s place) = Outer
+TreeOf (program os) = List Outer

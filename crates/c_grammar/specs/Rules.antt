@@ -1,0 +1,476 @@
+-- The rule of each phrase, and the parser that runs them.
+use Rattle.std.specs.Prelude.{ℕ, zero, suc, ◌+◌, ◌*◌, nat_lt, Bool, true, false, if◌then◌else◌, List, [], ◌∷◌, ◌++◌, length, Option, Some, None}
+use Rattle.c_lexer.specs.declared.token.Punct.{Punct}
+use Rattle.c_lexer.specs.declared.token.Punct.TheVariants as punct
+use Rattle.c_lexer.specs.declared.token.Word.{Word}
+use Rattle.c_lexer.specs.declared.token.Word.TheVariants as word
+use Rattle.c_tree.specs.declared.name.Name.{Name}
+use Rattle.c_tree.specs.declared.ctype.Specifier.{Specifier}
+use Rattle.c_tree.specs.declared.ctype.Specifier.TheVariants as specifiers
+use Rattle.c_tree.specs.declared.expr.BinaryOp.{BinaryOp}
+use Rattle.c_tree.specs.declared.program.Param.{Param}
+use Rattle.c_tree.specs.declared.program.Params.{Params}
+use Rattle.c_tree.specs.declared.program.Params.TheVariants as params_of
+use Rattle.c_tree.specs.Tree.{Exp, comma, assign, conditional, binary, prefix, sizeof_exp, sizeof_type, cast, index, member, arrow, post_increment, post_decrement, named, call, number, letter, text, null, paren, listed, Declared, declared, Init, value, braces, mutex_start, cond_start, listed_inits, Object, plain, initialised, Declares, declares, Start, start_declares, start_computes, Statement, block, compute, break_at, continue_at, gives, branch, branch_else, while_loop, do_loop, for_loop, Part, part_declares, part_does, listed_parts, Code, defined, prototype, Fields, fields, Outer, structure, function, objects}
+use Rattle.rr_base.specs.declared.position.Position.{Position}
+use Rattle.c_grammar.specs.Grammar.{specifier_place, tightness, first_place, ends_open, is_void_alone}
+use Rattle.c_grammar.specs.Phrase as phrase
+use Rattle.c_grammar.specs.Phrase.{Phrase, TreeOf, Head, function_head, object_head, Initials, initials}
+use Rattle.c_grammar.specs.Parse.{Class, sign, key, a_name, a_number, a_letter, a_text, a_prefix, a_binary, an_assign, is_of, is_type, Rule, ret, one, heads, choose, Outcome, Spent, Parser, run}
+use Rattle.c_grammar.specs.Parse as rule
+
+-- ---- short forms
+
+abbrev pub punct_rule : {A : Type 0} → Punct → ℕ → (Position → Rule A) → Rule A
+punct_rule x l f = one (sign x) l (λ _ place. f place)
+
+abbrev pub word_rule : {A : Type 0} → Word → ℕ → (Position → Rule A) → Rule A
+word_rule x l f = one (key x) l (λ _ place. f place)
+
+-- by the next token
+abbrev pub on_punct : {A : Type 0} → Punct → Rule A → Rule A → Rule A
+on_punct x g h = choose (is_of (sign x)) g h
+
+abbrev pub on_word : {A : Type 0} → Word → Rule A → Rule A → Rule A
+on_word x g h = choose (is_of (key x)) g h
+
+abbrev pub name_of : List ℕ → Position → Name
+name_of x place = record { text = x; line = place.line; column = place.column }
+
+-- One operator and operand more. An operator that binds tighter than the last one takes that one's operand.
+abbrev pub push : Exp → BinaryOp → Exp → Position → Exp
+push (binary a last b place) op e at = if nat_lt (tightness last) (tightness op) then binary a last (push b op e at) place else binary (binary a last b place) op e at
+push left op e at = binary left op e at
+
+-- ---- types
+
+-- behind the first `long`
+abbrev pub long_rule : ℕ → Position → Rule Specifier
+long_rule l at =
+    on_word word.Long
+    (word_rule word.Long l (λ _. on_word word.Int (word_rule word.Int l (λ _. ret (specifiers.Long true true at.line at.column))) (ret (specifiers.Long true false at.line at.column))))
+    (on_word word.Int (word_rule word.Int l (λ _. ret (specifiers.Long false true at.line at.column))) (ret (specifiers.Long false false at.line at.column)))
+
+abbrev pub specifier_rule : ℕ → Rule Specifier
+specifier_rule l =
+    on_word word.Int (word_rule word.Int l (λ at. ret (specifiers.Int at.line at.column)))
+    (on_word word.Long (word_rule word.Long l (λ at. long_rule l at))
+    (on_word word.Void (word_rule word.Void l (λ at. ret (specifiers.Void at.line at.column)))
+    (on_word word.Struct (word_rule word.Struct l (λ at. one a_name l (λ x there. ret (specifiers.Struct (name_of x there) at.line at.column))))
+    (on_word word.PthreadT (word_rule word.PthreadT l (λ at. ret (specifiers.PthreadT at.line at.column)))
+    (on_word word.PthreadMutexT (word_rule word.PthreadMutexT l (λ at. ret (specifiers.PthreadMutexT at.line at.column)))
+    (on_word word.PthreadCondT (word_rule word.PthreadCondT l (λ at. ret (specifiers.PthreadCondT at.line at.column)))
+    (word_rule word.PthreadBarrierT l (λ at. ret (specifiers.PthreadBarrierT at.line at.column)))))))))
+
+abbrev pub stars_rule : ℕ → ℕ → Rule ℕ
+stars_rule l n = on_punct punct.Star (punct_rule punct.Star l (λ _. rule.call (phrase.stars l (suc n)) (λ k. ret k))) (ret n)
+
+-- ---- expressions
+
+abbrev pub expression_rule : ℕ → Rule Exp
+expression_rule l =
+    rule.call (phrase.assignment l) (λ e.
+    on_punct punct.Comma
+    (punct_rule punct.Comma l (λ _. rule.call (phrase.assignment l) (λ x. rule.call (phrase.more l (x ∷ [])) (λ es. ret (comma e (listed es) (first_place e))))))
+    (ret e))
+
+abbrev pub more_rule : ℕ → List Exp → Rule (List Exp)
+more_rule l es = on_punct punct.Comma (punct_rule punct.Comma l (λ _. rule.call (phrase.assignment l) (λ e. rule.call (phrase.more l (es ++ e ∷ [])) (λ all. ret all)))) (ret es)
+
+abbrev pub assignment_rule : ℕ → Rule Exp
+assignment_rule l =
+    rule.call (phrase.conditional_part l) (λ a.
+    choose (is_of an_assign) (one an_assign (suc (suc l)) (λ op at. rule.call (phrase.assignment (suc (suc l))) (λ b. ret (assign a op b at)))) (ret a))
+
+abbrev pub conditional_rule : ℕ → Rule Exp
+conditional_rule l =
+    rule.call (phrase.operands l) (λ a.
+    on_punct punct.Question
+    (punct_rule punct.Question (suc (suc l)) (λ at.
+    rule.call (phrase.expression (suc (suc l))) (λ b. punct_rule punct.Colon (suc (suc l)) (λ _. rule.call (phrase.conditional_part (suc l)) (λ c. ret (conditional a b c at))))))
+    (ret a))
+
+abbrev pub chain_rule : ℕ → Exp → Rule Exp
+chain_rule l left =
+    choose (is_of a_binary)
+    (one a_binary (suc (suc l)) (λ op at. rule.call (phrase.unary (suc l)) (λ e. rule.call (phrase.chain (suc l) (push left op e at)) (λ all. ret all))))
+    (ret left)
+
+abbrev pub unary_rule : ℕ → Rule Exp
+unary_rule l = on_punct punct.OpenParen (punct_rule punct.OpenParen (suc l) (λ at. rule.call (phrase.opened l at) (λ e. ret e))) (rule.call (phrase.unary_plain l) (λ e. ret e))
+
+-- behind the word, which stands one level above l
+abbrev pub sizeof_rule : ℕ → Position → Rule Exp
+sizeof_rule l at =
+    on_punct punct.OpenParen
+    (punct_rule punct.OpenParen (suc (suc l)) (λ there.
+    choose is_type
+    (rule.call (phrase.type_name (suc (suc l))) (λ t. punct_rule punct.CloseParen (suc (suc l)) (λ _. ret (sizeof_type t at))))
+    (rule.call (phrase.enclosed (suc l) there) (λ e. ret (sizeof_exp e at)))))
+    (rule.call (phrase.unary_plain (suc l)) (λ e. ret (sizeof_exp e at)))
+
+abbrev pub unary_plain_rule : ℕ → Rule Exp
+unary_plain_rule l =
+    choose (is_of a_prefix) (one a_prefix (suc l) (λ op at. rule.call (phrase.unary (suc l)) (λ e. ret (prefix op e at))))
+    (on_word word.Sizeof (word_rule word.Sizeof (suc l) (λ at. sizeof_rule l at))
+    (rule.call (phrase.atom l) (λ e. rule.call (phrase.postfix l e) (λ all. ret all))))
+
+abbrev pub opened_rule : ℕ → Position → Rule Exp
+opened_rule l at =
+    choose is_type
+    (rule.call (phrase.type_name (suc l)) (λ t. punct_rule punct.CloseParen (suc l) (λ _. rule.call (phrase.unary (suc l)) (λ e. ret (cast t e at)))))
+    (rule.call (phrase.enclosed l at) (λ e. ret e))
+
+abbrev pub enclosed_rule : ℕ → Position → Rule Exp
+enclosed_rule l at = rule.call (phrase.expression (suc l)) (λ e. punct_rule punct.CloseParen (suc l) (λ _. rule.call (phrase.postfix l (paren e at)) (λ all. ret all)))
+
+abbrev pub atom_rule : ℕ → Rule Exp
+atom_rule l =
+    choose (is_of a_name)
+    (one a_name (suc l) (λ x at.
+    on_punct punct.OpenParen (punct_rule punct.OpenParen (suc l) (λ _. rule.call (phrase.arguments (suc l)) (λ es. ret (call x (listed es) at)))) (ret (named x at))))
+    (choose (is_of a_number) (one a_number (suc l) (λ n at. ret (number n at)))
+    (choose (is_of a_letter) (one a_letter (suc l) (λ n at. ret (letter n at)))
+    (choose (is_of a_text) (one a_text (suc l) (λ x at. ret (text x at)))
+    (word_rule word.Null (suc l) (λ at. ret (null at))))))
+
+abbrev pub postfix_rule : ℕ → Exp → Rule Exp
+postfix_rule l a =
+    on_punct punct.OpenBracket
+    (punct_rule punct.OpenBracket (suc (suc l)) (λ at.
+    rule.call (phrase.expression (suc (suc l))) (λ b. punct_rule punct.CloseBracket (suc (suc l)) (λ _. rule.call (phrase.postfix (suc l) (index a b at)) (λ all. ret all)))))
+    (on_punct punct.Dot (punct_rule punct.Dot (suc (suc l)) (λ at. one a_name (suc (suc l)) (λ x there. rule.call (phrase.postfix (suc l) (member a (name_of x there) at)) (λ all. ret all))))
+    (on_punct punct.Arrow (punct_rule punct.Arrow (suc (suc l)) (λ at. one a_name (suc (suc l)) (λ x there. rule.call (phrase.postfix (suc l) (arrow a (name_of x there) at)) (λ all. ret all))))
+    (on_punct punct.PlusPlus (punct_rule punct.PlusPlus (suc (suc l)) (λ at. rule.call (phrase.postfix (suc l) (post_increment a at)) (λ all. ret all)))
+    (on_punct punct.MinusMinus (punct_rule punct.MinusMinus (suc (suc l)) (λ at. rule.call (phrase.postfix (suc l) (post_decrement a at)) (λ all. ret all)))
+    (ret a)))))
+
+abbrev pub arguments_rule : ℕ → Rule (List Exp)
+arguments_rule l =
+    on_punct punct.CloseParen (punct_rule punct.CloseParen l (λ _. ret []))
+    (rule.call (phrase.assignment l) (λ e. rule.call (phrase.more l (e ∷ [])) (λ es. punct_rule punct.CloseParen l (λ _. ret es))))
+
+abbrev pub maybe_rule : ℕ → Punct → Rule (Option Exp)
+maybe_rule l stop = on_punct stop (ret None) (rule.call (phrase.expression l) (λ e. ret (Some e)))
+
+-- ---- declarations
+
+abbrev pub raising_stars_rule : ℕ → ℕ → Rule ℕ
+raising_stars_rule l n = on_punct punct.Star (punct_rule punct.Star (suc (l + n)) (λ _. rule.call (phrase.raising_stars l (suc n)) (λ k. ret k))) (ret n)
+
+abbrev pub declarator_rule : ℕ → Rule Declared
+declarator_rule l = rule.call (phrase.raising_stars l 0) (λ n. one a_name (l + n) (λ x at. rule.call (phrase.lengths (l + n) []) (λ es. ret (declared n (name_of x at) es))))
+
+abbrev pub lengths_rule : ℕ → List Exp → Rule (List Exp)
+lengths_rule l es =
+    on_punct punct.OpenBracket
+    (punct_rule punct.OpenBracket (suc l) (λ _. rule.call (phrase.conditional_part l) (λ e. punct_rule punct.CloseBracket (suc l) (λ _. rule.call (phrase.lengths (suc l) (es ++ e ∷ [])) (λ all. ret all)))))
+    (ret es)
+
+abbrev pub braces_behind : ℕ → Initials → Position → Rule Init
+braces_behind l (initials is trailing) at = punct_rule punct.CloseBrace l (λ _. ret (braces (listed_inits is) trailing at))
+
+-- behind the opening brace, at its level
+abbrev pub braces_rule : ℕ → Position → Rule Init
+braces_rule l at = rule.call (phrase.initial l) (λ i. rule.call (phrase.more_initials l (i ∷ [])) (λ is. braces_behind l is at))
+
+abbrev pub initial_rule : ℕ → Rule Init
+initial_rule l =
+    on_punct punct.OpenBrace
+    (punct_rule punct.OpenBrace (suc l) (λ at. braces_rule (suc l) at))
+    (on_word word.PthreadMutexInitializer (word_rule word.PthreadMutexInitializer (suc l) (λ at. ret (mutex_start at)))
+    (on_word word.PthreadCondInitializer (word_rule word.PthreadCondInitializer (suc l) (λ at. ret (cond_start at)))
+    (rule.call (phrase.assignment (suc l)) (λ e. ret (value e)))))
+
+-- behind a comma in braces a brace may come too
+abbrev pub more_initials_rule : ℕ → List Init → Rule Initials
+more_initials_rule l is =
+    on_punct punct.Comma
+    (punct_rule punct.Comma l (λ _.
+    on_punct punct.CloseBrace (ret (initials is true)) (rule.call (phrase.initial l) (λ i. rule.call (phrase.more_initials l (is ++ i ∷ [])) (λ all. ret all)))))
+    (ret (initials is false))
+
+abbrev pub object_rule : ℕ → Rule Object
+object_rule l = rule.call (phrase.declarator l) (λ d. rule.call (phrase.object_behind l d) (λ o. ret o))
+
+abbrev pub object_behind_rule : ℕ → Declared → Rule Object
+object_behind_rule l d = on_punct punct.Assign (punct_rule punct.Assign l (λ at. rule.call (phrase.initial l) (λ i. ret (initialised d i at)))) (ret (plain d))
+
+abbrev pub more_objects_rule : ℕ → List Object → Rule (List Object)
+more_objects_rule l os = on_punct punct.Comma (punct_rule punct.Comma l (λ _. rule.call (phrase.object l) (λ o. rule.call (phrase.more_objects l (os ++ o ∷ [])) (λ all. ret all)))) (ret os)
+
+abbrev pub declaration_rule : ℕ → Rule Declares
+declaration_rule l =
+    rule.call (phrase.specifier l) (λ s. rule.call (phrase.object l) (λ o. rule.call (phrase.more_objects l (o ∷ [])) (λ os. punct_rule punct.Semicolon l (λ _. ret (declares s os (specifier_place s))))))
+
+-- ---- statements
+
+abbrev pub start_rule : ℕ → Rule Start
+start_rule l =
+    choose is_type (rule.call (phrase.declaration l) (λ d. ret (start_declares d)))
+    (rule.call (phrase.maybe_expression l punct.Semicolon) (λ e. punct_rule punct.Semicolon l (λ _. ret (start_computes e))))
+
+-- the expression of an `if` or its kin, in its parentheses
+abbrev pub tested : {A : Type 0} → ℕ → (Exp → Rule A) → Rule A
+tested l f = punct_rule punct.OpenParen l (λ _. rule.call (phrase.expression l) (λ e. punct_rule punct.CloseParen l (λ _. f e)))
+
+-- An `else` behind a statement with an open end has been read with it.
+abbrev pub else_rule : ℕ → Exp → Statement → Position → Rule Statement
+else_rule l e a at =
+    if ends_open a then ret (branch e a at)
+    else on_word word.Else (word_rule word.Else l (λ _. rule.call (phrase.statement l) (λ b. ret (branch_else e a b at)))) (ret (branch e a at))
+
+abbrev pub test_rule : ℕ → Rule Exp
+test_rule l = tested l (λ e. ret e)
+
+-- how a `for` begins, up to its statement
+pub record ForHead : Type 0 where
+  pub start : Start
+  pub test : Option Exp
+  pub next : Option Exp
+
+abbrev pub for_head : Start → Option Exp → Option Exp → ForHead
+for_head s test next = record { start = s; test = test; next = next }
+
+abbrev pub for_head_rule : ℕ → Rule ForHead
+for_head_rule l =
+    punct_rule punct.OpenParen l (λ _. rule.call (phrase.start l) (λ s.
+    rule.call (phrase.maybe_expression l punct.Semicolon) (λ test. punct_rule punct.Semicolon l (λ _.
+    rule.call (phrase.maybe_expression l punct.CloseParen) (λ next. punct_rule punct.CloseParen l (λ _. ret (for_head s test next)))))))
+
+abbrev pub for_rule : ℕ → Position → Rule Statement
+for_rule l at =
+    punct_rule punct.OpenParen l (λ _. rule.call (phrase.start l) (λ s.
+    rule.call (phrase.maybe_expression l punct.Semicolon) (λ test. punct_rule punct.Semicolon l (λ _.
+    rule.call (phrase.maybe_expression l punct.CloseParen) (λ next. punct_rule punct.CloseParen l (λ _.
+    rule.call (phrase.statement l) (λ a. ret (for_loop s test next a at))))))))
+
+-- behind the statement of a `do`
+abbrev pub do_end_rule : ℕ → Rule Exp
+do_end_rule l = word_rule word.While l (λ _. tested l (λ e. punct_rule punct.Semicolon l (λ _. ret e)))
+
+abbrev pub do_rule : ℕ → Position → Rule Statement
+do_rule l at = rule.call (phrase.statement l) (λ a. word_rule word.While l (λ _. tested l (λ e. punct_rule punct.Semicolon l (λ _. ret (do_loop a e at)))))
+
+abbrev pub while_rule : ℕ → Position → Rule Statement
+while_rule l at = tested l (λ e. rule.call (phrase.statement l) (λ a. ret (while_loop e a at)))
+
+abbrev pub if_rule : ℕ → Position → Rule Statement
+if_rule l at = tested l (λ e. rule.call (phrase.statement l) (λ a. else_rule l e a at))
+
+abbrev pub block_rule : ℕ → Position → Rule Statement
+block_rule l at = rule.call (phrase.parts l []) (λ ps. punct_rule punct.CloseBrace l (λ _. ret (block (listed_parts ps) at)))
+
+abbrev pub return_rule : ℕ → Position → Rule Statement
+return_rule l at = rule.call (phrase.maybe_expression l punct.Semicolon) (λ e. punct_rule punct.Semicolon l (λ _. ret (gives e at)))
+
+abbrev pub compute_rule : ℕ → Rule Statement
+compute_rule l = rule.call (phrase.expression l) (λ e. punct_rule punct.Semicolon l (λ _. ret (compute (Some e) (first_place e))))
+
+-- one that begins with the word of a test or a loop, or with none
+abbrev pub control_rule : ℕ → Rule Statement
+control_rule l =
+    on_word word.If (word_rule word.If l (λ at. if_rule l at))
+    (on_word word.While (word_rule word.While l (λ at. while_rule l at))
+    (on_word word.Do (word_rule word.Do l (λ at. do_rule l at))
+    (on_word word.For (word_rule word.For l (λ at. for_rule l at)) (compute_rule l))))
+
+-- one of a semicolon, or that begins with the word of a jump, or else such a one
+abbrev pub simple_rule : ℕ → Rule Statement
+simple_rule l =
+    on_punct punct.Semicolon (punct_rule punct.Semicolon l (λ at. ret (compute None at)))
+    (on_word word.Break (word_rule word.Break l (λ at. punct_rule punct.Semicolon l (λ _. ret (break_at at))))
+    (on_word word.Continue (word_rule word.Continue l (λ at. punct_rule punct.Semicolon l (λ _. ret (continue_at at))))
+    (on_word word.Return (word_rule word.Return l (λ at. return_rule l at)) (control_rule l))))
+
+-- whose first token stands at that level
+abbrev pub inside_rule : ℕ → Rule Statement
+inside_rule l = on_punct punct.OpenBrace (punct_rule punct.OpenBrace l (λ at. block_rule l at)) (simple_rule l)
+
+abbrev pub statement_rule : ℕ → Rule Statement
+statement_rule l = inside_rule (suc l)
+
+abbrev pub parts_rule : ℕ → List Part → Rule (List Part)
+parts_rule l ps =
+    on_punct punct.CloseBrace (ret ps)
+    (choose is_type (rule.call (phrase.declaration l) (λ d. rule.call (phrase.parts l (ps ++ part_declares d ∷ [])) (λ all. ret all)))
+    (rule.call (phrase.statement l) (λ s. rule.call (phrase.parts l (ps ++ part_does s ∷ [])) (λ all. ret all))))
+
+-- one of them
+abbrev pub part_rule : ℕ → Rule Part
+part_rule l = choose is_type (rule.call (phrase.declaration l) (λ d. ret (part_declares d))) (rule.call (phrase.statement l) (λ s. ret (part_does s)))
+
+-- ---- the outermost level
+
+abbrev pub param_behind_rule : Specifier → Rule Param
+param_behind_rule s =
+    rule.call (phrase.stars 0 0) (λ n.
+    choose (is_of a_name) (one a_name 0 (λ x at. ret (record { specifier = s; stars = n; name = Some (name_of x at); line = (specifier_place s).line; column = (specifier_place s).column })))
+    (ret (record { specifier = s; stars = n; name = None; line = (specifier_place s).line; column = (specifier_place s).column })))
+
+abbrev pub more_params_rule : List Param → Rule (List Param)
+more_params_rule xs = on_punct punct.Comma (punct_rule punct.Comma 0 (λ _. rule.call phrase.param (λ x. rule.call (phrase.more_params (xs ++ x ∷ [])) (λ all. ret all)))) (ret xs)
+
+abbrev pub params_from : List Param → Params
+params_from xs = if is_void_alone xs then params_of.Void else params_of.Listed xs
+
+-- up to the parenthesis that closes them
+abbrev pub params_rule : Rule Params
+params_rule = on_punct punct.CloseParen (ret params_of.Nothing) (rule.call phrase.param (λ x. rule.call (phrase.more_params (x ∷ [])) (λ xs. ret (params_from xs))))
+
+abbrev pub code_rule : Rule Code
+code_rule =
+    on_punct punct.OpenBrace
+    (punct_rule punct.OpenBrace 0 (λ at. rule.call (phrase.parts 0 []) (λ ps. punct_rule punct.CloseBrace 0 (λ _. ret (defined (listed_parts ps) at)))))
+    (punct_rule punct.Semicolon 0 (λ _. ret prototype))
+
+abbrev pub more_declared_rule : List Declared → Rule (List Declared)
+more_declared_rule ds = on_punct punct.Comma (punct_rule punct.Comma 0 (λ _. rule.call (phrase.declarator 0) (λ d. rule.call (phrase.more_declared (ds ++ d ∷ [])) (λ all. ret all)))) (ret ds)
+
+abbrev pub member_rule : Rule Fields
+member_rule =
+    rule.call (phrase.specifier 0) (λ s.
+    rule.call (phrase.declarator 0) (λ d. rule.call (phrase.more_declared (d ∷ [])) (λ ds. punct_rule punct.Semicolon 0 (λ _. ret (fields s ds (specifier_place s))))))
+
+-- up to the brace that closes them
+abbrev pub more_members_rule : List Fields → Rule (List Fields)
+more_members_rule fs = on_punct punct.CloseBrace (ret fs) (rule.call phrase.member (λ f. rule.call (phrase.more_members (fs ++ f ∷ [])) (λ all. ret all)))
+
+-- behind the parenthesis of its parameters: whether `static` stands before it, the specifier, stars, the name
+abbrev pub function_rule : Bool → Specifier → ℕ → List ℕ → Position → Rule Outer
+function_rule is_static s n x there = rule.call phrase.params (λ xs. punct_rule punct.CloseParen 0 (λ _. rule.call phrase.code (λ c. ret (function is_static s n (name_of x there) xs c))))
+
+-- behind the name of the first, with the place of the first token before the stars
+abbrev pub objects_rule : Bool → Specifier → Position → ℕ → List ℕ → Position → Rule Outer
+objects_rule is_static s at n x there =
+    rule.call (phrase.lengths n []) (λ es.
+    rule.call (phrase.object_behind 0 (declared n (name_of x there) es)) (λ o.
+    rule.call (phrase.more_objects 0 (o ∷ [])) (λ os. punct_rule punct.Semicolon 0 (λ _. ret (objects is_static s os at)))))
+
+-- Behind the specifier: whether `static` stands before it, the specifier, and the place of the first token.
+abbrev pub behind_head : Bool → Specifier → Position → Head → Rule Outer
+behind_head is_static s at (function_head n x there) = function_rule is_static s n x there
+behind_head is_static s at (object_head n x there) = objects_rule is_static s at n x there
+
+abbrev pub outer_behind_rule : Bool → Specifier → Position → Rule Outer
+outer_behind_rule is_static s at = heads (λ h. behind_head is_static s at h)
+
+abbrev pub structure_rule : List ℕ → Position → Rule Outer
+structure_rule x there =
+    punct_rule punct.OpenBrace 0 (λ _. rule.call phrase.member (λ f.
+    rule.call (phrase.more_members (f ∷ [])) (λ fs. punct_rule punct.CloseBrace 0 (λ _. punct_rule punct.Semicolon 0 (λ _. ret (structure (name_of x there) fs))))))
+
+-- behind the word `struct` at that place: the members of a struct, or a struct's name as a specifier
+abbrev pub behind_struct_rule : Position → Rule Outer
+behind_struct_rule at =
+    one a_name 0 (λ x there.
+    on_punct punct.OpenBrace (structure_rule x there)
+    (rule.call (phrase.outer_behind false (specifiers.Struct (name_of x there) at.line at.column) at) (λ o. ret o)))
+
+abbrev pub outer_rule : Rule Outer
+outer_rule =
+    on_word word.Static (word_rule word.Static 0 (λ at. rule.call (phrase.specifier 0) (λ s. rule.call (phrase.outer_behind true s at) (λ o. ret o))))
+    (on_word word.Struct (word_rule word.Struct 0 (λ at. behind_struct_rule at))
+    (rule.call (phrase.specifier 0) (λ s. rule.call (phrase.outer_behind false s (specifier_place s)) (λ o. ret o))))
+
+-- to the end of the tokens
+abbrev pub program_rule : List Outer → Rule (List Outer)
+program_rule os = choose (λ k. true) (rule.call phrase.outer (λ o. rule.call (phrase.program (os ++ o ∷ [])) (λ all. ret all))) (ret os)
+
+-- ---- all rules
+
+abbrev pub rules : (n : Phrase) → Rule (TreeOf n)
+rules (phrase.specifier l) = specifier_rule l
+rules (phrase.stars l n) = stars_rule l n
+rules (phrase.type_name l) = rule.call (phrase.specifier l) (λ s. rule.call (phrase.stars l 0) (λ n. ret (record { specifier = s; stars = n; line = (specifier_place s).line; column = (specifier_place s).column })))
+rules (phrase.expression l) = expression_rule l
+rules (phrase.more l es) = more_rule l es
+rules (phrase.assignment l) = assignment_rule l
+rules (phrase.conditional_part l) = conditional_rule l
+rules (phrase.operands l) = rule.call (phrase.unary l) (λ e. rule.call (phrase.chain l e) (λ all. ret all))
+rules (phrase.chain l left) = chain_rule l left
+rules (phrase.unary l) = unary_rule l
+rules (phrase.unary_plain l) = unary_plain_rule l
+rules (phrase.opened l at) = opened_rule l at
+rules (phrase.enclosed l at) = enclosed_rule l at
+rules (phrase.atom l) = atom_rule l
+rules (phrase.postfix l a) = postfix_rule l a
+rules (phrase.arguments l) = arguments_rule l
+rules (phrase.maybe_expression l stop) = maybe_rule l stop
+rules (phrase.raising_stars l n) = raising_stars_rule l n
+rules (phrase.declarator l) = declarator_rule l
+rules (phrase.lengths l es) = lengths_rule l es
+rules (phrase.initial l) = initial_rule l
+rules (phrase.more_initials l is) = more_initials_rule l is
+rules (phrase.object l) = object_rule l
+rules (phrase.object_behind l d) = object_behind_rule l d
+rules (phrase.more_objects l os) = more_objects_rule l os
+rules (phrase.declaration l) = declaration_rule l
+rules (phrase.start l) = start_rule l
+rules (phrase.statement l) = statement_rule l
+rules (phrase.parts l ps) = parts_rule l ps
+rules phrase.param = rule.call (phrase.specifier 0) (λ s. rule.call (phrase.param_behind s) (λ x. ret x))
+rules (phrase.param_behind s) = param_behind_rule s
+rules (phrase.more_params xs) = more_params_rule xs
+rules phrase.params = params_rule
+rules phrase.code = code_rule
+rules (phrase.more_declared ds) = more_declared_rule ds
+rules phrase.member = member_rule
+rules (phrase.more_members fs) = more_members_rule fs
+rules phrase.outer = outer_rule
+rules (phrase.outer_behind is_static s at) = outer_behind_rule is_static s at
+rules (phrase.program os) = program_rule os
+
+-- ---- the parser
+
+-- which phrases may begin with which: with those of a lower rank
+abbrev pub rank : Phrase → ℕ
+rank (phrase.specifier l) = 0
+rank (phrase.stars l n) = 0
+rank (phrase.type_name l) = 1
+rank (phrase.more l es) = 0
+rank (phrase.chain l e) = 0
+rank (phrase.atom l) = 0
+rank (phrase.postfix l e) = 0
+rank (phrase.unary_plain l) = 1
+rank (phrase.unary l) = 2
+rank (phrase.operands l) = 3
+rank (phrase.conditional_part l) = 4
+rank (phrase.assignment l) = 5
+rank (phrase.expression l) = 6
+rank (phrase.enclosed l at) = 7
+rank (phrase.opened l at) = 8
+rank (phrase.arguments l) = 7
+rank (phrase.maybe_expression l stop) = 7
+rank (phrase.raising_stars l n) = 0
+rank (phrase.lengths l es) = 0
+rank (phrase.declarator l) = 1
+rank (phrase.initial l) = 6
+rank (phrase.more_initials l is) = 0
+rank (phrase.object_behind l d) = 0
+rank (phrase.object l) = 2
+rank (phrase.more_objects l os) = 0
+rank (phrase.declaration l) = 3
+rank (phrase.start l) = 8
+rank (phrase.statement l) = 7
+rank (phrase.parts l ps) = 8
+rank phrase.param = 2
+rank (phrase.param_behind s) = 1
+rank (phrase.more_params xs) = 0
+rank phrase.params = 3
+rank phrase.code = 0
+rank (phrase.more_declared ds) = 0
+rank phrase.member = 2
+rank (phrase.more_members fs) = 3
+rank phrase.outer = 1
+rank (phrase.outer_behind is_static s at) = 0
+rank (phrase.program os) = 2
+
+-- with so many phrases in one another
+unfoldable pub read_within : ℕ → ℕ → (n : Phrase) → Parser (TreeOf n)
+read_within limit zero n = λ ts. Spent
+read_within limit (suc m) n = run limit (read_within limit m) (rules n)
+
+-- with as many as can be needed
+unfoldable pub read : ℕ → (n : Phrase) → Parser (TreeOf n)
+read limit n ts = read_within limit (suc (9 * length ts + rank n)) n ts

@@ -1,0 +1,6 @@
+pub mod Steps
+pub mod Singles
+pub mod Turns
+pub mod HeadSteps
+pub mod Behind
+pub mod Rounds

@@ -1,0 +1,125 @@
+//! Reads the names of types.
+
+ghost use Rattle.std.specs.Prelude.{◌≡◌, ◌≤◌, IfOk};
+ghost use Rattle.c_parse_rules.specs.Gives.{limit, lexemes, place_of, Reads, Follows};
+ghost use Rattle.c_grammar.specs.Grammar.{specifier_place as spec_specifier_place};
+ghost use Rattle.c_grammar.specs.Rules.{long_rule};
+ghost use Rattle.c_grammar.specs.Phrase as phrase;
+
+use crate::token::{Stop, name, next_punct, next_word, word};
+use c_lexer::{Punct, Token, Word};
+use c_tree::{CType, Specifier};
+use rr_base::Position;
+use std::alloc::Global;
+
+/// The specifier that begins a declaration, a parameter or the name of a type.
+#[tactic(auto, using(crate::proofs::Steps::specifier_rules))]
+pub fn specifier(
+    alloc: Global,
+    level: u32,
+    tokens: &[Token],
+) -> Result<(Specifier, &[Token]), Stop<'_>>
+    ensures { Reads (phrase.specifier level) (λ s. s) tokens.now result }
+{
+    if let Some((Position { line, column }, rest)) = next_word(tokens, Word::Int, level)? {
+        return Ok((Specifier::Int { line, column }, rest));
+    }
+    if let Some((place, rest)) = next_word(tokens, Word::Long, level)? {
+        return long(level, place, rest);
+    }
+    if let Some((Position { line, column }, rest)) = next_word(tokens, Word::Void, level)? {
+        return Ok((Specifier::Void { line, column }, rest));
+    }
+    if let Some((Position { line, column }, rest)) = next_word(tokens, Word::Struct, level)? {
+        let (name, rest) = name(alloc, rest, level)?;
+        return Ok((Specifier::Struct { name, line, column }, rest));
+    }
+    if let Some((Position { line, column }, rest)) = next_word(tokens, Word::PthreadT, level)? {
+        return Ok((Specifier::PthreadT { line, column }, rest));
+    }
+    if let Some((Position { line, column }, rest)) = next_word(
+        tokens,
+        Word::PthreadMutexT,
+        level,
+    )? {
+        return Ok((Specifier::PthreadMutexT { line, column }, rest));
+    }
+    if let Some((Position { line, column }, rest)) = next_word(tokens, Word::PthreadCondT, level)? {
+        return Ok((Specifier::PthreadCondT { line, column }, rest));
+    }
+    let (Position { line, column }, rest) = word(tokens, Word::PthreadBarrierT, level)?;
+    Ok((Specifier::PthreadBarrierT { line, column }, rest))
+}
+
+// Behind the first `long`, which stands at that place.
+fn long(level: u32, place: Position, tokens: &[Token]) -> Result<(Specifier, &[Token]), Stop<'_>>
+    ensures { Follows (long_rule level (place_of place)) (λ s. s) tokens.now result }
+{
+    let Position { line, column } = place;
+    let (second, rest) = match next_word(tokens, Word::Long, level)? {
+        Some((_, rest)) => (true, rest),
+        None => (false, tokens),
+    };
+    let (int, rest) = match next_word(rest, Word::Int, level)? {
+        Some((_, rest)) => (true, rest),
+        None => (false, rest),
+    };
+    Ok((
+        Specifier::Long {
+            second,
+            int,
+            line,
+            column,
+        },
+        rest,
+    ))
+}
+
+/// A specifier and stars, as in a cast.
+#[tactic(auto, using(crate::proofs::Steps::type_name_rules))]
+pub fn type_name(alloc: Global, level: u32, tokens: &[Token]) -> Result<(CType, &[Token]), Stop<'_>>
+    ensures { Reads (phrase.type_name level) (λ t. t) tokens.now result }
+{
+    let (specifier, rest) = specifier(alloc, level, tokens)?;
+    let (stars, rest) = stars(level, rest)?;
+    let Position { line, column } = specifier_place(&specifier);
+    Ok((
+        CType {
+            specifier,
+            stars,
+            line,
+            column,
+        },
+        rest,
+    ))
+}
+
+/// Where a specifier begins.
+pub fn specifier_place(specifier: &Specifier) -> Position
+    ensures { place_of result ≡ spec_specifier_place specifier.now }
+{
+    match *specifier {
+        Specifier::Int { line, column }
+        | Specifier::Long { line, column, .. }
+        | Specifier::Void { line, column }
+        | Specifier::Struct { line, column, .. }
+        | Specifier::PthreadT { line, column }
+        | Specifier::PthreadMutexT { line, column }
+        | Specifier::PthreadCondT { line, column }
+        | Specifier::PthreadBarrierT { line, column } => Position { line, column },
+    }
+}
+
+/// The number of stars.
+#[tactic(auto, using(crate::proofs::Steps::stars_rules))]
+pub fn stars(level: u32, tokens: &[Token]) -> Result<(usize, &[Token]), Stop<'_>>
+    ensures { Reads (phrase.stars level 0) (λ n. n) tokens.now result }
+{
+    let mut rest = tokens;
+    let mut count = 0;
+    while let Some((_, behind)) = next_punct(rest, Punct::Star, level)? {
+        count += 1;
+        rest = behind;
+    }
+    Ok((count, rest))
+}

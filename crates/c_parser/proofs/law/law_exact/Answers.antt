@@ -1,5 +1,0 @@
-use Rattle.c_parser.proofs.Exactly.{parsed_exactly}
-use Rattle.c_parser.proofs.law.law_exact.Goals as goal
-
-pub returns : goal.returns
-returns c = parsed_exactly
