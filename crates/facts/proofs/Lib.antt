@@ -7,3 +7,4 @@ pub mod PathSets
 pub mod SeenPaths
 pub mod Followed
 pub mod Rows
+pub mod TotalOrders

@@ -3,8 +3,8 @@
 use Rattle.std.specs.Prelude.{ℕ, Bool, true, false, List, [], ◌∷◌, Option, Some, None}
 use Rattle.flow_code.specs.declared.act.Act.{Act}
 use Rattle.flow_code.specs.declared.act.Act.TheVariants as act
-use Rattle.flow_code.specs.declared.act.LibraryCall.{LibraryCall}
-use Rattle.flow_code.specs.declared.act.LibraryCall.TheVariants as call
+use Rattle.abstract_machine.specs.declared.library_call.LibraryCall.{LibraryCall}
+use Rattle.abstract_machine.specs.declared.library_call.LibraryCall.TheVariants as call
 
 -- an access: whether it stores, and the register that points to its cell
 pub record Access : Type 0 where
@@ -24,3 +24,8 @@ access_of (act.LoadCell into through) = Some (record { store = false; through = 
 access_of (act.StoreCell through from) = stores_through through
 access_of (act.Library c arguments into) = library_access c arguments
 access_of _ = None
+
+-- the register through which an access is made
+abbrev pub through_of : Option Access → Option ℕ
+through_of None = None
+through_of (Some a) = Some a.through

@@ -11,14 +11,14 @@ use Rattle.rr_base.specs.declared.layout.Site.{Site}
 use Rattle.flow_code.specs.declared.act.Act.{Act}
 use Rattle.flow_code.specs.declared.act.Act.TheVariants as act
 use Rattle.flow_code.specs.declared.act.Instr.{Instr}
-use Rattle.flow_code.specs.declared.act.LibraryCall.{LibraryCall}
-use Rattle.flow_code.specs.declared.act.LibraryCall.TheVariants as call
+use Rattle.abstract_machine.specs.declared.library_call.LibraryCall.{LibraryCall}
+use Rattle.abstract_machine.specs.declared.library_call.LibraryCall.TheVariants as call
 use Rattle.flow_code.specs.declared.code.Code.{Code}
 use Rattle.flow_code.specs.declared.code.Function.{Function}
 use Rattle.flow_code.specs.declared.work.Work.{Work}
 use Rattle.flow_code.specs.declared.work.Work.TheVariants as work
 use Rattle.flow_code.specs.Addresses.{address_at, address_of}
-use Rattle.flow_code.specs.Pointers.{directed, site_at}
+use Rattle.abstract_machine.specs.Pointers.{directed, site_at}
 use Rattle.facts.specs.Blocks.{constant_at}
 use Rattle.facts.specs.declared.constraint.Node.{Node}
 use Rattle.facts.specs.declared.constraint.Node.TheVariants.{Register, Result, Ended, Cells}
@@ -65,11 +65,10 @@ abbrev pub move_constraint : Node → Node → Option ℤ → (element : ℕ) �
 move_constraint from to None element back = Strided from to element
 move_constraint from to (Some z) element back = Shifted from to z element back
 
--- A copy and a cast to a number pass on what the register has; a number that is cast to a pointer points nowhere.
+-- A copy passes on what the register has. A cast to a number passes on nothing, and one to a pointer points nowhere.
 abbrev pub work_constraints : (f : ℕ) → List Instr → (k into : ℕ) → Work → List Constraint
 work_constraints f is k into (work.Address w) = Given (Register f into) (place (site_of w) 0) ∷ []
 work_constraints f is k into (work.Copy r) = Included (Register f r) (Register f into) ∷ []
-work_constraints f is k into (work.ToNumber r) = Included (Register f r) (Register f into) ∷ []
 work_constraints f is k into (work.Move r by element back) = move_constraint (Register f r) (Register f into) (constant_at is k by) element back ∷ []
 work_constraints f is k into (work.Member r by) = Shifted (Register f r) (Register f into) (pos by) 1 false ∷ []
 work_constraints f is k into _ = []
@@ -178,6 +177,11 @@ pub record Tables : Type 0 where
 
 abbrev pub list_at : List (List (List Place)) → ℕ → ℕ → List Place
 list_at rows i j = slice_index_or (slice_index_or rows i []) j []
+
+-- the tables have a list for each register of each function
+pub record HasRegisters (code : Code) (t : Tables) : Type 0 where
+  pub functions : length t.registers ≡ length code.functions
+  pub registers : (f : ℕ) (fn : Function) → slice_get code.functions f ≡ Some fn → length (slice_index_or t.registers f []) ≡ fn.registers
 
 -- the lists of a code's registers and places are those to which they may point
 pub record IsPointsTo (code : Code) (t : Tables) : Type 0 where

@@ -1,5 +1,5 @@
 -- The pairs of a profile: which functions were seen at work at once.
-use Rattle.std.specs.Prelude.{ℕ, List, [], ◌∷◌, IsTrue}
+use Rattle.std.specs.Prelude.{ℕ, List, [], ◌∷◌, if◌then◌else◌, IsTrue}
 use Rattle.std.specs.List.{AllByRecursion}
 use Rattle.std.specs.Str.{IsUtf8}
 use Rattle.std.specs.declared.cmp.Ordering.{Ordering}
@@ -21,6 +21,10 @@ text_order a b = slice_cmp nat_cmp a b
 -- pairs by the first text, and then by the second
 abbrev pub pair_order : Pair → Pair → Ordering
 pair_order p q = ordering_then (text_order p.0 q.0) (text_order p.1 q.1)
+
+-- two texts, the lesser one first
+abbrev pub ordered : Text → Text → Pair
+ordered a b = if is_le (text_order a b) then (a, b) else (b, a)
 
 -- the first text doesn't come after the second
 abbrev pub IsLesserFirst : Pair → Type 0

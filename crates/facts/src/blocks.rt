@@ -1,5 +1,5 @@
 //! Blocks of a function's instructions, and the constants in them.
-ghost use Rattle.std.specs.Prelude.{◌≡◌, ◌<◌, ◌==◌, ◌||◌, ℕ, Bool, false, length, slice_index_or, IfOk};
+ghost use Rattle.std.specs.Prelude.{◌≡◌, ◌<◌, ◌==◌, ◌||◌, ℕ, Bool, false, length, slice_index_or, Some, IfOk};
 ghost use Rattle.facts.specs.Blocks.{AreStarts};
 ghost use Rattle.facts.specs.Blocks as spec;
 
@@ -78,7 +78,7 @@ pub fn block_starts(alloc: Global, instrs: &[Instr]) -> Result<Vec<bool>, AllocE
 
 /// Whether the instruction assigns the register.
 pub fn assigns(register: u32, act: &Act) -> bool
-    ensures { result ≡ spec.is_register register (spec.assigned act.now) }
+    ensures { result ≡ spec.assigns register (Some act.now) }
 {
     match act {
         Act::Compute { into, .. } | Act::Alloc { into, .. } | Act::LoadCell { into, .. } => {

@@ -4,6 +4,7 @@
 //! accesses that may race. The answer of each analysis is the only one that its definition allows.
 #![tactic(auto)]
 
+mod access;
 mod blocks;
 mod constraint;
 mod laws;
@@ -16,7 +17,8 @@ mod profile;
 mod relative;
 mod trail;
 
-pub use blocks::{block_starts, constant_at};
+pub use access::{places_of, through};
+pub use blocks::{assigns, block_starts, constant_at};
 pub use constraint::{Constraint, Node};
 pub use laws::{law_one_list_of_pairs, law_one_points_to, law_one_summaries};
 pub use locks::{Guarded, LockPath, Minus, Naming, RelLocks, Summary};

@@ -1,7 +1,7 @@
 //! How what a register holds is followed back to where it is known.
 ghost use Rattle.std.specs.Prelude.{◌≡◌, ◌<◌, ◌+◌, ◌^◌, ℕ, Option, true, false, length, Some, IfOk, slice_get};
 ghost use Rattle.flow_code.specs.Next.{act_in};
-ghost use Rattle.flow_code.specs.Pointers.{directed as directed_of};
+ghost use Rattle.abstract_machine.specs.Pointers.{directed as directed_of};
 ghost use Rattle.facts.specs.Blocks.{AreStarts, begins_block, constant_at as constant_at_of};
 ghost use Rattle.facts.specs.Paths.{Known, known_of, known_on, known_on_by, known_at, naming_of, is_small};
 ghost use Rattle.facts.specs.Trails.{known_from, on_way, root_of};

@@ -1,8 +1,9 @@
 ghost use Rattle.std.specs.Prelude.{◌≡◌, IfOk};
 
 use super::*;
+use abstract_machine::LibraryCall;
 use facts::{AccessAt, FunctionPairs, Pair, Profile};
-use flow_code::{Act, Code, Function, Instr, LibraryCall, Work};
+use flow_code::{Act, Code, Function, Instr, Work};
 use rr_base::{Bytes, List, Place};
 use std::alloc::{AllocError, Global};
 use std::test::Fail;

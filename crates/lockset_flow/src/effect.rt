@@ -6,8 +6,9 @@ ghost use Rattle.facts.specs.Paths.{actual_of, are_small_actuals};
 ghost use Rattle.lockset_flow.specs.Rounds.{library_by, after_by};
 
 use crate::calls::actuals;
+use abstract_machine::LibraryCall;
 use facts::{Naming, RelLocks};
-use flow_code::{Act, LibraryCall};
+use flow_code::Act;
 use std::alloc::{AllocError, Global};
 
 // The locks behind a library call; a wait gives its mutex back and takes it again.

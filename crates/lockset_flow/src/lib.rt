@@ -13,6 +13,3 @@ mod next;
 pub use calls::actuals;
 pub use flow::flow_function;
 pub use flow_facts::FlowFacts;
-
-#[cfg(test)]
-mod tests;

@@ -1,6 +1,6 @@
 -- Worked rows of this crate's definitions.
 use Rattle.std.proofs.Common.{◌≡◌, refl, false, [], ◌∷◌, Some}
-use Rattle.flow_code.specs.declared.act.LibraryCall.TheVariants as call
+use Rattle.abstract_machine.specs.declared.library_call.LibraryCall.TheVariants as call
 use Rattle.facts.specs.declared.locks.LockPath.{LockPath}
 use Rattle.facts.specs.declared.locks.LockPath.TheVariants.{Cell}
 use Rattle.facts.specs.declared.locks.Minus.TheVariants.{All, Listed}

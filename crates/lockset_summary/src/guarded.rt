@@ -11,8 +11,9 @@ ghost use Rattle.lockset_summary.specs.Guarding.{InRow, AreMade, AreReady, IsMet
 
 use crate::names::{names_at, names_of};
 use crate::rows::insert;
+use abstract_machine::LibraryCall;
 use facts::{Guarded, LockPath, Naming, RelLocks};
-use flow_code::{Act, Code, LibraryCall};
+use flow_code::{Act, Code};
 use lockset_flow::{FlowFacts, actuals};
 use rr_base::List;
 use std::alloc::{AllocError, Global};

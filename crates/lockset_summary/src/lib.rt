@@ -11,6 +11,3 @@ mod summary;
 mod universe;
 
 pub use summary::summaries;
-
-#[cfg(test)]
-mod tests;

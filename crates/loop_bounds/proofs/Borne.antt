@@ -1,6 +1,6 @@
 -- What the tests of a counted loop find.
 use Rattle.std.proofs.Common.{◌≡◌, ◌≢◌, ℕ, zero, suc, ◌+◌, ◌-◌, ◌<◌, ◌≤◌, Bool, true, false, cond, ◌&&◌, not, ℤ, List, Option, Some, None, refl, sym, ap, subst, ◌∙◌, arith, ◌⊎◌, inl, inr, ⊎_elim, eqb-true, leb-true, eq-eqb}
-use Rattle.std.specs.Prelude.{slice_get, slice_range, nat_lt, nat_le, ◌==◌}
+use Rattle.std.specs.Prelude.{slice_get, slice_range, nat_lt, nat_le, ◌==◌, if◌then◌else◌}
 use Rattle.std.specs.Option.{option_and_then}
 use Rattle.std.specs.Ordering.{int_eq}
 use Rattle.std.proofs.lemmas.Bool.{cases_lt}
@@ -13,12 +13,12 @@ use Rattle.flow_code.specs.declared.code.LoopInfo.{LoopInfo}
 use Rattle.flow_code.specs.declared.region.Bound.{Bound}
 use Rattle.flow_code.specs.declared.region.Bound.TheVariants as bound
 use Rattle.flow_code.specs.declared.work.Work.TheVariants as work
-use Rattle.flow_code.specs.declared.work.BinaryOp.TheVariants as op
+use Rattle.abstract_machine.specs.declared.operator.BinaryOp.TheVariants as op
 use Rattle.flow_code.specs.Order.{is_mark}
 use Rattle.facts.specs.Blocks.{assigns}
 use Rattle.facts.specs.Paths.{is_never_assigned}
-use Rattle.weak_facts.specs.Loops.{nth, copy_into, number_into, bound_into, are_apart, less_into, sum_into, is_branch, is_copy, is_any_copy, is_jump, are_numbers, has_places, tested, begins_so, raised, ends_so, has_form, keeps, keeps_counter, keeps_bound, keeps_numbers, is_entered_at, is_entered_so, is_counted}
-use Rattle.loop_bounds.specs.Forms.{bound_work, IsCondition, IsLastPart, IsBorneOut}
+use Rattle.weak_facts.specs.Loops.{nth, copy_into, number_into, bound_into, bound_size, are_apart, less_into, sum_into, is_branch, is_copy, is_any_copy, is_jump, are_numbers, adds_itself, last_part_at, condition_end, added as added_at, has_places, tested, begins_so, raised, ends_so, has_form, keeps, keeps_counter, keeps_bound, keeps_numbers, is_entered_at, is_entered_so, is_counted}
+use Rattle.loop_bounds.specs.Forms.{HasBound, IsEnteredAt, IsCondition, IsLastPart, IsBorneOut}
 use Rattle.loop_bounds.proofs.Steps.{both_true, not_true, never_there, is_entered}
 
 pub cond_some : {X : Type 0} (b : Bool) (o : Option X) (x : X) → cond b o None ≡ Some x → (b ≡ true) × (o ≡ Some x)
@@ -54,9 +54,9 @@ numbered z (Some (act.Compute i (work.Constant y))) into h =
     cc (e, f)
 numbered z _ into h = cc
 
-bounded : (b : Bound) (a : Option Act) (into : ℕ) → bound_into b a ≡ Some into → a ≡ Some (act.Compute into (bound_work b))
+bounded : (b : Bound) (a : Option Act) (into : ℕ) → bound_into b a ≡ Some into → HasBound b a into
 bounded (bound.Number z) a into h = numbered z a into h
-bounded (bound.Register r) a into h = copied r a into h
+bounded (bound.Register r) a into h = cc
 
 apart_of : (x y left right : ℕ) → are_apart x y left right ≡ true → (left ≡ x) × (right ≡ y) × (x ≢ y)
 apart_of x y left right h =
@@ -115,39 +115,53 @@ jumps_to k _ h = cc
 
 -- ---- the loop
 
-condition_of : (is : List Instr) (l : LoopInfo) → is_branch (tested is l) l.first (l.last + 2) (nth is (l.at + 4)) ≡ true → IsCondition is l
+condition_of : (is : List Instr) (l : LoopInfo) → is_branch (tested is l) l.first (l.last + 2) (nth is (condition_end l)) ≡ true → IsCondition is l
 condition_of is l h =
-    let w = branches_on (tested is l) l.first (l.last + 2) (nth is (l.at + 4)) h in
-    let x = chained (λ i. option_and_then (λ b. less_into i b (nth is (l.at + 3))) (bound_into l.bound (nth is (l.at + 2)))) (copy_into l.counter (nth is (l.at + 1))) w.0 w.1 in
-    let y = chained (λ b. less_into x.0 b (nth is (l.at + 3))) (bound_into l.bound (nth is (l.at + 2))) w.0 x.2 in
-    let z = compared x.0 y.0 (nth is (l.at + 3)) w.0 y.2 in
+    let compare = nth is (l.at + 1 + bound_size l.bound) in
+    let w = branches_on (tested is l) l.first (l.last + 2) (nth is (condition_end l)) h in
+    let y = chained (λ b. less_into l.counter b compare) (bound_into l.bound (nth is (l.at + 1))) w.0 w.1 in
+    let z = compared l.counter y.0 compare w.0 y.2 in
     record {
-      i = x.0;
       b = y.0;
       less = w.0;
-      copies = copied l.counter (nth is (l.at + 1)) x.0 x.1;
-      puts = bounded l.bound (nth is (l.at + 2)) y.0 y.1;
+      has_bound = bounded l.bound (nth is (l.at + 1)) y.0 y.1;
       compares = z.0;
       apart = z.1;
       branches = w.2;
     }
 
-last_part_of : (is : List Instr) (l : LoopInfo) → is_copy (raised is l) l.counter (nth is (l.last - 1)) ≡ true → IsLastPart is l
+-- the last part begins with its number or with a copy before it
+begun : (is : List Instr) (l : LoopInfo) (old : ℕ) (b : Bool) → (if b then Some l.counter else copy_into l.counter (nth is (l.last - 4))) ≡ Some old
+    → (((if b then l.last - 3 else l.last - 4) ≡ l.last - 3) × (old ≡ l.counter)) ⊎ (((if b then l.last - 3 else l.last - 4) ≡ l.last - 4) × (nth is (l.last - 4) ≡ Some (act.Compute old (work.Copy l.counter))))
+begun is l old true h = inl (refl, cc)
+begun is l old false h = inr (refl, copied l.counter (nth is (l.last - 4)) old h)
+
+last_part_of : (is : List Instr) (l : LoopInfo) → is_copy (raised is l) l.counter (nth is (l.last - 1)) ≡ true → (lp : IsLastPart is l) × (lp.begin ≡ last_part_at is l)
 last_part_of is l h =
     let w = copies_from (raised is l) l.counter (nth is (l.last - 1)) h in
-    let x = chained (λ i. option_and_then (λ c. sum_into i c (nth is (l.last - 2))) (number_into l.step (nth is (l.last - 3)))) (copy_into l.counter (nth is (l.last - 4))) w.0 w.1 in
+    let x = chained (λ i. option_and_then (λ c. sum_into i c (nth is (l.last - 2))) (number_into l.step (nth is (l.last - 3)))) (added_at is l) w.0 w.1 in
     let y = chained (λ c. sum_into x.0 c (nth is (l.last - 2))) (number_into l.step (nth is (l.last - 3))) w.0 x.2 in
-    let z = added x.0 y.0 (nth is (l.last - 2)) w.0 y.2 in
-    record {
-      old = x.0;
-      by = y.0;
-      new = w.0;
-      copies = copied l.counter (nth is (l.last - 4)) x.0 x.1;
-      puts = numbered l.step (nth is (l.last - 3)) y.0 y.1;
-      adds = z.0;
-      apart = z.1;
-      raises = w.2;
-    }
+    let z = added x.0 y.0 (nth is (l.last - 2)) w.0 y.2 in (
+      record {
+        begin = last_part_at is l;
+        old = x.0;
+        by = y.0;
+        new = w.0;
+        is_old = begun is l x.0 (adds_itself is l) x.1;
+        puts = numbered l.step (nth is (l.last - 3)) y.0 y.1;
+        adds = z.0;
+        apart = z.1;
+        raises = w.2;
+      },
+      refl,
+    )
+
+begins_before : (is : List Instr) (l : LoopInfo) → last_part_at is l ≤ l.last - 3
+begins_before is l = by (adds_itself is l)
+  where
+    by : (b : Bool) → (if b then l.last - 3 else l.last - 4) ≤ l.last - 3
+    by true = omega arith
+    by false = omega arith
 
 -- nothing from its Mark to its jump back assigns a register that it keeps
 pub kept_there : (is : List Instr) (l : LoopInfo) (r k : ℕ) → keeps is l r ≡ true → l.at ≤ k → k ≤ l.last + 1 → assigns r (nth is k) ≡ false
@@ -169,27 +183,30 @@ borne_out fn l h =
     let is = fn.instrs in
     let c = both_true (are_numbers fn l && has_form is l && keeps_numbers is l) (is_entered_so is l) h in
     let d = both_true (are_numbers fn l && has_form is l) (keeps_numbers is l) c.0 in
-    let form = both_true (has_places l && begins_so is l) (ends_so is l) (both_true (are_numbers fn l) (has_form is l) d.0).1 in
-    let front = both_true (has_places l) (begins_so is l) form.0 in
-    let places = both_true (l.first == l.at + 5) (nat_le (l.first + 4) l.last) front.0 in
-    let head = both_true (is_mark (nth is l.at)) (is_branch (tested is l) l.first (l.last + 2) (nth is (l.at + 4))) front.1 in
+    let form = both_true (has_places is l && begins_so is l) (ends_so is l) (both_true (are_numbers fn l) (has_form is l) d.0).1 in
+    let front = both_true (has_places is l) (begins_so is l) form.0 in
+    let places = both_true (l.first == condition_end l + 1) (nat_le l.first (last_part_at is l)) front.0 in
+    let head = both_true (is_mark (nth is l.at)) (is_branch (tested is l) l.first (l.last + 2) (nth is (condition_end l))) front.1 in
     let tail = both_true (is_copy (raised is l) l.counter (nth is (l.last - 1)) && is_any_copy (nth is l.last)) (is_jump l.at (nth is (l.last + 1))) form.1 in
     let lasts = both_true (is_copy (raised is l) l.counter (nth is (l.last - 1))) (is_any_copy (nth is l.last)) tail.0 in
     let numbers = both_true (keeps_counter is l) (keeps_bound is l l.bound) d.1 in
-    let ways = both_true (is_entered_at is l.at (l.last + 1) && is_entered_at is l.at (l.at + 4)) (is_entered_at is (l.last - 4) (l.last + 1)) c.1 in
-    let two = both_true (is_entered_at is l.at (l.last + 1)) (is_entered_at is l.at (l.at + 4)) ways.0 in
-    let ends : l.first + 4 ≤ l.last = leb-true (l.first + 4) l.last places.1 in
+    let ways = both_true (is_entered_at is l.at (l.last + 1) && is_entered_at is l.at (condition_end l)) (is_entered_at is (last_part_at is l) (l.last + 1)) c.1 in
+    let two = both_true (is_entered_at is l.at (l.last + 1)) (is_entered_at is l.at (condition_end l)) ways.0 in
+    let begins' : l.first ≡ condition_end l + 1 = eqb-true l.first (condition_end l + 1) places.0 in
+    let ends' : l.first ≤ last_part_at is l = leb-true l.first (last_part_at is l) places.1 in
+    let before = begins_before is l in
+    let part = last_part_of is l lasts.0 in
     record {
-      begins = eqb-true l.first (l.at + 5) places.0;
-      ends = ends;
+      begins = begins';
       marks = marked (nth is l.at) head.0;
       condition = condition_of is l head.1;
-      last_part = last_part_of is l lasts.0;
+      last_part = part.0;
+      ends = omega (arith, ends', part.1);
       value = copies_some (nth is l.last) lasts.1;
       jumps_back = jumps_to l.at (nth is (l.last + 1)) tail.1;
-      keeps_counter = counter_kept is l (omega arith) numbers.0;
+      keeps_counter = counter_kept is l (omega (arith, begins', ends', before)) numbers.0;
       keeps_bound = λ r k e le lt. bound_kept is l l.bound r k numbers.1 e le lt;
       entered = is_entered is l.at (l.last + 1) two.0;
-      condition_entered = is_entered is l.at (l.at + 4) two.1;
-      last_part_entered = is_entered is (l.last - 4) (l.last + 1) ways.1;
+      condition_entered = is_entered is l.at (condition_end l) two.1;
+      last_part_entered = subst (λ n. IsEnteredAt is n (l.last + 1)) (sym part.1) (is_entered is (last_part_at is l) (l.last + 1) ways.1);
     }

@@ -8,7 +8,7 @@ use Rattle.flow_code.specs.declared.act.Act.TheVariants as act
 use Rattle.flow_code.specs.declared.act.Instr.{Instr}
 use Rattle.flow_code.specs.declared.work.Work.TheVariants as work
 use Rattle.flow_code.specs.Next.{act_in}
-use Rattle.flow_code.specs.Works.{register}
+use Rattle.abstract_machine.specs.Registers.{register}
 use Rattle.facts.specs.Blocks.{begins_block, follows_end, is_target, goes_to, assigns, constant_of, constant_at}
 use Rattle.weak_facts.specs.Loops.{nth}
 use Rattle.weak_facts.specs.Ranges.{maker_at, last_maker}

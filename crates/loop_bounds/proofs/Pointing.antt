@@ -18,13 +18,15 @@ use Rattle.flow_code.specs.declared.region.Base.{Base}
 use Rattle.flow_code.specs.declared.region.Base.TheVariants as base
 use Rattle.flow_code.specs.declared.work.Work.{Work}
 use Rattle.flow_code.specs.declared.work.Work.TheVariants as work
-use Rattle.flow_code.specs.declared.work.BinaryOp.TheVariants as op
-use Rattle.flow_code.specs.Values.{number, word, fits, fitting, binary_of}
-use Rattle.flow_code.specs.Pointers.{directed, moved_by}
-use Rattle.flow_code.specs.Works.{register, is_pointer, based, either_binary_of, work_of}
+use Rattle.abstract_machine.specs.declared.operator.BinaryOp.TheVariants as op
+use Rattle.abstract_machine.specs.Values.{number, word, fits, fitting, binary_of}
+use Rattle.abstract_machine.specs.Pointers.{directed, moved_by}
+use Rattle.flow_code.specs.Works.{is_pointer, work_of}
+use Rattle.abstract_machine.specs.Registers.{register}
+use Rattle.abstract_machine.specs.Operators.{based, either_binary_of}
 use Rattle.facts.specs.Blocks.{assigns, is_register, is_target, constant_at, goes_to}
 use Rattle.weak_facts.specs.Loops.{nth, keeps, is_entered_at}
-use Rattle.weak_facts.specs.Ranges.{maker_at, made_at, base_of, base_at, is_copy_of, beside, negative, negative_of, shift_by, shift_at, moved_of, moved_shift, last_maker, has_one_maker, only_maker, pointer_of}
+use Rattle.weak_facts.specs.Ranges.{maker_at, made_at, base_of, base_at, negative, negative_of, shift_by, made_shift, shift_at, moved_of, moved_shift, last_maker, has_one_maker, only_maker, pointer_of}
 use Rattle.loop_bounds.specs.Forms.{IsBorneOut}
 use Rattle.loop_bounds.specs.Turns.{Setting, Goes, Computes, Comes, AreFit, IsBaseWord, IsMoved}
 use Rattle.loop_bounds.proofs.Steps.{both_true, kept, is_entered}
@@ -91,10 +93,6 @@ given s is mark start f m j r into w ps qs e a c g =
 
 -- ---- the index
 
-copy_made : (i : ℕ) (a : Option Act) → is_copy_of i a ≡ true → (into : ℕ) × (a ≡ Some (act.Compute into (work.Copy i)))
-copy_made i (Some (act.Compute into (work.Copy r))) h = let e : r ≡ i = eqb-true r i h in (into, ap (λ x. Some (act.Compute into (work.Copy x))) e)
-copy_made i _ h = cc
-
 pub copy_word : (s : Setting) (ps : List ℕ) (r v : ℕ) → Gives s ps (work.Copy r) v → v ≡ register ps r
 copy_word s ps r v x = cc (x.gives)
 
@@ -112,20 +110,7 @@ behind_mark is l b k r m x lt =
     let le : l.at ≤ m = behind_target is k r m l.at x (mark_target is l b) (omega arith) in
     ⊎_elim (λ h. h) (λ o. let e : m ≡ l.at = omega arith in let a : assigns r (nth is l.at) ≡ true = subst (λ n. assigns r (nth is n) ≡ true) e x.makes in let n : assigns r (nth is l.at) ≡ false = ap (λ z. assigns r z) b.marks in cc) (cases_lt l.at m)
 
--- a register that copies the counter has what the counter had at the Mark
-counter_copy : (s : Setting) (is : List Instr) (l : LoopInfo) (start : List ℕ) → IsTurn s is l start → (k r : ℕ) → l.at < k → k ≤ l.last - 1 → is_copy_of l.counter (made_at is k r) ≡ true → (rs : List ℕ) → Comes s is l.at start k rs → register rs r ≡ register start l.counter
-counter_copy s is l start t k r lt le h rs c =
-    let y = copy_made l.counter (made_at is k r) h in
-    let z = chained (λ m. nth is m) (maker_at is k r) (act.Compute y.0 (work.Copy l.counter)) y.1 in
-    let x = made is k r z.0 z.1 in
-    let b : IsBorneOut is l = t.borne in
-    let low : l.at < z.0 = behind_mark is l b k r z.0 x lt in
-    let high : z.0 < k = x.before in
-    made_value s is l.at start k r z.0 (λ v. v ≡ register start l.counter) x (omega arith)
-    (λ j ps qs d g. copy_word s ps l.counter (register qs r) (given s is l.at start t.fit z.0 j r y.0 (work.Copy l.counter) ps qs z.2 x.makes d g) ∙ stays s is l b start l.counter b.keeps_counter z.0 ps d low (omega arith))
-    rs c
-
--- and one that was made a constant that number
+-- a register that was made a constant has that number
 constant_word : (s : Setting) (is : List Instr) (l : LoopInfo) (start : List ℕ) → IsTurn s is l start → (k r : ℕ) (z : ℤ) → l.at < k → constant_at is k r ≡ Some z → (rs : List ℕ) → Comes s is l.at start k rs → number (register rs r) ≡ z
 constant_word s is l start t k r z lt h rs c =
     let x = constant_made is k r z h in
@@ -140,71 +125,66 @@ abbrev pub IsShifted : List ℕ → LoopInfo → ℤ → ℕ → Type 0
 IsShifted start l d v = number v ≡ number (register start l.counter) +ℤ d
 
 shift_made : (s : Setting) (is : List Instr) (l : LoopInfo) (start : List ℕ) → IsTurn s is l start → (m u : ℕ) (d : ℤ) (a : Option Act) → l.at < m → m ≤ l.last - 1 → assigns u (nth is m) ≡ true → nth is m ≡ a → shift_by is l.counter m a ≡ Some d → (j : ℕ) (ps qs : List ℕ) → Comes s is l.at start m ps → Goes s (nth is m) m ps j qs → IsShifted start l d (register qs u)
-shift_made s is l start t m u d (Some (act.Compute into (work.Copy r))) lt le a e h j ps qs c g =
-    let b : IsBorneOut is l = t.borne in
-    let x = cond_some (r == l.counter) (Some (pos 0)) d h in
-    let same : r ≡ l.counter = eqb-true r l.counter x.0 in
-    let none : pos 0 ≡ d = cc (x.1) in
-    let w = copy_word s ps r (register qs u) (given s is l.at start t.fit m j u into (work.Copy r) ps qs e a c g) in
-    let there : register qs u ≡ register start l.counter = w ∙ ap (λ n. register ps n) same ∙ stays s is l b start l.counter b.keeps_counter m ps c lt le in
-    ap number there ∙ sym (+ℤ_idr (number (register start l.counter))) ∙ ap (λ z. number (register start l.counter) +ℤ z) none
 shift_made s is l start t m u d (Some (act.Compute into (work.Binary op.Add x y))) lt le a e h j ps qs c g =
-    let n = cond_some (is_copy_of l.counter (made_at is m x)) (constant_at is m y) d h in
+    let n = cond_some (x == l.counter) (constant_at is m y) d h in
+    let same : x ≡ l.counter = eqb-true x l.counter n.0 in
     let w = given s is l.at start t.fit m j u into (work.Binary op.Add x y) ps qs e a c g in
     let sum = fitting_ok (number (register ps x) +ℤ number (register ps y)) (register qs u) (plain_sum s ps x y (register qs u) w.gives) in
-    let left = counter_copy s is l start t m x lt le n.0 ps c in
+    let left : register ps x ≡ register start l.counter = ap (λ r. register ps r) same ∙ stays s is l t.borne start l.counter t.borne.keeps_counter m ps c lt le in
     let right = constant_word s is l start t m y d lt n.1 ps c in
     sum ∙ ap (λ v. number v +ℤ number (register ps y)) left ∙ ap (λ z. number (register start l.counter) +ℤ z) right
 shift_made s is l start t m u d (Some (act.Compute into (work.Binary op.Subtract x y))) lt le a e h j ps qs c g =
-    let n = cond_some (is_copy_of l.counter (made_at is m x)) (negative_of (constant_at is m y)) d h in
+    let n = cond_some (x == l.counter) (negative_of (constant_at is m y)) d h in
+    let same : x ≡ l.counter = eqb-true x l.counter n.0 in
     let k = negated_of (constant_at is m y) d n.1 in
     let w = given s is l.at start t.fit m j u into (work.Binary op.Subtract x y) ps qs e a c g in
     let sum = fitting_ok (number (register ps x) -ℤ number (register ps y)) (register qs u) (plain_difference s ps x y (register qs u) w.gives) in
-    let left = counter_copy s is l start t m x lt le n.0 ps c in
+    let left : register ps x ≡ register start l.counter = ap (λ r. register ps r) same ∙ stays s is l t.borne start l.counter t.borne.keeps_counter m ps c lt le in
     let right = constant_word s is l start t m y k.0 lt k.1 ps c in
     sum ∙ ap (λ v. number v -ℤ number (register ps y)) left ∙ ap (λ z. number (register start l.counter) -ℤ z) right ∙ ap (λ z. number (register start l.counter) +ℤ z) (sym k.2)
 shift_made s is l start t m u d _ lt le a e h j ps qs c g = cc
 
 -- the index is the counter and the shift
 index_word : (s : Setting) (is : List Instr) (l : LoopInfo) (start : List ℕ) → IsTurn s is l start → (k u : ℕ) (d : ℤ) → l.at < k → k ≤ l.last - 1 → shift_at is l.counter k u ≡ Some d → (rs : List ℕ) → Comes s is l.at start k rs → IsShifted start l d (register rs u)
-index_word s is l start t k u d lt le h rs c =
-    let y = chained (λ m. shift_by is l.counter m (nth is m)) (maker_at is k u) d h in
-    let x = made is k u y.0 y.1 in
-    let low : l.at < y.0 = behind_mark is l t.borne k u y.0 x lt in
-    let high : y.0 < k = x.before in
-    made_value s is l.at start k u y.0 (IsShifted start l d) x (omega arith) (λ j ps qs w g. shift_made s is l start t y.0 u d (nth is y.0) low (omega arith) x.makes refl y.2 j ps qs w g) rs c
+index_word s is l start t k u d lt le h rs c = by (u == l.counter) refl h
+  where
+    by : (b : Bool) → (u == l.counter) ≡ b → cond b (Some (pos 0)) (made_shift is l.counter k u) ≡ Some d → IsShifted start l d (register rs u)
+    by true same w =
+        let e : u ≡ l.counter = eqb-true u l.counter same in
+        let none : pos 0 ≡ d = cc (w) in
+        ap (λ r. number (register rs r)) e ∙ ap number (stays s is l t.borne start l.counter t.borne.keeps_counter k rs c lt le) ∙ sym (+ℤ_idr (number (register start l.counter))) ∙ ap (λ z. number (register start l.counter) +ℤ z) none
+    by false other w =
+        let y = chained (λ m. shift_by is l.counter m (nth is m)) (maker_at is k u) d w in
+        let x = made is k u y.0 y.1 in
+        let low : l.at < y.0 = behind_mark is l t.borne k u y.0 x lt in
+        let high : y.0 < k = x.before in
+        made_value s is l.at start k u y.0 (IsShifted start l d) x (omega arith) (λ j ps qs v g. shift_made s is l start t y.0 u d (nth is y.0) low (omega arith) x.makes refl y.2 j ps qs v g) rs c
 
 -- ---- the base
 
 address_word : (s : Setting) (ps : List ℕ) (w v : ℕ) → Gives s ps (work.Address w) v → v ≡ based s.slots w
 address_word s ps w v x = cc (x.gives)
 
-base_made : (s : Setting) (is : List Instr) (l : LoopInfo) (start : List ℕ) → IsTurn s is l start → (m r : ℕ) (b : Base) (a : Option Act) → l.at < m → m ≤ l.last - 1 → assigns r (nth is m) ≡ true → nth is m ≡ a → base_of is l a ≡ Some b → (j : ℕ) (ps qs : List ℕ) → Comes s is l.at start m ps → Goes s (nth is m) m ps j qs → IsBaseWord s start b (register qs r)
-base_made s is l start t m r b (Some (act.Compute into (work.Address w))) lt le a e h j ps qs c g =
-    let same : base.Site (site_of w) ≡ b = cc (h) in
-    let v = address_word s ps w (register qs r) (given s is l.at start t.fit m j r into (work.Address w) ps qs e a c g) in
-    subst (λ z. IsBaseWord s start z (register qs r)) same (w, refl, v)
-base_made s is l start t m r b (Some (act.Compute into (work.Copy q))) lt le a e h j ps qs c g =
-    let x = cond_some (keeps is l q) (Some (base.Register q)) b h in
-    let same : base.Register q ≡ b = cc (x.1) in
-    let v = copy_word s ps q (register qs r) (given s is l.at start t.fit m j r into (work.Copy q) ps qs e a c g) in
-    subst (λ z. IsBaseWord s start z (register qs r)) same (v ∙ stays s is l t.borne start q (λ n low high apart. kept_there is l q n x.0 low high) m ps c lt le)
-base_made s is l start t m r b _ lt le a e h j ps qs c g = cc
-
 base_word : (s : Setting) (is : List Instr) (l : LoopInfo) (start : List ℕ) → IsTurn s is l start → (k r : ℕ) (b : Base) → l.at < k → k ≤ l.last - 1 → base_at is l k r ≡ Some b → (rs : List ℕ) → Comes s is l.at start k rs → IsBaseWord s start b (register rs r)
 base_word s is l start t k r b lt le h rs c = at_it (made_at is k r) refl h
   where
-    by_maker : (o : Option ℕ) → maker_at is k r ≡ o → (a : Act) → option_and_then (λ m. nth is m) o ≡ Some a → base_of is l (Some a) ≡ Some b → IsBaseWord s start b (register rs r)
-    by_maker None e a w g = cc
-    by_maker (Some m) e a w g =
-        let x = made is k r m e in
-        let low : l.at < m = behind_mark is l t.borne k r m x lt in
-        let high : m < k = x.before in
-        made_value s is l.at start k r m (IsBaseWord s start b) x (omega arith) (λ j ps qs d y. base_made s is l start t m r b (Some a) low (omega arith) x.makes w g j ps qs d y) rs c
+    -- a register that the loop keeps
+    held : cond (keeps is l r) (Some (base.Register r)) None ≡ Some b → IsBaseWord s start b (register rs r)
+    held g =
+        let x = cond_some (keeps is l r) (Some (base.Register r)) b g in
+        let same : base.Register r ≡ b = cc (x.1) in
+        subst (λ z. IsBaseWord s start z (register rs r)) same (stays s is l t.borne start r (λ n low high apart. kept_there is l r n x.0 low high) k rs c lt le)
 
-    at_it : (o : Option Act) → made_at is k r ≡ o → base_of is l o ≡ Some b → IsBaseWord s start b (register rs r)
-    at_it None e g = cc
-    at_it (Some a) e g = by_maker (maker_at is k r) refl a e g
+    at_it : (o : Option Act) → made_at is k r ≡ o → base_of is l r o ≡ Some b → IsBaseWord s start b (register rs r)
+    at_it (Some (act.Compute into (work.Address w))) e g =
+        let same : base.Site (site_of w) ≡ b = cc (g) in
+        let z = chained (λ m. nth is m) (maker_at is k r) (act.Compute into (work.Address w)) e in
+        let x = made is k r z.0 z.1 in
+        let low : l.at < z.0 = behind_mark is l t.borne k r z.0 x lt in
+        made_value s is l.at start k r z.0 (IsBaseWord s start b) x (omega arith)
+        (λ j ps qs d y. subst (λ v. IsBaseWord s start v (register qs r)) same (w, refl, address_word s ps w (register qs r) (given s is l.at start t.fit z.0 j r into (work.Address w) ps qs z.2 x.makes d y)))
+        rs c
+    at_it _ e g = held g
 
 -- ---- the pointer
 

@@ -8,7 +8,7 @@ use Rattle.flow_code.specs.declared.act.Act.{Act}
 use Rattle.flow_code.specs.declared.act.Act.TheVariants as act
 use Rattle.flow_code.specs.declared.act.Instr.{Instr}
 use Rattle.flow_code.specs.Next.{act_in, branch_to}
-use Rattle.flow_code.specs.Works.{register}
+use Rattle.abstract_machine.specs.Registers.{register}
 use Rattle.facts.specs.Blocks.{assigns, assigned, is_register, goes_to, is_target}
 use Rattle.facts.specs.Paths.{is_never_assigned}
 use Rattle.weak_facts.specs.Loops.{nth, goes_into, none_goes_into, is_entered_at, is_within}

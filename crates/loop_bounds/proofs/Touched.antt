@@ -11,7 +11,7 @@ use Rattle.flow_code.specs.declared.code.Code.{Code}
 use Rattle.flow_code.specs.declared.code.Function.{Function}
 use Rattle.flow_code.specs.declared.code.LoopInfo.{LoopInfo}
 use Rattle.flow_code.specs.declared.work.Work.TheVariants as work
-use Rattle.flow_code.specs.Works.{register}
+use Rattle.abstract_machine.specs.Registers.{register}
 use Rattle.facts.specs.PointsTo.{Tables, list_at}
 use Rattle.weak_facts.specs.declared.range.Range.{Range}
 use Rattle.weak_facts.specs.Loops.{nth, loop_code, is_counted, counted_of}

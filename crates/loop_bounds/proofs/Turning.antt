@@ -6,7 +6,7 @@ use Rattle.flow_code.specs.declared.act.Act.TheVariants as act
 use Rattle.flow_code.specs.declared.act.Instr.{Instr}
 use Rattle.flow_code.specs.declared.code.LoopInfo.{LoopInfo}
 use Rattle.flow_code.specs.declared.work.Work.TheVariants as work
-use Rattle.flow_code.specs.Works.{register}
+use Rattle.abstract_machine.specs.Registers.{register}
 use Rattle.facts.specs.Blocks.{assigns}
 use Rattle.weak_facts.specs.Loops.{nth}
 use Rattle.loop_bounds.specs.Forms.{IsBorneOut, IsLastPart}
@@ -14,10 +14,17 @@ use Rattle.loop_bounds.specs.Turns.{Setting, Goes, Comes}
 use Rattle.loop_bounds.proofs.Steps.{kept}
 use Rattle.loop_bounds.proofs.Regions.{IsEntered, comes_in, holds_in, at_mark}
 
+-- the last part has four instructions at least, and stands behind the condition
+pub begins_early : (is : List Instr) (l : LoopInfo) (b : IsBorneOut is l) → b.last_part.begin ≤ l.last - 3
+begins_early is l b = ⊎_elim (λ x. omega (arith, x.0)) (λ x. omega (arith, x.0)) b.last_part.is_old
+
+pub far : (is : List Instr) (l : LoopInfo) → IsBorneOut is l → l.at + 6 ≤ l.last
+far is l b = let early = begins_early is l b in omega (arith, early, b.begins, b.ends)
+
 -- up to where the counter is raised, the loop is entered at its Mark alone
 pub way_in : (s : Setting) (is : List Instr) (l : LoopInfo) → IsBorneOut is l → IsEntered s is l.at (l.last - 1)
 way_in s is l b k j rs qs g lt le =
-    let ends : l.first + 4 ≤ l.last = b.ends in
+    let ends : l.at + 6 ≤ l.last = far is l b in
     let inside = comes_in s is l.at (l.last + 1) b.entered k j rs qs g lt (omega arith) in
     let low : l.at ≤ k = inside.0 in
     let high : k ≤ l.last + 1 = inside.1 in
@@ -44,8 +51,7 @@ stays s is l b start r never k rs c lt le = holds_in s is l.at start l.at (l.las
   where
     first : (j : ℕ) (ps qs : List ℕ) → Comes s is l.at start l.at ps → Goes s (nth is l.at) l.at ps j qs → l.at < j → j ≤ l.last - 1 → register qs r ≡ register start r
     first j ps qs d g lt2 le2 =
-        let begins : l.first ≡ l.at + 5 = b.begins in
-        let ends : l.first + 4 ≤ l.last = b.ends in
+        let ends : l.at + 6 ≤ l.last = far is l b in
         let apart : l.at ≢ l.last - 1 = λ e. omega arith in
         kept s (nth is l.at) l.at j ps qs r g (never l.at (omega arith) (omega arith) apart) ∙ ap (λ z. register z r) (at_mark s is l.at start l.at ps refl d)
 

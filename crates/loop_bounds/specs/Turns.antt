@@ -14,9 +14,11 @@ use Rattle.flow_code.specs.declared.region.Base.TheVariants as base
 use Rattle.flow_code.specs.declared.work.Work.{Work}
 use Rattle.flow_code.specs.declared.work.Work.TheVariants as work
 use Rattle.flow_code.specs.Next.{branch_to}
-use Rattle.flow_code.specs.Pointers.{moved_by}
-use Rattle.flow_code.specs.Values.{number}
-use Rattle.flow_code.specs.Works.{register, based, work_of}
+use Rattle.abstract_machine.specs.Pointers.{moved_by}
+use Rattle.abstract_machine.specs.Values.{number}
+use Rattle.flow_code.specs.Works.{work_of}
+use Rattle.abstract_machine.specs.Registers.{register}
+use Rattle.abstract_machine.specs.Operators.{based}
 use Rattle.facts.specs.Blocks.{assigned, assigns}
 use Rattle.weak_facts.specs.declared.range.Range.{Range}
 use Rattle.weak_facts.specs.Loops.{nth, is_counted}

@@ -1,5 +1,5 @@
 //! What single instructions do.
-ghost use Rattle.std.specs.Prelude.{◌≡◌, Some};
+ghost use Rattle.std.specs.Prelude.{◌≡◌, ◌≤◌, Some};
 ghost use Rattle.std.specs.Option.{option_copied};
 ghost use Rattle.flow_code.specs.Next.{act_in};
 ghost use Rattle.flow_code.specs.Order as order;
@@ -7,7 +7,8 @@ ghost use Rattle.facts.specs.Blocks as blocks;
 ghost use Rattle.weak_facts.specs.Loops as loops;
 ghost use Rattle.weak_facts.specs.Ranges as ranges;
 
-use flow_code::{Act, BinaryOp, Bound, Instr, Work};
+use abstract_machine::BinaryOp;
+use flow_code::{Act, Bound, Instr, Work};
 
 /// What the instruction at a place does.
 pub fn nth(instrs: &[Instr], at: usize) -> Option<&Act>
@@ -74,13 +75,24 @@ pub fn number_into(number: i64, act: Option<&Act>) -> Option<u32>
     }
 }
 
-/// The register into which the bound is put.
+/// The register that has the bound, into which the instruction puts it where it is a number.
 pub fn bound_into(bound: Bound, act: Option<&Act>) -> Option<u32>
     ensures { result ≡ loops.bound_into bound (option_copied act.entry) }
 {
     match bound {
         Bound::Number(number) => number_into(number, act),
-        Bound::Register(register) => copy_into(register, act),
+        Bound::Register(register) => Some(register),
+    }
+}
+
+/// How many instructions put the bound into a register.
+pub fn bound_size(bound: Bound) -> usize
+    ensures size { result ≡ loops.bound_size bound }
+    ensures few { result ≤ 1 }
+{
+    match bound {
+        Bound::Number(_) => 1,
+        Bound::Register(_) => 0,
     }
 }
 
@@ -126,6 +138,25 @@ pub fn sum_into(x: u32, y: u32, act: Option<&Act>) -> Option<u32>
             },
         ) if are_apart(x, y, *left, *right) => Some(*into),
         _ => None,
+    }
+}
+
+/// Whether the instruction adds something to the register.
+pub fn is_sum_of(register: u32, act: Option<&Act>) -> bool
+    ensures { result ≡ loops.is_sum_of register (option_copied act.entry) }
+{
+    match act {
+        Some(
+            Act::Compute {
+                work: Work::Binary {
+                    op: BinaryOp::Add,
+                    left,
+                    ..
+                },
+                ..
+            },
+        ) => *left == register,
+        _ => false,
     }
 }
 
@@ -216,19 +247,5 @@ pub fn moved_of(act: Option<&Act>) -> Option<(u32, u32)>
             },
         ) => Some((*pointer, *by)),
         _ => None,
-    }
-}
-
-pub fn is_copy_of(register: u32, act: Option<&Act>) -> bool
-    ensures { result ≡ ranges.is_copy_of register (option_copied act.entry) }
-{
-    match act {
-        Some(
-            Act::Compute {
-                into: _,
-                work: Work::Copy(from),
-            },
-        ) => *from == register,
-        _ => false,
     }
 }

@@ -4,15 +4,16 @@ ghost use Rattle.std.specs.Option.{option_copied};
 ghost use Rattle.facts.specs.Blocks.{AreStarts};
 ghost use Rattle.weak_facts.specs.Ranges as spec;
 
-use crate::acts::{is_copy_of, moved_of, nth};
+use crate::acts::{moved_of, nth};
 use crate::makers::{made_at, maker_at};
 use crate::spans::keeps;
+use abstract_machine::BinaryOp;
 use facts::constant_at;
-use flow_code::{Act, Base, BinaryOp, Instr, LoopInfo, Work};
+use flow_code::{Act, Base, Instr, LoopInfo, Work};
 
-/// The address of a global, or a copy of a register that the loop keeps.
-fn base_of(instrs: &[Instr], counted: &LoopInfo, act: Option<&Act>) -> Option<Base>
-    ensures { result ≡ spec.base_of instrs.now counted.now (option_copied act.entry) }
+/// The address of a global, or a register that the loop keeps.
+fn base_of(instrs: &[Instr], counted: &LoopInfo, register: u32, act: Option<&Act>) -> Option<Base>
+    ensures { result ≡ spec.base_of instrs.now counted.now register (option_copied act.entry) }
 {
     match act {
         Some(
@@ -21,12 +22,7 @@ fn base_of(instrs: &[Instr], counted: &LoopInfo, act: Option<&Act>) -> Option<Ba
                 work: Work::Address(word),
             },
         ) => Some(Base::Site(word.site())),
-        Some(
-            Act::Compute {
-                into: _,
-                work: Work::Copy(register),
-            },
-        ) if keeps(instrs, counted, *register) => Some(Base::Register(*register)),
+        _ if keeps(instrs, counted, register) => Some(Base::Register(register)),
         _ => None,
     }
 }
@@ -43,28 +39,12 @@ fn base_at(
     requires at { at < length instrs.now }
     ensures { result ≡ spec.base_at instrs.now counted.now at register }
 {
-    base_of(instrs, counted, made_at(instrs, starts, at, register))
-}
-
-// The number, if the register has the counter.
-fn beside(
-    instrs: &[Instr],
-    starts: &[bool],
-    counter: u32,
-    at: usize,
-    register: u32,
-    number: Option<i64>,
-) -> Option<i64>
-    requires starts { AreStarts instrs.now starts.now }
-    requires length { length starts.now ≡ length instrs.now }
-    requires at { at < length instrs.now }
-    ensures { result ≡ spec.beside instrs.now counter at register number }
-{
-    if is_copy_of(counter, made_at(instrs, starts, at, register)) {
-        number
-    } else {
-        None
-    }
+    base_of(
+        instrs,
+        counted,
+        register,
+        made_at(instrs, starts, at, register),
+    )
 }
 
 fn negative(number: i64) -> Option<i64>
@@ -96,27 +76,21 @@ fn shift_by(
         return None;
     };
     match *work {
-        Work::Copy(register) if register == counter => Some(0),
         Work::Binary {
             op: BinaryOp::Add,
             left,
             right,
-        } => {
-            let number = constant_at(instrs, starts, at, right);
-            beside(instrs, starts, counter, at, left, number)
-        }
+        } if left == counter => constant_at(instrs, starts, at, right),
         Work::Binary {
             op: BinaryOp::Subtract,
             left,
             right,
-        } => {
-            let number = negative_of(constant_at(instrs, starts, at, right));
-            beside(instrs, starts, counter, at, left, number)
-        }
+        } if left == counter => negative_of(constant_at(instrs, starts, at, right)),
         _ => None,
     }
 }
 
+/// How far the register is behind the counter, which it may be itself.
 fn shift_at(
     instrs: &[Instr],
     starts: &[bool],
@@ -129,6 +103,9 @@ fn shift_at(
     requires at { at < length instrs.now }
     ensures { result ≡ spec.shift_at instrs.now counter at register }
 {
+    if register == counter {
+        return Some(0);
+    }
     let maker = maker_at(instrs, starts, at, register)?;
     shift_by(instrs, starts, counter, maker, nth(instrs, maker))
 }

@@ -2,8 +2,9 @@ ghost use Rattle.std.specs.Prelude.{◌≡◌, ℕ, [], ◌<◌, ◌≤◌, leng
 ghost use Rattle.flow_code.specs.declared.code.Function.{Function};
 
 use super::*;
+use abstract_machine::{BinaryOp, LibraryCall};
 use facts::PointsTo;
-use flow_code::{Act, BinaryOp, Bound, Code, Function, Instr, LibraryCall, LoopInfo, Work};
+use flow_code::{Act, Bound, Code, Function, Instr, LoopInfo, Work};
 use rr_base::{Layout, List, Place, PtrWord, Site};
 use std::alloc::{AllocError, Global};
 use std::test::Fail;
@@ -49,10 +50,10 @@ const REGISTERS: u32 = 40;
 
 const FIRST_POINTER: u32 = 20;
 
-// Where the body of the outer loop begins, whose Mark is the fourth instruction.
+// Where the body of the outer loop begins if its bound is a number. Its Mark is the fourth instruction.
 const MARK: u32 = 3;
 
-const BODY: u32 = 8;
+const BODY: u32 = 7;
 
 // `int i = 0;`
 const START: [Step; 3] = [Constant(2, 0), Copy(I, 2), Copy(3, 2)];
@@ -76,10 +77,9 @@ const PLUS_TWO: [Step; 5] = [
 ];
 
 // `i = i + 1`
-const SUM: [Step; 5] = [
-    Copy(10, I),
+const SUM: [Step; 4] = [
     Constant(11, 1),
-    Binary(9, Add, 10, 11),
+    Binary(9, Add, I, 11),
     Copy(I, 9),
     Copy(8, 9),
 ];
@@ -109,7 +109,7 @@ struct Row {
     start: [Step; 3],
     bound: Bound,
     body: &'static [Step],
-    last_part: [Step; 5],
+    last_part: &'static [Step],
     step: i64,
     // A loop in the body, listed behind the outer one.
     inner: Option<LoopInfo>,
@@ -123,20 +123,13 @@ struct Row {
 const PLAIN: Row = Row {
     start: START,
     bound: Bound::Number(4),
-    body: &[
-        Address(21),
-        Copy(7, I),
-        Move(20, 21, 7, 1),
-        Copy(8, I),
-        Store(20, 8),
-        Copy(6, 8),
-    ],
-    last_part: PLUS_PLUS,
+    body: &[Address(21), Move(20, 21, I, 1), Store(20, I), Copy(6, I)],
+    last_part: &PLUS_PLUS,
     step: 1,
     inner: None,
     site: 1,
     counted: true,
-    want: &[(12, MARK, 0)],
+    want: &[(9, MARK, 0)],
 };
 
 fn work(step: Step) -> Option<(u32, Work)> {
@@ -210,35 +203,42 @@ fn push_steps(alloc: Global, steps: &[Step], instrs: &mut List<Instr>) -> Result
     Ok(())
 }
 
-// The last instruction of the last part.
-fn last_of(row: Row) -> u32
-    ensures { result ≤ 75 }
+fn body_at(bound: Bound) -> u32
+    ensures { result ≤ 7 }
 {
-    BODY + 4 + (row.body.len() % 64) as u32
+    match bound {
+        Bound::Number(_) => BODY,
+        Bound::Register(_) => BODY - 1,
+    }
 }
 
-// The bound is put into register 5.
-fn put_bound(bound: Bound) -> Step {
-    match bound {
-        Bound::Number(number) => Constant(5, number),
-        Bound::Register(register) => Copy(5, register),
+// The last instruction of the last part.
+fn last_of(row: Row) -> u32
+    ensures { result ≤ 80 }
+{
+    body_at(row.bound) + (row.body.len() % 64 + row.last_part.len() % 8) as u32 - 1
+}
+
+// A number is put into register 5.
+fn push_condition(alloc: Global, row: Row, instrs: &mut List<Instr>) -> Result<(), AllocError> {
+    let branch = Branch(3, body_at(row.bound), last_of(row) + 2);
+    match row.bound {
+        Bound::Number(number) => {
+            let condition = [Mark, Constant(5, number), Binary(3, Less, I, 5), branch];
+            push_steps(alloc, &condition, instrs)
+        }
+        Bound::Register(register) => {
+            push_steps(alloc, &[Mark, Binary(3, Less, I, register), branch], instrs)
+        }
     }
 }
 
 fn body(alloc: Global, row: Row) -> Result<List<Instr>, AllocError> {
-    let last = last_of(row);
-    let condition = [
-        Mark,
-        Copy(4, I),
-        put_bound(row.bound),
-        Binary(3, Less, 4, 5),
-        Branch(3, BODY, last + 2),
-    ];
     let mut instrs = List::new(alloc);
     push_steps(alloc, &row.start, &mut instrs)?;
-    push_steps(alloc, &condition, &mut instrs)?;
+    push_condition(alloc, row, &mut instrs)?;
     push_steps(alloc, row.body, &mut instrs)?;
-    push_steps(alloc, &row.last_part, &mut instrs)?;
+    push_steps(alloc, row.last_part, &mut instrs)?;
     push_steps(alloc, &[Jump(MARK), Return], &mut instrs)?;
     Ok(instrs)
 }
@@ -246,7 +246,7 @@ fn body(alloc: Global, row: Row) -> Result<List<Instr>, AllocError> {
 fn outer(row: Row) -> LoopInfo {
     LoopInfo {
         at: MARK,
-        first: BODY,
+        first: body_at(row.bound),
         last: last_of(row),
         counter: I,
         bound: row.bound,
@@ -395,16 +395,16 @@ fn wanted_loops(alloc: Global, row: Row) -> Result<List<LoopAt>, AllocError> {
     Ok(want)
 }
 
-static ROWS: [Row; 27] = [
+static ROWS: [Row; 30] = [
     PLAIN,
     // `++i` and `i += 2`, and `i = i + 1`
     Row {
-        last_part: PLUS_TWO,
+        last_part: &PLUS_TWO,
         step: 2,
         ..PLAIN
     },
     Row {
-        last_part: SUM,
+        last_part: &SUM,
         ..PLAIN
     },
     // No step, one that goes down, one that is another, and one that isn't beside the counter.
@@ -415,7 +415,7 @@ static ROWS: [Row; 27] = [
         ..PLAIN
     },
     Row {
-        last_part: MINUS_ONE,
+        last_part: &MINUS_ONE,
         counted: false,
         want: &[],
         ..PLAIN
@@ -427,7 +427,7 @@ static ROWS: [Row; 27] = [
         ..PLAIN
     },
     Row {
-        last_part: TWICE,
+        last_part: &TWICE,
         counted: false,
         want: &[],
         ..PLAIN
@@ -435,17 +435,12 @@ static ROWS: [Row; 27] = [
     // `i < j`, where the body keeps j, and where it doesn't
     Row {
         bound: Bound::Register(J),
+        want: &[(8, MARK, 0)],
         ..PLAIN
     },
     Row {
         bound: Bound::Register(J),
-        body: &[
-            Copy(J, 2),
-            Address(21),
-            Copy(7, I),
-            Move(20, 21, 7, 1),
-            Load(6, 20),
-        ],
+        body: &[Copy(J, 2), Address(21), Move(20, 21, I, 1), Load(6, 20)],
         counted: false,
         want: &[],
         ..PLAIN
@@ -459,13 +454,7 @@ static ROWS: [Row; 27] = [
     },
     // The body assigns the counter.
     Row {
-        body: &[
-            Copy(I, 2),
-            Address(21),
-            Copy(7, I),
-            Move(20, 21, 7, 1),
-            Load(6, 20),
-        ],
+        body: &[Copy(I, 2), Address(21), Move(20, 21, I, 1), Load(6, 20)],
         counted: false,
         want: &[],
         ..PLAIN
@@ -479,46 +468,45 @@ static ROWS: [Row; 27] = [
     },
     Row {
         body: &[
-            Branch(2, 9, 17),
+            Branch(2, 8, 12),
             Address(21),
-            Copy(7, I),
-            Move(20, 21, 7, 1),
+            Move(20, 21, I, 1),
             Load(6, 20),
         ],
         counted: false,
         want: &[],
         ..PLAIN
     },
+    // The same where the last part adds the counter itself.
+    Row {
+        body: &[
+            Branch(2, 8, 12),
+            Address(21),
+            Move(20, 21, I, 1),
+            Load(6, 20),
+        ],
+        last_part: &SUM,
+        counted: false,
+        want: &[],
+        ..PLAIN
+    },
     // A call of a function, and one of the library.
     Row {
-        body: &[
-            Address(21),
-            Copy(7, I),
-            Move(20, 21, 7, 1),
-            Load(6, 20),
-            Call,
-        ],
+        body: &[Address(21), Move(20, 21, I, 1), Load(6, 20), Call],
         want: &[],
         ..PLAIN
     },
     Row {
-        body: &[
-            GetChar,
-            Address(21),
-            Copy(7, I),
-            Move(20, 21, 7, 1),
-            Load(6, 20),
-        ],
+        body: &[GetChar, Address(21), Move(20, 21, I, 1), Load(6, 20)],
         want: &[],
         ..PLAIN
     },
-    // `v[i * 2 % 8]`
+    // `v[i * 2 % 8]`, and `v[+i]`
     Row {
         body: &[
             Address(21),
-            Copy(7, I),
             Constant(8, 2),
-            Binary(6, Multiply, 7, 8),
+            Binary(6, Multiply, I, 8),
             Constant(13, 8),
             Binary(14, Remainder, 6, 13),
             Move(20, 21, 14, 1),
@@ -527,37 +515,37 @@ static ROWS: [Row; 27] = [
         want: &[],
         ..PLAIN
     },
+    Row {
+        body: &[Address(21), Copy(7, I), Move(20, 21, 7, 1), Load(6, 20)],
+        want: &[],
+        ..PLAIN
+    },
     // `v[i - 1]` and `v[i + 3]`, `v[3 + i]` and `v[i + j]`
     Row {
         body: &[
             Address(21),
-            Copy(7, I),
             Constant(8, 1),
-            Binary(6, Subtract, 7, 8),
+            Binary(6, Subtract, I, 8),
             Move(20, 21, 6, 1),
             Load(15, 20),
             Address(23),
-            Copy(7, I),
             Constant(8, 3),
-            Binary(6, Add, 7, 8),
+            Binary(6, Add, I, 8),
             Move(22, 23, 6, 1),
             Load(15, 22),
         ],
-        want: &[(13, MARK, -1), (19, MARK, 3)],
+        want: &[(11, MARK, -1), (16, MARK, 3)],
         ..PLAIN
     },
     Row {
         body: &[
             Address(21),
             Constant(8, 3),
-            Copy(7, I),
-            Binary(6, Add, 8, 7),
+            Binary(6, Add, 8, I),
             Move(20, 21, 6, 1),
             Load(15, 20),
             Address(23),
-            Copy(7, I),
-            Copy(8, J),
-            Binary(6, Add, 7, 8),
+            Binary(6, Add, I, J),
             Move(22, 23, 6, 1),
             Load(15, 22),
         ],
@@ -568,35 +556,32 @@ static ROWS: [Row; 27] = [
     Row {
         body: &[
             Address(21),
-            Copy(7, I),
             Constant(8, i64::MIN),
-            Binary(6, Subtract, 7, 8),
+            Binary(6, Subtract, I, 8),
             Move(20, 21, 6, 1),
             Load(15, 20),
             Address(23),
-            Copy(7, I),
             Constant(8, i64::MIN),
-            Binary(6, Add, 7, 8),
+            Binary(6, Add, I, 8),
             Move(22, 23, 6, 1),
             Load(15, 22),
         ],
-        want: &[(19, MARK, i64::MIN)],
+        want: &[(16, MARK, i64::MIN)],
         ..PLAIN
     },
-    // `p[i]`, where the body keeps p, and where it doesn't
+    // `p[i]`, where the body keeps p, and where it doesn't, and `(j, p)[i]`
     Row {
-        body: &[Copy(21, P), Copy(7, I), Move(20, 21, 7, 1), Load(6, 20)],
-        want: &[(11, MARK, 0)],
+        body: &[Move(20, P, I, 1), Load(6, 20)],
+        want: &[(8, MARK, 0)],
         ..PLAIN
     },
     Row {
-        body: &[
-            Copy(21, P),
-            Copy(7, I),
-            Move(20, 21, 7, 1),
-            Load(6, 20),
-            Copy(P, 20),
-        ],
+        body: &[Move(20, P, I, 1), Load(6, 20), Copy(P, 20)],
+        want: &[],
+        ..PLAIN
+    },
+    Row {
+        body: &[Copy(21, P), Move(20, 21, I, 1), Load(6, 20)],
         want: &[],
         ..PLAIN
     },
@@ -605,21 +590,17 @@ static ROWS: [Row; 27] = [
         body: &[
             Address(22),
             Member(21, 22),
-            Copy(7, I),
-            Move(20, 21, 7, 1),
+            Move(20, 21, I, 1),
             Load(6, 20),
             Address(24),
-            Copy(7, I),
-            Move(23, 24, 7, 2),
+            Move(23, 24, I, 2),
             Load(6, 23),
             Address(26),
-            Copy(7, I),
-            Back(25, 26, 7),
+            Back(25, 26, I),
             Load(6, 25),
             Address(29),
             Load(28, 29),
-            Copy(7, I),
-            Move(27, 28, 7, 1),
+            Move(27, 28, I, 1),
             Load(6, 27),
         ],
         want: &[],
@@ -635,28 +616,25 @@ static ROWS: [Row; 27] = [
     Row {
         body: &[
             Address(21),
-            Copy(7, I),
-            Move(20, 21, 7, 1),
-            Branch(J, 12, 14),
+            Move(20, 21, I, 1),
+            Branch(J, 10, 12),
             Constant(8, 1),
-            Jump(15),
+            Jump(13),
             Constant(8, 2),
             Store(20, 8),
         ],
-        want: &[(15, MARK, 0)],
+        want: &[(13, MARK, 0)],
         ..PLAIN
     },
     // A pointer with two makers, and one whose maker isn't passed in each turn.
     Row {
         body: &[
-            Branch(J, 9, 12),
+            Branch(J, 8, 10),
             Address(21),
-            Copy(7, I),
-            Move(20, 21, 7, 1),
+            Move(20, 21, I, 1),
             Load(6, 20),
             Address(23),
-            Copy(7, I),
-            Move(22, 23, 7, 1),
+            Move(22, 23, I, 1),
             Load(6, 22),
             Copy(22, P),
         ],
@@ -669,38 +647,34 @@ static ROWS: [Row; 27] = [
             Constant(2, 0),
             Copy(J, 2),
             Mark,
-            Copy(4, J),
             Constant(5, 4),
-            Binary(3, Less, 4, 5),
-            Branch(3, 15, 29),
+            Binary(3, Less, J, 5),
+            Branch(3, 13, 25),
             Address(21),
-            Copy(7, J),
-            Move(20, 21, 7, 1),
+            Move(20, 21, J, 1),
             Load(6, 20),
             Address(23),
-            Copy(7, I),
-            Move(22, 23, 7, 1),
+            Move(22, 23, I, 1),
             Load(6, 22),
             Copy(10, J),
             Constant(11, 1),
             Binary(12, Add, 10, 11),
             Copy(J, 12),
             Copy(9, 10),
-            Jump(10),
+            Jump(9),
             Address(25),
-            Copy(7, I),
-            Move(24, 25, 7, 1),
+            Move(24, 25, I, 1),
             Load(6, 24),
         ],
         inner: Some(LoopInfo {
-            at: 10,
-            first: 15,
-            last: 27,
+            at: 9,
+            first: 13,
+            last: 23,
             counter: J,
             bound: Bound::Number(4),
             step: 1,
         }),
-        want: &[(18, 10, 0), (32, MARK, 0)],
+        want: &[(15, 9, 0), (27, MARK, 0)],
         ..PLAIN
     },
     // `do v[i] while (j)`, which isn't counted, and then `v[i]`
@@ -708,16 +682,14 @@ static ROWS: [Row; 27] = [
         body: &[
             Mark,
             Address(21),
-            Copy(7, I),
-            Move(20, 21, 7, 1),
+            Move(20, 21, I, 1),
             Load(6, 20),
-            Branch(J, 8, 14),
+            Branch(J, 7, 12),
             Address(23),
-            Copy(7, I),
-            Move(22, 23, 7, 1),
+            Move(22, 23, I, 1),
             Load(6, 22),
         ],
-        want: &[(17, MARK, 0)],
+        want: &[(14, MARK, 0)],
         ..PLAIN
     },
 ];

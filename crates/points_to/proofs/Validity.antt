@@ -9,18 +9,19 @@ use Rattle.rr_base.specs.declared.layout.Site.{Site}
 use Rattle.flow_code.specs.declared.act.Act.{Act}
 use Rattle.flow_code.specs.declared.act.Act.TheVariants as act
 use Rattle.flow_code.specs.declared.act.Instr.{Instr}
-use Rattle.flow_code.specs.declared.act.LibraryCall.{LibraryCall}
-use Rattle.flow_code.specs.declared.act.LibraryCall.TheVariants as call
+use Rattle.abstract_machine.specs.declared.library_call.LibraryCall.{LibraryCall}
+use Rattle.abstract_machine.specs.declared.library_call.LibraryCall.TheVariants as call
 use Rattle.flow_code.specs.declared.code.Code.{Code}
 use Rattle.flow_code.specs.declared.code.Function.{Function}
 use Rattle.flow_code.specs.declared.work.Work.{Work}
 use Rattle.flow_code.specs.declared.work.Work.TheVariants as work
 use Rattle.flow_code.specs.Works.{is_pointer}
-use Rattle.flow_code.specs.Threads.{is_main_in, size_of}
+use Rattle.flow_code.specs.Threads.{is_main_in}
+use Rattle.abstract_machine.specs.Cells.{size_of}
 use Rattle.flow_code.specs.Kinds.{has_register, has_pointer, has_whole, has_kind, have_kinds, formal_kinds, is_site, is_address, work_fits, value_fits, call_fits, may_start, starts_fit, library_kinds, library_value_fits, act_fits}
 use Rattle.flow_code.specs.Addresses.{address_at, address_of, word_fits, words_fit, sites_stand_alone, globals_fit}
 use Rattle.flow_code.specs.Order.{order_fits}
-use Rattle.flow_code.specs.Valid.{layout_fits, sites_fit, registers_fit, acts_fit, loops_fit, regions_fit, function_fits, functions_fit, all_locks_fit, has_one_main, is_within_limits, is_valid}
+use Rattle.flow_code.specs.Valid.{layout_fits, sites_fit, registers_fit, acts_fit, loops_fit, regions_fit, function_fits, functions_fit, all_locks_fit, has_one_main, most_locks, is_within_limits, is_valid}
 use Rattle.facts.specs.Blocks.{constant_at}
 use Rattle.facts.specs.declared.constraint.Node.{Node}
 use Rattle.facts.specs.declared.constraint.Node.TheVariants.{Register, Result, Ended}
@@ -131,9 +132,6 @@ work_within code some f fn at is k into (work.Address w) h =
 work_within code some f fn at is k into (work.Copy r) h =
     let b = both (has_kind fn (is_pointer fn.pointers into) r) (has_register fn into) h in
     ((kind_node code f fn (is_pointer fn.pointers into) r at b.0, node_of code f fn into at (less into fn.registers b.1)), tt)
-work_within code some f fn at is k into (work.ToNumber r) h =
-    let b = both (has_whole fn into) (has_pointer fn r) h in
-    ((kind_node code f fn true r at b.1, kind_node code f fn false into at b.0), tt)
 work_within code some f fn at is k into (work.Move pointer by element back) h =
     let b = both (has_pointer fn into && has_pointer fn pointer && has_whole fn by) (nat_le 1 element) h in
     let d = both (has_pointer fn into) (has_pointer fn pointer) (both (has_pointer fn into && has_pointer fn pointer) (has_whole fn by) b.0).0 in
@@ -311,7 +309,7 @@ valid_there code h =
     let d = both (is_within_limits code && sites_fit code.sites && all_locks_fit code code.locks) (has_one_main code.functions) b.0 in
     let e = both (is_within_limits code && sites_fit code.sites) (all_locks_fit code code.locks) d.0 in
     let l = both (is_within_limits code) (sites_fit code.sites) e.0 in
-    let m = both (nat_le (length code.functions) (2 ^ 20)) (nat_le (length code.sites) 1023) (both (nat_le (length code.functions) (2 ^ 20) && nat_le (length code.sites) 1023) (nat_le (length code.globals) (2 ^ 20)) l.0).0 in
+    let m = both (nat_le (length code.functions) (2 ^ 20)) (nat_le (length code.sites) 1023) (both (nat_le (length code.functions) (2 ^ 20) && nat_le (length code.sites) 1023) (nat_le (length code.globals) (2 ^ 20)) (both (nat_le (length code.functions) (2 ^ 20) && nat_le (length code.sites) 1023 && nat_le (length code.globals) (2 ^ 20)) (nat_le (length code.locks) most_locks) l.0).0).0 in
     let w = both (length code.global_kinds == length code.globals) (words_fit code code.global_kinds code.globals) (both ((length code.global_kinds == length code.globals) && words_fit code code.global_kinds code.globals) (sites_stand_alone code 1 code.sites) a.1).0 in
     let some : Elements code = size_fits code.sites l.1 in
     record {

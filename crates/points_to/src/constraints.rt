@@ -1,14 +1,15 @@
 //! The constraints of a code, instruction by instruction, and of the start words of its globals.
 ghost use Rattle.std.specs.Prelude.{◌≡◌, ◌≤◌, ◌<◌, ◌+◌, ◌^◌, ◌++◌, [], ◌∷◌, ℕ, drop, length, IfOk, OnOk};
-ghost use Rattle.flow_code.specs.declared.act.LibraryCall.TheVariants as call;
+ghost use Rattle.abstract_machine.specs.declared.library_call.LibraryCall.TheVariants as call;
 ghost use Rattle.facts.specs.declared.constraint.Node.TheVariants as node;
 ghost use Rattle.facts.specs.declared.constraint.Constraint.TheVariants as constraint;
 ghost use Rattle.facts.specs.Blocks.{AreStarts};
 ghost use Rattle.facts.specs.PointsTo as spec;
 
 use crate::globals::push_sites;
+use abstract_machine::LibraryCall;
 use facts::{Constraint, Node, block_starts, constant_at};
-use flow_code::{Act, Code, Function, Instr, LibraryCall, Work};
+use flow_code::{Act, Code, Function, Instr, Work};
 use rr_base::{List, Place};
 use std::alloc::{AllocError, Global};
 
@@ -62,7 +63,7 @@ fn push_work(
     let to = register_of(function, into);
     match work {
         Work::Address(word) => out.push(given(to, word.site())),
-        Work::Copy(from) | Work::ToNumber(from) => out.push(Constraint::Included {
+        Work::Copy(from) => out.push(Constraint::Included {
             from: register_of(function, *from),
             to,
         }),

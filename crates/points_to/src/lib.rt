@@ -12,6 +12,3 @@ mod sets;
 mod tables;
 
 pub use least::solve;
-
-#[cfg(test)]
-mod tests;

@@ -11,7 +11,8 @@ use Rattle.facts.specs.declared.pair.Pair.{Pair}
 use Rattle.facts.specs.Pairs.{pair_less, pairs_ascend}
 use Rattle.race_pairs.specs.Gains.{Gains}
 use Rattle.race_pairs.proofs.Elements.{gets}
-use Rattle.race_pairs.proofs.Orders.{orders_pairs, pair_same, less_after}
+use Rattle.facts.proofs.TotalOrders.{less_after}
+use Rattle.race_pairs.proofs.Orders.{orders_pairs, pair_same}
 
 -- each is less than the next
 abbrev pub Rises : List Pair → Type 0

@@ -11,7 +11,7 @@ use Rattle.race_pairs.specs.Gains.{Gains, Below}
 use Rattle.race_pairs.specs.Races.{may_race, IsPairOf, PairAt, PairsFrom, PairsOf, touch_less, AreSorted}
 use Rattle.race_pairs.proofs.Elements.{got}
 use Rattle.race_pairs.proofs.Gaining.{alike, more, all_below}
-use Rattle.race_pairs.proofs.Orders.{orders_places, or_none}
+use Rattle.facts.proofs.TotalOrders.{orders_places, or_none}
 
 abbrev pub pair_of : Touch → Touch → Pair
 pair_of v w = record { place = v.place; first = v.access.at; second = w.access.at }

@@ -25,7 +25,8 @@ use Rattle.race_pairs.specs.Gains.{Gains}
 use Rattle.race_pairs.specs.Touches.{reached, IsTouch}
 use Rattle.race_pairs.specs.Races.{guarded_at, may_meet, race_in, may_race, IsPairOf, PairsOf, touch_less, AreSorted}
 use Rattle.race_pairs.proofs.Elements.{held, holds, any_some, some_any}
-use Rattle.race_pairs.proofs.Orders.{orders_numbers, orders_places, orders_accesses, or_none}
+use Rattle.facts.proofs.TotalOrders.{orders_numbers, orders_places, or_none}
+use Rattle.race_pairs.proofs.Orders.{orders_accesses}
 use Rattle.race_pairs.proofs.Pairing.{pair_of}
 
 -- ---- either way round

@@ -3,7 +3,7 @@ use Rattle.std.proofs.Common.{◌≡◌, ℕ, true, false, List, [], ◌∷◌, 
 use Rattle.rr_base.specs.declared.layout.Place.{Place}
 use Rattle.flow_code.specs.declared.act.Act.{Act}
 use Rattle.flow_code.specs.declared.act.Act.TheVariants as act
-use Rattle.flow_code.specs.declared.act.LibraryCall.TheVariants as call
+use Rattle.abstract_machine.specs.declared.library_call.LibraryCall.TheVariants as call
 use Rattle.flow_code.specs.declared.act.Instr.{Instr}
 use Rattle.flow_code.specs.declared.code.Code.{Code}
 use Rattle.flow_code.specs.declared.code.Function.{Function}
@@ -19,7 +19,8 @@ use Rattle.facts.specs.PointsTo.{Tables}
 use Rattle.facts.specs.Pairs.{is_root, places_of, share_lock, pair_less, pairs_ascend}
 use Rattle.facts.specs.Pairs as facts_pairs
 use Rattle.race_pairs.specs.declared.touch.Reached.{Reached}
-use Rattle.race_pairs.specs.Touches.{through_of, reached}
+use Rattle.facts.specs.Accesses.{through_of}
+use Rattle.race_pairs.specs.Touches.{reached}
 use Rattle.race_pairs.specs.Races.{may_race, touch_less}
 
 abbrev instr : Act → Instr

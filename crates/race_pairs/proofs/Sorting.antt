@@ -9,7 +9,8 @@ use Rattle.facts.specs.Pairs.{place_less, place_same, access_less}
 use Rattle.race_pairs.specs.declared.touch.Touch.{Touch}
 use Rattle.race_pairs.specs.Races.{touch_less, AreSorted}
 use Rattle.race_pairs.proofs.Elements.{got, reads}
-use Rattle.race_pairs.proofs.Orders.{orders_spots, spot_less, spot_same, not_less_along}
+use Rattle.facts.proofs.TotalOrders.{not_less_along}
+use Rattle.race_pairs.proofs.Orders.{orders_spots, spot_less, spot_same}
 
 one_none : (p q : Bool) (o : Ordering) → is_lt (ordering_then (cond p Less (cond q Equal Greater)) o) ≡ false → (p ≡ false) × (q ≡ true → is_lt o ≡ false)
 one_none true q o h = cc

@@ -6,20 +6,10 @@ use Rattle.flow_code.specs.declared.code.Function.{Function}
 use Rattle.flow_code.specs.Threads.{is_main}
 use Rattle.facts.specs.declared.locks.Guarded.{Guarded}
 use Rattle.facts.specs.declared.locks.Summary.{Summary}
-use Rattle.facts.specs.Accesses.{Access}
 use Rattle.facts.specs.PointsTo.{Tables}
 use Rattle.facts.specs.Pairs.{is_root, places_of, stands}
 use Rattle.race_pairs.specs.declared.touch.Reached.{Reached}
 use Rattle.race_pairs.specs.declared.touch.Touch.{Touch}
-
--- the tables have a list for each register of each function
-pub record HasRegisters (code : Code) (t : Tables) : Type 0 where
-  pub functions : length t.registers ≡ length code.functions
-  pub registers : (f : ℕ) (fn : Function) → slice_get code.functions f ≡ Some fn → length (slice_index_or t.registers f []) ≡ fn.registers
-
-abbrev pub through_of : Option Access → Option ℕ
-through_of None = None
-through_of (Some a) = Some a.through
 
 -- the k-th access of the summary of root r
 abbrev pub reached : Code → (r k : ℕ) → Guarded → Reached

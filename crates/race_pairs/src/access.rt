@@ -1,62 +1,17 @@
 // The accesses of the roots, each at the places that it may touch.
 ghost use Rattle.std.specs.Prelude.{◌≡◌, ◌↔◌, [], IfOk, OnOk};
 ghost use Rattle.std.specs.List.{Contains};
-ghost use Rattle.facts.specs.Accesses as accesses;
 ghost use Rattle.facts.specs.Pairs as facts_pairs;
+ghost use Rattle.facts.specs.PointsTo.{HasRegisters};
 ghost use Rattle.race_pairs.specs.Gains.{Gains};
-ghost use Rattle.race_pairs.specs.Touches.{HasRegisters, through_of, TouchesAt, TouchesOf, TouchesFrom, IsTouch};
+ghost use Rattle.race_pairs.specs.Touches.{TouchesAt, TouchesOf, TouchesFrom, IsTouch};
 
 use crate::roots::{is_main, is_root, started};
 use crate::touch::{Reached, Touch};
-use facts::{AccessAt, Guarded, PointsTo, Summary};
-use flow_code::{Act, Code, LibraryCall};
+use facts::{AccessAt, Guarded, PointsTo, Summary, places_of};
+use flow_code::Code;
 use rr_base::{List, Place};
 use std::alloc::{AllocError, Global};
-
-fn through_call(call: &LibraryCall, arguments: &[u32]) -> Option<u32>
-    ensures { result ≡ through_of (accesses.library_access call.now arguments.now) }
-{
-    match (call, arguments) {
-        (LibraryCall::Create { function: _ }, [thread, _]) => Some(*thread),
-        (LibraryCall::Join, [_, into]) => Some(*into),
-        _ => None,
-    }
-}
-
-/// The register that points to the cell which an instruction loads or stores.
-fn through(act: &Act) -> Option<u32>
-    ensures { result ≡ through_of (accesses.access_of act.now) }
-{
-    match act {
-        Act::LoadCell { into: _, through } => Some(*through),
-        Act::StoreCell { through, from: _ } => Some(*through),
-        Act::Library {
-            call,
-            arguments,
-            into: _,
-        } => through_call(call, arguments.as_slice()),
-        _ => None,
-    }
-}
-
-/// The places of which an access may touch a cell.
-fn places_of<'a>(code: &Code, points: &'a PointsTo, at: AccessAt) -> &'a [Place]
-    requires { HasRegisters code.now points.now }
-    ensures { result.now ≡ facts_pairs.places_of code.now points.now at }
-{
-    let Some(function) = code.functions.get(at.function as usize) else {
-        return &[];
-    };
-    let Some(instr) = function.instrs.get(at.instr as usize) else {
-        return &[];
-    };
-    match through(&instr.act) {
-        Some(register) if register < function.registers => {
-            points.of_register(at.function, register).as_slice()
-        }
-        _ => &[],
-    }
-}
 
 fn touch_places(
     touches: &mut Vec<Touch>,

@@ -10,6 +10,3 @@ mod roots;
 mod touch;
 
 pub use race::pairs;
-
-#[cfg(test)]
-mod tests;

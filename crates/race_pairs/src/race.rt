@@ -2,7 +2,8 @@
 ghost use Rattle.std.specs.Prelude.{◌≡◌, ◌<◌, length, [], true, IfOk, OnOk};
 ghost use Rattle.facts.specs.Pairs.{ArePairs, pairs_ascend};
 ghost use Rattle.race_pairs.specs.Gains.{Gains};
-ghost use Rattle.race_pairs.specs.Touches.{HasRegisters, IsTouch};
+ghost use Rattle.facts.specs.PointsTo.{HasRegisters};
+ghost use Rattle.race_pairs.specs.Touches.{IsTouch};
 ghost use Rattle.race_pairs.specs.Races.{IsPairOf, PairsFrom, PairsOf, AreSorted};
 
 use crate::access::touches;

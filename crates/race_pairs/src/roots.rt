@@ -5,7 +5,8 @@ ghost use Rattle.flow_code.specs.Threads as threads;
 ghost use Rattle.facts.specs.Pairs as facts_pairs;
 ghost use Rattle.race_pairs.specs.Roots.{Marks, is_number};
 
-use flow_code::{Act, Code, Instr, LibraryCall};
+use abstract_machine::LibraryCall;
+use flow_code::{Act, Code, Instr};
 use std::alloc::{AllocError, Global};
 
 /// The function with which an instruction starts a thread.

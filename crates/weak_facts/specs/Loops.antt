@@ -1,9 +1,10 @@
 -- The counted loops of a code: those of the loops that a function lists which its instructions bear out. The code of
 --     for (..; i < b; i += c) ..
--- is a Mark; four instructions that copy i, put b into a register, compare the two, and branch to the body or behind the
--- loop; the body; five that copy i, put c into a register, add the two, copy the sum to i, and give the expression's value,
--- which nothing uses, a register of its own; and a jump back to the Mark. The code of `i++`, `++i` and `i = i + c` is the
--- same but for that value, so no other form need be known.
+-- is a Mark; the condition, which puts b into a register where it is a number, compares i with it, and branches to the body or
+-- behind the loop; the body; the last part, which copies i, puts c into a register, adds the two, copies the sum to i, and
+-- gives the expression's value, which nothing uses, a register of its own; and a jump back to the Mark. The code of `i++` and
+-- `++i` is the same but for that value, and that of `i = i + c` has no copy of i, which it adds itself. No other form need be
+-- known.
 use Rattle.std.specs.Prelude.{ℕ, ◌+◌, ◌-◌, ◌==◌, nat_lt, nat_le, ◌&&◌, ◌||◌, Bool, true, false, not, if◌then◌else◌, ℤ, pos, int_lt, List, [], ◌∷◌, ◌++◌, map, take, drop, Option, Some, None, slice_get, slice_range}
 use Rattle.std.specs.List.{filter, list_all}
 use Rattle.std.specs.Option.{option_and_then}
@@ -17,7 +18,7 @@ use Rattle.flow_code.specs.declared.code.LoopInfo.{LoopInfo}
 use Rattle.flow_code.specs.declared.region.Bound.{Bound}
 use Rattle.flow_code.specs.declared.region.Bound.TheVariants as bound
 use Rattle.flow_code.specs.declared.work.Work.TheVariants as work
-use Rattle.flow_code.specs.declared.work.BinaryOp.TheVariants as op
+use Rattle.abstract_machine.specs.declared.operator.BinaryOp.TheVariants as op
 use Rattle.flow_code.specs.Kinds.{has_whole}
 use Rattle.flow_code.specs.Next.{act_in}
 use Rattle.flow_code.specs.Order.{is_mark}
@@ -48,9 +49,14 @@ abbrev pub number_into : ℤ → Option Act → Option ℕ
 number_into z (Some (act.Compute into (work.Constant y))) = if int_eq y z then Some into else None
 number_into z _ = None
 
+-- the register that has the bound, which an instruction puts there only where it is a number
 abbrev pub bound_into : Bound → Option Act → Option ℕ
 bound_into (bound.Number z) a = number_into z a
-bound_into (bound.Register r) a = copy_into r a
+bound_into (bound.Register r) a = Some r
+
+abbrev pub bound_size : Bound → ℕ
+bound_size (bound.Number z) = 1
+bound_size (bound.Register r) = 0
 
 abbrev pub are_apart : (x y left right : ℕ) → Bool
 are_apart x y left right = (left == x) && (right == y) && not (x == y)
@@ -64,6 +70,11 @@ less_into x y _ = None
 abbrev pub sum_into : (x y : ℕ) → Option Act → Option ℕ
 sum_into x y (Some (act.Compute into (work.Binary op.Add left right))) = if are_apart x y left right then Some into else None
 sum_into x y _ = None
+
+-- the instruction adds something to register x
+abbrev pub is_sum_of : (x : ℕ) → Option Act → Bool
+is_sum_of x (Some (act.Compute into (work.Binary op.Add left right))) = left == x
+is_sum_of x _ = false
 
 -- the instruction branches on the register
 abbrev pub is_branch : (on : Option ℕ) → (then_at else_at : ℕ) → Option Act → Bool
@@ -108,25 +119,40 @@ is_entered_at is a b = none_goes_into a b (take a is) && none_goes_into a b (dro
 abbrev pub are_numbers : Function → LoopInfo → Bool
 are_numbers fn l = has_whole fn l.counter && bound_is_whole fn l.bound && int_lt (pos 0) l.step
 
--- the condition has four instructions, and the last part five, behind the body
-abbrev pub has_places : LoopInfo → Bool
-has_places l = (l.first == l.at + 5) && nat_le (l.first + 4) l.last
+-- the last part adds the counter itself, and not a copy
+abbrev pub adds_itself : List Instr → LoopInfo → Bool
+adds_itself is l = is_sum_of l.counter (nth is (l.last - 2))
+
+-- where the last part begins
+abbrev pub last_part_at : List Instr → LoopInfo → ℕ
+last_part_at is l = if adds_itself is l then l.last - 3 else l.last - 4
+
+-- where the condition ends
+abbrev pub condition_end : LoopInfo → ℕ
+condition_end l = l.at + 2 + bound_size l.bound
+
+-- the condition stands behind the Mark, and the last part behind the body
+abbrev pub has_places : List Instr → LoopInfo → Bool
+has_places is l = (l.first == condition_end l + 1) && nat_le l.first (last_part_at is l)
 
 -- the register that tells whether the counter is less than the bound
 abbrev pub tested : List Instr → LoopInfo → Option ℕ
 tested is l = do
-  i ← copy_into l.counter (nth is (l.at + 1))
-  b ← bound_into l.bound (nth is (l.at + 2))
-  less_into i b (nth is (l.at + 3))
+  b ← bound_into l.bound (nth is (l.at + 1))
+  less_into l.counter b (nth is (l.at + 1 + bound_size l.bound))
 
 -- a Mark and the condition
 abbrev pub begins_so : List Instr → LoopInfo → Bool
-begins_so is l = is_mark (nth is l.at) && is_branch (tested is l) l.first (l.last + 2) (nth is (l.at + 4))
+begins_so is l = is_mark (nth is l.at) && is_branch (tested is l) l.first (l.last + 2) (nth is (condition_end l))
+
+-- the register that has the counter in the last part
+abbrev pub added : List Instr → LoopInfo → Option ℕ
+added is l = if adds_itself is l then Some l.counter else copy_into l.counter (nth is (l.last - 4))
 
 -- the register that gets the counter and the step together
 abbrev pub raised : List Instr → LoopInfo → Option ℕ
 raised is l = do
-  i ← copy_into l.counter (nth is (l.last - 4))
+  i ← added is l
   c ← number_into l.step (nth is (l.last - 3))
   sum_into i c (nth is (l.last - 2))
 
@@ -148,10 +174,10 @@ keeps_bound is l (bound.Register r) = keeps is l r
 
 -- the loop is entered at its Mark, as its condition is, and its last part where it begins
 abbrev pub is_entered_so : List Instr → LoopInfo → Bool
-is_entered_so is l = is_entered_at is l.at (l.last + 1) && is_entered_at is l.at (l.at + 4) && is_entered_at is (l.last - 4) (l.last + 1)
+is_entered_so is l = is_entered_at is l.at (l.last + 1) && is_entered_at is l.at (condition_end l) && is_entered_at is (last_part_at is l) (l.last + 1)
 
 abbrev pub has_form : List Instr → LoopInfo → Bool
-has_form is l = has_places l && begins_so is l && ends_so is l
+has_form is l = has_places is l && begins_so is l && ends_so is l
 
 abbrev pub keeps_numbers : List Instr → LoopInfo → Bool
 keeps_numbers is l = keeps_counter is l && keeps_bound is l l.bound

@@ -13,7 +13,7 @@ use Rattle.flow_code.specs.declared.code.LoopInfo.{LoopInfo}
 use Rattle.flow_code.specs.declared.region.Base.{Base}
 use Rattle.flow_code.specs.declared.region.Base.TheVariants as base
 use Rattle.flow_code.specs.declared.work.Work.TheVariants as work
-use Rattle.flow_code.specs.declared.work.BinaryOp.TheVariants as op
+use Rattle.abstract_machine.specs.declared.operator.BinaryOp.TheVariants as op
 use Rattle.flow_code.specs.Order.{is_mark}
 use Rattle.facts.specs.Blocks.{begins_block, assigns, constant_at, is_target}
 use Rattle.facts.specs.PointsTo.{Tables, list_at, element_of}
@@ -99,25 +99,16 @@ made_at is k r = do
 
 -- ---- its base
 
--- the address of a global, or a copy of a register that the loop keeps, as those of local arrays are
-abbrev pub base_of : List Instr → LoopInfo → Option Act → Option Base
-base_of is l (Some (act.Compute into (work.Address w))) = Some (base.Site (site_of w))
-base_of is l (Some (act.Compute into (work.Copy r))) = if keeps is l r then Some (base.Register r) else None
-base_of is l _ = None
+-- the address of a global, or a register that the loop keeps, as the pointers of local arrays are
+abbrev pub base_of : List Instr → LoopInfo → (r : ℕ) → Option Act → Option Base
+base_of is l r (Some (act.Compute into (work.Address w))) = Some (base.Site (site_of w))
+base_of is l r _ = if keeps is l r then Some (base.Register r) else None
 
 -- what register r has at the k-th instruction of the loop
 abbrev pub base_at : List Instr → LoopInfo → (k r : ℕ) → Option Base
-base_at is l k r = base_of is l (made_at is k r)
+base_at is l k r = base_of is l r (made_at is k r)
 
 -- ---- its index
-
-abbrev pub is_copy_of : ℕ → Option Act → Bool
-is_copy_of i (Some (act.Compute into (work.Copy r))) = r == i
-is_copy_of i _ = false
-
--- the number, if register r has the counter at the k-th instruction
-abbrev pub beside : List Instr → (i k r : ℕ) → Option ℤ → Option ℤ
-beside is i k r d = if is_copy_of i (made_at is k r) then d else None
 
 -- the negative, which the least number of 64 bits doesn't have there
 abbrev pub negative : ℤ → Option ℤ
@@ -128,18 +119,21 @@ abbrev pub negative_of : Option ℤ → Option ℤ
 negative_of None = None
 negative_of (Some d) = negative d
 
--- how far the sum, difference or copy that the k-th instruction computes is behind the counter i
+-- how far the sum or difference that the k-th instruction computes is behind the counter i
 abbrev pub shift_by : List Instr → (i k : ℕ) → Option Act → Option ℤ
-shift_by is i k (Some (act.Compute into (work.Copy r))) = if r == i then Some (pos 0) else None
-shift_by is i k (Some (act.Compute into (work.Binary op.Add left right))) = beside is i k left (constant_at is k right)
-shift_by is i k (Some (act.Compute into (work.Binary op.Subtract left right))) = beside is i k left (negative_of (constant_at is k right))
+shift_by is i k (Some (act.Compute into (work.Binary op.Add left right))) = if left == i then constant_at is k right else None
+shift_by is i k (Some (act.Compute into (work.Binary op.Subtract left right))) = if left == i then negative_of (constant_at is k right) else None
 shift_by is i k _ = None
 
--- how far register r is behind the counter at the k-th instruction
-abbrev pub shift_at : List Instr → (i k r : ℕ) → Option ℤ
-shift_at is i k r = do
+-- that of what made register r
+abbrev pub made_shift : List Instr → (i k r : ℕ) → Option ℤ
+made_shift is i k r = do
   m ← maker_at is k r
   shift_by is i m (nth is m)
+
+-- how far register r, which may be the counter itself, is behind it at the k-th instruction
+abbrev pub shift_at : List Instr → (i k r : ℕ) → Option ℤ
+shift_at is i k r = if r == i then Some (pos 0) else made_shift is i k r
 
 -- ---- ranges
 

@@ -1,9 +1,11 @@
 ghost use Rattle.std.specs.Prelude.{◌≡◌, ℕ, [], ◌<◌, length, slice_get, slice_index_or, Some, IfOk};
 ghost use Rattle.flow_code.specs.declared.code.Function.{Function};
 
-use super::*;
+use crate::made::{instrs, library};
+use abstract_machine::LibraryCall;
 use facts::{AccessAt, Guarded, LockPath, Minus, Pair, PointsTo, RelLocks, Summary};
-use flow_code::{Act, Code, Function, Instr, LibraryCall};
+use flow_code::{Act, Code, Function};
+use race_pairs::pairs;
 use rr_base::{List, Place};
 use std::alloc::{AllocError, Global};
 use std::test::Fail;
@@ -56,23 +58,7 @@ fn store(through: u32) -> Act {
 }
 
 fn create(alloc: Global, function: u32) -> Result<Act, AllocError> {
-    Ok(Act::Library {
-        call: LibraryCall::Create { function },
-        arguments: List::from_slice(alloc, &[1, 1])?,
-        into: None,
-    })
-}
-
-fn body(alloc: Global, acts: [Act; 4]) -> Result<List<Instr>, AllocError> {
-    let mut instrs = List::new(alloc);
-    for act in acts {
-        instrs.push(Instr {
-            line: 1,
-            column: 1,
-            act,
-        })?;
-    }
-    Ok(instrs)
+    library(alloc, LibraryCall::Create { function }, &[1, 1])
 }
 
 // Each function has two registers: the first points to x, the second to y.
@@ -86,7 +72,7 @@ fn function(alloc: Global, name: &[u8], acts: [Act; 4]) -> Result<Function, Allo
         registers: 2,
         pointers: List::from_slice(alloc, &[true, true])?,
         gives_pointer: false,
-        instrs: body(alloc, acts)?,
+        instrs: instrs(alloc, Vec::from_array(alloc, acts)?)?,
         loops: List::new(alloc),
         regions: List::new(alloc),
     })

@@ -1,11 +1,12 @@
-ghost use Rattle.std.specs.Prelude.{◌<◌};
+ghost use Rattle.std.specs.Prelude.{◌≡◌, ◌<◌};
+ghost use Rattle.facts.specs.PointsTo as spec;
 ghost use Rattle.facts.specs.PointsTo.{IsPointsTo};
 
-use crate::constraints::following;
-use crate::nodes::classes_of;
-use crate::solve;
+use crate::made::instrs;
+use abstract_machine::LibraryCall;
 use facts::{Node, PointsTo};
-use flow_code::{Act, Code, Function, Instr, LibraryCall, Work, is_valid};
+use flow_code::{Act, Code, Function, Work, is_valid};
+use points_to::solve;
 use rr_base::{CellKind, Layout, List, Place, PtrWord, Site};
 use std::alloc::{AllocError, Global};
 use std::test::Fail;
@@ -115,27 +116,18 @@ fn function_of(
     pointers: &[bool],
     steps: &[Step],
 ) -> Result<Function, AllocError> {
-    let mut instrs = List::new(alloc);
-    let mut registers = 0;
-    for _pointer in pointers {
-        registers = following(registers)?;
-    }
+    let mut acts = Vec::new(alloc);
     for step in steps {
-        let act = act_of(alloc, *step)?;
-        instrs.push(Instr {
-            line: 1,
-            column: 1,
-            act,
-        })?;
+        acts.push(act_of(alloc, *step)?)?;
     }
     Ok(Function {
         name: List::from_slice(alloc, name)?,
         line: 1,
         formals,
-        registers,
+        registers: (pointers.len() % 64) as u32,
         pointers: List::from_slice(alloc, pointers)?,
         gives_pointer: formals == 1,
-        instrs,
+        instrs: instrs(alloc, acts)?,
         loops: List::new(alloc),
         regions: List::new(alloc),
     })
@@ -177,6 +169,13 @@ fn code_of(
     })
 }
 
+// How many classes a site has, by the cells of its elements.
+fn classes_of(element: u32) -> u32
+    ensures { result ≡ spec.classes_of element }
+{
+    if element > 64 { 1 } else { element }
+}
+
 // The places of a node that the code has.
 fn places<'a>(code: &Code, answer: &'a PointsTo, node: Node) -> Option<&'a [Place]>
     requires { IsPointsTo code.now answer.now }
@@ -194,7 +193,7 @@ fn places<'a>(code: &Code, answer: &'a PointsTo, node: Node) -> Option<&'a [Plac
                 return None;
             }
             let site = code.sites.get(usize::from(place.site) - 1)?;
-            if u16::from(place.class) >= classes_of(site.layout.element) {
+            if u32::from(place.class) >= classes_of(site.layout.element) {
                 return None;
             }
             Some(answer.of_place(place).as_slice())
@@ -316,6 +315,32 @@ fn threads_hand_over(rt: HostRuntime) -> Result<(), Fail> {
         (register(1, 0), first, None),
         (cells(4), first, second),
         (register(0, 5), first, second),
+    ];
+    assert_eq!(rt; first_wrong(alloc, &code, &rows)?, None);
+    Ok(())
+}
+
+// int a; int main(void) { int *p = &a; long n = (long)p; int *q = (int *)n; int *r = p; return n; }
+#[test]
+fn casts_hand_on_nothing(rt: HostRuntime) -> Result<(), Fail> {
+    let alloc = rt.alloc();
+    let steps = [
+        Step::Compute(0, address(1, 0, 1)),
+        Step::Compute(1, Work::ToNumber(0)),
+        Step::Compute(2, Work::ToPointer(1)),
+        Step::Compute(3, Work::Copy(0)),
+        Step::Return(1),
+    ];
+    let pointers = [true, false, true, true];
+    let mut functions = List::new(alloc);
+    functions.push(function_of(alloc, b"main", 0, &pointers, &steps)?)?;
+    let code = code_of(alloc, functions, &[WHOLE], &[0])?;
+    let first = Some(place(1, 0));
+    let rows = [
+        (register(0, 0), first, None),
+        (register(0, 1), None, None),
+        (register(0, 2), None, None),
+        (register(0, 3), first, None),
     ];
     assert_eq!(rt; first_wrong(alloc, &code, &rows)?, None);
     Ok(())

@@ -1,7 +1,7 @@
 use Rattle.std.proofs.Common.{◌≡◌, ◌∙◌, sym, Some}
 use Rattle.std.specs.Prelude.{slice_get}
 use Rattle.lockset_flow.proofs.Within.{flows_within}
-use Rattle.lockset_flow.proofs.tests.facts_of.Goals as goal
+use Rattle.analysis_rows.proofs.flowing.facts_of.Goals as goal
 
 pub flow_function-requires-clause-flows : goal.flow_function-requires-clause-flows
 flow_function-requires-clause-flows c =

@@ -1,6 +1,8 @@
-use crate::summaries;
+use crate::made::{instrs, library};
+use abstract_machine::LibraryCall;
 use facts::{Guarded, LockPath, Minus, RelLocks, Summary};
-use flow_code::{Act, Code, Function, Instr, LibraryCall, Work, is_valid};
+use flow_code::{Act, Code, Function, Work, is_valid};
+use lockset_summary::summaries;
 use rr_base::{CellKind, Layout, List, PtrWord, Site};
 use std::alloc::{AllocError, Global};
 use std::test::Fail;
@@ -53,15 +55,6 @@ fn store() -> Act {
         through: 1,
         from: 2,
     }
-}
-
-fn library(alloc: Global, call: LibraryCall, arguments: &[u32]) -> Result<Act, AllocError> {
-    let arguments = List::from_slice(alloc, arguments)?;
-    Ok(Act::Library {
-        call,
-        arguments,
-        into: None,
-    })
 }
 
 fn call(alloc: Global, function: u32, arguments: &[u32]) -> Result<Act, AllocError> {
@@ -150,20 +143,8 @@ fn formals_acts(alloc: Global, function: usize) -> Result<Vec<Act>, AllocError> 
 }
 
 // Registers 0 and 1 are pointers, and 2 is a number. Each function but `main` has one formal.
-fn function(alloc: Global, index: usize, acts: Vec<Act>) -> Result<Function, AllocError> {
-    let mut instrs = List::new(alloc);
-    for act in acts {
-        instrs.push(Instr {
-            line: 1,
-            column: 1,
-            act,
-        })?;
-    }
-    instrs.push(Instr {
-        line: 1,
-        column: 1,
-        act: Act::Return { value: None },
-    })?;
+fn function(alloc: Global, index: usize, mut acts: Vec<Act>) -> Result<Function, AllocError> {
+    acts.push(Act::Return { value: None })?;
     let name: &[u8] = if index == 3 { b"main" } else { b"work" };
     Ok(Function {
         name: List::from_slice(alloc, name)?,
@@ -172,7 +153,7 @@ fn function(alloc: Global, index: usize, acts: Vec<Act>) -> Result<Function, All
         registers: 3,
         pointers: List::from_slice(alloc, &[true, true, false])?,
         gives_pointer: index != 3,
-        instrs,
+        instrs: instrs(alloc, acts)?,
         loops: List::new(alloc),
         regions: List::new(alloc),
     })

@@ -1,9 +1,11 @@
 ghost use Rattle.std.specs.Prelude.{◌≡◌, true, IfOk};
 ghost use Rattle.lockset_flow.specs.Flow.{all_sized};
 
-use crate::{FlowFacts, flow_function};
+use crate::made::{instrs, library};
+use abstract_machine::LibraryCall;
 use facts::{LockPath, Minus, RelLocks, argument_names};
-use flow_code::{Act, Code, Function, Instr, LibraryCall, is_valid};
+use flow_code::{Act, Code, Function, is_valid};
+use lockset_flow::{FlowFacts, flow_function};
 use rr_base::{Bytes, List};
 use std::alloc::{AllocError, Global};
 use std::test::Fail;
@@ -34,15 +36,6 @@ enum Body {
     Tries,
     /// It calls a function that takes a lock.
     Calls,
-}
-
-fn library(alloc: Global, call: LibraryCall, arguments: &[u32]) -> Result<Act, AllocError> {
-    let arguments = List::from_slice(alloc, arguments)?;
-    Ok(Act::Library {
-        call,
-        arguments,
-        into: None,
-    })
 }
 
 // The instructions behind the first one, which takes the mutex or tries to.
@@ -89,18 +82,6 @@ fn first(alloc: Global, body: Body) -> Result<Act, AllocError> {
         }),
         _ => library(alloc, LibraryCall::MutexLock, &[0]),
     }
-}
-
-fn instrs(alloc: Global, acts: Vec<Act>) -> Result<List<Instr>, AllocError> {
-    let mut instrs = List::new(alloc);
-    for act in acts {
-        instrs.push(Instr {
-            line: 1,
-            column: 1,
-            act,
-        })?;
-    }
-    Ok(instrs)
 }
 
 fn function(

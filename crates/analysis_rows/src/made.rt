@@ -1,0 +1,28 @@
+//! Instructions written by hand.
+use abstract_machine::LibraryCall;
+use flow_code::{Act, Instr};
+use rr_base::List;
+use std::alloc::{AllocError, Global};
+
+/// A call of the library whose result goes nowhere.
+pub fn library(alloc: Global, call: LibraryCall, arguments: &[u32]) -> Result<Act, AllocError> {
+    let arguments = List::from_slice(alloc, arguments)?;
+    Ok(Act::Library {
+        call,
+        arguments,
+        into: None,
+    })
+}
+
+/// The instructions that do this, all at one place of the source.
+pub fn instrs(alloc: Global, acts: Vec<Act>) -> Result<List<Instr>, AllocError> {
+    let mut instrs = List::new(alloc);
+    for act in acts {
+        instrs.push(Instr {
+            line: 1,
+            column: 1,
+            act,
+        })?;
+    }
+    Ok(instrs)
+}
