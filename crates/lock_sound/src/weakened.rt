@@ -1,19 +1,23 @@
 ghost use Rattle.std.specs.Prelude.{◌≡◌};
 ghost use Rattle.lock_sound.specs.Weakened.{IsAnalysed};
 
-use facts::{Pair, PointsTo, Summary};
+use facts::{Pair, PointsTo, Profile, Summary};
 use flow_code::Code;
 use rr_base::List;
 use std::marker::Model;
+use weak_facts::Grains;
 
-/// A valid code without weak locks, to which places its registers and cells may point, the summaries of its functions,
-/// and its race pairs.
+/// A valid code without weak locks, to which places its registers and cells may point, the summaries of its functions, its
+/// race pairs, which functions may be at work at once, the grains of its racy accesses, and the code with its weak locks.
 #[derive(Debug, Drop)]
 pub struct Weakened {
     plain: Code,
     points: PointsTo,
     summaries: List<Summary>,
     pairs: List<Pair>,
+    profile: Profile,
+    grains: Grains,
+    weak: Code,
 }
 
 impl Model for Weakened {
@@ -21,27 +25,33 @@ impl Model for Weakened {
 
     ghost Value = { Analysed };
 
-    ghost view = { λ w. record { plain = w.plain; points = w.points; summaries = w.summaries; pairs = w.pairs } };
+    ghost view = { λ w. record { plain = w.plain; points = w.points; summaries = w.summaries; pairs = w.pairs; profile = w.profile; grains = w.grains; weak = w.weak } };
 
-    ghost invariant = { λ w. IsAnalysed (record { plain = w.plain; points = w.points; summaries = w.summaries; pairs = w.pairs }) };
+    ghost invariant = { λ w. IsAnalysed (record { plain = w.plain; points = w.points; summaries = w.summaries; pairs = w.pairs; profile = w.profile; grains = w.grains; weak = w.weak }) };
 }
 
 impl Weakened {
-    /// The code and the answers of the analyses for it.
+    /// The code with the answers of the analyses for it and for the profile, and with its weakened code.
     pub fn of(
         plain: Code,
         points: PointsTo,
         summaries: List<Summary>,
         pairs: List<Pair>,
+        profile: Profile,
+        grains: Grains,
+        weak: Code,
     ) -> Weakened
-        requires { IsAnalysed (record { plain = plain; points = points; summaries = summaries; pairs = pairs }) }
-        ensures { result ≡ record { plain = plain; points = points; summaries = summaries; pairs = pairs } }
+        requires { IsAnalysed (record { plain = plain; points = points; summaries = summaries; pairs = pairs; profile = profile; grains = grains; weak = weak }) }
+        ensures { result ≡ record { plain = plain; points = points; summaries = summaries; pairs = pairs; profile = profile; grains = grains; weak = weak } }
     {
         Weakened {
             plain,
             points,
             summaries,
             pairs,
+            profile,
+            grains,
+            weak,
         }
     }
 
@@ -53,24 +63,50 @@ impl Weakened {
         &self.plain
     }
 
-    /// To which places its registers and cells may point.
+    /// The code with its weak locks.
+    pub fn code(&self) -> &Code
+        ensures value { result.now ≡ self.now.weak }
+        ensures kept { IsAnalysed self.now }
+    {
+        &self.weak
+    }
+
+    /// To which places the code's registers and cells may point.
     pub fn points(&self) -> &PointsTo
-        ensures { result.now ≡ self.now.points }
+        ensures value { result.now ≡ self.now.points }
+        ensures kept { IsAnalysed self.now }
     {
         &self.points
     }
 
     /// The summaries of its functions.
     pub fn summaries(&self) -> &List<Summary>
-        ensures { result.now ≡ self.now.summaries }
+        ensures value { result.now ≡ self.now.summaries }
+        ensures kept { IsAnalysed self.now }
     {
         &self.summaries
     }
 
     /// Its race pairs.
     pub fn pairs(&self) -> &List<Pair>
-        ensures { result.now ≡ self.now.pairs }
+        ensures value { result.now ≡ self.now.pairs }
+        ensures kept { IsAnalysed self.now }
     {
         &self.pairs
+    }
+
+    /// Which functions may be at work at once.
+    pub fn profile(&self) -> &Profile
+        ensures { result.now ≡ self.now.profile }
+    {
+        &self.profile
+    }
+
+    /// The grains of its racy accesses.
+    pub fn grains(&self) -> &Grains
+        ensures value { result.now ≡ self.now.grains }
+        ensures kept { IsAnalysed self.now }
+    {
+        &self.grains
     }
 }

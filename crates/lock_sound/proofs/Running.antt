@@ -1,0 +1,15 @@
+-- The weakened code of a code with its analyses can be run.
+use Rattle.std.proofs.Common.{◌≡◌, sym, subst}
+use Rattle.flow_code.specs.declared.code.Code.{Code}
+use Rattle.flow_code.specs.Settle.{IsRunnable}
+use Rattle.flow_code.proofs.Runnable.{valid_runnable}
+use Rattle.weak_facts.specs.Ranges.{ranges_of}
+use Rattle.weak_code.proofs.Running.{runs}
+use Rattle.lock_sound.specs.Weakened.{Analysed, IsAnalysed}
+
+pub weakened_runs : (a : Analysed) → IsAnalysed a → IsRunnable a.weak
+weakened_runs a h = subst (λ (c : Code). IsRunnable c) (sym h.weak) (runs a.plain a.points a.pairs (ranges_of a.plain a.points) a.grains.rows (valid_runnable a.plain h.valid))
+
+-- the same of a code that is known to be it
+pub code_runs : (a : Analysed) (code : Code) → IsAnalysed a → code ≡ a.weak → IsRunnable code
+code_runs a code h e = subst (λ (c : Code). IsRunnable c) (sym e) (weakened_runs a h)

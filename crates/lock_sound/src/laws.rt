@@ -1,0 +1,8 @@
+//! What is known of a code with its weak locks.
+ghost use Rattle.flow_code.specs.Settle.{IsRunnable};
+ghost use Rattle.lock_sound.specs.Weakened.{Analysed, IsAnalysed};
+
+/// The weakened code can be run.
+pub fn law_weakened_runs()
+    ensures { (a : Analysed) → IsAnalysed a → IsRunnable a.weak }
+{}

@@ -1,0 +1,3 @@
+pub mod Stripping
+mod WeakRows
+pub mod Running

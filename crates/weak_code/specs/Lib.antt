@@ -1,0 +1,5 @@
+pub mod Places
+pub mod Stretches
+pub mod Stripped
+pub mod WeakLocks
+pub mod Weakened

@@ -1,0 +1,13 @@
+pub mod Closed
+pub mod Covered
+pub mod Ends
+pub mod Givings
+pub mod Guarded
+pub mod Holdings
+pub mod Nested
+pub mod Opened
+pub mod Passing
+pub mod Spread
+pub mod Standing
+pub mod Takings
+pub mod Threads

@@ -1,0 +1,4 @@
+pub mod Guards
+pub mod LoopsClosed
+pub mod Reached
+pub mod Ways

@@ -1,0 +1,7 @@
+mod Nexts
+mod Found
+mod Lengths
+mod Striped
+mod Blocked
+mod Chosen
+mod Parts

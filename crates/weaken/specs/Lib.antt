@@ -1,0 +1,4 @@
+pub mod Registers
+pub mod Tables
+pub mod Jumps
+pub mod Marks
