@@ -3,7 +3,7 @@ use Rattle.std.proofs.Common.{◌≡◌, ℕ, ◌+◌, ◌≤◌, ◌<◌, Bool,
 use Rattle.std.proofs.lemmas.List.{length-set}
 use Rattle.std.proofs.lemmas.Bool.Decides.{nat_tests}
 use Rattle.sync_objects.specs.Setup.{SetupView}
-use Rattle.flow_code.specs.Works.{register}
+use Rattle.abstract_machine.specs.Registers.{register}
 use Rattle.flow_code.specs.Threads.{Frame, Thread}
 use Rattle.flow_code.specs.Next.{one_more, in_frame, past}
 use Rattle.c_core.specs.Core.{Function, Program}
@@ -17,16 +17,16 @@ module _ (p : Program) (s : SetupView) (t : ℕ) (i : ℕ) (f : Function) (is : 
   abbrev pub top : ℕ
   top = length f.pointers + length f.objects
 
-  -- the registers of earlier values are as they were
-  abbrev pub Keeps : Thread → Thread → ℕ → Type 0
-  Keeps m n r = (q : ℕ) → top ≤ q → q < r → register n.top.registers q ≡ register m.top.registers q
+  -- the registers below r are as they were, but for those named ones that are assigned
+  abbrev pub Keeps : Thread → Thread → ℕ → (assigned : ℕ → Bool) → Type 0
+  Keeps m n r assigned = (q : ℕ) → q < r → (q < length f.pointers → assigned q ≡ false) → register n.top.registers q ≡ register m.top.registers q
 
-  -- from m the thread has come to n, with the value v in register r
-  pub record Arrives (m n : Thread) (σ : State) (r v pc : ℕ) : Type 0 where
+  -- from m the thread has come to n, with the value v in the register x; registers from r on were free
+  pub record Arrives (m n : Thread) (σ : State) (r x v : ℕ) (assigned : ℕ → Bool) (pc : ℕ) : Type 0 where
     pub place : n.top.instr ≡ pc
     pub shows : Shows p s t i f is callers budget n σ
-    pub value : register n.top.registers r ≡ v
-    pub lower : Keeps m n r
+    pub value : register n.top.registers x ≡ v
+    pub lower : Keeps m n r assigned
     pub later : m.count ≤ n.count
 
   -- a register of a value has no part in what is shown
@@ -133,16 +133,16 @@ module _ (p : Program) (s : SetupView) (t : ℕ) (i : ℕ) (f : Function) (is : 
   }
 
   -- a value comes into register r, with those of its parts behind it
-  pub puts : (m n : Thread) (σ : State) (r v pc : ℕ) → top ≤ r → r < length (function_kinds f) → Shows p s t i f is callers budget n σ → Keeps m n r → m.count ≤ n.count → n.top.instr + 1 ≡ pc → Arrives m (sets n r v) σ r v pc
-  puts m n σ r v pc le lt h keeps later place = record {
+  pub puts : (m n : Thread) (σ : State) (r v : ℕ) (assigned : ℕ → Bool) (pc : ℕ) → top ≤ r → r < length (function_kinds f) → Shows p s t i f is callers budget n σ → Keeps m n r assigned → m.count ≤ n.count → n.top.instr + 1 ≡ pc → Arrives m (sets n r v) σ r r v assigned pc
+  puts m n σ r v assigned pc le lt h keeps later place = record {
     place = place;
     shows = shows_set n σ r v le h;
     value = same_register n.top.registers r v (omega (arith, h.size, lt));
-    lower = λ q leq ltq. other_register n.top.registers r v q (λ e. omega arith) ∙ keeps q leq ltq;
+    lower = λ q ltq free. other_register n.top.registers r v q (λ e. omega arith) ∙ keeps q ltq free;
     later = later;
   }
 
-  pub puts_counted : (m n : Thread) (σ : State) (r v pc : ℕ) → top ≤ r → r < length (function_kinds f) → Shows p s t i f is callers budget n σ → Keeps m n r → m.count ≤ n.count → n.top.instr + 1 ≡ pc → n.count < s.limit → Arrives m (one_more (sets n r v)) (counted σ) r v pc
-  puts_counted m n σ r v pc le lt h keeps later place low =
-      let a = puts m n σ r v pc le lt h keeps later place in
+  pub puts_counted : (m n : Thread) (σ : State) (r v : ℕ) (assigned : ℕ → Bool) (pc : ℕ) → top ≤ r → r < length (function_kinds f) → Shows p s t i f is callers budget n σ → Keeps m n r assigned → m.count ≤ n.count → n.top.instr + 1 ≡ pc → n.count < s.limit → Arrives m (one_more (sets n r v)) (counted σ) r r v assigned pc
+  puts_counted m n σ r v assigned pc le lt h keeps later place low =
+      let a = puts m n σ r v assigned pc le lt h keeps later place in
       record { place = a.place; shows = shows_counted (sets n r v) σ low a.shows; value = a.value; lower = a.lower; later = omega (arith, later) }

@@ -4,7 +4,8 @@ use Rattle.sync_objects.specs.Setup.{SetupView}
 use Rattle.flow_code.specs.declared.act.Act.TheVariants as act
 use Rattle.flow_code.specs.declared.thread.Phase.TheVariants as phase
 use Rattle.flow_code.specs.Threads.{Thread, line_of}
-use Rattle.flow_code.specs.Next.{past, given, act_at, words_of}
+use Rattle.flow_code.specs.Next.{past, given, act_at}
+use Rattle.abstract_machine.specs.Registers.{words_of}
 use Rattle.c_core.specs.Core.{Program}
 use Rattle.c_core.specs.Runs.{Run, State}
 use Rattle.c_core.specs.Meaning.{Calls}

@@ -1,16 +1,16 @@
 -- What the table of library calls holds: which operations there are, and how many events at most.
-use Rattle.std.proofs.Common.{◌≡◌, ℕ, zero, suc, ◌+◌, inl, inr, ◌⊎◌, Bool, true, false, if◌then◌else◌, ◌==◌, nat_le, ℤ, List, length, Result, Ok, Err, refl}
+use Rattle.std.proofs.Common.{◌≡◌, ℕ, zero, suc, ◌+◌, inr, ◌⊎◌, Bool, true, false, if◌then◌else◌, ◌==◌, nat_le, ℤ, List, length, Result, Ok, Err, refl}
 use Rattle.rr_base.specs.declared.trap.Trap.{Trap}
 use Rattle.rr_base.specs.declared.layout.CellKind.TheVariants as kind
-use Rattle.flow_code.specs.declared.act.LibraryCall.{LibraryCall}
-use Rattle.flow_code.specs.declared.act.LibraryCall.TheVariants as call
-use Rattle.flow_code.specs.declared.thread.Due.{Due}
-use Rattle.flow_code.specs.declared.thread.Due.TheVariants as due
-use Rattle.flow_code.specs.declared.thread.Onward.{Onward}
-use Rattle.flow_code.specs.declared.thread.Onward.TheVariants as onward
-use Rattle.flow_code.specs.Values.{number}
-use Rattle.flow_code.specs.Library.{Caller, argument, at_cell, cell_of, is_misuse, is_joinable, most_printed, printed_piece, library_due, library_onward}
-use Rattle.flow_code.specs.Next.{is_free_of_limit}
+use Rattle.abstract_machine.specs.declared.library_call.LibraryCall.{LibraryCall}
+use Rattle.abstract_machine.specs.declared.library_call.LibraryCall.TheVariants as call
+use Rattle.abstract_machine.specs.declared.event.Due.{Due}
+use Rattle.abstract_machine.specs.declared.event.Due.TheVariants as due
+use Rattle.abstract_machine.specs.declared.event.Onward.{Onward}
+use Rattle.abstract_machine.specs.declared.event.Onward.TheVariants as onward
+use Rattle.abstract_machine.specs.Values.{number}
+use Rattle.abstract_machine.specs.Library.{Caller, argument, at_cell, cell_of, is_misuse, is_serial, is_joinable, most_printed, printed_piece, library_due, library_onward}
+use Rattle.abstract_machine.specs.Limits.{is_free_of_limit}
 
 -- there is a next step, and an operation in it is neither one with which a thread ends nor one on a stripe
 abbrev pub IsPlain : Due → Type 0
@@ -44,11 +44,11 @@ plain_due w call.Exit ws made kept h = absurd h
 plain_due w call.SelfNumber ws made kept h = tt
 plain_due w call.SameThread ws made kept h = tt
 plain_due w call.MutexInit ws zero kept h = at_plain (cell_of w ws 0 kind.Mutex) _ (λ c. refl)
-plain_due w call.MutexInit ws (suc n) kept h = tt
+plain_due w call.MutexInit ws (suc n) kept h = if_plain (is_misuse kept) _ _ tt tt
 plain_due w call.MutexLock ws zero kept h = at_plain (cell_of w ws 0 kind.Mutex) _ (λ c. refl)
-plain_due w call.MutexLock ws (suc n) kept h = tt
+plain_due w call.MutexLock ws (suc n) kept h = if_plain (is_misuse kept) _ _ tt tt
 plain_due w call.MutexUnlock ws zero kept h = at_plain (cell_of w ws 0 kind.Mutex) _ (λ c. refl)
-plain_due w call.MutexUnlock ws (suc n) kept h = tt
+plain_due w call.MutexUnlock ws (suc n) kept h = if_plain (is_misuse kept) _ _ tt tt
 plain_due w call.MutexTryLock ws zero kept h = at_plain (cell_of w ws 0 kind.Mutex) _ (λ c. refl)
 plain_due w call.MutexTryLock ws (suc n) kept h = tt
 plain_due w call.MutexDestroy ws made kept h = at_plain (cell_of w ws 0 kind.Mutex) _ (λ c. tt)
@@ -60,9 +60,9 @@ plain_due w call.CondWait ws (suc (suc (suc n))) kept h = at_plain (cell_of w ws
 plain_due w call.CondSignal ws made kept h = at_plain (cell_of w ws 0 kind.Cond) _ (λ c. refl)
 plain_due w call.CondDestroy ws made kept h = at_plain (cell_of w ws 0 kind.Cond) _ (λ c. tt)
 plain_due w call.BarrierInit ws zero kept h = at_plain (cell_of w ws 0 kind.Barrier) _ (λ c. refl)
-plain_due w call.BarrierInit ws (suc n) kept h = tt
+plain_due w call.BarrierInit ws (suc n) kept h = if_plain (is_misuse kept) _ _ tt tt
 plain_due w call.BarrierWait ws zero kept h = at_plain (cell_of w ws 0 kind.Barrier) _ (λ c. refl)
-plain_due w call.BarrierWait ws (suc n) kept h = if_plain (is_misuse kept) _ _ tt (at_plain (cell_of w ws 0 kind.Barrier) _ (λ c. refl))
+plain_due w call.BarrierWait ws (suc n) kept h = if_plain (is_misuse kept) _ _ tt (if_plain (is_serial kept) _ _ tt (at_plain (cell_of w ws 0 kind.Barrier) _ (λ c. refl)))
 plain_due w call.BarrierDestroy ws made kept h = at_plain (cell_of w ws 0 kind.Barrier) _ (λ c. tt)
 plain_due w call.Free ws made kept h = tt
 plain_due w call.GetChar ws made kept h = refl
@@ -79,6 +79,10 @@ abbrev pub IsOver : Onward → Type 0
 IsOver (onward.Stays kept) = ⊥
 IsOver _ = Unit {0}
 
+if_over : (b : Bool) (x y : Onward) → IsOver x → IsOver y → IsOver (if b then x else y)
+if_over true x y h k = h
+if_over false x y h k = k
+
 -- after three events a call is over with the fourth
 pub ends_by_four : (w : Caller) (c : LibraryCall) (ws : List ℕ) (n : ℕ) (kept answer : ℤ) → IsNotExit c → IsTrap (library_due w c ws (suc (suc (suc n))) kept) ⊎ IsOver (library_onward w c ws (suc (suc (suc n))) kept answer)
 ends_by_four w (call.Create f) ws n kept answer h = inr tt
@@ -86,17 +90,17 @@ ends_by_four w call.Join ws n kept answer h = inr tt
 ends_by_four w call.Exit ws n kept answer h = absurd h
 ends_by_four w call.SelfNumber ws n kept answer h = inr tt
 ends_by_four w call.SameThread ws n kept answer h = inr tt
-ends_by_four w call.MutexInit ws n kept answer h = inl tt
-ends_by_four w call.MutexLock ws n kept answer h = inl tt
-ends_by_four w call.MutexUnlock ws n kept answer h = inl tt
-ends_by_four w call.MutexTryLock ws n kept answer h = inl tt
+ends_by_four w call.MutexInit ws n kept answer h = inr tt
+ends_by_four w call.MutexLock ws n kept answer h = inr tt
+ends_by_four w call.MutexUnlock ws n kept answer h = inr tt
+ends_by_four w call.MutexTryLock ws n kept answer h = inr tt
 ends_by_four w call.MutexDestroy ws n kept answer h = inr tt
 ends_by_four w call.CondInit ws n kept answer h = inr tt
 ends_by_four w call.CondWait ws n kept answer h = inr tt
 ends_by_four w call.CondSignal ws n kept answer h = inr tt
 ends_by_four w call.CondDestroy ws n kept answer h = inr tt
-ends_by_four w call.BarrierInit ws n kept answer h = inl tt
-ends_by_four w call.BarrierWait ws n kept answer h = inr tt
+ends_by_four w call.BarrierInit ws n kept answer h = inr tt
+ends_by_four w call.BarrierWait ws n kept answer h = inr (if_over (is_serial kept) _ _ tt tt)
 ends_by_four w call.BarrierDestroy ws n kept answer h = inr tt
 ends_by_four w call.Free ws n kept answer h = inr tt
 ends_by_four w call.GetChar ws n kept answer h = inr tt

@@ -9,12 +9,14 @@ use Rattle.sync_objects.specs.declared.operation.Op.TheVariants as op
 use Rattle.rr_base.specs.declared.trap.Trap.TheVariants as trap
 use Rattle.flow_code.specs.declared.act.Act.TheVariants as act
 use Rattle.flow_code.specs.declared.thread.Phase.TheVariants as phase
-use Rattle.flow_code.specs.declared.thread.Due.TheVariants as due
-use Rattle.flow_code.specs.declared.thread.Action.TheVariants as action
-use Rattle.flow_code.specs.Threads.{Frame, Thread, result_cell, line_of, instr_at, line_in}
+use Rattle.abstract_machine.specs.declared.event.Due.TheVariants as due
+use Rattle.abstract_machine.specs.declared.event.Action.TheVariants as action
+use Rattle.flow_code.specs.Threads.{Frame, Thread, line_of, instr_at, line_in}
+use Rattle.abstract_machine.specs.Cells.{result_cell}
 use Rattle.flow_code.specs.Threads as threads
 use Rattle.flow_code.specs.Next as next
-use Rattle.flow_code.specs.Next.{in_frame, act_at, act_in, act_due, act_after, due_of, action_at, stepped, listed, limited, owing, first_owed, most_entries, phase_due, phase_after, after_due, one_more, one_made, counted, value_of, end_due, end_onward, is_free_of_limit}
+use Rattle.flow_code.specs.Next.{in_frame, act_at, act_in, act_due, act_after, due_of, action_at, stepped, listed, limited, owing, first_owed, phase_due, phase_after, after_due, one_more, one_made, counted, value_of, end_due, end_onward}
+use Rattle.abstract_machine.specs.Limits.{most_entries, is_free_of_limit}
 use Rattle.c_core.specs.Core.{Function, Program}
 use Rattle.c_core.specs.Runs.{Run, does, traps, ends, State, is_free}
 use Rattle.c_core.specs.Meaning as meaning

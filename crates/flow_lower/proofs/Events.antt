@@ -8,15 +8,18 @@ use Rattle.rr_base.specs.declared.layout.CellKind.{CellKind}
 use Rattle.flow_code.specs.declared.act.Act.{Act}
 use Rattle.flow_code.specs.declared.act.Act.TheVariants as act
 use Rattle.flow_code.specs.declared.work.Work.{Work}
-use Rattle.flow_code.specs.declared.thread.Due.{Due}
-use Rattle.flow_code.specs.declared.thread.Due.TheVariants as due
-use Rattle.flow_code.specs.declared.thread.Action.TheVariants as action
-use Rattle.flow_code.specs.Values.{word}
-use Rattle.flow_code.specs.Pointers.{resolved}
-use Rattle.flow_code.specs.Works.{register, is_pointer, work_of}
+use Rattle.abstract_machine.specs.declared.event.Due.{Due}
+use Rattle.abstract_machine.specs.declared.event.Due.TheVariants as due
+use Rattle.abstract_machine.specs.declared.event.Action.TheVariants as action
+use Rattle.abstract_machine.specs.Values.{word}
+use Rattle.abstract_machine.specs.Pointers.{resolved}
+use Rattle.flow_code.specs.Works.{is_pointer, work_of}
+use Rattle.abstract_machine.specs.Registers.{register}
 use Rattle.flow_code.specs.Threads.{Frame, Thread, line_of}
-use Rattle.flow_code.specs.Next.{past, jumped, with_register, in_frame, act_due, act_after, due_of, action_of, action_at, stepped, limited, listed, owing, most_entries, quiet_unless, load_due, store_due, computed, phase_after, after_due, one_more, access_kind, branch_to}
-use Rattle.c_core.specs.declared.position.Position.{Position}
+use Rattle.flow_code.specs.Next.{past, jumped, with_register, in_frame, act_due, act_after, due_of, action_of, action_at, stepped, limited, listed, owing, quiet_unless, load_due, store_due, computed, phase_after, after_due, one_more, branch_to}
+use Rattle.abstract_machine.specs.Limits.{most_entries}
+use Rattle.abstract_machine.specs.Cells.{access_kind}
+use Rattle.rr_base.specs.declared.position.Position.{Position}
 use Rattle.c_core.specs.Core.{Function, Program}
 use Rattle.c_core.specs.Runs.{Run, does, traps, State, M, result_at, event, counted, choose, is_free}
 use Rattle.c_core.specs.Meaning.{load_in, load_at, store_in, store_at}

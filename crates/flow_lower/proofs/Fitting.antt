@@ -5,7 +5,7 @@ use Rattle.std.proofs.lemmas.Option.{slice_get_within}
 use Rattle.flow_code.specs.declared.code.Code.{Code}
 use Rattle.flow_code.specs.declared.code.Function.{Function}
 use Rattle.flow_code.specs.declared.work.Work.TheVariants as work
-use Rattle.flow_code.specs.declared.work.BinaryOp.{BinaryOp}
+use Rattle.abstract_machine.specs.declared.operator.BinaryOp.{BinaryOp}
 use Rattle.flow_code.specs.Works.{is_pointer}
 use Rattle.flow_code.specs.Kinds.{has_register, has_pointer, has_whole, has_kind, same_register_kind, is_comparison, is_null, binary_fits, move_fits, between_fits, work_fits}
 use Rattle.c_core.specs.declared.value.UnaryOp.{UnaryOp}

@@ -11,17 +11,20 @@ use Rattle.rr_base.specs.declared.trap.Trap.TheVariants as trap
 use Rattle.flow_code.specs.declared.act.Act.{Act}
 use Rattle.flow_code.specs.declared.act.Act.TheVariants as act
 use Rattle.flow_code.specs.declared.thread.Phase.TheVariants as phase
-use Rattle.flow_code.specs.declared.thread.Due.TheVariants as due
-use Rattle.flow_code.specs.declared.thread.Action.TheVariants as action
-use Rattle.flow_code.specs.Works.{register}
+use Rattle.abstract_machine.specs.declared.event.Due.TheVariants as due
+use Rattle.abstract_machine.specs.declared.event.Action.TheVariants as action
+use Rattle.abstract_machine.specs.Registers.{register}
 use Rattle.flow_code.specs.Threads.{Frame, Thread, instrs_in, registers_in, objects_in, objects_of, fitted, placed, with_arguments, first_frame, arena_end, line_of, is_main}
-use Rattle.flow_code.specs.Next.{past, given, in_frame, act_at, act_due, act_after, due_of, action_at, stepped, listed, limited, owing, first_owed, most_entries, most_frames, phase_due, phase_after, after_due, one_more, one_made, enter_due, mark_if, or_else, words_of, value_of, return_due, returned, back_in, result_of, access_kind}
+use Rattle.flow_code.specs.Next.{past, given, in_frame, act_at, act_due, act_after, due_of, action_at, stepped, listed, limited, owing, first_owed, phase_due, phase_after, after_due, one_more, one_made, enter_due, mark_if, or_else, value_of, return_due, returned, back_in, result_of}
+use Rattle.abstract_machine.specs.Limits.{most_entries, most_frames}
+use Rattle.abstract_machine.specs.Registers.{words_of}
+use Rattle.abstract_machine.specs.Cells.{access_kind}
 use Rattle.flow_code.specs.Next as next
 use Rattle.c_core.specs.Core.{Arrival, arrives, Function, Program}
-use Rattle.c_core.specs.Runs.{Run, State, counted}
+use Rattle.c_core.specs.Runs.{Run, State, M, counted}
 use Rattle.c_core.specs.Meaning as meaning
 use Rattle.c_core.specs.Meaning.{Calls, Flow, goes, breaks, continues, returns, word_given, line_given, made_objects, listed_word, left}
-use Rattle.flow_lower.specs.Lowered.{one, lowered, function_code, function_kinds, body_code, statement_kinds, arrivals_code}
+use Rattle.flow_lower.specs.Lowered.{body_kept, one, lowered, function_code, function_kinds, body_code, statement_kinds, arrivals_code}
 use Rattle.flow_lower.specs.Within.{IsWithin, IsWithinFunction, AreWithinArrivals}
 use Rattle.flow_lower.specs.Follows.{Follows, here}
 use Rattle.flow_lower.proofs.Machine.{Shows, by_quiet}
@@ -30,16 +33,17 @@ use Rattle.flow_lower.proofs.Events.{by_store}
 use Rattle.flow_lower.proofs.Arriving.{shows_counted, shows_past}
 use Rattle.flow_lower.proofs.Calling.{Returns, Serves}
 use Rattle.flow_lower.proofs.Loops.{ReturnsHere, Lands}
+use Rattle.flow_lower.proofs.Keeping.{meaning_kept}
 use Rattle.flow_lower.proofs.Statements.{statement_leads}
 use Rattle.flow_lower.proofs.Objects.{statement_begins, arrivals_begin, objects_from, objects_are, count_of_objects, fitted_same, placed_length, placed_below, made_addresses, placed_at, arguments_length, arguments_are}
 
 pub its_objects : (f : Function) → objects_of (body_code f) ≡ objects_from (first_of f) f.objects
 its_objects f =
     objects_are f.place (first_of f) f.objects (behind_objects f)
-    (arrivals_begin (first_of f) f.arrivals _ (statement_begins (first_of f) f.body (first_of f + length f.objects) (body_at f) (end_at f) (end_at f) (one f.place (act.Return None)) refl))
+    (arrivals_begin (first_of f) f.arrivals _ (statement_begins (first_of f) (body_kept f) (first_of f + length f.objects) (body_at f) (end_at f) (end_at f) (one f.place (act.Return None)) refl))
 
 pub enough_registers : (f : Function) → first_of f + length f.objects ≤ length (function_kinds f)
-enough_registers f = omega (arith, length-append f.pointers (replicate (length f.objects) true ++ statement_kinds f.body), length-append (replicate (length f.objects) true) (statement_kinds f.body), length-replicate (length f.objects) true)
+enough_registers f = omega (arith, length-append f.pointers (replicate (length f.objects) true ++ statement_kinds (body_kept f)), length-append (replicate (length f.objects) true) (statement_kinds (body_kept f)), length-replicate (length f.objects) true)
 
 -- ---- the body of a function
 
@@ -52,7 +56,7 @@ module _ (p : Program) (s : SetupView) (t : ℕ) (i : ℕ) (f : Function) (is : 
   arrivals_follow [] pc code w k m σ e h go = go m σ (e ∙ omega arith) h (omega arith)
   arrivals_follow (arrives n j at ∷ more) pc code w k m σ e h go =
       by_store p s t i f is callers budget m σ at (length f.pointers + j) n (σ.objects j) (σ.registers n) (access_kind (slice_index_or f.pointers n false)) (λ u σ'. meaning.stored p s t f.pointers more σ' k) h
-      (ap (slice_get (body_code f)) e ∙ code.0) (h.objects j w.1) (h.registers n w.0) (ap access_kind (get_or_append_left f.pointers (replicate (length f.objects) true ++ statement_kinds f.body) false n w.0)) (λ low.
+      (ap (slice_get (body_code f)) e ∙ code.0) (h.objects j w.1) (h.registers n w.0) (ap access_kind (get_or_append_left f.pointers (replicate (length f.objects) true ++ statement_kinds (body_kept f)) false n w.0)) (λ low.
       arrivals_follow more (pc + 1) code.1 w.2 k (one_more (in_frame m (past m.top))) (counted σ) (ap (λ z. z + 1) e) (shows_counted p s t i f is callers budget (in_frame m (past m.top)) σ low (shows_past p s t i f is callers budget m σ h))
       (λ o σ' place shows later. go o σ' (place ∙ omega arith) shows (omega (arith, later))))
 
@@ -68,9 +72,10 @@ module _ (p : Program) (s : SetupView) (t : ℕ) (i : ℕ) (f : Function) (is : 
       → Follows (lowered p) s t (meaning.body_of p s t calls f σ k) m
   body_follows k m σ e h go =
       arrivals_follow f.arrivals (start_of f) (has_front (body_code f) (start_of f) (arrivals_code (length f.pointers) f.arrivals) _ (has_arrivals f)) within.0 _ m σ e h (λ n σ' place shows later.
-      statement_leads p s t i f is callers budget calls serves f.body within.1 (length f.pointers + length f.objects) (body_at f) (end_at f) (end_at f)
+      subst (λ (body : M Flow). Follows (lowered p) s t (body σ' k) n) (meaning_kept p s t calls f.body)
+      (statement_leads p s t i f is callers budget calls serves f.body within.1 (length f.pointers + length f.objects) (body_at f) (end_at f) (end_at f)
       (has_front (body_code f) (body_at f) (statement_part f) _ (has_body f)) (has_kinds f) (omega arith) k n σ' place shows (λ o fl σ'' x.
-      go o fl σ'' (ends_here n o σ'' fl (record { reached = x.reached; shows = x.shows; later = x.later })) x.shows (omega (arith, later, x.later))))
+      go o fl σ'' (ends_here n o σ'' fl (record { reached = x.reached; shows = x.shows; later = x.later })) x.shows (omega (arith, later, x.later)))))
 
 -- ---- the entry of a function
 

@@ -13,7 +13,7 @@ use Rattle.flow_code.specs.Kinds.{has_register, has_instr, work_fits, act_fits}
 use Rattle.flow_code.specs.Order.{is_mark, jump_fits, jumps_fit_at, jumps_fit, make_no_objects, makes_no_object}
 use Rattle.flow_code.specs.Addresses.{address_in}
 use Rattle.flow_code.specs.Valid.{acts_fit}
-use Rattle.c_core.specs.declared.position.Position.{Position}
+use Rattle.rr_base.specs.declared.position.Position.{Position}
 use Rattle.flow_lower.specs.Lowered.{instr}
 
 -- the address, if there is one, is such a one

@@ -3,15 +3,15 @@ use Rattle.std.proofs.Common.{◌≡◌, ℕ, ◌+◌, ◌<◌, Bool, true, fals
 use Rattle.std.proofs.lemmas.Bool.{and_from}
 use Rattle.flow_code.specs.declared.act.Act.TheVariants as act
 use Rattle.flow_code.specs.declared.act.Instr.{Instr}
-use Rattle.flow_code.specs.declared.act.LibraryCall.{LibraryCall}
-use Rattle.flow_code.specs.declared.act.LibraryCall.TheVariants as library_call
+use Rattle.abstract_machine.specs.declared.library_call.LibraryCall.{LibraryCall}
+use Rattle.abstract_machine.specs.declared.library_call.LibraryCall.TheVariants as library_call
 use Rattle.flow_code.specs.declared.code.Code.{Code}
 use Rattle.flow_code.specs.declared.code.Function.{Function as FlowFunction}
 use Rattle.flow_code.specs.declared.work.Work.{Work}
 use Rattle.flow_code.specs.declared.work.Work.TheVariants as work
 use Rattle.flow_code.specs.Kinds.{has_register, has_pointer, has_whole, has_kind, have_kinds, value_fits, is_site, is_address, starts_fit, library_kinds, library_value_fits, work_fits, act_fits}
 use Rattle.flow_code.specs.Addresses.{address_in}
-use Rattle.c_core.specs.declared.position.Position.{Position}
+use Rattle.rr_base.specs.declared.position.Position.{Position}
 use Rattle.c_core.specs.declared.value.UnaryOp.{UnaryOp}
 use Rattle.c_core.specs.declared.value.UnaryOp.TheVariants as unary_op
 use Rattle.c_core.specs.declared.value.Change.{Change}
@@ -19,10 +19,10 @@ use Rattle.c_core.specs.declared.value.Change.TheVariants as change
 use Rattle.c_core.specs.Core as core
 use Rattle.c_core.specs.Core.{Exp, null, load, unary, binary, move, advance, member, between, to_pointer, to_number, copy, both, either, conditional, comma, set_register, store, change_register, change_cell, call, library, allocate, Exps, no_exp, and_exp, Function, Program}
 use Rattle.c_core.specs.Meaning.{is_pointer, is_pointer_change}
-use Rattle.flow_lower.specs.Lowered.{instr, one, computes, gives_nothing, library_size, library_code, truth_code, unary_work, change_work, width, exp_kinds, exps_kinds, exp_size, exps_size, exp_code, exps_code, value_registers}
+use Rattle.flow_lower.specs.Lowered.{held, instr, one, computes, gives_nothing, library_size, library_code, truth_code, unary_work, change_work, width, exp_kinds, exps_kinds, exp_size, exps_size, exp_code, exps_code, value_registers}
 use Rattle.flow_lower.specs.Sound.{IsAddress, IsSoundExp, AreSound, value_kinds}
 use Rattle.flow_lower.proofs.Lengths.{exp_length, exps_length}
-use Rattle.flow_lower.proofs.Places.{HasAt, has_at, has_front, has_back, kind_here}
+use Rattle.flow_lower.proofs.Places.{HasAt, has_at, has_front, has_back, kind_held}
 use Rattle.flow_lower.proofs.Fitting.{registered, pointer, kinded, alike, as_pointer, as_whole, binary_is, move_is, between_is, number_is, unary_is, change_is, either_holds}
 use Rattle.flow_lower.proofs.Good.{IsGood, AreGood, good_at, good_append, computed, jumps_on, branches_on}
 use Rattle.flow_lower.proofs.Images.{IsImage, call_is, start_is}
@@ -70,6 +70,10 @@ module _ (p : Program) (home : ℕ → Option ℕ) (f : Function) (code : Code) 
   copies : (at into r : ℕ) (k : Bool) → slice_get ks into ≡ Some k → slice_get ks r ≡ Some k → IsGood code g (IsAddress p home) at (act.Compute into (work.Copy r))
   copies at into r k h i = works at into (work.Copy r) refl (alike g image.sized into r k h i)
 
+  -- the register that has the value of a sound expression is of its kind
+  pub held_kind : (e : Exp) (r : ℕ) → IsSoundExp p home f e → HasAt ks r (exp_kinds e) → slice_get ks (held first e r) ≡ Some (is_pointer e)
+  held_kind e r s h = kind_held ks first r e h (λ n pointer' at same. image.registers n pointer' (subst (IsSoundExp p home f) same s)) (λ n at same. image.objects n (subst (IsSoundExp p home f) same s))
+
   -- ---- the pieces
 
   truth_good : (at : Position) (r x pc : ℕ) (k : Bool) → slice_get ks r ≡ Some false → slice_get ks x ≡ Some k → pc + 4 < total → Good pc (truth_code at r x pc)
@@ -95,12 +99,12 @@ module _ (p : Program) (home : ℕ → Option ℕ) (f : Function) (code : Code) 
       by false e = (record { fits = fits' (Some r) (some_fits g c r e (kinded g image.sized r false h)); jumps = refl; address = tt; plain = refl }, tt)
 
   -- the arguments of a call
-  arguments_are : (es : Exps) (r : ℕ) → HasAt ks r (exps_kinds es) → have_kinds g (value_registers r es) (value_kinds es) ≡ true
-  arguments_are no_exp r h = refl
-  arguments_are (and_exp e es) r h =
-      and_from (has_kind g (is_pointer e) r) (have_kinds g (value_registers (r + width e) es) (value_kinds es))
-      (kinded g image.sized r (is_pointer e) (kind_here ks r e (has_front ks r (exp_kinds e) (exps_kinds es) h)))
-      (arguments_are es (r + width e) (has_back ks r (exp_kinds e) (exps_kinds es) h))
+  arguments_are : (es : Exps) (r : ℕ) → AreSound p home f es → HasAt ks r (exps_kinds es) → have_kinds g (value_registers first r es) (value_kinds es) ≡ true
+  arguments_are no_exp r s h = refl
+  arguments_are (and_exp e es) r s h =
+      and_from (has_kind g (is_pointer e) (held first e r)) (have_kinds g (value_registers first (r + width e) es) (value_kinds es))
+      (kinded g image.sized (held first e r) (is_pointer e) (held_kind e r s.0 (has_front ks r (exp_kinds e) (exps_kinds es) h)))
+      (arguments_are es (r + width e) s.1 (has_back ks r (exp_kinds e) (exps_kinds es) h))
 
   -- ---- expressions
 
@@ -120,59 +124,59 @@ module _ (p : Program) (home : ℕ → Option ℕ) (f : Function) (code : Code) 
     pub exp_good : (e : Exp) (r pc : ℕ) → IsSoundExp p home f e → HasAt ks r (exp_kinds e) → pc + exp_size e < total → Good pc (exp_code first e r pc)
     exp_good (core.number z at) r pc s h lt = (works pc r (work.Constant z) refl (number_is g image.sized code r z h.0), tt)
     exp_good (null at) r pc s h lt = (works pc r (work.Constant (pos 0)) refl (and_from (has_register g r) true (registered g image.sized r true h.0) refl), tt)
-    exp_good (core.register n k at) r pc s h lt = (copies pc r n k h.0 (image.registers n k s), tt)
-    exp_good (core.object n at) r pc s h lt = (copies pc r (first + n) true h.0 (image.objects n s), tt)
+    exp_good (core.register n k at) r pc s h lt = tt
+    exp_good (core.object n at) r pc s h lt = tt
     exp_good (core.global address at) r pc s h lt = (record { fits = and_from (has_pointer g r) (is_address code address) (pointer g image.sized r h.0) (image.addresses address s); jumps = refl; address = s; plain = refl }, tt)
     exp_good (load e k at) r pc s h lt =
-        behind_exp e (r + 1) pc (one at (act.LoadCell r (r + 1))) (exp_good e (r + 1) pc s.1 h.1 (omega (arith, lt)))
-        (loads (pc + exp_size e) r (r + 1) k (is_pointer e) h.0 (kind_here ks (r + 1) e h.1) s.0, tt)
+        behind_exp e (r + 1) pc (one at (act.LoadCell r (held first e (r + 1)))) (exp_good e (r + 1) pc s.1 h.1 (omega (arith, lt)))
+        (loads (pc + exp_size e) r (held first e (r + 1)) k (is_pointer e) h.0 (held_kind e (r + 1) s.1 h.1) s.0, tt)
     exp_good (unary o e at) r pc s h lt =
-        behind_exp e (r + 1) pc (computes at r (unary_work o (r + 1))) (exp_good e (r + 1) pc s.1 h.1 (omega (arith, lt)))
-        (works (pc + exp_size e) r (unary_work o (r + 1)) (unary_plain o r (r + 1)) (unary_is g image.sized code o e r (r + 1) s.0 h.0 (kind_here ks (r + 1) e h.1)), tt)
+        behind_exp e (r + 1) pc (computes at r (unary_work o (held first e (r + 1)))) (exp_good e (r + 1) pc s.1 h.1 (omega (arith, lt)))
+        (works (pc + exp_size e) r (unary_work o (held first e (r + 1))) (unary_plain o r (held first e (r + 1))) (unary_is g image.sized code o e r (held first e (r + 1)) s.0 h.0 (held_kind e (r + 1) s.1 h.1)), tt)
     exp_good (binary o a b at) r pc s h lt =
         let ka = front a b (r + 1) h.1 in
         let kb = back a b (r + 1) h.1 in
-        two a b (r + 1) pc (computes at r (work.Binary o (r + 1) (r + 1 + width a))) (exp_good a (r + 1) pc s.1 ka (omega (arith, lt))) (exp_good b (r + 1 + width a) (pc + exp_size a) s.2 kb (omega (arith, lt)))
-        (works (pc + exp_size a + exp_size b) r (work.Binary o (r + 1) (r + 1 + width a)) refl (binary_is g image.sized r (r + 1) (r + 1 + width a) o (is_pointer a) (is_pointer b) h.0 (kind_here ks (r + 1) a ka) (kind_here ks (r + 1 + width a) b kb) s.0.0 s.0.1), tt)
+        two a b (r + 1) pc (computes at r (work.Binary o (held first a (r + 1)) (held first b (r + 1 + width a)))) (exp_good a (r + 1) pc s.1 ka (omega (arith, lt))) (exp_good b (r + 1 + width a) (pc + exp_size a) s.2 kb (omega (arith, lt)))
+        (works (pc + exp_size a + exp_size b) r (work.Binary o (held first a (r + 1)) (held first b (r + 1 + width a))) refl (binary_is g image.sized r (held first a (r + 1)) (held first b (r + 1 + width a)) o (is_pointer a) (is_pointer b) h.0 (held_kind a (r + 1) s.1 ka) (held_kind b (r + 1 + width a) s.2 kb) s.0.0 s.0.1), tt)
     exp_good (move a b element back' at) r pc s h lt =
         let ka = front a b (r + 1) h.1 in
         let kb = back a b (r + 1) h.1 in
-        two a b (r + 1) pc (computes at r (work.Move (r + 1) (r + 1 + width a) element back')) (exp_good a (r + 1) pc s.3 ka (omega (arith, lt))) (exp_good b (r + 1 + width a) (pc + exp_size a) s.4 kb (omega (arith, lt)))
-        (works (pc + exp_size a + exp_size b) r (work.Move (r + 1) (r + 1 + width a) element back') refl (move_is g image.sized r (r + 1) (r + 1 + width a) element (is_pointer a) (is_pointer b) h.0 (kind_here ks (r + 1) a ka) s.0 (kind_here ks (r + 1 + width a) b kb) s.1 s.2), tt)
+        two a b (r + 1) pc (computes at r (work.Move (held first a (r + 1)) (held first b (r + 1 + width a)) element back')) (exp_good a (r + 1) pc s.3 ka (omega (arith, lt))) (exp_good b (r + 1 + width a) (pc + exp_size a) s.4 kb (omega (arith, lt)))
+        (works (pc + exp_size a + exp_size b) r (work.Move (held first a (r + 1)) (held first b (r + 1 + width a)) element back') refl (move_is g image.sized r (held first a (r + 1)) (held first b (r + 1 + width a)) element (is_pointer a) (is_pointer b) h.0 (held_kind a (r + 1) s.3 ka) s.0 (held_kind b (r + 1 + width a) s.4 kb) s.1 s.2), tt)
     exp_good (advance a b element at) r pc s h lt =
         let ka = front a b (r + 1) h.1 in
         let kb = back a b (r + 1) h.1 in
-        two a b (r + 1) pc (computes at r (work.Move (r + 1 + width a) (r + 1) element false)) (exp_good a (r + 1) pc s.3 ka (omega (arith, lt))) (exp_good b (r + 1 + width a) (pc + exp_size a) s.4 kb (omega (arith, lt)))
-        (works (pc + exp_size a + exp_size b) r (work.Move (r + 1 + width a) (r + 1) element false) refl (move_is g image.sized r (r + 1 + width a) (r + 1) element (is_pointer b) (is_pointer a) h.0 (kind_here ks (r + 1 + width a) b kb) s.1 (kind_here ks (r + 1) a ka) s.0 s.2), tt)
+        two a b (r + 1) pc (computes at r (work.Move (held first b (r + 1 + width a)) (held first a (r + 1)) element false)) (exp_good a (r + 1) pc s.3 ka (omega (arith, lt))) (exp_good b (r + 1 + width a) (pc + exp_size a) s.4 kb (omega (arith, lt)))
+        (works (pc + exp_size a + exp_size b) r (work.Move (held first b (r + 1 + width a)) (held first a (r + 1)) element false) refl (move_is g image.sized r (held first b (r + 1 + width a)) (held first a (r + 1)) element (is_pointer b) (is_pointer a) h.0 (held_kind b (r + 1 + width a) s.4 kb) s.1 (held_kind a (r + 1) s.3 ka) s.0 s.2), tt)
     exp_good (member a by' at) r pc s h lt =
-        let ka = kind_here ks (r + 1) a h.1 in
-        behind_exp a (r + 1) pc (computes at r (work.Member (r + 1) by')) (exp_good a (r + 1) pc s.1 h.1 (omega (arith, lt)))
-        (works (pc + exp_size a) r (work.Member (r + 1) by') refl (and_from (has_pointer g r) (has_pointer g (r + 1)) (pointer g image.sized r h.0) (as_pointer g image.sized (r + 1) (is_pointer a) s.0 ka)), tt)
+        let ka = held_kind a (r + 1) s.1 h.1 in
+        behind_exp a (r + 1) pc (computes at r (work.Member (held first a (r + 1)) by')) (exp_good a (r + 1) pc s.1 h.1 (omega (arith, lt)))
+        (works (pc + exp_size a) r (work.Member (held first a (r + 1)) by') refl (and_from (has_pointer g r) (has_pointer g (held first a (r + 1))) (pointer g image.sized r h.0) (as_pointer g image.sized (held first a (r + 1)) (is_pointer a) s.0 ka)), tt)
     exp_good (between a b element at) r pc s h lt =
         let ka = front a b (r + 1) h.1 in
         let kb = back a b (r + 1) h.1 in
-        two a b (r + 1) pc (computes at r (work.Between (r + 1) (r + 1 + width a) element)) (exp_good a (r + 1) pc s.3 ka (omega (arith, lt))) (exp_good b (r + 1 + width a) (pc + exp_size a) s.4 kb (omega (arith, lt)))
-        (works (pc + exp_size a + exp_size b) r (work.Between (r + 1) (r + 1 + width a) element) refl (between_is g image.sized r (r + 1) (r + 1 + width a) element (is_pointer a) (is_pointer b) h.0 (kind_here ks (r + 1) a ka) s.0 (kind_here ks (r + 1 + width a) b kb) s.1 s.2), tt)
+        two a b (r + 1) pc (computes at r (work.Between (held first a (r + 1)) (held first b (r + 1 + width a)) element)) (exp_good a (r + 1) pc s.3 ka (omega (arith, lt))) (exp_good b (r + 1 + width a) (pc + exp_size a) s.4 kb (omega (arith, lt)))
+        (works (pc + exp_size a + exp_size b) r (work.Between (held first a (r + 1)) (held first b (r + 1 + width a)) element) refl (between_is g image.sized r (held first a (r + 1)) (held first b (r + 1 + width a)) element (is_pointer a) (is_pointer b) h.0 (held_kind a (r + 1) s.3 ka) s.0 (held_kind b (r + 1 + width a) s.4 kb) s.1 s.2), tt)
     exp_good (to_pointer a at) r pc s h lt =
-        let ka = kind_here ks (r + 1) a h.1 in
-        behind_exp a (r + 1) pc (computes at r (work.ToPointer (r + 1))) (exp_good a (r + 1) pc s.1 h.1 (omega (arith, lt)))
-        (works (pc + exp_size a) r (work.ToPointer (r + 1)) refl (and_from (has_pointer g r) (has_whole g (r + 1)) (pointer g image.sized r h.0) (as_whole g image.sized (r + 1) (is_pointer a) s.0 ka)), tt)
+        let ka = held_kind a (r + 1) s.1 h.1 in
+        behind_exp a (r + 1) pc (computes at r (work.ToPointer (held first a (r + 1)))) (exp_good a (r + 1) pc s.1 h.1 (omega (arith, lt)))
+        (works (pc + exp_size a) r (work.ToPointer (held first a (r + 1))) refl (and_from (has_pointer g r) (has_whole g (held first a (r + 1))) (pointer g image.sized r h.0) (as_whole g image.sized (held first a (r + 1)) (is_pointer a) s.0 ka)), tt)
     exp_good (to_number a at) r pc s h lt =
-        let ka = kind_here ks (r + 1) a h.1 in
-        behind_exp a (r + 1) pc (computes at r (work.ToNumber (r + 1))) (exp_good a (r + 1) pc s.1 h.1 (omega (arith, lt)))
-        (works (pc + exp_size a) r (work.ToNumber (r + 1)) refl (and_from (has_whole g r) (has_pointer g (r + 1)) (kinded g image.sized r false h.0) (as_pointer g image.sized (r + 1) (is_pointer a) s.0 ka)), tt)
+        let ka = held_kind a (r + 1) s.1 h.1 in
+        behind_exp a (r + 1) pc (computes at r (work.ToNumber (held first a (r + 1)))) (exp_good a (r + 1) pc s.1 h.1 (omega (arith, lt)))
+        (works (pc + exp_size a) r (work.ToNumber (held first a (r + 1))) refl (and_from (has_whole g r) (has_pointer g (held first a (r + 1))) (kinded g image.sized r false h.0) (as_pointer g image.sized (held first a (r + 1)) (is_pointer a) s.0 ka)), tt)
     exp_good (copy a at) r pc s h lt =
-        behind_exp a (r + 1) pc (computes at r (work.Copy (r + 1))) (exp_good a (r + 1) pc s h.1 (omega (arith, lt)))
-        (copies (pc + exp_size a) r (r + 1) (is_pointer a) h.0 (kind_here ks (r + 1) a h.1), tt)
+        behind_exp a (r + 1) pc (computes at r (work.Copy (held first a (r + 1)))) (exp_good a (r + 1) pc s h.1 (omega (arith, lt)))
+        (copies (pc + exp_size a) r (held first a (r + 1)) (is_pointer a) h.0 (held_kind a (r + 1) s h.1), tt)
     exp_good (both a b at) r pc s h lt =
         let ka = front a b (r + 1) h.1 in
         let kb = back a b (r + 1) h.1 in
         let x = r + 1 + width a in
         let second = pc + exp_size a + 1 in
         let tested = second + exp_size b in
-        behind_exp a (r + 1) pc (instr at (act.Branch (r + 1) second (tested + 3)) ∷ (exp_code first b x second ++ truth_code at r x tested)) (exp_good a (r + 1) pc s.0 ka (omega (arith, lt))) (
-          branches_on code g (IsAddress p home) (pc + exp_size a) (r + 1) second (tested + 3) (registered g image.sized (r + 1) (is_pointer a) (kind_here ks (r + 1) a ka)) (omega arith) (omega arith) (omega (arith, lt)) (omega (arith, lt)),
-          behind_exp b x second (truth_code at r x tested) (exp_good b x second s.1 kb (omega (arith, lt))) (truth_good at r x tested (is_pointer b) h.0 (kind_here ks x b kb) (omega (arith, lt))),
+        behind_exp a (r + 1) pc (instr at (act.Branch (held first a (r + 1)) second (tested + 3)) ∷ (exp_code first b x second ++ truth_code at r (held first b x) tested)) (exp_good a (r + 1) pc s.0 ka (omega (arith, lt))) (
+          branches_on code g (IsAddress p home) (pc + exp_size a) (held first a (r + 1)) second (tested + 3) (registered g image.sized (held first a (r + 1)) (is_pointer a) (held_kind a (r + 1) s.0 ka)) (omega arith) (omega arith) (omega (arith, lt)) (omega (arith, lt)),
+          behind_exp b x second (truth_code at r (held first b x) tested) (exp_good b x second s.1 kb (omega (arith, lt))) (truth_good at r (held first b x) tested (is_pointer b) h.0 (held_kind b x s.1 kb) (omega (arith, lt))),
         )
     exp_good (either a b at) r pc s h lt =
         let ka = front a b (r + 1) h.1 in
@@ -180,9 +184,9 @@ module _ (p : Program) (home : ℕ → Option ℕ) (f : Function) (code : Code) 
         let x = r + 1 + width a in
         let second = pc + exp_size a + 1 in
         let tested = second + exp_size b in
-        behind_exp a (r + 1) pc (instr at (act.Branch (r + 1) (tested + 1) second) ∷ (exp_code first b x second ++ truth_code at r x tested)) (exp_good a (r + 1) pc s.0 ka (omega (arith, lt))) (
-          branches_on code g (IsAddress p home) (pc + exp_size a) (r + 1) (tested + 1) second (registered g image.sized (r + 1) (is_pointer a) (kind_here ks (r + 1) a ka)) (omega arith) (omega arith) (omega (arith, lt)) (omega (arith, lt)),
-          behind_exp b x second (truth_code at r x tested) (exp_good b x second s.1 kb (omega (arith, lt))) (truth_good at r x tested (is_pointer b) h.0 (kind_here ks x b kb) (omega (arith, lt))),
+        behind_exp a (r + 1) pc (instr at (act.Branch (held first a (r + 1)) (tested + 1) second) ∷ (exp_code first b x second ++ truth_code at r (held first b x) tested)) (exp_good a (r + 1) pc s.0 ka (omega (arith, lt))) (
+          branches_on code g (IsAddress p home) (pc + exp_size a) (held first a (r + 1)) (tested + 1) second (registered g image.sized (held first a (r + 1)) (is_pointer a) (held_kind a (r + 1) s.0 ka)) (omega arith) (omega arith) (omega (arith, lt)) (omega (arith, lt)),
+          behind_exp b x second (truth_code at r (held first b x) tested) (exp_good b x second s.1 kb (omega (arith, lt))) (truth_good at r (held first b x) tested (is_pointer b) h.0 (held_kind b x s.1 kb) (omega (arith, lt))),
         )
     exp_good (conditional a b c at) r pc s h lt =
         let ka = has_front ks (r + 1) (exp_kinds a) (exp_kinds b ++ exp_kinds c) h.1 in
@@ -193,38 +197,38 @@ module _ (p : Program) (home : ℕ → Option ℕ) (f : Function) (code : Code) 
         let y = x + width b in
         let yes' = pc + exp_size a + 1 in
         let no' = yes' + exp_size b + 2 in
-        let last : Good no' (exp_code first c y no' ++ computes at r (work.Copy y)) =
-        behind_exp c y no' (computes at r (work.Copy y)) (exp_good c y no' s.3 kc (omega (arith, lt))) (copies (no' + exp_size c) r y (is_pointer b) h.0 (kind_here ks y c kc ∙ ap Some (sym s.0)), tt) in
-        behind_exp a (r + 1) pc (instr at (act.Branch (r + 1) yes' no') ∷ (exp_code first b x yes' ++ (instr at (act.Compute r (work.Copy x)) ∷ instr at (act.Jump (no' + exp_size c + 1)) ∷ (exp_code first c y no' ++ computes at r (work.Copy y))))) (exp_good a (r + 1) pc s.1 ka (omega (arith, lt))) (
-          branches_on code g (IsAddress p home) (pc + exp_size a) (r + 1) yes' no' (registered g image.sized (r + 1) (is_pointer a) (kind_here ks (r + 1) a ka)) (omega arith) (omega arith) (omega (arith, lt)) (omega (arith, lt)),
-          behind_exp b x yes' (instr at (act.Compute r (work.Copy x)) ∷ instr at (act.Jump (no' + exp_size c + 1)) ∷ (exp_code first c y no' ++ computes at r (work.Copy y))) (exp_good b x yes' s.2 kb (omega (arith, lt))) (
-            copies (yes' + exp_size b) r x (is_pointer b) h.0 (kind_here ks x b kb),
-            (jumps_on code g (IsAddress p home) (yes' + exp_size b + 1) (no' + exp_size c + 1) (omega arith) (omega (arith, lt)), good_at code g (IsAddress p home) no' (yes' + exp_size b + 1 + 1) (exp_code first c y no' ++ computes at r (work.Copy y)) (omega arith) last),
+        let last : Good no' (exp_code first c y no' ++ computes at r (work.Copy (held first c y))) =
+        behind_exp c y no' (computes at r (work.Copy (held first c y))) (exp_good c y no' s.3 kc (omega (arith, lt))) (copies (no' + exp_size c) r (held first c y) (is_pointer b) h.0 (held_kind c y s.3 kc ∙ ap Some (sym s.0)), tt) in
+        behind_exp a (r + 1) pc (instr at (act.Branch (held first a (r + 1)) yes' no') ∷ (exp_code first b x yes' ++ (instr at (act.Compute r (work.Copy (held first b x))) ∷ instr at (act.Jump (no' + exp_size c + 1)) ∷ (exp_code first c y no' ++ computes at r (work.Copy (held first c y)))))) (exp_good a (r + 1) pc s.1 ka (omega (arith, lt))) (
+          branches_on code g (IsAddress p home) (pc + exp_size a) (held first a (r + 1)) yes' no' (registered g image.sized (held first a (r + 1)) (is_pointer a) (held_kind a (r + 1) s.1 ka)) (omega arith) (omega arith) (omega (arith, lt)) (omega (arith, lt)),
+          behind_exp b x yes' (instr at (act.Compute r (work.Copy (held first b x))) ∷ instr at (act.Jump (no' + exp_size c + 1)) ∷ (exp_code first c y no' ++ computes at r (work.Copy (held first c y)))) (exp_good b x yes' s.2 kb (omega (arith, lt))) (
+            copies (yes' + exp_size b) r (held first b x) (is_pointer b) h.0 (held_kind b x s.2 kb),
+            (jumps_on code g (IsAddress p home) (yes' + exp_size b + 1) (no' + exp_size c + 1) (omega arith) (omega (arith, lt)), good_at code g (IsAddress p home) no' (yes' + exp_size b + 1 + 1) (exp_code first c y no' ++ computes at r (work.Copy (held first c y))) (omega arith) last),
           ),
         )
     exp_good (comma a b at) r pc s h lt =
         let ka = front a b (r + 1) h.1 in
         let kb = back a b (r + 1) h.1 in
-        two a b (r + 1) pc (computes at r (work.Copy (r + 1 + width a))) (exp_good a (r + 1) pc s.0 ka (omega (arith, lt))) (exp_good b (r + 1 + width a) (pc + exp_size a) s.1 kb (omega (arith, lt)))
-        (copies (pc + exp_size a + exp_size b) r (r + 1 + width a) (is_pointer b) h.0 (kind_here ks (r + 1 + width a) b kb), tt)
+        two a b (r + 1) pc (computes at r (work.Copy (held first b (r + 1 + width a)))) (exp_good a (r + 1) pc s.0 ka (omega (arith, lt))) (exp_good b (r + 1 + width a) (pc + exp_size a) s.1 kb (omega (arith, lt)))
+        (copies (pc + exp_size a + exp_size b) r (held first b (r + 1 + width a)) (is_pointer b) h.0 (held_kind b (r + 1 + width a) s.1 kb), tt)
     exp_good (set_register n a at) r pc s h lt =
-        let ka = kind_here ks (r + 1) a h.1 in
-        behind_exp a (r + 1) pc (instr at (act.Compute n (work.Copy (r + 1))) ∷ computes at r (work.Copy (r + 1))) (exp_good a (r + 1) pc s.1 h.1 (omega (arith, lt)))
-        (copies (pc + exp_size a) n (r + 1) (is_pointer a) (image.registers n (is_pointer a) s.0) ka, (copies (pc + exp_size a + 1) r (r + 1) (is_pointer a) h.0 ka, tt))
+        let ka = held_kind a (r + 1) s.1 h.1 in
+        behind_exp a (r + 1) pc (instr at (act.Compute n (work.Copy (held first a (r + 1)))) ∷ computes at r (work.Copy (held first a (r + 1)))) (exp_good a (r + 1) pc s.1 h.1 (omega (arith, lt)))
+        (copies (pc + exp_size a) n (held first a (r + 1)) (is_pointer a) (image.registers n (is_pointer a) s.0) ka, (copies (pc + exp_size a + 1) r (held first a (r + 1)) (is_pointer a) h.0 ka, tt))
     exp_good (store a b at) r pc s h lt =
         let ka = front a b (r + 1) h.1 in
         let kb = back a b (r + 1) h.1 in
         let x = r + 1 + width a in
-        two a b (r + 1) pc (instr at (act.StoreCell (r + 1) x) ∷ computes at r (work.Copy x)) (exp_good a (r + 1) pc s.1 ka (omega (arith, lt))) (exp_good b x (pc + exp_size a) s.2 kb (omega (arith, lt)))
-        (stores (pc + exp_size a + exp_size b) (r + 1) x (is_pointer a) (is_pointer b) (kind_here ks (r + 1) a ka) s.0 (kind_here ks x b kb), (copies (pc + exp_size a + exp_size b + 1) r x (is_pointer b) h.0 (kind_here ks x b kb), tt))
+        two a b (r + 1) pc (instr at (act.StoreCell (held first a (r + 1)) (held first b x)) ∷ computes at r (work.Copy (held first b x))) (exp_good a (r + 1) pc s.1 ka (omega (arith, lt))) (exp_good b x (pc + exp_size a) s.2 kb (omega (arith, lt)))
+        (stores (pc + exp_size a + exp_size b) (held first a (r + 1)) (held first b x) (is_pointer a) (is_pointer b) (held_kind a (r + 1) s.1 ka) s.0 (held_kind b x s.2 kb), (copies (pc + exp_size a + exp_size b + 1) r (held first b x) (is_pointer b) h.0 (held_kind b x s.2 kb), tt))
     exp_good (change_register n c b old at) r pc s h lt =
         let k = is_pointer_change c in
         let k2 : slice_get ks (r + 2) ≡ Some k = subst (λ q. slice_get ks q ≡ Some k) (omega arith) h.1.1.0 in
         let kb = has_at ks (r + 1 + 1 + 1) (r + 3) (exp_kinds b) (omega arith) h.1.1.1 in
         let kn = image.registers n k s.0 in (
           copies pc (r + 1) n k h.1.0 kn,
-          behind_exp b (r + 3) (pc + 1) (instr at (act.Compute (r + 2) (change_work c (r + 1) (r + 3))) ∷ instr at (act.Compute n (work.Copy (r + 2))) ∷ computes at r (work.Copy (if old then r + 1 else r + 2))) (exp_good b (r + 3) (pc + 1) s.2 kb (omega (arith, lt))) (
-            works (pc + 1 + exp_size b) (r + 2) (change_work c (r + 1) (r + 3)) (change_plain c (r + 2) (r + 1) (r + 3)) (change_is g image.sized code c b (r + 2) (r + 1) (r + 3) s.1 k2 h.1.0 (kind_here ks (r + 3) b kb)),
+          behind_exp b (r + 3) (pc + 1) (instr at (act.Compute (r + 2) (change_work c (r + 1) (held first b (r + 3)))) ∷ instr at (act.Compute n (work.Copy (r + 2))) ∷ computes at r (work.Copy (if old then r + 1 else r + 2))) (exp_good b (r + 3) (pc + 1) s.2 kb (omega (arith, lt))) (
+            works (pc + 1 + exp_size b) (r + 2) (change_work c (r + 1) (held first b (r + 3))) (change_plain c (r + 2) (r + 1) (held first b (r + 3))) (change_is g image.sized code c b (r + 2) (r + 1) (held first b (r + 3)) s.1 k2 h.1.0 (held_kind b (r + 3) s.2 kb)),
             (copies (pc + 1 + exp_size b + 1) n (r + 2) k kn k2, (copies (pc + 1 + exp_size b + 1 + 1) r (if old then r + 1 else r + 2) k h.0 (either_holds g image.sized old (r + 1) (r + 2) k h.1.0 k2), tt)),
           ),
         )
@@ -236,26 +240,26 @@ module _ (p : Program) (home : ℕ → Option ℕ) (f : Function) (code : Code) 
         let kb = back a b (r + 3) kab in
         let x = r + 3 + width a in
         let second = pc + exp_size a + 1 in
-        behind_exp a (r + 3) pc (instr loaded (act.LoadCell (r + 1) (r + 3)) ∷ (exp_code first b x second ++ (instr at (act.Compute (r + 2) (change_work c (r + 1) x)) ∷ instr at (act.StoreCell (r + 3) (r + 2)) ∷ computes at r (work.Copy (if old then r + 1 else r + 2))))) (exp_good a (r + 3) pc s.2 ka (omega (arith, lt))) (
-          loads (pc + exp_size a) (r + 1) (r + 3) k (is_pointer a) h.1.0 (kind_here ks (r + 3) a ka) s.0,
-          behind_exp b x second (instr at (act.Compute (r + 2) (change_work c (r + 1) x)) ∷ instr at (act.StoreCell (r + 3) (r + 2)) ∷ computes at r (work.Copy (if old then r + 1 else r + 2))) (exp_good b x second s.3 kb (omega (arith, lt))) (
-            works (second + exp_size b) (r + 2) (change_work c (r + 1) x) (change_plain c (r + 2) (r + 1) x) (change_is g image.sized code c b (r + 2) (r + 1) x s.1 k2 h.1.0 (kind_here ks x b kb)),
-            (stores (second + exp_size b + 1) (r + 3) (r + 2) (is_pointer a) k (kind_here ks (r + 3) a ka) s.0 k2, (copies (second + exp_size b + 1 + 1) r (if old then r + 1 else r + 2) k h.0 (either_holds g image.sized old (r + 1) (r + 2) k h.1.0 k2), tt)),
+        behind_exp a (r + 3) pc (instr loaded (act.LoadCell (r + 1) (held first a (r + 3))) ∷ (exp_code first b x second ++ (instr at (act.Compute (r + 2) (change_work c (r + 1) (held first b x))) ∷ instr at (act.StoreCell (held first a (r + 3)) (r + 2)) ∷ computes at r (work.Copy (if old then r + 1 else r + 2))))) (exp_good a (r + 3) pc s.2 ka (omega (arith, lt))) (
+          loads (pc + exp_size a) (r + 1) (held first a (r + 3)) k (is_pointer a) h.1.0 (held_kind a (r + 3) s.2 ka) s.0,
+          behind_exp b x second (instr at (act.Compute (r + 2) (change_work c (r + 1) (held first b x))) ∷ instr at (act.StoreCell (held first a (r + 3)) (r + 2)) ∷ computes at r (work.Copy (if old then r + 1 else r + 2))) (exp_good b x second s.3 kb (omega (arith, lt))) (
+            works (second + exp_size b) (r + 2) (change_work c (r + 1) (held first b x)) (change_plain c (r + 2) (r + 1) (held first b x)) (change_is g image.sized code c b (r + 2) (r + 1) (held first b x) s.1 k2 h.1.0 (held_kind b x s.3 kb)),
+            (stores (second + exp_size b + 1) (held first a (r + 3)) (r + 2) (is_pointer a) k (held_kind a (r + 3) s.2 ka) s.0 k2, (copies (second + exp_size b + 1 + 1) r (if old then r + 1 else r + 2) k h.0 (either_holds g image.sized old (r + 1) (r + 2) k h.1.0 k2), tt)),
           ),
         )
     exp_good (call n es k at) r pc s h lt =
-        behind_exps es (r + 1) pc (one at (act.Call n (value_registers (r + 1) es) (Some r))) (exps_good es (r + 1) pc s.1 h.1 (omega (arith, lt)))
-        (record { fits = call_is p home f code g first image n (value_kinds es) k (value_registers (r + 1) es) r s.0 (arguments_are es (r + 1) h.1) h.0; jumps = refl; address = tt; plain = refl }, tt)
+        behind_exps es (r + 1) pc (one at (act.Call n (value_registers first (r + 1) es) (Some r))) (exps_good es (r + 1) pc s.1 h.1 (omega (arith, lt)))
+        (record { fits = call_is p home f code g first image n (value_kinds es) k (value_registers first (r + 1) es) r s.0 (arguments_are es (r + 1) s.1 h.1) h.0; jumps = refl; address = tt; plain = refl }, tt)
     exp_good (library c es at) r pc s h lt =
-        behind_exps es (r + 1) pc (library_code at r c (value_registers (r + 1) es)) (exps_good es (r + 1) pc s.2 h.1 (some_more (library_size c) lt))
-        (library_good at c (value_registers (r + 1) es) r (pc + exps_size es) h.0 (start_is p home f code g first image c s.1) (ap (have_kinds g (value_registers (r + 1) es)) (sym s.0) ∙ arguments_are es (r + 1) h.1))
+        behind_exps es (r + 1) pc (library_code at r c (value_registers first (r + 1) es)) (exps_good es (r + 1) pc s.2 h.1 (some_more (library_size c) lt))
+        (library_good at c (value_registers first (r + 1) es) r (pc + exps_size es) h.0 (start_is p home f code g first image c s.1) (ap (have_kinds g (value_registers first (r + 1) es)) (sym s.0) ∙ arguments_are es (r + 1) s.2 h.1))
       where
         some_more : (n : ℕ) → pc + (exps_size es + n) < total → pc + exps_size es < total
         some_more n lt = omega (arith, lt)
     exp_good (allocate site a at) r pc s h lt =
-        let ka = kind_here ks (r + 1) a h.1 in
-        behind_exp a (r + 1) pc (one at (act.Alloc r site (Some (r + 1)))) (exp_good a (r + 1) pc s.2 h.1 (omega (arith, lt)))
-        (record { fits = and_from (has_pointer g r && is_site code site) (value_fits g (Some (r + 1)) false) (and_from (has_pointer g r) (is_site code site) (pointer g image.sized r h.0) (image.sites site s.0)) (as_whole g image.sized (r + 1) (is_pointer a) s.1 ka); jumps = refl; address = tt; plain = refl }, tt)
+        let ka = held_kind a (r + 1) s.2 h.1 in
+        behind_exp a (r + 1) pc (one at (act.Alloc r site (Some (held first a (r + 1))))) (exp_good a (r + 1) pc s.2 h.1 (omega (arith, lt)))
+        (record { fits = and_from (has_pointer g r && is_site code site) (value_fits g (Some (held first a (r + 1))) false) (and_from (has_pointer g r) (is_site code site) (pointer g image.sized r h.0) (image.sites site s.0)) (as_whole g image.sized (held first a (r + 1)) (is_pointer a) s.1 ka); jumps = refl; address = tt; plain = refl }, tt)
 
     pub exps_good : (es : Exps) (r pc : ℕ) → AreSound p home f es → HasAt ks r (exps_kinds es) → pc + exps_size es < total → Good pc (exps_code first es r pc)
     exps_good no_exp r pc s h lt = tt

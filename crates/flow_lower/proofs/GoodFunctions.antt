@@ -12,9 +12,9 @@ use Rattle.flow_code.specs.Next.{act_in}
 use Rattle.flow_code.specs.Kinds.{has_pointer, is_site, act_fits, is_address}
 use Rattle.flow_code.specs.Order.{is_end, ends_in_itself, makes_no_object, make_no_objects, objects_are_first, jumps_fit, order_fits}
 use Rattle.flow_code.specs.Valid.{registers_fit, acts_fit, loops_fit, function_fits}
-use Rattle.c_core.specs.declared.position.Position.{Position}
+use Rattle.rr_base.specs.declared.position.Position.{Position}
 use Rattle.c_core.specs.Core.{Arrival, arrives, Function, Program}
-use Rattle.flow_lower.specs.Lowered.{instr, one, lowered, function_code, function_kinds, body_code, statement_kinds, statement_size, objects_code, arrivals_code}
+use Rattle.flow_lower.specs.Lowered.{body_kept, instr, one, lowered, function_code, function_kinds, body_code, statement_kinds, statement_size, objects_code, arrivals_code}
 use Rattle.flow_lower.specs.Loops.{statement_loops}
 use Rattle.flow_lower.specs.Sound.{HasSite, IsCallable, IsAddress, IsSoundArrival, IsSoundFunction}
 use Rattle.flow_lower.proofs.Lengths.{statement_length, arrivals_length}
@@ -24,6 +24,7 @@ use Rattle.flow_lower.proofs.Good.{HaveAddresses, AreGood, good_append, good_act
 use Rattle.flow_lower.proofs.Images.{IsImage, IsCallee}
 use Rattle.flow_lower.proofs.GoodExpressions.{stores}
 use Rattle.flow_lower.proofs.GoodStatements.{statement_good}
+use Rattle.flow_lower.proofs.KeptSound.{statement_sound}
 use Rattle.flow_lower.proofs.LoopsFit.{statement_fits}
 use Rattle.flow_lower.proofs.SoundWithin.{statement_within}
 
@@ -94,15 +95,15 @@ module _ (p : Program) (home : ℕ → Option ℕ) (f : Function) (code : Code) 
 
   body_good : Good (body_at f) (statement_part f)
   body_good =
-      statement_good p home f code g first image f.body (first + length f.objects) (body_at f) (end_at f) (end_at f) sound.body
-      (subst (λ l. HasAt l (first + length f.objects) (statement_kinds f.body)) (sym kinds) (has_kinds f))
+      statement_good p home f code g first image (body_kept f) (first + length f.objects) (body_at f) (end_at f) (end_at f) (statement_sound p home f f.body sound.body)
+      (subst (λ l. HasAt l (first + length f.objects) (statement_kinds (body_kept f))) (sym kinds) (has_kinds f))
       (subst (λ l. HasAt l (body_at f) (statement_part f)) (sym instrs) (has_front (body_code f) (body_at f) (statement_part f) (one f.place (act.Return None)) (has_body f)))
       (omega arith) in_code (omega arith) in_code
 
   rest_good : Good (start_of f) (behind_objects f)
   rest_good =
       good_append code g (IsAddress p home) (start_of f) (length f.arrivals) (arrivals_code first f.arrivals) (statement_part f ++ one f.place (act.Return None)) (arrivals_length first f.arrivals) (arrivals_good f.arrivals (start_of f) sound.arrivals)
-      (good_append code g (IsAddress p home) (body_at f) (statement_size f.body) (statement_part f) (one f.place (act.Return None)) (statement_length first f.body (first + length f.objects) (body_at f) (end_at f) (end_at f)) body_good
+      (good_append code g (IsAddress p home) (body_at f) (statement_size (body_kept f)) (statement_part f) (one f.place (act.Return None)) (statement_length first (body_kept f) (first + length f.objects) (body_at f) (end_at f) (end_at f)) body_good
       (record { fits = refl; jumps = refl; address = tt; plain = refl }, tt))
 
   pub acts_are : acts_fit code g (body_code f) ≡ true
@@ -128,7 +129,7 @@ replicated (suc m) zero lt = refl
 replicated (suc m) (suc n) lt = replicated m n (omega (arith, lt))
 
 formals_within : (f : Function) → f.formals ≤ length f.pointers → f.formals ≤ length (function_kinds f)
-formals_within f le = omega (arith, le, length-append f.pointers (replicate (length f.objects) true ++ statement_kinds f.body))
+formals_within f le = omega (arith, le, length-append f.pointers (replicate (length f.objects) true ++ statement_kinds (body_kept f)))
 
 module _ (p : Program) (home : ℕ → Option ℕ) (sound : (k : ℕ) (f : Function) → slice_get p.functions k ≡ Some f → IsSoundFunction p home f) (addresses : (w : ℕ) → IsAddress p home w → is_address (lowered p) w ≡ true) where
   callee : (n : ℕ) (kinds : List Bool) (pointer : Bool) → IsCallable p n kinds pointer → (m : FlowFunction) × (slice_get (lowered p).functions n ≡ Some m) × IsCallee m kinds pointer
@@ -139,7 +140,7 @@ module _ (p : Program) (home : ℕ → Option ℕ) (sound : (k : ℕ) (f : Funct
         slice_get-map function_code p.functions n ∙ ap (option_map function_code) c.1,
         record {
           not_main = c.2;
-          formals = take-append-le h.formals h.pointers (replicate (length h.objects) true ++ statement_kinds h.body) le ∙ c.3;
+          formals = take-append-le h.formals h.pointers (replicate (length h.objects) true ++ statement_kinds (body_kept h)) le ∙ c.3;
           enough = formals_within h le;
           gives = c.4;
         },
@@ -147,8 +148,8 @@ module _ (p : Program) (home : ℕ → Option ℕ) (sound : (k : ℕ) (f : Funct
 
   object_kinds : (f : Function) (n : ℕ) → n < length f.objects → slice_get (function_kinds f) (length f.pointers + n) ≡ Some true
   object_kinds f n lt =
-      slice_get-append_right f.pointers (replicate (length f.objects) true ++ statement_kinds f.body) n
-      ∙ slice_get-append_found (replicate (length f.objects) true) (statement_kinds f.body) n true (replicated (length f.objects) n lt)
+      slice_get-append_right f.pointers (replicate (length f.objects) true ++ statement_kinds (body_kept f)) n
+      ∙ slice_get-append_found (replicate (length f.objects) true) (statement_kinds (body_kept f)) n true (replicated (length f.objects) n lt)
 
   has_site : (s : ℕ) → HasSite p s → is_site (lowered p) s ≡ true
   has_site s h = and_from (nat_le 1 s) (nat_le s (length p.sites)) (le-leb 1 s h.0) (le-leb s (length p.sites) h.1)
@@ -156,7 +157,7 @@ module _ (p : Program) (home : ℕ → Option ℕ) (sound : (k : ℕ) (f : Funct
   image_of : (f : Function) → IsImage p home f (lowered p) (function_code f) (length f.pointers)
   image_of f = record {
     sized = refl;
-    registers = λ n k h. slice_get-append_found f.pointers (replicate (length f.objects) true ++ statement_kinds f.body) n k h;
+    registers = λ n k h. slice_get-append_found f.pointers (replicate (length f.objects) true ++ statement_kinds (body_kept f)) n k h;
     objects = object_kinds f;
     gives = refl;
     calls = callee;
@@ -177,9 +178,9 @@ module _ (p : Program) (home : ℕ → Option ℕ) (sound : (k : ℕ) (f : Funct
   loops_are : (f : Function) → IsSoundFunction p home f → loops_fit (function_code f) (statement_loops f.body (body_at f)) ≡ true
   loops_are f s =
       let g = function_code f in
-      let few : length f.pointers ≤ g.registers = omega (arith, length-append f.pointers (replicate (length f.objects) true ++ statement_kinds f.body)) in
+      let few : length f.pointers ≤ g.registers = omega (arith, length-append f.pointers (replicate (length f.objects) true ++ statement_kinds (body_kept f))) in
       let within : end_at f < length g.instrs = in_code p home f (lowered p) g (image_of f) s refl refl in
-      statement_fits g (length f.pointers) (length f.objects) (length p.functions) few f.body (body_at f) (statement_within p home f f.body s.body) (omega arith)
+      statement_fits g f.pointers (length f.objects) (length p.functions) few f.body (body_at f) (statement_within p home f f.body s.body) (omega arith)
 
   pub function_is : (f : Function) → IsSoundFunction p home f → function_fits (lowered p) (function_code f) ≡ true
   function_is f s =

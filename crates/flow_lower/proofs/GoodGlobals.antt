@@ -12,8 +12,8 @@ use Rattle.rr_base.specs.declared.layout.Site.{Site}
 use Rattle.flow_code.specs.declared.act.Instr.{Instr}
 use Rattle.flow_code.specs.declared.code.Code.{Code}
 use Rattle.flow_code.specs.declared.code.Function.{Function as FlowFunction}
-use Rattle.flow_code.specs.Pointers.{site_at, same_kind}
-use Rattle.flow_code.specs.Threads.{size_in, size_of}
+use Rattle.abstract_machine.specs.Pointers.{site_at, same_kind}
+use Rattle.abstract_machine.specs.Cells.{size_in, size_of}
 use Rattle.flow_code.specs.Kinds.{is_site, is_address}
 use Rattle.flow_code.specs.Addresses.{address_in, address_at, of_site, or_next, first_in_instrs, first_in_functions, first_in_words, address_of, lie_apart, agrees, words_agree, instrs_agree, functions_agree, all_agree, begin_with, cells_fit, stands_alone, sites_stand_alone, word_fits, words_fit, globals_fit}
 use Rattle.flow_code.specs.Valid.{layout_fits, sites_fit}

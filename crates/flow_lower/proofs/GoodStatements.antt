@@ -5,17 +5,17 @@ use Rattle.flow_code.specs.declared.act.Instr.{Instr}
 use Rattle.flow_code.specs.declared.code.Code.{Code}
 use Rattle.flow_code.specs.declared.code.Function.{Function as FlowFunction}
 use Rattle.flow_code.specs.Kinds.{has_register, has_kind}
-use Rattle.c_core.specs.declared.position.Position.{Position}
+use Rattle.rr_base.specs.declared.position.Position.{Position}
 use Rattle.c_core.specs.Core.{Exp, Statement, block, compute, branch, while_loop, do_loop, for_loop, break_at, continue_at, gives, Statements, no_statement, and_statement, Function, Program}
 use Rattle.c_core.specs.Meaning.{is_pointer}
-use Rattle.flow_lower.specs.Lowered.{instr, one, exp_kinds, maybe_kinds, width, exp_size, maybe_size, test_size, exp_code, maybe_code, test_code, return_code, statement_kinds, statements_kinds, statement_size, statements_size, statement_code, statements_code}
-use Rattle.flow_lower.specs.Sound.{IsAddress, IsSoundMaybe, IsSoundResult, IsSoundStatement, AreSoundStatements}
+use Rattle.flow_lower.specs.Lowered.{held, instr, one, exp_kinds, maybe_kinds, width, exp_size, maybe_size, test_size, exp_code, maybe_code, test_code, return_code, statement_kinds, statements_kinds, statement_size, statements_size, statement_code, statements_code}
+use Rattle.flow_lower.specs.Sound.{IsAddress, IsSoundExp, IsSoundMaybe, IsSoundResult, IsSoundStatement, AreSoundStatements}
 use Rattle.flow_lower.proofs.Lengths.{exp_length, test_length, statement_length}
-use Rattle.flow_lower.proofs.Places.{HasAt, has_at, has_front, has_back, kind_here}
+use Rattle.flow_lower.proofs.Places.{HasAt, has_at, has_front, has_back}
 use Rattle.flow_lower.proofs.Fitting.{registered, kinded}
 use Rattle.flow_lower.proofs.Good.{AreGood, good_append, jumps_on, jumps_back, branches_on, branches_back}
 use Rattle.flow_lower.proofs.Images.{IsImage}
-use Rattle.flow_lower.proofs.GoodExpressions.{exp_good, behind_exp}
+use Rattle.flow_lower.proofs.GoodExpressions.{exp_good, behind_exp, held_kind}
 
 module _ (p : Program) (home : ℕ → Option ℕ) (f : Function) (code : Code) (g : FlowFunction) (first : ℕ) (image : IsImage p home f code g first) where
   abbrev total : ℕ
@@ -51,21 +51,21 @@ module _ (p : Program) (home : ℕ → Option ℕ) (f : Function) (code : Code) 
   maybe_good (Some e) r pc rest s h lt k = behind_exp p home f code g first image e r pc rest (exp_good p home f code g first image e r pc s h lt) k
 
   -- a register that is tested
-  tested : (e : Exp) (r : ℕ) → HasAt ks r (exp_kinds e) → has_register g r ≡ true
-  tested e r h = registered g image.sized r (is_pointer e) (kind_here ks r e h)
+  tested : (e : Exp) (r : ℕ) → IsSoundExp p home f e → HasAt ks r (exp_kinds e) → has_register g (held first e r) ≡ true
+  tested e r s h = registered g image.sized (held first e r) (is_pointer e) (held_kind p home f code g first image e r s h)
 
   test_good : (at : Position) (e : Option Exp) (r pc out : ℕ) (rest : List Instr) → IsSoundMaybe p home f e → HasAt ks r (maybe_kinds e) → pc + test_size e < out → out < total → Good (pc + test_size e) rest → Good pc (test_code first at e r pc out ++ rest)
   test_good at None r pc out rest s h lt in' k = good_append code g (IsAddress p home) pc 0 [] rest refl tt k
   test_good at (Some e) r pc out rest s h lt in' k =
       good_append code g (IsAddress p home) pc (exp_size e + 1) (test_code first at (Some e) r pc out) rest (test_length first at (Some e) r pc out)
-      (behind_exp p home f code g first image e r pc (one at (act.Branch r (pc + exp_size e + 1) out)) (exp_good p home f code g first image e r pc s h (omega (arith, lt, in')))
-      (branches_on code g (IsAddress p home) (pc + exp_size e) r (pc + exp_size e + 1) out (tested e r h) (omega arith) (omega (arith, lt)) (omega (arith, lt, in')) in', tt)) k
+      (behind_exp p home f code g first image e r pc (one at (act.Branch (held first e r) (pc + exp_size e + 1) out)) (exp_good p home f code g first image e r pc s h (omega (arith, lt, in')))
+      (branches_on code g (IsAddress p home) (pc + exp_size e) (held first e r) (pc + exp_size e + 1) out (tested e r s h) (omega arith) (omega (arith, lt)) (omega (arith, lt, in')) in', tt)) k
 
   return_good : (at : Position) (e : Option Exp) (r pc : ℕ) → IsSoundResult p home f e → HasAt ks r (maybe_kinds e) → pc + maybe_size e < total → Good pc (return_code first at e r pc)
   return_good at None r pc s h lt = (record { fits = refl; jumps = refl; address = tt; plain = refl }, tt)
   return_good at (Some e) r pc s h lt =
-      behind_exp p home f code g first image e r pc (one at (act.Return (Some r))) (exp_good p home f code g first image e r pc s.1 h lt)
-      (record { fits = ap (λ k. has_kind g k r) image.gives ∙ kinded g image.sized r f.gives_pointer (kind_here ks r e h ∙ ap Some s.0); jumps = refl; address = tt; plain = refl }, tt)
+      behind_exp p home f code g first image e r pc (one at (act.Return (Some (held first e r)))) (exp_good p home f code g first image e r pc s.1 h lt)
+      (record { fits = ap (λ k. has_kind g k (held first e r)) image.gives ∙ kinded g image.sized (held first e r) f.gives_pointer (held_kind p home f code g first image e r s.1 h ∙ ap Some s.0); jumps = refl; address = tt; plain = refl }, tt)
 
   -- ---- statements
 
@@ -82,7 +82,7 @@ module _ (p : Program) (home : ℕ → Option ℕ) (f : Function) (code : Code) 
         let code_b = statement_code first b y no' out on in
         let behind_a = instr at (act.Jump (no' + statement_size b)) ∷ code_b in
         let code_a = statement_code first a x yes' out on in
-        let behind_e = instr at (act.Branch r yes' no') ∷ (code_a ++ behind_a) in
+        let behind_e = instr at (act.Branch (held first e r) yes' no') ∷ (code_a ++ behind_a) in
         let ke = has_front ks r (exp_kinds e) (statement_kinds a ++ statement_kinds b) h in
         let kab = has_back ks r (exp_kinds e) (statement_kinds a ++ statement_kinds b) h in
         let ka = has_front ks x (statement_kinds a) (statement_kinds b) kab in
@@ -91,7 +91,7 @@ module _ (p : Program) (home : ℕ → Option ℕ) (f : Function) (code : Code) 
         let ca = before a x yes' out on behind_a ce.1 in
         let cb = (after_statement a x yes' out on behind_a ce.1).1 in
         behind_exp p home f code g first image e r pc behind_e (exp_good p home f code g first image e r pc s.0 ke (omega (arith, le, in_out))) (
-          branches_on code g (IsAddress p home) (pc + exp_size e) r yes' no' (tested e r ke) (omega arith) (omega arith) (omega (arith, le, in_out)) (omega (arith, le, in_out)),
+          branches_on code g (IsAddress p home) (pc + exp_size e) (held first e r) yes' no' (tested e r s.0 ke) (omega arith) (omega arith) (omega (arith, le, in_out)) (omega (arith, le, in_out)),
           behind_statement a x yes' out on behind_a (statement_good a x yes' out on s.1 ka ca (omega (arith, le)) in_out (omega (arith, le')) in_on) (
             jumps_on code g (IsAddress p home) (yes' + statement_size a) (no' + statement_size b) (omega arith) (omega (arith, le, in_out)),
             statement_good b y no' out on s.2 kb cb (omega (arith, le)) in_out (omega (arith, le')) in_on,
@@ -103,7 +103,7 @@ module _ (p : Program) (home : ℕ → Option ℕ) (f : Function) (code : Code) 
         let x = r + width e in
         let behind_a = one at (act.Jump pc) in
         let code_a = statement_code first a x body end (body + statement_size a) in
-        let behind_e = instr at (act.Branch r body end) ∷ (code_a ++ behind_a) in
+        let behind_e = instr at (act.Branch (held first e r) body end) ∷ (code_a ++ behind_a) in
         let ke = has_front ks r (exp_kinds e) (statement_kinds a) h in
         let ka = has_back ks r (exp_kinds e) (statement_kinds a) h in
         let ce = after_exp e r (pc + 1) behind_e c.1 in
@@ -111,7 +111,7 @@ module _ (p : Program) (home : ℕ → Option ℕ) (f : Function) (code : Code) 
         let in_end : end < total = omega (arith, le, in_out) in (
           record { fits = refl; jumps = refl; address = tt; plain = refl },
           behind_exp p home f code g first image e r (pc + 1) behind_e (exp_good p home f code g first image e r (pc + 1) s.0 ke (omega (arith, in_end))) (
-            branches_on code g (IsAddress p home) (pc + 1 + exp_size e) r body end (tested e r ke) (omega arith) (omega arith) (omega (arith, in_end)) in_end,
+            branches_on code g (IsAddress p home) (pc + 1 + exp_size e) (held first e r) body end (tested e r s.0 ke) (omega arith) (omega arith) (omega (arith, in_end)) in_end,
             behind_statement a x body end (body + statement_size a) behind_a (statement_good a x body end (body + statement_size a) s.1 ka ca (omega arith) in_end (omega arith) (omega (arith, in_end)))
                 (jumps_back code g (IsAddress p home) (body + statement_size a) pc at c.0 (omega (arith, in_end)), tt),
           ),
@@ -120,7 +120,7 @@ module _ (p : Program) (home : ℕ → Option ℕ) (f : Function) (code : Code) 
         let test = pc + 1 + statement_size a in
         let end = test + exp_size e + 1 in
         let x = r + length (statement_kinds a) in
-        let behind_e = one at (act.Branch x pc end) in
+        let behind_e = one at (act.Branch (held first e x) pc end) in
         let behind_a = exp_code first e x test ++ behind_e in
         let ka = has_front ks r (statement_kinds a) (exp_kinds e) h in
         let ke = has_back ks r (statement_kinds a) (exp_kinds e) h in
@@ -129,7 +129,7 @@ module _ (p : Program) (home : ℕ → Option ℕ) (f : Function) (code : Code) 
           record { fits = refl; jumps = refl; address = tt; plain = refl },
           behind_statement a r (pc + 1) end test behind_a (statement_good a r (pc + 1) end test s.0 ka ca (omega arith) in_end (omega arith) (omega (arith, in_end)))
               (behind_exp p home f code g first image e x test behind_e (exp_good p home f code g first image e x test s.1 ke (omega (arith, in_end)))
-              (branches_back code g (IsAddress p home) (test + exp_size e) x pc end at (tested e x ke) c.0 (omega arith) (omega (arith, in_end)) in_end, tt)),
+              (branches_back code g (IsAddress p home) (test + exp_size e) (held first e x) pc end at (tested e x s.1 ke) c.0 (omega arith) (omega (arith, in_end)) in_end, tt)),
         )
     statement_good (for_loop start test step a at) r pc out on s h c le in_out le' in_on =
         let mark = pc + statement_size start in

@@ -1,12 +1,12 @@
 -- How many instructions code has.
 use Rattle.std.proofs.Common.{◌≡◌, ℕ, suc, ◌+◌, Bool, true, false, if◌then◌else◌, pos, List, [], ◌∷◌, ◌++◌, length, Option, Some, None, refl, ap, arith, length-append}
 use Rattle.flow_code.specs.declared.act.Act.TheVariants as act
-use Rattle.flow_code.specs.declared.act.LibraryCall.{LibraryCall}
+use Rattle.abstract_machine.specs.declared.library_call.LibraryCall.{LibraryCall}
 use Rattle.flow_code.specs.declared.work.Work.TheVariants as work
-use Rattle.c_core.specs.declared.position.Position.{Position}
+use Rattle.rr_base.specs.declared.position.Position.{Position}
 use Rattle.c_core.specs.Core as core
 use Rattle.c_core.specs.Core.{Exp, null, load, unary, binary, move, advance, member, between, to_pointer, to_number, copy, both, either, conditional, comma, set_register, store, change_register, change_cell, call, library, allocate, Exps, no_exp, and_exp, Statement, block, compute, branch, while_loop, do_loop, for_loop, break_at, continue_at, gives, Statements, no_statement, and_statement, Arrival, arrives}
-use Rattle.flow_lower.specs.Lowered.{instr, one, computes, gives_nothing, library_size, library_code, width, exp_size, exps_size, exp_code, exps_code, value_registers, statement_kinds, maybe_kinds, statement_size, statements_size, statement_code, statements_code, maybe_size, test_size, maybe_code, test_code, objects_code, arrivals_code}
+use Rattle.flow_lower.specs.Lowered.{held, instr, one, computes, gives_nothing, library_size, library_code, width, exp_size, exps_size, exp_code, exps_code, value_registers, statement_kinds, maybe_kinds, statement_size, statements_size, statement_code, statements_code, maybe_size, test_size, maybe_code, test_code, objects_code, arrivals_code}
 
 pub joined : {X : Type 0} (xs ys : List X) (m n : ℕ) → length xs ≡ m → length ys ≡ n → length (xs ++ ys) ≡ m + n
 joined xs ys m n d e = omega (arith, length-append xs ys, d, e)
@@ -42,21 +42,21 @@ mutual
   exp_length first (between a b element at) r pc = joined _ _ _ _ (exp_length first a (r + 1) pc) (joined _ _ _ _ (exp_length first b (r + 1 + width a) (pc + exp_size a)) refl)
   exp_length first (comma a b at) r pc = joined _ _ _ _ (exp_length first a (r + 1) pc) (joined _ _ _ _ (exp_length first b (r + 1 + width a) (pc + exp_size a)) refl)
   exp_length first (store a b at) r pc = joined _ _ _ _ (exp_length first a (r + 1) pc) (joined _ _ _ _ (exp_length first b (r + 1 + width a) (pc + exp_size a)) refl)
-  exp_length first (both a b at) r pc = joined _ _ _ _ (exp_length first a (r + 1) pc) (behind (instr at (act.Branch (r + 1) (pc + exp_size a + 1) (pc + exp_size a + 1 + exp_size b + 3))) _ _ (joined _ _ _ _ (exp_length first b (r + 1 + width a) (pc + exp_size a + 1)) refl))
-  exp_length first (either a b at) r pc = joined _ _ _ _ (exp_length first a (r + 1) pc) (behind (instr at (act.Branch (r + 1) (pc + exp_size a + 1 + exp_size b + 1) (pc + exp_size a + 1))) _ _ (joined _ _ _ _ (exp_length first b (r + 1 + width a) (pc + exp_size a + 1)) refl))
+  exp_length first (both a b at) r pc = joined _ _ _ _ (exp_length first a (r + 1) pc) (behind (instr at (act.Branch (held first a (r + 1)) (pc + exp_size a + 1) (pc + exp_size a + 1 + exp_size b + 3))) _ _ (joined _ _ _ _ (exp_length first b (r + 1 + width a) (pc + exp_size a + 1)) refl))
+  exp_length first (either a b at) r pc = joined _ _ _ _ (exp_length first a (r + 1) pc) (behind (instr at (act.Branch (held first a (r + 1)) (pc + exp_size a + 1 + exp_size b + 1) (pc + exp_size a + 1))) _ _ (joined _ _ _ _ (exp_length first b (r + 1 + width a) (pc + exp_size a + 1)) refl))
   exp_length first (conditional a b c at) r pc =
       let yes' = pc + exp_size a + 1 in
       let no' = yes' + exp_size b + 2 in
-      let copied = computes at r (work.Copy (r + 1 + width a + width b)) in
+      let copied = computes at r (work.Copy (held first c (r + 1 + width a + width b))) in
       let last = exp_code first c (r + 1 + width a + width b) no' ++ copied in
       let jumped = instr at (act.Jump (no' + exp_size c + 1)) ∷ last in
       let e_last : length last ≡ exp_size c + 1 = joined (exp_code first c (r + 1 + width a + width b) no') copied _ _ (exp_length first c (r + 1 + width a + width b) no') refl in
       let e_jumped : length jumped ≡ 1 + (exp_size c + 1) = behind (instr at (act.Jump (no' + exp_size c + 1))) last _ e_last in
-      joined _ _ _ _ (exp_length first a (r + 1) pc) (behind (instr at (act.Branch (r + 1) yes' no')) _ _ (joined _ _ _ _ (exp_length first b (r + 1 + width a) yes') (behind (instr at (act.Compute r (work.Copy (r + 1 + width a)))) jumped _ e_jumped)))
+      joined _ _ _ _ (exp_length first a (r + 1) pc) (behind (instr at (act.Branch (held first a (r + 1)) yes' no')) _ _ (joined _ _ _ _ (exp_length first b (r + 1 + width a) yes') (behind (instr at (act.Compute r (work.Copy (held first b (r + 1 + width a))))) jumped _ e_jumped)))
   exp_length first (change_register n c b old at) r pc = behind (instr at (act.Compute (r + 1) (work.Copy n))) _ _ (joined _ _ _ _ (exp_length first b (r + 3) (pc + 1)) refl)
-  exp_length first (change_cell a loaded c b old at) r pc = joined _ _ _ _ (exp_length first a (r + 3) pc) (behind (instr loaded (act.LoadCell (r + 1) (r + 3))) _ _ (joined _ _ _ _ (exp_length first b (r + 3 + width a) (pc + exp_size a + 1)) refl))
+  exp_length first (change_cell a loaded c b old at) r pc = joined _ _ _ _ (exp_length first a (r + 3) pc) (behind (instr loaded (act.LoadCell (r + 1) (held first a (r + 3)))) _ _ (joined _ _ _ _ (exp_length first b (r + 3 + width a) (pc + exp_size a + 1)) refl))
   exp_length first (call f es pointer at) r pc = joined _ _ _ _ (exps_length first es (r + 1) pc) refl
-  exp_length first (library c es at) r pc = joined _ _ _ _ (exps_length first es (r + 1) pc) (library_length at r c (value_registers (r + 1) es))
+  exp_length first (library c es at) r pc = joined _ _ _ _ (exps_length first es (r + 1) pc) (library_length at r c (value_registers first (r + 1) es))
 
   pub exps_length : (first : ℕ) (es : Exps) (r pc : ℕ) → length (exps_code first es r pc) ≡ exps_size es
   exps_length first no_exp r pc = refl
@@ -79,26 +79,26 @@ mutual
       let no' = yes' + statement_size a + 1 in
       let code_b = statement_code first b (r + width e + length (statement_kinds a)) no' out on in
       let code_a = statement_code first a (r + width e) yes' out on ++ (instr at (act.Jump (no' + statement_size b)) ∷ code_b) in
-      joined (exp_code first e r pc) (instr at (act.Branch r yes' no') ∷ code_a) _ _ (exp_length first e r pc)
-      (behind (instr at (act.Branch r yes' no')) code_a _
+      joined (exp_code first e r pc) (instr at (act.Branch (held first e r) yes' no') ∷ code_a) _ _ (exp_length first e r pc)
+      (behind (instr at (act.Branch (held first e r) yes' no')) code_a _
       (joined (statement_code first a (r + width e) yes' out on) (instr at (act.Jump (no' + statement_size b)) ∷ code_b) _ _ (statement_length first a (r + width e) yes' out on)
       (behind (instr at (act.Jump (no' + statement_size b))) code_b _ (statement_length first b (r + width e + length (statement_kinds a)) no' out on))))
   statement_length first (while_loop e a at) r pc out on =
       let body = pc + 1 + exp_size e + 1 in
       let end = body + statement_size a + 1 in
       let code_a = statement_code first a (r + width e) body end (body + statement_size a) ++ one at (act.Jump pc) in
-      behind (instr at act.Mark) (exp_code first e r (pc + 1) ++ (instr at (act.Branch r body end) ∷ code_a)) _
-      (joined (exp_code first e r (pc + 1)) (instr at (act.Branch r body end) ∷ code_a) _ _ (exp_length first e r (pc + 1))
-      (behind (instr at (act.Branch r body end)) code_a _
+      behind (instr at act.Mark) (exp_code first e r (pc + 1) ++ (instr at (act.Branch (held first e r) body end) ∷ code_a)) _
+      (joined (exp_code first e r (pc + 1)) (instr at (act.Branch (held first e r) body end) ∷ code_a) _ _ (exp_length first e r (pc + 1))
+      (behind (instr at (act.Branch (held first e r) body end)) code_a _
       (joined (statement_code first a (r + width e) body end (body + statement_size a)) (one at (act.Jump pc)) _ _ (statement_length first a (r + width e) body end (body + statement_size a)) refl)))
   statement_length first (do_loop a e at) r pc out on =
       let test = pc + 1 + statement_size a in
       let end = test + exp_size e + 1 in
       let x = r + length (statement_kinds a) in
-      let code_e = exp_code first e x test ++ one at (act.Branch x pc end) in
+      let code_e = exp_code first e x test ++ one at (act.Branch (held first e x) pc end) in
       behind (instr at act.Mark) (statement_code first a r (pc + 1) end test ++ code_e) _
       (joined (statement_code first a r (pc + 1) end test) code_e _ _ (statement_length first a r (pc + 1) end test)
-      (joined (exp_code first e x test) (one at (act.Branch x pc end)) _ _ (exp_length first e x test) refl))
+      (joined (exp_code first e x test) (one at (act.Branch (held first e x) pc end)) _ _ (exp_length first e x test) refl))
   statement_length first (for_loop start test step a at) r pc out on =
       let mark = pc + statement_size start in
       let body = mark + 1 + test_size test in

@@ -13,6 +13,8 @@ pub mod GoodGlobals
 pub mod GoodStatements
 pub mod Images
 pub mod Joins
+pub mod Keeping
+pub mod KeptSound
 pub mod Lengths
 pub mod Libraries
 pub mod Loops

@@ -10,21 +10,26 @@ use Rattle.sync_objects.specs.declared.operation.Op.TheVariants as op
 use Rattle.rr_base.specs.declared.trap.Trap.TheVariants as trap
 use Rattle.flow_code.specs.declared.act.Act.{Act}
 use Rattle.flow_code.specs.declared.act.Act.TheVariants as act
-use Rattle.flow_code.specs.declared.act.LibraryCall.{LibraryCall}
-use Rattle.flow_code.specs.declared.act.LibraryCall.TheVariants as call
+use Rattle.abstract_machine.specs.declared.library_call.LibraryCall.{LibraryCall}
+use Rattle.abstract_machine.specs.declared.library_call.LibraryCall.TheVariants as call
 use Rattle.flow_code.specs.declared.work.Work.TheVariants as work
 use Rattle.flow_code.specs.declared.code.Code.{Code}
 use Rattle.flow_code.specs.declared.thread.Phase.TheVariants as phase
-use Rattle.flow_code.specs.declared.thread.Due.{Due}
-use Rattle.flow_code.specs.declared.thread.Due.TheVariants as due
-use Rattle.flow_code.specs.declared.thread.Action.TheVariants as action
-use Rattle.flow_code.specs.declared.thread.Onward.{Onward}
-use Rattle.flow_code.specs.declared.thread.Onward.TheVariants as onward
-use Rattle.flow_code.specs.Works.{register}
-use Rattle.flow_code.specs.Library.{argument, library_due, library_onward, piece_of}
-use Rattle.flow_code.specs.Threads.{Frame, Thread, result_cell, line_of, line_in, instr_at}
-use Rattle.flow_code.specs.Next.{act_in, act_at, act_due, act_after, due_of, action_of, stepped, limited, listed, owing, first_owed, most_entries, phase_due, phase_after, after_due, one_more, went_on, caller, is_free_of_limit, words_of, past}
-use Rattle.c_core.specs.declared.position.Position.{Position}
+use Rattle.abstract_machine.specs.declared.event.Due.{Due}
+use Rattle.abstract_machine.specs.declared.event.Due.TheVariants as due
+use Rattle.abstract_machine.specs.declared.event.Action.TheVariants as action
+use Rattle.abstract_machine.specs.declared.event.Onward.{Onward}
+use Rattle.abstract_machine.specs.declared.event.Onward.TheVariants as onward
+use Rattle.abstract_machine.specs.Registers.{register}
+use Rattle.abstract_machine.specs.Library.{argument, library_due, library_onward, piece_of}
+use Rattle.flow_code.specs.Threads.{Frame, Thread, line_of, line_in, instr_at}
+use Rattle.abstract_machine.specs.Cells.{result_cell}
+use Rattle.flow_code.specs.declared.thread.Stripe.{Stripe}
+use Rattle.flow_code.specs.Holding.{parting, parting_due, left_behind}
+use Rattle.flow_code.specs.Next.{act_in, act_at, act_due, act_after, due_of, action_of, stepped, limited, listed, owing, first_owed, phase_due, phase_after, after_due, one_more, went_on, call_after, caller, past}
+use Rattle.abstract_machine.specs.Limits.{most_entries, is_free_of_limit}
+use Rattle.abstract_machine.specs.Registers.{words_of}
+use Rattle.rr_base.specs.declared.position.Position.{Position}
 use Rattle.c_core.specs.Core.{Function, Program}
 use Rattle.c_core.specs.Runs.{Run, does, traps, ends, State, is_free}
 use Rattle.c_core.specs.Meaning as meaning
@@ -82,6 +87,12 @@ after_operation code s t m op.TrapHere obj answer e = absurd cc
 after_operation code s t m op.Stop obj answer e = absurd cc
 after_operation code s t m (op.GetChar x) obj answer e = refl
 after_operation code s t m op.Print obj answer e = refl
+
+-- a thread without stripes gives none before a call
+parting_empty : (c : LibraryCall) (made : ℕ) (xs : List Stripe) → xs ≡ [] → parting c made xs ≡ []
+parting_empty call.Exit zero xs e = e
+parting_empty call.Exit (suc n) xs e = refl
+parting_empty _ made xs e = refl
 
 -- an operation with which a thread ends
 abbrev IsEndOrLeave : Op → Type 0
@@ -144,7 +155,8 @@ module _ (p : Program) (s : SetupView) (t : ℕ) (i : ℕ) (f : Function) (is : 
 
     same_due : (n : Thread) (σ : State) (made : ℕ) (kept : ℤ) → InCall m n σ made kept → act_due (lowered p) s t n (Some (act.Library c args into)) ≡ due_now σ made kept
     same_due n σ made kept h =
-        ap (λ x. library_due (caller (lowered p) s t n) c (words_of x.registers args) x.made x.kept) h.frame
+        ap (λ x. parting_due x (library_due (caller (lowered p) s t n) c (words_of n.top.registers args) n.top.made n.top.kept)) (parting_empty c n.top.made n.stripes h.stripes)
+        ∙ ap (λ x. library_due (caller (lowered p) s t n) c (words_of x.registers args) x.made x.kept) h.frame
         ∙ ap (λ x. library_due (caller (lowered p) s t n) c x made kept) are
         ∙ ap (λ x. library_due (record { sites = p.sites; setup = s; thread = t; printed = x }) c ws made kept) h.printed
 
@@ -163,6 +175,7 @@ module _ (p : Program) (s : SetupView) (t : ℕ) (i : ℕ) (f : Function) (is : 
     same_onward n σ made kept answer h =
         ap (λ x. phase_after (lowered p) s t n x answer) h.phase
         ∙ ap (λ x. act_after (lowered p) s t n x answer) (here_act n σ made kept h)
+        ∙ ap (λ x. left_behind n x (call_after (lowered p) s t n c args into answer)) (parting_empty c n.top.made n.stripes h.stripes)
         ∙ ap (λ x. went_on (record n { printed = n.printed + length (piece_of c (words_of x.registers args)) }) into (library_onward (caller (lowered p) s t n) c (words_of x.registers args) x.made x.kept answer)) h.frame
         ∙ ap (λ x. went_on (record n { printed = n.printed + length (piece_of c x) }) into (library_onward (caller (lowered p) s t n) c x made kept answer)) are
         ∙ ap (λ x. went_on (record n { printed = n.printed + length (piece_of c ws) }) into (library_onward (record { sites = p.sites; setup = s; thread = t; printed = x }) c ws made kept answer)) h.printed
@@ -483,7 +496,7 @@ module _ (p : Program) (s : SetupView) (t : ℕ) (i : ℕ) (f : Function) (is : 
   free_call m at args r ws σ k code h in_values in_range go =
       by_quiet p s t i f is callers budget _ m n σ at (act.Library call.Free args None) h code.0 refl refl
       (by_compute p s t i f is callers budget n σ' at r (work.Constant (pos 0)) (Ok 0) k shows code.1.0 refl (λ v same.
-      let x = puts p s t i f is callers budget m n σ' r v (m.top.instr + 2) in_values in_range shows (λ q l1 l2. refl) (omega arith) (omega arith) in
+      let x = puts p s t i f is callers budget m n σ' r v (λ q. false) (m.top.instr + 2) in_values in_range shows (λ q lt free. refl) (omega arith) (omega arith) in
       go (sets n r v) v σ' x.place x.shows x.value (λ q ne. other_register m.top.registers r v q ne) x.later))
     where
       n : Thread

@@ -4,10 +4,11 @@ use Rattle.std.proofs.lemmas.Bool.Decides.{nat_tests}
 use Rattle.sync_objects.specs.Setup.{SetupView}
 use Rattle.rr_base.specs.declared.trap.Trap.TheVariants as trap
 use Rattle.flow_code.specs.declared.act.Act.TheVariants as act
-use Rattle.flow_code.specs.declared.thread.Due.TheVariants as due
+use Rattle.abstract_machine.specs.declared.event.Due.TheVariants as due
 use Rattle.flow_code.specs.Threads.{Frame, Thread}
-use Rattle.flow_code.specs.Next.{one_more, in_frame, past, value_of, listed, limited, owing, most_entries}
-use Rattle.c_core.specs.declared.position.Position.{Position}
+use Rattle.flow_code.specs.Next.{one_more, in_frame, past, value_of, listed, limited, owing}
+use Rattle.abstract_machine.specs.Limits.{most_entries}
+use Rattle.rr_base.specs.declared.position.Position.{Position}
 use Rattle.c_core.specs.Core.{Function, Program}
 use Rattle.c_core.specs.Runs.{Run, State, M, ◌>>=◌, ◌>>◌, pure, counted, choose}
 use Rattle.c_core.specs.Meaning as meaning

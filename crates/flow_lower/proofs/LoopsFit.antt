@@ -1,37 +1,39 @@
 -- The places and registers of counted loops are in their function.
 use Rattle.std.proofs.Common.{◌≡◌, ℕ, ◌+◌, ◌-◌, ◌≤◌, ◌<◌, Bool, true, false, if◌then◌else◌, ℤ, pos, int_lt, List, [], ◌∷◌, ◌++◌, length, Option, Some, None, IfSome, option_to_list, option_and_then, refl, ◌∙◌, arith}
 use Rattle.std.proofs.lemmas.Bool.{and_from, lt-ltb}
+use Rattle.std.proofs.lemmas.Option.{slice_get_within}
 use Rattle.std.proofs.lemmas.List.Folds.{list_all-append}
 use Rattle.std.specs.Option.{option_zip}
 use Rattle.flow_code.specs.declared.code.Function.{Function as FlowFunction}
 use Rattle.flow_code.specs.declared.code.LoopInfo.{LoopInfo}
 use Rattle.flow_code.specs.declared.region.Bound.{Bound}
-use Rattle.flow_code.specs.declared.work.BinaryOp.TheVariants as binary_op
+use Rattle.abstract_machine.specs.declared.operator.BinaryOp.TheVariants as binary_op
 use Rattle.flow_code.specs.Kinds.{has_register, has_instr}
 use Rattle.flow_code.specs.Regions.{bound_is_register, loop_fits}
 use Rattle.flow_code.specs.Valid.{loops_fit}
 use Rattle.c_core.specs.Core as core
 use Rattle.c_core.specs.Core.{Exp, register, binary, Statement, block, compute, branch, while_loop, do_loop, for_loop, break_at, continue_at, gives, Statements, no_statement, and_statement}
-use Rattle.flow_lower.specs.Sizes.{exp_size, maybe_size, test_size, statement_size, statements_size}
-use Rattle.flow_lower.specs.Loops.{register_of, bound_of, limit_of, step_of, loop_of, statement_loops, statements_loops}
+use Rattle.flow_lower.specs.Kept.{kept, maybe_kept, statements_kept}
+use Rattle.flow_lower.specs.Sizes.{exp_size, maybe_size, test_size, statements_size}
+use Rattle.flow_lower.specs.Loops.{lowered_size, register_of, bound_of, limit_of, step_of, loop_of, statement_loops, statements_loops}
 use Rattle.flow_lower.specs.Within.{IsWithinExp, IsWithinMaybe, IsWithinStatement, AreWithinStatements}
 
-module _ (g : FlowFunction) (rs os fs : ℕ) (few : rs ≤ g.registers) where
+module _ (g : FlowFunction) (rs : List Bool) (os fs : ℕ) (few : length rs ≤ g.registers) where
   -- ---- the registers
 
   abbrev Fits : ℕ × Bound → Type 0
   Fits l = (has_register g l.0 ≡ true) × (bound_is_register g l.1 ≡ true)
 
-  registered : (r : ℕ) → r < rs → has_register g r ≡ true
+  registered : (r : ℕ) → r < length rs → has_register g r ≡ true
   registered r lt = lt-ltb r g.registers (omega arith)
 
   register_fits : (e : Exp) → IsWithinExp rs os fs e → IfSome (register_of e) (λ r. has_register g r ≡ true)
-  register_fits (register n false at) w = registered n w
+  register_fits (register n false at) w = registered n (slice_get_within rs n false w)
   register_fits _ w = tt
 
   bound_fits : (e : Exp) → IsWithinExp rs os fs e → IfSome (bound_of e) (λ b. bound_is_register g b ≡ true)
   bound_fits (core.number z at) w = refl
-  bound_fits (register n false at) w = registered n w
+  bound_fits (register n false at) w = registered n (slice_get_within rs n false w)
   bound_fits _ w = tt
 
   both_fit : (o : Option ℕ) (q : Option Bound) → IfSome o (λ r. has_register g r ≡ true) → IfSome q (λ b. bound_is_register g b ≡ true) → IfSome (option_zip o q) Fits
@@ -80,19 +82,19 @@ module _ (g : FlowFunction) (rs os fs : ℕ) (few : rs ≤ g.registers) where
   joined ls ms h k = list_all-append (loop_fits g) ls ms ∙ and_from (loops_fit g ls) (loops_fit g ms) h k
 
   mutual
-    pub statement_fits : (s : Statement) (pc : ℕ) → IsWithinStatement rs os fs s → pc + statement_size s ≤ length g.instrs → loops_fit g (statement_loops s pc) ≡ true
+    pub statement_fits : (s : Statement) (pc : ℕ) → IsWithinStatement rs os fs s → pc + lowered_size s ≤ length g.instrs → loops_fit g (statement_loops s pc) ≡ true
     statement_fits (block ss) pc w le = statements_fit ss pc w le
     statement_fits (compute e) pc w le = refl
     statement_fits (branch e a b at) pc w le =
-        let yes' = pc + exp_size e + 1 in
-        let no' = yes' + statement_size a + 1 in
+        let yes' = pc + exp_size (kept e) + 1 in
+        let no' = yes' + lowered_size a + 1 in
         joined (statement_loops a yes') (statement_loops b no') (statement_fits a yes' w.1 (omega (arith, le))) (statement_fits b no' w.2 (omega (arith, le)))
-    statement_fits (while_loop e a at) pc w le = statement_fits a (pc + 1 + exp_size e + 1) w.1 (omega (arith, le))
+    statement_fits (while_loop e a at) pc w le = statement_fits a (pc + 1 + exp_size (kept e) + 1) w.1 (omega (arith, le))
     statement_fits (do_loop a e at) pc w le = statement_fits a (pc + 1) w.0 (omega (arith, le))
     statement_fits (for_loop start test step a at) pc w le =
-        let mark = pc + statement_size start in
-        let body = mark + 1 + test_size test in
-        let back = body + statement_size a + maybe_size step in
+        let mark = pc + lowered_size start in
+        let body = mark + 1 + test_size (maybe_kept test) in
+        let back = body + lowered_size a + maybe_size (maybe_kept step) in
         joined (statement_loops start pc) (option_to_list (loop_of test step mark body back) ++ statement_loops a body)
         (statement_fits start pc w.0 (omega (arith, le)))
         (joined (option_to_list (loop_of test step mark body back)) (statement_loops a body)
@@ -102,6 +104,6 @@ module _ (g : FlowFunction) (rs os fs : ℕ) (few : rs ≤ g.registers) where
     statement_fits (continue_at at) pc w le = refl
     statement_fits (gives e at) pc w le = refl
 
-    pub statements_fit : (ss : Statements) (pc : ℕ) → AreWithinStatements rs os fs ss → pc + statements_size ss ≤ length g.instrs → loops_fit g (statements_loops ss pc) ≡ true
+    pub statements_fit : (ss : Statements) (pc : ℕ) → AreWithinStatements rs os fs ss → pc + statements_size (statements_kept ss) ≤ length g.instrs → loops_fit g (statements_loops ss pc) ≡ true
     statements_fit no_statement pc w le = refl
-    statements_fit (and_statement a ss) pc w le = joined (statement_loops a pc) (statements_loops ss (pc + statement_size a)) (statement_fits a pc w.0 (omega (arith, le))) (statements_fit ss (pc + statement_size a) w.1 (omega (arith, le)))
+    statements_fit (and_statement a ss) pc w le = joined (statement_loops a pc) (statements_loops ss (pc + lowered_size a)) (statement_fits a pc w.0 (omega (arith, le))) (statements_fit ss (pc + lowered_size a) w.1 (omega (arith, le)))

@@ -7,11 +7,12 @@ use Rattle.rr_base.specs.declared.trap.Trap.{Trap}
 use Rattle.flow_code.specs.declared.act.Act.{Act}
 use Rattle.flow_code.specs.declared.code.Code.{Code}
 use Rattle.flow_code.specs.declared.thread.Phase.TheVariants as phase
-use Rattle.flow_code.specs.declared.thread.Due.TheVariants as due
-use Rattle.flow_code.specs.Works.{register}
+use Rattle.abstract_machine.specs.declared.event.Due.TheVariants as due
+use Rattle.abstract_machine.specs.Registers.{register}
 use Rattle.flow_code.specs.Threads.{Frame, Thread, instr_at, instr_in, line_of, line_in}
-use Rattle.flow_code.specs.Next.{act_in, act_at, pointers_of, pointers_in, act_due, act_after, due_of, stepped, limited, listed, owing, first_owed, most_entries, phase_due, phase_after, after_due}
-use Rattle.c_core.specs.declared.position.Position.{Position}
+use Rattle.flow_code.specs.Next.{act_in, act_at, pointers_of, pointers_in, act_due, act_after, due_of, stepped, limited, listed, owing, first_owed, phase_due, phase_after, after_due}
+use Rattle.abstract_machine.specs.Limits.{most_entries}
+use Rattle.rr_base.specs.declared.position.Position.{Position}
 use Rattle.c_core.specs.Core.{Function, Program}
 use Rattle.c_core.specs.Runs.{Run, does, traps, ends, State}
 use Rattle.flow_lower.specs.Lowered.{instr, lowered, function_code, function_kinds, body_code}

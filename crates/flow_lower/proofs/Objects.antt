@@ -4,12 +4,13 @@ use Rattle.std.proofs.lemmas.List.{length-set}
 use Rattle.rr_base.specs.declared.layout.Site.{Site}
 use Rattle.flow_code.specs.declared.act.Act.TheVariants as act
 use Rattle.flow_code.specs.declared.act.Instr.{Instr}
-use Rattle.flow_code.specs.declared.act.LibraryCall.{LibraryCall}
+use Rattle.abstract_machine.specs.declared.library_call.LibraryCall.{LibraryCall}
 use Rattle.flow_code.specs.declared.work.Work.TheVariants as work
-use Rattle.flow_code.specs.Pointers.{pointer_at}
-use Rattle.flow_code.specs.Works.{register}
-use Rattle.flow_code.specs.Threads.{Object, object, object_of, and_objects, objects_of, fitted, placed, with_arguments, size_of}
-use Rattle.c_core.specs.declared.position.Position.{Position}
+use Rattle.abstract_machine.specs.Pointers.{pointer_at}
+use Rattle.abstract_machine.specs.Registers.{register}
+use Rattle.flow_code.specs.Threads.{Object, object, object_of, and_objects, objects_of, fitted, placed, with_arguments}
+use Rattle.abstract_machine.specs.Cells.{size_of}
+use Rattle.rr_base.specs.declared.position.Position.{Position}
 use Rattle.c_core.specs.Core as core
 use Rattle.c_core.specs.Core.{Exp, null, load, unary, binary, move, advance, member, between, to_pointer, to_number, copy, both, either, conditional, comma, set_register, store, change_register, change_cell, call, library, allocate, Exps, no_exp, and_exp, Statement, block, compute, branch, while_loop, do_loop, for_loop, break_at, continue_at, gives, Statements, no_statement, and_statement, Arrival, arrives}
 use Rattle.c_core.specs.Meaning.{made_objects, with_first, listed_word}
@@ -19,15 +20,15 @@ use Rattle.flow_lower.proofs.Machine.{same_register, other_register}
 -- ---- code that doesn't begin with an object
 
 abbrev pub Begins : List Instr → Type 0
-Begins [] = ⊥
+Begins [] = Unit {0}
 Begins (i ∷ is) = object_of i.act ≡ None
 
-begins_append : (xs ys : List Instr) → Begins xs → Begins (xs ++ ys)
-begins_append [] ys h = absurd h
-begins_append (x ∷ xs) ys h = h
+begins_append : (xs ys : List Instr) → Begins xs → Begins ys → Begins (xs ++ ys)
+begins_append [] ys h k = k
+begins_append (x ∷ xs) ys h k = h
 
 no_objects : (xs : List Instr) → Begins xs → objects_of xs ≡ []
-no_objects [] h = absurd h
+no_objects [] h = refl
 no_objects (x ∷ xs) h = ap (λ o. and_objects o (objects_of xs)) h
 
 library_begins : (at : Position) (r : ℕ) (c : LibraryCall) (args : List ℕ) → Begins (library_code at r c args)
@@ -41,40 +42,41 @@ mutual
   exp_begins : (first : ℕ) (e : Exp) (r pc : ℕ) → Begins (exp_code first e r pc)
   exp_begins first (core.number z at) r pc = refl
   exp_begins first (null at) r pc = refl
-  exp_begins first (core.register n pointer at) r pc = refl
-  exp_begins first (core.object n at) r pc = refl
+  exp_begins first (core.register n pointer at) r pc = tt
+  exp_begins first (core.object n at) r pc = tt
   exp_begins first (core.global address at) r pc = refl
-  exp_begins first (load a pointer at) r pc = begins_append (exp_code first a (r + 1) pc) _ (exp_begins first a (r + 1) pc)
-  exp_begins first (unary o a at) r pc = begins_append (exp_code first a (r + 1) pc) _ (exp_begins first a (r + 1) pc)
-  exp_begins first (binary o a b at) r pc = begins_append (exp_code first a (r + 1) pc) _ (exp_begins first a (r + 1) pc)
-  exp_begins first (move a b element back at) r pc = begins_append (exp_code first a (r + 1) pc) _ (exp_begins first a (r + 1) pc)
-  exp_begins first (advance a b element at) r pc = begins_append (exp_code first a (r + 1) pc) _ (exp_begins first a (r + 1) pc)
-  exp_begins first (member a by at) r pc = begins_append (exp_code first a (r + 1) pc) _ (exp_begins first a (r + 1) pc)
-  exp_begins first (between a b element at) r pc = begins_append (exp_code first a (r + 1) pc) _ (exp_begins first a (r + 1) pc)
-  exp_begins first (to_pointer a at) r pc = begins_append (exp_code first a (r + 1) pc) _ (exp_begins first a (r + 1) pc)
-  exp_begins first (to_number a at) r pc = begins_append (exp_code first a (r + 1) pc) _ (exp_begins first a (r + 1) pc)
-  exp_begins first (copy a at) r pc = begins_append (exp_code first a (r + 1) pc) _ (exp_begins first a (r + 1) pc)
-  exp_begins first (both a b at) r pc = begins_append (exp_code first a (r + 1) pc) _ (exp_begins first a (r + 1) pc)
-  exp_begins first (either a b at) r pc = begins_append (exp_code first a (r + 1) pc) _ (exp_begins first a (r + 1) pc)
-  exp_begins first (conditional a b c at) r pc = begins_append (exp_code first a (r + 1) pc) _ (exp_begins first a (r + 1) pc)
-  exp_begins first (comma a b at) r pc = begins_append (exp_code first a (r + 1) pc) _ (exp_begins first a (r + 1) pc)
-  exp_begins first (set_register n a at) r pc = begins_append (exp_code first a (r + 1) pc) _ (exp_begins first a (r + 1) pc)
-  exp_begins first (store a b at) r pc = begins_append (exp_code first a (r + 1) pc) _ (exp_begins first a (r + 1) pc)
+  exp_begins first (load a pointer at) r pc = begins_append (exp_code first a (r + 1) pc) _ (exp_begins first a (r + 1) pc) refl
+  exp_begins first (unary o a at) r pc = begins_append (exp_code first a (r + 1) pc) _ (exp_begins first a (r + 1) pc) refl
+  exp_begins first (member a by at) r pc = begins_append (exp_code first a (r + 1) pc) _ (exp_begins first a (r + 1) pc) refl
+  exp_begins first (to_pointer a at) r pc = begins_append (exp_code first a (r + 1) pc) _ (exp_begins first a (r + 1) pc) refl
+  exp_begins first (to_number a at) r pc = begins_append (exp_code first a (r + 1) pc) _ (exp_begins first a (r + 1) pc) refl
+  exp_begins first (copy a at) r pc = begins_append (exp_code first a (r + 1) pc) _ (exp_begins first a (r + 1) pc) refl
+  exp_begins first (both a b at) r pc = begins_append (exp_code first a (r + 1) pc) _ (exp_begins first a (r + 1) pc) refl
+  exp_begins first (either a b at) r pc = begins_append (exp_code first a (r + 1) pc) _ (exp_begins first a (r + 1) pc) refl
+  exp_begins first (conditional a b c at) r pc = begins_append (exp_code first a (r + 1) pc) _ (exp_begins first a (r + 1) pc) refl
+  exp_begins first (set_register n a at) r pc = begins_append (exp_code first a (r + 1) pc) _ (exp_begins first a (r + 1) pc) refl
+  exp_begins first (allocate site a at) r pc = begins_append (exp_code first a (r + 1) pc) _ (exp_begins first a (r + 1) pc) refl
+  exp_begins first (binary o a b at) r pc = begins_append (exp_code first a (r + 1) pc) _ (exp_begins first a (r + 1) pc) (begins_append (exp_code first b (r + 1 + width a) (pc + exp_size a)) _ (exp_begins first b (r + 1 + width a) (pc + exp_size a)) refl)
+  exp_begins first (move a b element back at) r pc = begins_append (exp_code first a (r + 1) pc) _ (exp_begins first a (r + 1) pc) (begins_append (exp_code first b (r + 1 + width a) (pc + exp_size a)) _ (exp_begins first b (r + 1 + width a) (pc + exp_size a)) refl)
+  exp_begins first (advance a b element at) r pc = begins_append (exp_code first a (r + 1) pc) _ (exp_begins first a (r + 1) pc) (begins_append (exp_code first b (r + 1 + width a) (pc + exp_size a)) _ (exp_begins first b (r + 1 + width a) (pc + exp_size a)) refl)
+  exp_begins first (between a b element at) r pc = begins_append (exp_code first a (r + 1) pc) _ (exp_begins first a (r + 1) pc) (begins_append (exp_code first b (r + 1 + width a) (pc + exp_size a)) _ (exp_begins first b (r + 1 + width a) (pc + exp_size a)) refl)
+  exp_begins first (comma a b at) r pc = begins_append (exp_code first a (r + 1) pc) _ (exp_begins first a (r + 1) pc) (begins_append (exp_code first b (r + 1 + width a) (pc + exp_size a)) _ (exp_begins first b (r + 1 + width a) (pc + exp_size a)) refl)
+  exp_begins first (store a b at) r pc = begins_append (exp_code first a (r + 1) pc) _ (exp_begins first a (r + 1) pc) (begins_append (exp_code first b (r + 1 + width a) (pc + exp_size a)) _ (exp_begins first b (r + 1 + width a) (pc + exp_size a)) refl)
   exp_begins first (change_register n c b old at) r pc = refl
-  exp_begins first (change_cell a loaded c b old at) r pc = begins_append (exp_code first a (r + 3) pc) _ (exp_begins first a (r + 3) pc)
+  exp_begins first (change_cell a loaded c b old at) r pc = begins_append (exp_code first a (r + 3) pc) _ (exp_begins first a (r + 3) pc) refl
   exp_begins first (call f es pointer at) r pc = exps_begin first es (r + 1) pc _ refl
-  exp_begins first (library c es at) r pc = exps_begin first es (r + 1) pc _ (library_begins at r c (value_registers (r + 1) es))
-  exp_begins first (allocate site a at) r pc = begins_append (exp_code first a (r + 1) pc) _ (exp_begins first a (r + 1) pc)
+  exp_begins first (library c es at) r pc = exps_begin first es (r + 1) pc _ (library_begins at r c (value_registers first (r + 1) es))
 
   exps_begin : (first : ℕ) (es : Exps) (r pc : ℕ) (rest : List Instr) → Begins rest → Begins (exps_code first es r pc ++ rest)
   exps_begin first no_exp r pc rest h = h
-  exps_begin first (and_exp e es) r pc rest h = begins_append (exp_code first e r pc ++ exps_code first es (r + width e) (pc + exp_size e)) rest (begins_append (exp_code first e r pc) _ (exp_begins first e r pc))
+  exps_begin first (and_exp e es) r pc rest h =
+      subst Begins (sym (append_assoc (exp_code first e r pc) (exps_code first es (r + width e) (pc + exp_size e)) rest)) (begins_append (exp_code first e r pc) _ (exp_begins first e r pc) (exps_begin first es (r + width e) (pc + exp_size e) rest h))
 
 mutual
   pub statement_begins : (first : ℕ) (a : Statement) (r pc out on : ℕ) (rest : List Instr) → Begins rest → Begins (statement_code first a r pc out on ++ rest)
   statement_begins first (block ss) r pc out on rest h = statements_begin first ss r pc out on rest h
-  statement_begins first (compute e) r pc out on rest h = begins_append (exp_code first e r pc) rest (exp_begins first e r pc)
-  statement_begins first (branch e a b at) r pc out on rest h = begins_append (statement_code first (branch e a b at) r pc out on) rest (begins_append (exp_code first e r pc) _ (exp_begins first e r pc))
+  statement_begins first (compute e) r pc out on rest h = begins_append (exp_code first e r pc) rest (exp_begins first e r pc) h
+  statement_begins first (branch e a b at) r pc out on rest h = begins_append (statement_code first (branch e a b at) r pc out on) rest (begins_append (exp_code first e r pc) _ (exp_begins first e r pc) refl) h
   statement_begins first (while_loop e a at) r pc out on rest h = refl
   statement_begins first (do_loop a e at) r pc out on rest h = refl
   statement_begins first (for_loop start test step a at) r pc out on rest h =
@@ -82,7 +84,7 @@ mutual
   statement_begins first (break_at at) r pc out on rest h = refl
   statement_begins first (continue_at at) r pc out on rest h = refl
   statement_begins first (gives None at) r pc out on rest h = refl
-  statement_begins first (gives (Some e) at) r pc out on rest h = begins_append (statement_code first (gives (Some e) at) r pc out on) rest (begins_append (exp_code first e r pc) _ (exp_begins first e r pc))
+  statement_begins first (gives (Some e) at) r pc out on rest h = begins_append (statement_code first (gives (Some e) at) r pc out on) rest (begins_append (exp_code first e r pc) _ (exp_begins first e r pc) refl) h
 
   statements_begin : (first : ℕ) (ss : Statements) (r pc out on : ℕ) (rest : List Instr) → Begins rest → Begins (statements_code first ss r pc out on ++ rest)
   statements_begin first no_statement r pc out on rest h = h

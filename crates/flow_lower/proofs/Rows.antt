@@ -6,17 +6,17 @@ use Rattle.rr_base.specs.declared.layout.CellKind.TheVariants as kind
 use Rattle.rr_base.specs.declared.layout.Site.{Site}
 use Rattle.flow_code.specs.declared.act.Act.{Act}
 use Rattle.flow_code.specs.declared.act.Act.TheVariants as act
-use Rattle.flow_code.specs.declared.act.LibraryCall.TheVariants as library_call
+use Rattle.abstract_machine.specs.declared.library_call.LibraryCall.TheVariants as library_call
 use Rattle.flow_code.specs.declared.code.LoopInfo.{LoopInfo}
 use Rattle.flow_code.specs.declared.region.Bound.TheVariants as bound
 use Rattle.flow_code.specs.declared.work.Work.TheVariants as work
-use Rattle.flow_code.specs.declared.work.BinaryOp.TheVariants as binary_op
-use Rattle.flow_code.specs.Pointers.{site_at}
-use Rattle.flow_code.specs.Threads.{size_of}
+use Rattle.abstract_machine.specs.declared.operator.BinaryOp.TheVariants as binary_op
+use Rattle.abstract_machine.specs.Pointers.{site_at}
+use Rattle.abstract_machine.specs.Cells.{size_of}
 use Rattle.flow_code.specs.Valid.{is_valid}
-use Rattle.c_core.specs.declared.position.Position.{Position}
+use Rattle.rr_base.specs.declared.position.Position.{Position}
 use Rattle.c_core.specs.declared.value.Change.TheVariants as change
-use Rattle.c_core.specs.Core.{Exp, number, null, register, global, load, binary, copy, both, set_register, store, change_register, library, no_exp, and_exp, Statement, block, compute, while_loop, for_loop, break_at, gives, no_statement, and_statement, Function, Program}
+use Rattle.c_core.specs.Core.{Exp, number, null, register, global, load, binary, copy, both, set_register, store, change_register, call, library, no_exp, and_exp, Statement, block, compute, while_loop, for_loop, break_at, gives, no_statement, and_statement, Function, Program}
 use Rattle.c_core.specs.Meaning.{is_main}
 use Rattle.flow_lower.specs.Lowered.{lowered, body_code, function_code}
 use Rattle.flow_lower.specs.Sound.{IsAddress, IsSoundExp, IsSoundFunction, LiesAt, IsSound}
@@ -36,9 +36,8 @@ acts_of body = map (λ i. i.act) (body_code (main_of body))
 -- g = n + 2;
 pub store_code : acts_of (compute (store g (binary binary_op.Add (register 0 false (at 3)) (number (pos 2) (at 3)) (at 3)) (at 3))) ≡
     act.Compute 2 (work.Address (pack 1 0 1 0))
-    ∷ act.Compute 4 (work.Copy 0)
-    ∷ act.Compute 5 (work.Constant (pos 2))
-    ∷ act.Compute 3 (work.Binary binary_op.Add 4 5)
+    ∷ act.Compute 4 (work.Constant (pos 2))
+    ∷ act.Compute 3 (work.Binary binary_op.Add 0 4)
     ∷ act.StoreCell 2 3
     ∷ act.Compute 1 (work.Copy 3)
     ∷ act.Return None
@@ -47,11 +46,41 @@ store_code = refl
 
 -- +n;
 pub copy_code : acts_of (compute (copy (register 0 false (at 3)) (at 3))) ≡
-    act.Compute 2 (work.Copy 0)
-    ∷ act.Compute 1 (work.Copy 2)
+    act.Compute 1 (work.Copy 0)
     ∷ act.Return None
     ∷ []
 copy_code = refl
+
+-- n + (n = 2); the first operand is read before it is assigned
+pub lost_code : acts_of (compute (binary binary_op.Add (register 0 false (at 3)) (set_register 0 (number (pos 2) (at 3)) (at 3)) (at 3))) ≡
+    act.Compute 2 (work.Copy 0)
+    ∷ act.Compute 4 (work.Constant (pos 2))
+    ∷ act.Compute 0 (work.Copy 4)
+    ∷ act.Compute 3 (work.Copy 4)
+    ∷ act.Compute 1 (work.Binary binary_op.Add 2 3)
+    ∷ act.Return None
+    ∷ []
+lost_code = refl
+
+-- f(n, g(), n = 2); only the first argument is read before it is assigned
+pub arguments_code : acts_of (compute (call 1 (and_exp (register 0 false (at 3)) (and_exp (call 2 no_exp false (at 3)) (and_exp (set_register 0 (number (pos 2) (at 3)) (at 3)) no_exp))) false (at 3))) ≡
+    act.Compute 2 (work.Copy 0)
+    ∷ act.Call 2 [] (Some 3)
+    ∷ act.Compute 5 (work.Constant (pos 2))
+    ∷ act.Compute 0 (work.Copy 5)
+    ∷ act.Compute 4 (work.Copy 5)
+    ∷ act.Call 1 (2 ∷ 3 ∷ 4 ∷ []) (Some 1)
+    ∷ act.Return None
+    ∷ []
+arguments_code = refl
+
+-- f(n, g()); a register is the argument itself, on the other side of a call too
+pub named_code : acts_of (compute (call 1 (and_exp (register 0 false (at 3)) (and_exp (call 2 no_exp false (at 3)) no_exp)) false (at 3))) ≡
+    act.Call 2 [] (Some 2)
+    ∷ act.Call 1 (0 ∷ 2 ∷ []) (Some 1)
+    ∷ act.Return None
+    ∷ []
+named_code = refl
 
 -- free(NULL);
 pub free_code : acts_of (compute (library library_call.Free (and_exp (null (at 3)) no_exp) (at 3))) ≡
@@ -65,15 +94,14 @@ free_code = refl
 -- while (n && 1) break;
 pub loop_code : acts_of (while_loop (both (register 0 false (at 3)) (number (pos 1) (at 3)) (at 3)) (break_at (at 3)) (at 3)) ≡
     act.Mark
-    ∷ act.Compute 2 (work.Copy 0)
-    ∷ act.Branch 2 3 7
-    ∷ act.Compute 3 (work.Constant (pos 1))
-    ∷ act.Branch 3 5 7
+    ∷ act.Branch 0 2 6
+    ∷ act.Compute 2 (work.Constant (pos 1))
+    ∷ act.Branch 2 4 6
     ∷ act.Compute 1 (work.Constant (pos 1))
-    ∷ act.Jump 8
+    ∷ act.Jump 7
     ∷ act.Compute 1 (work.Constant (pos 0))
-    ∷ act.Branch 1 9 11
-    ∷ act.Jump 11
+    ∷ act.Branch 1 8 10
+    ∷ act.Jump 10
     ∷ act.Jump 0
     ∷ act.Return None
     ∷ []
@@ -99,8 +127,8 @@ summed r a b = set_register r (binary binary_op.Add a b (at 3)) (at 3)
 
 -- for (i = 0; i < 4; i += 1) for (j = 0; j < n; j = j + 2) {}
 pub nested_loops : loops_of (up_to 1 (number (pos 4) (at 3)) (raised 1 (number (pos 1) (at 3))) (up_to 2 (whole 0) (summed 2 (whole 2) (number (pos 2) (at 3))) (block no_statement))) ≡
-    record { at = 3; first = 8; last = 26; counter = 1; bound = bound.Number (pos 4); step = pos 1 }
-    ∷ record { at = 11; first = 16; last = 20; counter = 2; bound = bound.Register 0; step = pos 2 }
+    record { at = 3; first = 7; last = 22; counter = 1; bound = bound.Number (pos 4); step = pos 1 }
+    ∷ record { at = 10; first = 13; last = 16; counter = 2; bound = bound.Register 0; step = pos 2 }
     ∷ []
 nested_loops = refl
 

@@ -10,8 +10,8 @@ use Rattle.flow_lower.specs.Within.{IsWithinExp, AreWithin, IsWithinMaybe, IsWit
 use Rattle.flow_lower.specs.Sound.{IsSoundExp, AreSound, IsSoundMaybe, IsSoundResult, IsSoundStatement, AreSoundStatements, IsSoundArrival, IsSoundFunction, IsSound}
 
 module _ (p : Program) (home : ℕ → Option ℕ) (f : Function) where
-  abbrev rs : ℕ
-  rs = length f.pointers
+  abbrev rs : List Bool
+  rs = f.pointers
 
   abbrev os : ℕ
   os = length f.objects
@@ -23,7 +23,7 @@ module _ (p : Program) (home : ℕ → Option ℕ) (f : Function) where
     exp_within : (e : Exp) → IsSoundExp p home f e → IsWithinExp rs os fs e
     exp_within (core.number z at) s = tt
     exp_within (null at) s = tt
-    exp_within (core.register n k at) s = slice_get_within f.pointers n k s
+    exp_within (core.register n k at) s = s
     exp_within (core.object n at) s = s
     exp_within (core.global address at) s = tt
     exp_within (load e k at) s = exp_within e s.1
@@ -76,7 +76,7 @@ module _ (p : Program) (home : ℕ → Option ℕ) (f : Function) where
     statements_within no_statement s = tt
     statements_within (and_statement a ss) s = (statement_within a s.0, statements_within ss s.1)
 
-  arrivals_within : (arrivals : List Arrival) → ((k : ℕ) (a : Arrival) → slice_get arrivals k ≡ Some a → IsSoundArrival p home f a) → AreWithinArrivals rs os arrivals
+  arrivals_within : (arrivals : List Arrival) → ((k : ℕ) (a : Arrival) → slice_get arrivals k ≡ Some a → IsSoundArrival p home f a) → AreWithinArrivals (length rs) os arrivals
   arrivals_within [] h = tt
   arrivals_within (arrives n k at ∷ more) h = let here = h 0 (arrives n k at) refl in (here.0, here.1, arrivals_within more (λ j. h (suc j)))
 

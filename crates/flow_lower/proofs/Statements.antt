@@ -4,12 +4,13 @@ use Rattle.sync_objects.specs.Setup.{SetupView}
 use Rattle.flow_code.specs.declared.act.Act.TheVariants as act
 use Rattle.flow_code.specs.declared.act.Instr.{Instr}
 use Rattle.flow_code.specs.Threads.{Frame, Thread}
-use Rattle.c_core.specs.declared.position.Position.{Position}
+use Rattle.rr_base.specs.declared.position.Position.{Position}
 use Rattle.c_core.specs.Core.{Exp, Statement, block, compute, branch, while_loop, do_loop, for_loop, break_at, continue_at, gives, Statements, no_statement, and_statement, Function, Program}
 use Rattle.c_core.specs.Runs.{Run, State, M, pure}
 use Rattle.c_core.specs.Meaning as meaning
 use Rattle.c_core.specs.Meaning.{Calls, Flow, goes, breaks, continues, returns, if_goes, value, test_value, step_value}
-use Rattle.flow_lower.specs.Lowered.{instr, one, lowered, function_kinds, body_code, exp_kinds, maybe_kinds, width, exp_size, maybe_size, test_size, exp_code, maybe_code, test_code, statement_kinds, statements_kinds, statement_size, statements_size, statement_code, statements_code}
+use Rattle.flow_lower.specs.Kept.{kept, maybe_kept, statement_kept, statements_kept}
+use Rattle.flow_lower.specs.Lowered.{held, instr, one, lowered, function_kinds, body_code, exp_kinds, maybe_kinds, width, exp_size, maybe_size, test_size, exp_code, maybe_code, test_code, statement_kinds, statements_kinds, statement_size, statements_size, statement_code, statements_code}
 use Rattle.flow_lower.specs.Within.{IsWithinExp, IsWithinMaybe, IsWithinStatement, AreWithinStatements}
 use Rattle.flow_lower.specs.Follows.{Follows}
 use Rattle.flow_lower.proofs.Machine.{Shows}
@@ -18,6 +19,7 @@ use Rattle.flow_lower.proofs.Events.{goes_to, by_jump, by_branch}
 use Rattle.flow_lower.proofs.Arriving.{top, shows_at}
 use Rattle.flow_lower.proofs.Lengths.{exp_length, test_length, statement_length}
 use Rattle.flow_lower.proofs.Calling.{Serves}
+use Rattle.flow_lower.proofs.Values.{ExpFollows}
 use Rattle.flow_lower.proofs.Expressions.{exp_follows}
 use Rattle.flow_lower.proofs.Loops.{Reached, Lands, TestFollows, StepFollows, BodyFollows, rounds, rounds_behind}
 
@@ -32,7 +34,14 @@ module _ (p : Program) (s : SetupView) (t : ℕ) (i : ℕ) (f : Function) (is : 
   base = top p s t i f is callers budget
 
   abbrev Within : Statement → Type 0
-  Within a = IsWithinStatement (length f.pointers) (length f.objects) (length p.functions) a
+  Within a = IsWithinStatement f.pointers (length f.objects) (length p.functions) a
+
+  abbrev Follow : Exp → Type 0
+  Follow e = ExpFollows p s t i f is callers budget calls e
+
+  abbrev MayFollow : Option Exp → Type 0
+  MayFollow None = Unit {0}
+  MayFollow (Some e) = Follow e
 
   -- from wherever the code of a statement begins it makes the statement's events, if it makes the rest from where it ends
   abbrev pub Leads : Statement → Type 0
@@ -58,17 +67,17 @@ module _ (p : Program) (s : SetupView) (t : ℕ) (i : ℕ) (f : Function) (is : 
       by (returns w line) r = r
 
   -- a condition
-  test_follows : (e : Exp) (at : Position) (r pc out : ℕ) (rest : List Instr) → IsWithinExp (length f.pointers) (length f.objects) (length p.functions) e → HasAt (body_code f) pc (exp_code first e r pc ++ (instr at (act.Branch r (pc + exp_size e + 1) out) ∷ rest)) → HasAt kinds r (exp_kinds e) → base ≤ r
+  test_follows : (e : Exp) (at : Position) (r pc out : ℕ) (rest : List Instr) → Follow e → HasAt (body_code f) pc (exp_code first e r pc ++ (instr at (act.Branch (held first e r) (pc + exp_size e + 1) out) ∷ rest)) → HasAt kinds r (exp_kinds e) → base ≤ r
       → TestFollows p s t i f is callers budget (value p s t calls e) pc (pc + exp_size e + 1) out
   test_follows e at r pc out rest w code ks le Y N k m σ place h yes' no' =
-      exp_follows p s t i f is callers budget calls serves e w r pc m σ _ (has_front (body_code f) pc (exp_code first e r pc) _ code) ks le place h (λ n v σ' x.
-      by_branch p s t i f is callers budget n σ' at r (pc + exp_size e + 1) out v Y N σ' k x.shows (here n (pc + exp_size e) _ x.place (behind_exp e r pc _ code).0) x.value
+      w r pc m σ _ (has_front (body_code f) pc (exp_code first e r pc) _ code) ks le place h (λ n v σ' x.
+      by_branch p s t i f is callers budget n σ' at (held first e r) (pc + exp_size e + 1) out v Y N σ' k x.shows (here n (pc + exp_size e) _ x.place (behind_exp e r pc _ code).0) x.value
       (λ some. yes' (goes_to n (pc + exp_size e + 1)) σ' refl (shows_at p s t i f is callers budget n σ' (pc + exp_size e + 1) x.shows) x.later)
       (λ none. no' (goes_to n out) σ' refl (shows_at p s t i f is callers budget n σ' out x.shows) x.later))
 
-  compute_leads : (e : Exp) → IsWithinExp (length f.pointers) (length f.objects) (length p.functions) e → Leads (compute e)
+  compute_leads : (e : Exp) → Follow e → Leads (compute e)
   compute_leads e w r pc out on code ks le k m σ place h go =
-      exp_follows p s t i f is callers budget calls serves e w r pc m σ _ code ks le place h (λ n v σ' x. go n goes σ' (record { reached = x.place; shows = x.shows; later = x.later }))
+      w r pc m σ _ code ks le place h (λ n v σ' x. go n goes σ' (record { reached = x.place; shows = x.shows; later = x.later }))
 
   break_leads : (at : Position) → Leads (break_at at)
   break_leads at r pc out on code ks le k m σ place h go =
@@ -78,12 +87,12 @@ module _ (p : Program) (s : SetupView) (t : ℕ) (i : ℕ) (f : Function) (is : 
   continue_leads at r pc out on code ks le k m σ place h go =
       by_jump p s t i f is callers budget _ m σ at on h (here m pc _ place code.0) (go (goes_to m on) continues σ (record { reached = refl; shows = shows_at p s t i f is callers budget m σ on h; later = omega arith }))
 
-  gives_leads : (e : Option Exp) (at : Position) → IsWithinMaybe (length f.pointers) (length f.objects) (length p.functions) e → Leads (gives e at)
+  gives_leads : (e : Option Exp) (at : Position) → MayFollow e → Leads (gives e at)
   gives_leads None at w r pc out on code ks le k m σ place h go =
       go m (returns 0 at.line) σ (record { reached = record { at = at; value = None; stands = here m pc _ place code.0; gives = refl; same_line = refl }; shows = h; later = omega arith })
   gives_leads (Some e) at w r pc out on code ks le k m σ place h go =
-      exp_follows p s t i f is callers budget calls serves e w r pc m σ _ (has_front (body_code f) pc (exp_code first e r pc) _ code) ks le place h (λ n v σ' x.
-      go n (returns v at.line) σ' (record { reached = record { at = at; value = Some r; stands = here n (pc + exp_size e) _ x.place (behind_exp e r pc _ code).0; gives = x.value; same_line = refl }; shows = x.shows; later = x.later }))
+      w r pc m σ _ (has_front (body_code f) pc (exp_code first e r pc) _ code) ks le place h (λ n v σ' x.
+      go n (returns v at.line) σ' (record { reached = record { at = at; value = Some (held first e r); stands = here n (pc + exp_size e) _ x.place (behind_exp e r pc _ code).0; gives = x.value; same_line = refl }; shows = x.shows; later = x.later }))
 
   -- one statement after another
   both_lead : (a : Statement) (ss : Statements) (r pc out on : ℕ) (rest : M Flow) (k : Flow → State → Run) (m : Thread) (end : ℕ)
@@ -108,7 +117,7 @@ module _ (p : Program) (s : SetupView) (t : ℕ) (i : ℕ) (f : Function) (is : 
       lead_all (r + length (statement_kinds a)) (pc + statement_size a) out on (behind_statement a r pc out on _ code) (has_back kinds r (statement_kinds a) (statements_kinds ss) ks) (omega (arith, le)) k o σ' place' shows (λ q fl σ'' x.
       go q fl σ'' (ends_on m o q σ'' fl (pc + statement_size a + statements_size ss) (pc + (statement_size a + statements_size ss)) out on (omega arith) later x))) go)
 
-  branch_leads : (e : Exp) (a b : Statement) (at : Position) → IsWithinExp (length f.pointers) (length f.objects) (length p.functions) e → Leads a → Leads b → Leads (branch e a b at)
+  branch_leads : (e : Exp) (a b : Statement) (at : Position) → Follow e → Leads a → Leads b → Leads (branch e a b at)
   branch_leads e a b at w leads_a leads_b r pc out on code ks le k m σ place h go =
       let yes' = pc + exp_size e + 1 in
       let no' = yes' + statement_size a + 1 in
@@ -139,7 +148,7 @@ module _ (p : Program) (s : SetupView) (t : ℕ) (i : ℕ) (f : Function) (is : 
 
   -- ---- loops
 
-  while_leads : (e : Exp) (a : Statement) (at : Position) → IsWithinExp (length f.pointers) (length f.objects) (length p.functions) e → Leads a → Leads (while_loop e a at)
+  while_leads : (e : Exp) (a : Statement) (at : Position) → Follow e → Leads a → Leads (while_loop e a at)
   while_leads e a at w leads r pc out on code ks le k m σ place h go =
       let body = pc + 1 + exp_size e + 1 in
       let last = body + statement_size a in
@@ -156,7 +165,7 @@ module _ (p : Program) (s : SetupView) (t : ℕ) (i : ℕ) (f : Function) (is : 
       (λ n v line σ' ret shows later. go n (returns v line) σ' (record { reached = ret; shows = shows; later = later }))
       s.limit m σ place h (omega arith) (omega arith)
 
-  do_leads : (a : Statement) (e : Exp) (at : Position) → IsWithinExp (length f.pointers) (length f.objects) (length p.functions) e → Leads a → Leads (do_loop a e at)
+  do_leads : (a : Statement) (e : Exp) (at : Position) → Follow e → Leads a → Leads (do_loop a e at)
   do_leads a e at w leads r pc out on code ks le k m σ place h go =
       let test = pc + 1 + statement_size a in
       let end = test + exp_size e + 1 in
@@ -166,8 +175,8 @@ module _ (p : Program) (s : SetupView) (t : ℕ) (i : ℕ) (f : Function) (is : 
       rounds_behind p s t i f is callers budget at pc test end code.0 (value p s t calls e) (meaning.meaning p s t calls a)
       (leads r (pc + 1) end test (has_front (body_code f) (pc + 1) (statement_code first a r (pc + 1) end test) _ code.1) (has_front kinds r (statement_kinds a) (exp_kinds e) ks) le)
       (λ Y N k' n σ' place' shows yes' no'.
-      exp_follows p s t i f is callers budget calls serves e w x test n σ' _ (has_front (body_code f) test (exp_code first e x test) _ code_t) (has_back kinds r (statement_kinds a) (exp_kinds e) ks) (omega (arith, le)) place' shows (λ o v σ'' y.
-      by_branch p s t i f is callers budget o σ'' at x pc end v Y N σ'' k' y.shows (here o (test + exp_size e) _ y.place (behind_exp e x test _ code_t).0) y.value
+      w x test n σ' _ (has_front (body_code f) test (exp_code first e x test) _ code_t) (has_back kinds r (statement_kinds a) (exp_kinds e) ks) (omega (arith, le)) place' shows (λ o v σ'' y.
+      by_branch p s t i f is callers budget o σ'' at (held first e x) pc end v Y N σ'' k' y.shows (here o (test + exp_size e) _ y.place (behind_exp e x test _ code_t).0) y.value
       (λ some. yes' (goes_to o pc) σ'' refl (shows_at p s t i f is callers budget o σ'' pc y.shows) y.later)
       (λ none. no' (goes_to o end) σ'' refl (shows_at p s t i f is callers budget o σ'' end y.shows) y.later)))
       k m
@@ -176,21 +185,21 @@ module _ (p : Program) (s : SetupView) (t : ℕ) (i : ℕ) (f : Function) (is : 
       s.limit m σ place h (omega arith) (omega arith)
 
   -- a condition that may not be there
-  maybe_test_follows : (e : Option Exp) (at : Position) (r pc out : ℕ) (rest : List Instr) → IsWithinMaybe (length f.pointers) (length f.objects) (length p.functions) e → HasAt (body_code f) pc (test_code first at e r pc out ++ rest) → HasAt kinds r (maybe_kinds e) → base ≤ r
+  maybe_test_follows : (e : Option Exp) (at : Position) (r pc out : ℕ) (rest : List Instr) → MayFollow e → HasAt (body_code f) pc (test_code first at e r pc out ++ rest) → HasAt kinds r (maybe_kinds e) → base ≤ r
       → TestFollows p s t i f is callers budget (test_value p s t calls e) pc (pc + test_size e) out
   maybe_test_follows None at r pc out rest w code ks le Y N k m σ place h yes' no' = yes' m σ (place ∙ omega arith) h (omega arith)
   maybe_test_follows (Some e) at r pc out rest w code ks le Y N k m σ place h yes' no' =
       let there : pc + exp_size e + 1 ≡ pc + (exp_size e + 1) = omega arith in
       test_follows e at r pc out [] w (has_front (body_code f) pc (test_code first at (Some e) r pc out) rest code) ks le Y N k m σ place h (λ o σ' place' shows later. yes' o σ' (place' ∙ there) shows later) no'
 
-  maybe_step_follows : (e : Option Exp) (at : Position) (r pc to : ℕ) → IsWithinMaybe (length f.pointers) (length f.objects) (length p.functions) e → HasAt (body_code f) pc (maybe_code first e r pc ++ one at (act.Jump to)) → HasAt kinds r (maybe_kinds e) → base ≤ r
+  maybe_step_follows : (e : Option Exp) (at : Position) (r pc to : ℕ) → MayFollow e → HasAt (body_code f) pc (maybe_code first e r pc ++ one at (act.Jump to)) → HasAt kinds r (maybe_kinds e) → base ≤ r
       → StepFollows p s t i f is callers budget (step_value p s t calls e) pc to
   maybe_step_follows None at r pc to w code ks le R k m σ place h next = by_jump p s t i f is callers budget _ m σ at to h (here m pc _ place code.0) (next (goes_to m to) σ refl (shows_at p s t i f is callers budget m σ to h) (omega arith))
   maybe_step_follows (Some e) at r pc to w code ks le R k m σ place h next =
-      exp_follows p s t i f is callers budget calls serves e w r pc m σ _ (has_front (body_code f) pc (exp_code first e r pc) _ code) ks le place h (λ n v σ' x.
+      w r pc m σ _ (has_front (body_code f) pc (exp_code first e r pc) _ code) ks le place h (λ n v σ' x.
       by_jump p s t i f is callers budget _ n σ' at to x.shows (here n (pc + exp_size e) _ x.place (behind_exp e r pc _ code).0) (next (goes_to n to) σ' refl (shows_at p s t i f is callers budget n σ' to x.shows) x.later))
 
-  for_leads : (start : Statement) (test step : Option Exp) (a : Statement) (at : Position) → IsWithinMaybe (length f.pointers) (length f.objects) (length p.functions) test → IsWithinMaybe (length f.pointers) (length f.objects) (length p.functions) step → Leads start → Leads a → Leads (for_loop start test step a at)
+  for_leads : (start : Statement) (test step : Option Exp) (a : Statement) (at : Position) → MayFollow test → MayFollow step → Leads start → Leads a → Leads (for_loop start test step a at)
   for_leads start test step a at w_test w_step leads_start leads r pc out on code ks le k m σ place h go =
       let mark = pc + statement_size start in
       let body = mark + 1 + test_size test in
@@ -217,18 +226,26 @@ module _ (p : Program) (s : SetupView) (t : ℕ) (i : ℕ) (f : Function) (is : 
       (λ n v line σ'' ret shows'' later''. go n (returns v line) σ'' (record { reached = ret; shows = shows''; later = omega (arith, later, later'') }))
       s.limit o σ' place' shows (omega arith) (omega arith)) go)
 
+  follow : (e : Exp) → IsWithinExp f.pointers (length f.objects) (length p.functions) e → Follow (kept e)
+  follow e w = exp_follows p s t i f is callers budget calls serves e w
+
+  may_follow : (e : Option Exp) → IsWithinMaybe f.pointers (length f.objects) (length p.functions) e → MayFollow (maybe_kept e)
+  may_follow None w = tt
+  may_follow (Some e) w = exp_follows p s t i f is callers budget calls serves e w
+
   mutual
-    pub statement_leads : (a : Statement) → Within a → Leads a
+    -- the code of a statement with its copies
+    pub statement_leads : (a : Statement) → Within a → Leads (statement_kept a)
     statement_leads (block ss) w = statements_lead ss w
-    statement_leads (compute e) w = compute_leads e w
-    statement_leads (branch e a b at) w = branch_leads e a b at w.0 (statement_leads a w.1) (statement_leads b w.2)
-    statement_leads (while_loop e a at) w = while_leads e a at w.0 (statement_leads a w.1)
-    statement_leads (do_loop a e at) w = do_leads a e at w.1 (statement_leads a w.0)
-    statement_leads (for_loop start test step a at) w = for_leads start test step a at w.1 w.2 (statement_leads start w.0) (statement_leads a w.3)
+    statement_leads (compute e) w = compute_leads (kept e) (follow e w)
+    statement_leads (branch e a b at) w = branch_leads (kept e) (statement_kept a) (statement_kept b) at (follow e w.0) (statement_leads a w.1) (statement_leads b w.2)
+    statement_leads (while_loop e a at) w = while_leads (kept e) (statement_kept a) at (follow e w.0) (statement_leads a w.1)
+    statement_leads (do_loop a e at) w = do_leads (statement_kept a) (kept e) at (follow e w.1) (statement_leads a w.0)
+    statement_leads (for_loop start test step a at) w = for_leads (statement_kept start) (maybe_kept test) (maybe_kept step) (statement_kept a) at (may_follow test w.1) (may_follow step w.2) (statement_leads start w.0) (statement_leads a w.3)
     statement_leads (break_at at) w = break_leads at
     statement_leads (continue_at at) w = continue_leads at
-    statement_leads (gives e at) w = gives_leads e at w
+    statement_leads (gives e at) w = gives_leads (maybe_kept e) at (may_follow e w)
 
-    pub statements_lead : (ss : Statements) → AreWithinStatements (length f.pointers) (length f.objects) (length p.functions) ss → LeadAll ss
+    pub statements_lead : (ss : Statements) → AreWithinStatements f.pointers (length f.objects) (length p.functions) ss → LeadAll (statements_kept ss)
     statements_lead no_statement w = no_statement_leads
-    statements_lead (and_statement a ss) w = and_statement_leads a ss (statement_leads a w.0) (statements_lead ss w.1)
+    statements_lead (and_statement a ss) w = and_statement_leads (statement_kept a) (statements_kept ss) (statement_leads a w.0) (statements_lead ss w.1)

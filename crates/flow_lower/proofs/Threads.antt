@@ -9,13 +9,15 @@ use Rattle.sync_objects.specs.declared.operation.Op.TheVariants as op
 use Rattle.rr_base.specs.declared.trap.Trap.TheVariants as trap
 use Rattle.flow_code.specs.declared.thread.Phase.{Phase}
 use Rattle.flow_code.specs.declared.thread.Phase.TheVariants as phase
-use Rattle.flow_code.specs.declared.thread.Due.{Due}
-use Rattle.flow_code.specs.declared.thread.Due.TheVariants as due
-use Rattle.flow_code.specs.declared.thread.Action.TheVariants as action
-use Rattle.flow_code.specs.Values.{word}
-use Rattle.flow_code.specs.Library.{count_in}
-use Rattle.flow_code.specs.Threads.{Frame, Thread, argument_cell, line_of, line_of_function}
-use Rattle.flow_code.specs.Next.{due_of, action_of, action_at, stepped, listed, limited, owing, first_owed, most_entries, phase_due, phase_after, after_due, one_more, or_else, enter_due, counted}
+use Rattle.abstract_machine.specs.declared.event.Due.{Due}
+use Rattle.abstract_machine.specs.declared.event.Due.TheVariants as due
+use Rattle.abstract_machine.specs.declared.event.Action.TheVariants as action
+use Rattle.abstract_machine.specs.Values.{word}
+use Rattle.abstract_machine.specs.Library.{count_in}
+use Rattle.flow_code.specs.Threads.{Frame, Thread, line_of, line_of_function}
+use Rattle.abstract_machine.specs.Cells.{argument_cell}
+use Rattle.flow_code.specs.Next.{due_of, action_of, action_at, stepped, listed, limited, owing, first_owed, phase_due, phase_after, after_due, one_more, or_else, enter_due, counted}
+use Rattle.abstract_machine.specs.Limits.{most_entries}
 use Rattle.flow_code.specs.Next as next
 use Rattle.flow_code.specs.Threads as threads
 use Rattle.c_core.specs.Core.{Function, Program}

@@ -41,11 +41,13 @@ module _ (p : Program) (sound : IsSound p) where
 
   limits : is_within_limits (lowered p) ≡ true
   limits =
-      and_from (nat_le (length (map function_code p.functions)) (2 ^ 20) && nat_le (length p.sites) 1023) (nat_le (length p.globals) (2 ^ 20))
+      and_from (nat_le (length (map function_code p.functions)) (2 ^ 20) && nat_le (length p.sites) 1023 && nat_le (length p.globals) (2 ^ 20)) true
+      (and_from (nat_le (length (map function_code p.functions)) (2 ^ 20) && nat_le (length p.sites) 1023) (nat_le (length p.globals) (2 ^ 20))
       (and_from (nat_le (length (map function_code p.functions)) (2 ^ 20)) (nat_le (length p.sites) 1023)
       (ap (λ n. nat_le n (2 ^ 20)) few ∙ le-leb (length p.functions) (2 ^ 20) sound.few_functions)
       (le-leb (length p.sites) 1023 sound.few_sites))
-      (le-leb (length p.globals) (2 ^ 20) sound.few_cells)
+      (le-leb (length p.globals) (2 ^ 20) sound.few_cells))
+      refl
 
   one_main : has_one_main (lowered p).functions ≡ true
   one_main = and_from (mains_in (map function_code p.functions) == 1) (mains_have_no_formals (map function_code p.functions)) (eq-eqb (mains_in (map function_code p.functions)) 1 (same_count p.functions ∙ sound.one_main)) (no_formals p.functions sound.main_alone)

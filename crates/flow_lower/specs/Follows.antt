@@ -4,13 +4,14 @@ use Rattle.sync_objects.specs.Setup.{SetupView}
 use Rattle.sync_objects.specs.Names.{name_of, is_ending}
 use Rattle.rr_base.specs.declared.trap.Trap.TheVariants as trap
 use Rattle.flow_code.specs.declared.code.Code.{Code}
-use Rattle.flow_code.specs.declared.thread.Action.{Action}
-use Rattle.flow_code.specs.declared.thread.Action.TheVariants as action
-use Rattle.flow_code.specs.declared.thread.Due.TheVariants as due
+use Rattle.abstract_machine.specs.declared.event.Action.{Action}
+use Rattle.abstract_machine.specs.declared.event.Action.TheVariants as action
+use Rattle.abstract_machine.specs.declared.event.Due.TheVariants as due
 use Rattle.flow_code.specs.declared.thread.Phase.{Phase}
 use Rattle.flow_code.specs.declared.thread.Phase.TheVariants as phase
 use Rattle.flow_code.specs.Threads.{Thread, line_of}
-use Rattle.flow_code.specs.Next.{due_of, action_at, stepped, most_entries}
+use Rattle.flow_code.specs.Next.{due_of, action_at, stepped}
+use Rattle.abstract_machine.specs.Limits.{most_entries}
 use Rattle.c_core.specs.Core.{Program}
 use Rattle.c_core.specs.Runs.{Run, does, traps, ends}
 use Rattle.c_core.specs.Meaning.{main_of, arena_start}

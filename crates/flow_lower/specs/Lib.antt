@@ -1,4 +1,5 @@
 pub mod Follows
+pub mod Kept
 pub mod Loops
 pub mod Lowered
 pub mod Sizes

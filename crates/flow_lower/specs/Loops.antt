@@ -5,10 +5,11 @@ use Rattle.std.specs.Option.{option_zip}
 use Rattle.flow_code.specs.declared.code.LoopInfo.{LoopInfo}
 use Rattle.flow_code.specs.declared.region.Bound.{Bound}
 use Rattle.flow_code.specs.declared.region.Bound.TheVariants as bound
-use Rattle.flow_code.specs.declared.work.BinaryOp.TheVariants as binary_op
+use Rattle.abstract_machine.specs.declared.operator.BinaryOp.TheVariants as binary_op
 use Rattle.c_core.specs.declared.value.Change.TheVariants as change
 use Rattle.c_core.specs.Core as core
 use Rattle.c_core.specs.Core.{Exp, register, binary, set_register, change_register, Statement, block, compute, branch, while_loop, do_loop, for_loop, break_at, continue_at, gives, Statements, no_statement, and_statement}
+use Rattle.flow_lower.specs.Kept.{kept, maybe_kept, statement_kept}
 use Rattle.flow_lower.specs.Sizes.{exp_size, maybe_size, test_size, statement_size}
 
 infixl 10 ◌>>=◌
@@ -60,20 +61,24 @@ loop_of test step mark first back = do
 
 -- ---- statements
 
+-- how many instructions there are with all copies that are needed
+abbrev pub lowered_size : Statement → ℕ
+lowered_size s = statement_size (statement_kept s)
+
 abbrev mutual
   -- in the order of the text, where the code of the statement begins at the place pc
   pub statement_loops : Statement → (pc : ℕ) → List LoopInfo
   statement_loops (block ss) pc = statements_loops ss pc
   statement_loops (compute e) pc = []
   statement_loops (branch e a b at) pc =
-      let yes' = pc + exp_size e + 1 in
-      statement_loops a yes' ++ statement_loops b (yes' + statement_size a + 1)
-  statement_loops (while_loop e a at) pc = statement_loops a (pc + 1 + exp_size e + 1)
+      let yes' = pc + exp_size (kept e) + 1 in
+      statement_loops a yes' ++ statement_loops b (yes' + lowered_size a + 1)
+  statement_loops (while_loop e a at) pc = statement_loops a (pc + 1 + exp_size (kept e) + 1)
   statement_loops (do_loop a e at) pc = statement_loops a (pc + 1)
   statement_loops (for_loop start test step a at) pc =
-      let mark = pc + statement_size start in
-      let body = mark + 1 + test_size test in
-      let back = body + statement_size a + maybe_size step in
+      let mark = pc + lowered_size start in
+      let body = mark + 1 + test_size (maybe_kept test) in
+      let back = body + lowered_size a + maybe_size (maybe_kept step) in
       statement_loops start pc ++ (option_to_list (loop_of test step mark body back) ++ statement_loops a body)
   statement_loops (break_at at) pc = []
   statement_loops (continue_at at) pc = []
@@ -81,4 +86,4 @@ abbrev mutual
 
   pub statements_loops : Statements → (pc : ℕ) → List LoopInfo
   statements_loops no_statement pc = []
-  statements_loops (and_statement s ss) pc = statement_loops s pc ++ statements_loops ss (pc + statement_size s)
+  statements_loops (and_statement s ss) pc = statement_loops s pc ++ statements_loops ss (pc + lowered_size s)

@@ -3,12 +3,12 @@ use Rattle.std.specs.Prelude.{ℕ, ◌+◌, Bool, true, false, if◌then◌else�
 use Rattle.flow_code.specs.declared.act.Act.{Act}
 use Rattle.flow_code.specs.declared.act.Act.TheVariants as act
 use Rattle.flow_code.specs.declared.act.Instr.{Instr}
-use Rattle.flow_code.specs.declared.act.LibraryCall.{LibraryCall}
+use Rattle.abstract_machine.specs.declared.library_call.LibraryCall.{LibraryCall}
 use Rattle.flow_code.specs.declared.work.Work.{Work}
 use Rattle.flow_code.specs.declared.work.Work.TheVariants as work
 use Rattle.flow_code.specs.declared.code.Code.{Code}
 use Rattle.flow_code.specs.declared.code.Function.{Function as FlowFunction}
-use Rattle.c_core.specs.declared.position.Position.{Position}
+use Rattle.rr_base.specs.declared.position.Position.{Position}
 use Rattle.c_core.specs.declared.value.UnaryOp.{UnaryOp}
 use Rattle.c_core.specs.declared.value.UnaryOp.TheVariants as unary_op
 use Rattle.c_core.specs.declared.value.Change.{Change}
@@ -16,6 +16,7 @@ use Rattle.c_core.specs.declared.value.Change.TheVariants as change
 use Rattle.c_core.specs.Core as core
 use Rattle.c_core.specs.Core.{Exp, null, register, object, global, load, unary, binary, move, advance, member, between, to_pointer, to_number, copy, both, either, conditional, comma, set_register, store, change_register, change_cell, call, library, allocate, Exps, no_exp, and_exp, Statement, block, compute, branch, while_loop, do_loop, for_loop, break_at, continue_at, gives, Statements, no_statement, and_statement, Arrival, arrives, Function, Program}
 use Rattle.c_core.specs.Meaning.{is_pointer, is_pointer_change}
+use Rattle.flow_lower.specs.Kept.{statement_kept}
 use Rattle.flow_lower.specs.Loops.{statement_loops}
 pub use Rattle.flow_lower.specs.Sizes.{gives_nothing, library_size, exp_size, exps_size, maybe_size, test_size, statement_size, statements_size}
 
@@ -30,13 +31,14 @@ computes at into w = one at (act.Compute into w)
 
 -- ---- how many registers the values of an expression and its parts need, and which of these are pointers
 
--- the value of an expression comes first, then those of its parts
+-- The value of an expression comes first, then those of its parts. That of a named register is this register, and that of an
+-- object the register which has its address.
 abbrev mutual
   pub exp_kinds : Exp → List Bool
   exp_kinds (core.number z at) = false ∷ []
   exp_kinds (null at) = true ∷ []
-  exp_kinds (register n pointer at) = pointer ∷ []
-  exp_kinds (object n at) = true ∷ []
+  exp_kinds (register n pointer at) = []
+  exp_kinds (object n at) = []
   exp_kinds (global address at) = true ∷ []
   exp_kinds (load e pointer at) = pointer ∷ exp_kinds e
   exp_kinds (unary o e at) = false ∷ exp_kinds e
@@ -99,10 +101,17 @@ abbrev pub change_work : Change → ℕ → ℕ → Work
 change_work (change.Compute o) r by = work.Binary o r by
 change_work (change.Move element back) r by = work.Move r by element back
 
--- the registers of the values of some expressions, the first of which has the register r
-abbrev pub value_registers : ℕ → Exps → List ℕ
-value_registers r no_exp = []
-value_registers r (and_exp e es) = r ∷ value_registers (r + width e) es
+-- The register that has the value of an expression, where those from r on are free. The addresses of the function's objects
+-- are in the registers from `first` on.
+abbrev pub held : (first : ℕ) → Exp → (r : ℕ) → ℕ
+held first (register n pointer at) r = n
+held first (object n at) r = first + n
+held first _ r = r
+
+-- those of the values of some expressions
+abbrev pub value_registers : (first : ℕ) → ℕ → Exps → List ℕ
+value_registers first r no_exp = []
+value_registers first r (and_exp e es) = held first e r ∷ value_registers first (r + width e) es
 
 -- 1 or 0 for the register r, from the place pc on, where the word in the register x is tested
 abbrev pub truth_code : Position → ℕ → ℕ → ℕ → List Instr
@@ -113,50 +122,50 @@ abbrev pub library_code : Position → ℕ → LibraryCall → List ℕ → List
 library_code at r c arguments = if gives_nothing c then instr at (act.Library c arguments None) ∷ computes at r (work.Constant (pos 0)) else one at (act.Library c arguments (Some r))
 
 abbrev mutual
-  -- The code from the place pc on: the value comes into the register r, and those behind it are free. The addresses of the
-  -- function's objects are in the registers from `first` on.
+  -- The code from the place pc on. The registers from r on are free.
   pub exp_code : (first : ℕ) → Exp → (r pc : ℕ) → List Instr
   exp_code first (core.number z at) r pc = computes at r (work.Constant z)
   exp_code first (null at) r pc = computes at r (work.Constant (pos 0))
-  exp_code first (register n pointer at) r pc = computes at r (work.Copy n)
-  exp_code first (object n at) r pc = computes at r (work.Copy (first + n))
+  exp_code first (register n pointer at) r pc = []
+  exp_code first (object n at) r pc = []
   exp_code first (global address at) r pc = computes at r (work.Address address)
-  exp_code first (load e pointer at) r pc = exp_code first e (r + 1) pc ++ one at (act.LoadCell r (r + 1))
-  exp_code first (unary o e at) r pc = exp_code first e (r + 1) pc ++ computes at r (unary_work o (r + 1))
-  exp_code first (binary o a b at) r pc = exp_code first a (r + 1) pc ++ (exp_code first b (r + 1 + width a) (pc + exp_size a) ++ computes at r (work.Binary o (r + 1) (r + 1 + width a)))
-  exp_code first (move a b element back at) r pc = exp_code first a (r + 1) pc ++ (exp_code first b (r + 1 + width a) (pc + exp_size a) ++ computes at r (work.Move (r + 1) (r + 1 + width a) element back))
-  exp_code first (advance a b element at) r pc = exp_code first a (r + 1) pc ++ (exp_code first b (r + 1 + width a) (pc + exp_size a) ++ computes at r (work.Move (r + 1 + width a) (r + 1) element false))
-  exp_code first (member a by at) r pc = exp_code first a (r + 1) pc ++ computes at r (work.Member (r + 1) by)
-  exp_code first (between a b element at) r pc = exp_code first a (r + 1) pc ++ (exp_code first b (r + 1 + width a) (pc + exp_size a) ++ computes at r (work.Between (r + 1) (r + 1 + width a) element))
-  exp_code first (to_pointer a at) r pc = exp_code first a (r + 1) pc ++ computes at r (work.ToPointer (r + 1))
-  exp_code first (to_number a at) r pc = exp_code first a (r + 1) pc ++ computes at r (work.ToNumber (r + 1))
-  exp_code first (copy a at) r pc = exp_code first a (r + 1) pc ++ computes at r (work.Copy (r + 1))
+  exp_code first (load e pointer at) r pc = exp_code first e (r + 1) pc ++ one at (act.LoadCell r (held first e (r + 1)))
+  exp_code first (unary o e at) r pc = exp_code first e (r + 1) pc ++ computes at r (unary_work o (held first e (r + 1)))
+  exp_code first (binary o a b at) r pc = exp_code first a (r + 1) pc ++ (exp_code first b (r + 1 + width a) (pc + exp_size a) ++ computes at r (work.Binary o (held first a (r + 1)) (held first b (r + 1 + width a))))
+  exp_code first (move a b element back at) r pc = exp_code first a (r + 1) pc ++ (exp_code first b (r + 1 + width a) (pc + exp_size a) ++ computes at r (work.Move (held first a (r + 1)) (held first b (r + 1 + width a)) element back))
+  exp_code first (advance a b element at) r pc = exp_code first a (r + 1) pc ++ (exp_code first b (r + 1 + width a) (pc + exp_size a) ++ computes at r (work.Move (held first b (r + 1 + width a)) (held first a (r + 1)) element false))
+  exp_code first (member a by at) r pc = exp_code first a (r + 1) pc ++ computes at r (work.Member (held first a (r + 1)) by)
+  exp_code first (between a b element at) r pc = exp_code first a (r + 1) pc ++ (exp_code first b (r + 1 + width a) (pc + exp_size a) ++ computes at r (work.Between (held first a (r + 1)) (held first b (r + 1 + width a)) element))
+  exp_code first (to_pointer a at) r pc = exp_code first a (r + 1) pc ++ computes at r (work.ToPointer (held first a (r + 1)))
+  exp_code first (to_number a at) r pc = exp_code first a (r + 1) pc ++ computes at r (work.ToNumber (held first a (r + 1)))
+  exp_code first (copy a at) r pc = exp_code first a (r + 1) pc ++ computes at r (work.Copy (held first a (r + 1)))
   exp_code first (both a b at) r pc =
       let second = pc + exp_size a + 1 in
       let tested = second + exp_size b in
-      exp_code first a (r + 1) pc ++ (instr at (act.Branch (r + 1) second (tested + 3)) ∷ (exp_code first b (r + 1 + width a) second ++ truth_code at r (r + 1 + width a) tested))
+      exp_code first a (r + 1) pc ++ (instr at (act.Branch (held first a (r + 1)) second (tested + 3)) ∷ (exp_code first b (r + 1 + width a) second ++ truth_code at r (held first b (r + 1 + width a)) tested))
   exp_code first (either a b at) r pc =
       let second = pc + exp_size a + 1 in
       let tested = second + exp_size b in
-      exp_code first a (r + 1) pc ++ (instr at (act.Branch (r + 1) (tested + 1) second) ∷ (exp_code first b (r + 1 + width a) second ++ truth_code at r (r + 1 + width a) tested))
+      exp_code first a (r + 1) pc ++ (instr at (act.Branch (held first a (r + 1)) (tested + 1) second) ∷ (exp_code first b (r + 1 + width a) second ++ truth_code at r (held first b (r + 1 + width a)) tested))
   exp_code first (conditional a b c at) r pc =
       let yes' = pc + exp_size a + 1 in
       let no' = yes' + exp_size b + 2 in
-      exp_code first a (r + 1) pc ++ (instr at (act.Branch (r + 1) yes' no') ∷
-      (exp_code first b (r + 1 + width a) yes' ++ (instr at (act.Compute r (work.Copy (r + 1 + width a))) ∷ instr at (act.Jump (no' + exp_size c + 1)) ∷
-      (exp_code first c (r + 1 + width a + width b) no' ++ computes at r (work.Copy (r + 1 + width a + width b))))))
-  exp_code first (comma a b at) r pc = exp_code first a (r + 1) pc ++ (exp_code first b (r + 1 + width a) (pc + exp_size a) ++ computes at r (work.Copy (r + 1 + width a)))
-  exp_code first (set_register n a at) r pc = exp_code first a (r + 1) pc ++ (instr at (act.Compute n (work.Copy (r + 1))) ∷ computes at r (work.Copy (r + 1)))
-  exp_code first (store a b at) r pc = exp_code first a (r + 1) pc ++ (exp_code first b (r + 1 + width a) (pc + exp_size a) ++ (instr at (act.StoreCell (r + 1) (r + 1 + width a)) ∷ computes at r (work.Copy (r + 1 + width a))))
+      exp_code first a (r + 1) pc ++ (instr at (act.Branch (held first a (r + 1)) yes' no') ∷
+      (exp_code first b (r + 1 + width a) yes' ++ (instr at (act.Compute r (work.Copy (held first b (r + 1 + width a)))) ∷ instr at (act.Jump (no' + exp_size c + 1)) ∷
+      (exp_code first c (r + 1 + width a + width b) no' ++ computes at r (work.Copy (held first c (r + 1 + width a + width b)))))))
+  exp_code first (comma a b at) r pc = exp_code first a (r + 1) pc ++ (exp_code first b (r + 1 + width a) (pc + exp_size a) ++ computes at r (work.Copy (held first b (r + 1 + width a))))
+  exp_code first (set_register n a at) r pc = exp_code first a (r + 1) pc ++ (instr at (act.Compute n (work.Copy (held first a (r + 1)))) ∷ computes at r (work.Copy (held first a (r + 1))))
+  exp_code first (store a b at) r pc = exp_code first a (r + 1) pc ++ (exp_code first b (r + 1 + width a) (pc + exp_size a) ++ (instr at (act.StoreCell (held first a (r + 1)) (held first b (r + 1 + width a))) ∷ computes at r (work.Copy (held first b (r + 1 + width a)))))
+  -- the register is read before the operand, and assigned behind it, so its word is copied
   exp_code first (change_register n c b old at) r pc =
       instr at (act.Compute (r + 1) (work.Copy n)) ∷ (exp_code first b (r + 3) (pc + 1) ++
-      (instr at (act.Compute (r + 2) (change_work c (r + 1) (r + 3))) ∷ instr at (act.Compute n (work.Copy (r + 2))) ∷ computes at r (work.Copy (if old then r + 1 else r + 2))))
+      (instr at (act.Compute (r + 2) (change_work c (r + 1) (held first b (r + 3)))) ∷ instr at (act.Compute n (work.Copy (r + 2))) ∷ computes at r (work.Copy (if old then r + 1 else r + 2))))
   exp_code first (change_cell a loaded c b old at) r pc =
-      exp_code first a (r + 3) pc ++ (instr loaded (act.LoadCell (r + 1) (r + 3)) ∷ (exp_code first b (r + 3 + width a) (pc + exp_size a + 1) ++
-      (instr at (act.Compute (r + 2) (change_work c (r + 1) (r + 3 + width a))) ∷ instr at (act.StoreCell (r + 3) (r + 2)) ∷ computes at r (work.Copy (if old then r + 1 else r + 2)))))
-  exp_code first (call f es pointer at) r pc = exps_code first es (r + 1) pc ++ one at (act.Call f (value_registers (r + 1) es) (Some r))
-  exp_code first (library c es at) r pc = exps_code first es (r + 1) pc ++ library_code at r c (value_registers (r + 1) es)
-  exp_code first (allocate site a at) r pc = exp_code first a (r + 1) pc ++ one at (act.Alloc r site (Some (r + 1)))
+      exp_code first a (r + 3) pc ++ (instr loaded (act.LoadCell (r + 1) (held first a (r + 3))) ∷ (exp_code first b (r + 3 + width a) (pc + exp_size a + 1) ++
+      (instr at (act.Compute (r + 2) (change_work c (r + 1) (held first b (r + 3 + width a)))) ∷ instr at (act.StoreCell (held first a (r + 3)) (r + 2)) ∷ computes at r (work.Copy (if old then r + 1 else r + 2)))))
+  exp_code first (call f es pointer at) r pc = exps_code first es (r + 1) pc ++ one at (act.Call f (value_registers first (r + 1) es) (Some r))
+  exp_code first (library c es at) r pc = exps_code first es (r + 1) pc ++ library_code at r c (value_registers first (r + 1) es)
+  exp_code first (allocate site a at) r pc = exp_code first a (r + 1) pc ++ one at (act.Alloc r site (Some (held first a (r + 1))))
 
   pub exps_code : (first : ℕ) → Exps → (r pc : ℕ) → List Instr
   exps_code first no_exp r pc = []
@@ -171,11 +180,11 @@ maybe_code first (Some e) r pc = exp_code first e r pc
 -- the body follows; where the condition doesn't hold, the loop is left for the place `out`
 abbrev pub test_code : (first : ℕ) → Position → Option Exp → (r pc out : ℕ) → List Instr
 test_code first at None r pc out = []
-test_code first at (Some e) r pc out = exp_code first e r pc ++ one at (act.Branch r (pc + exp_size e + 1) out)
+test_code first at (Some e) r pc out = exp_code first e r pc ++ one at (act.Branch (held first e r) (pc + exp_size e + 1) out)
 
 abbrev pub return_code : (first : ℕ) → Position → Option Exp → (r pc : ℕ) → List Instr
 return_code first at None r pc = one at (act.Return None)
-return_code first at (Some e) r pc = exp_code first e r pc ++ one at (act.Return (Some r))
+return_code first at (Some e) r pc = exp_code first e r pc ++ one at (act.Return (Some (held first e r)))
 
 abbrev mutual
   -- a loop round it is left for the place `out`, and continued at the place `on`
@@ -185,19 +194,19 @@ abbrev mutual
   statement_code first (branch e a b at) r pc out on =
       let yes' = pc + exp_size e + 1 in
       let no' = yes' + statement_size a + 1 in
-      exp_code first e r pc ++ (instr at (act.Branch r yes' no') ∷
+      exp_code first e r pc ++ (instr at (act.Branch (held first e r) yes' no') ∷
       (statement_code first a (r + width e) yes' out on ++ (instr at (act.Jump (no' + statement_size b)) ∷
       statement_code first b (r + width e + length (statement_kinds a)) no' out on)))
   statement_code first (while_loop e a at) r pc out on =
       let body = pc + 1 + exp_size e + 1 in
       let end = body + statement_size a + 1 in
-      instr at act.Mark ∷ (exp_code first e r (pc + 1) ++ (instr at (act.Branch r body end) ∷
+      instr at act.Mark ∷ (exp_code first e r (pc + 1) ++ (instr at (act.Branch (held first e r) body end) ∷
       (statement_code first a (r + width e) body end (body + statement_size a) ++ one at (act.Jump pc))))
   statement_code first (do_loop a e at) r pc out on =
       let test = pc + 1 + statement_size a in
       let end = test + exp_size e + 1 in
       instr at act.Mark ∷ (statement_code first a r (pc + 1) end test ++
-      (exp_code first e (r + length (statement_kinds a)) test ++ one at (act.Branch (r + length (statement_kinds a)) pc end)))
+      (exp_code first e (r + length (statement_kinds a)) test ++ one at (act.Branch (held first e (r + length (statement_kinds a))) pc end)))
   statement_code first (for_loop start test step a at) r pc out on =
       let mark = pc + statement_size start in
       let body = mark + 1 + test_size test in
@@ -231,18 +240,22 @@ abbrev pub arrivals_code : (first : ℕ) → List Arrival → List Instr
 arrivals_code first [] = []
 arrivals_code first (arrives n k at ∷ more) = instr at (act.StoreCell (first + k) n) ∷ arrivals_code first more
 
+-- the body with all copies that are needed
+abbrev pub body_kept : Function → Statement
+body_kept f = statement_kept f.body
+
 -- outside of loops nothing is left or continued
 abbrev pub body_code : Function → List Instr
 body_code f =
     let first = length f.pointers in
     let pc = length f.objects + length f.arrivals in
-    let end = pc + statement_size f.body in
+    let end = pc + statement_size (body_kept f) in
     objects_code f.place first f.objects ++
     (arrivals_code first f.arrivals ++
-    (statement_code first f.body (first + length f.objects) pc end end ++ one f.place (act.Return None)))
+    (statement_code first (body_kept f) (first + length f.objects) pc end end ++ one f.place (act.Return None)))
 
 abbrev pub function_kinds : Function → List Bool
-function_kinds f = f.pointers ++ (replicate (length f.objects) true ++ statement_kinds f.body)
+function_kinds f = f.pointers ++ (replicate (length f.objects) true ++ statement_kinds (body_kept f))
 
 abbrev pub function_code : Function → FlowFunction
 function_code f = record {

@@ -1,7 +1,7 @@
 -- How many instructions the code of a core tree has.
 use Rattle.std.specs.Prelude.{ℕ, ◌+◌, Bool, true, false, if◌then◌else◌, Option, Some, None}
-use Rattle.flow_code.specs.declared.act.LibraryCall.{LibraryCall}
-use Rattle.flow_code.specs.declared.act.LibraryCall.TheVariants as library_call
+use Rattle.abstract_machine.specs.declared.library_call.LibraryCall.{LibraryCall}
+use Rattle.abstract_machine.specs.declared.library_call.LibraryCall.TheVariants as library_call
 use Rattle.c_core.specs.Core as core
 use Rattle.c_core.specs.Core.{Exp, null, register, object, global, load, unary, binary, move, advance, member, between, to_pointer, to_number, copy, both, either, conditional, comma, set_register, store, change_register, change_cell, call, library, allocate, Exps, no_exp, and_exp, Statement, block, compute, branch, while_loop, do_loop, for_loop, break_at, continue_at, gives, Statements, no_statement, and_statement}
 
@@ -18,8 +18,9 @@ abbrev mutual
   pub exp_size : Exp → ℕ
   exp_size (core.number z at) = 1
   exp_size (null at) = 1
-  exp_size (register n pointer at) = 1
-  exp_size (object n at) = 1
+  -- the value is there already
+  exp_size (register n pointer at) = 0
+  exp_size (object n at) = 0
   exp_size (global address at) = 1
   exp_size (load e pointer at) = exp_size e + 1
   exp_size (unary o e at) = exp_size e + 1

@@ -5,11 +5,11 @@ use Rattle.rr_base.specs.Words.{pack}
 use Rattle.rr_base.specs.declared.layout.CellKind.{CellKind}
 use Rattle.rr_base.specs.declared.layout.CellKind.TheVariants as kind
 use Rattle.rr_base.specs.declared.layout.Site.{Site}
-use Rattle.flow_code.specs.declared.act.LibraryCall.{LibraryCall}
-use Rattle.flow_code.specs.declared.act.LibraryCall.TheVariants as library_call
-use Rattle.flow_code.specs.declared.work.BinaryOp.{BinaryOp}
-use Rattle.flow_code.specs.Pointers.{site_at}
-use Rattle.flow_code.specs.Threads.{size_of}
+use Rattle.abstract_machine.specs.declared.library_call.LibraryCall.{LibraryCall}
+use Rattle.abstract_machine.specs.declared.library_call.LibraryCall.TheVariants as library_call
+use Rattle.abstract_machine.specs.declared.operator.BinaryOp.{BinaryOp}
+use Rattle.abstract_machine.specs.Pointers.{site_at}
+use Rattle.abstract_machine.specs.Cells.{size_of}
 use Rattle.flow_code.specs.Kinds.{is_comparison, library_kinds}
 use Rattle.flow_code.specs.Valid.{sites_fit}
 use Rattle.c_core.specs.declared.value.UnaryOp.{UnaryOp}

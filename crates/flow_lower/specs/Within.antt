@@ -1,15 +1,16 @@
 -- What a core tree names is there.
-use Rattle.std.specs.Prelude.{◌≡◌, ℕ, ◌<◌, List, [], ◌∷◌, length, slice_get, Option, Some, None}
+use Rattle.std.specs.Prelude.{◌≡◌, ℕ, ◌<◌, Bool, List, [], ◌∷◌, length, slice_get, Option, Some, None}
 use Rattle.c_core.specs.Core as core
 use Rattle.c_core.specs.Core.{Exp, null, register, object, global, load, unary, binary, move, advance, member, between, to_pointer, to_number, copy, both, either, conditional, comma, set_register, store, change_register, change_cell, call, library, allocate, Exps, no_exp, and_exp, Statement, block, compute, branch, while_loop, do_loop, for_loop, break_at, continue_at, gives, Statements, no_statement, and_statement, Arrival, arrives, Function, Program}
 use Rattle.c_core.specs.Meaning.{main_of}
 
--- registers, objects and functions, of which there are so many
+-- Objects and functions, of which there are so many, and registers, of which it is told whether they are pointers. A register
+-- that is read or changed is of the kind that the tree says.
 abbrev mutual
-  pub IsWithinExp : (registers objects functions : ℕ) → Exp → Type 0
+  pub IsWithinExp : (registers : List Bool) (objects functions : ℕ) → Exp → Type 0
   IsWithinExp rs os fs (core.number z at) = Unit {0}
   IsWithinExp rs os fs (null at) = Unit {0}
-  IsWithinExp rs os fs (register n pointer at) = n < rs
+  IsWithinExp rs os fs (register n pointer at) = slice_get rs n ≡ Some pointer
   IsWithinExp rs os fs (object n at) = n < os
   IsWithinExp rs os fs (global address at) = Unit {0}
   IsWithinExp rs os fs (load e pointer at) = IsWithinExp rs os fs e
@@ -26,24 +27,24 @@ abbrev mutual
   IsWithinExp rs os fs (either a b at) = IsWithinExp rs os fs a × IsWithinExp rs os fs b
   IsWithinExp rs os fs (conditional a b c at) = IsWithinExp rs os fs a × IsWithinExp rs os fs b × IsWithinExp rs os fs c
   IsWithinExp rs os fs (comma a b at) = IsWithinExp rs os fs a × IsWithinExp rs os fs b
-  IsWithinExp rs os fs (set_register n a at) = (n < rs) × IsWithinExp rs os fs a
+  IsWithinExp rs os fs (set_register n a at) = (n < length rs) × IsWithinExp rs os fs a
   IsWithinExp rs os fs (store a b at) = IsWithinExp rs os fs a × IsWithinExp rs os fs b
-  IsWithinExp rs os fs (change_register n c b old at) = (n < rs) × IsWithinExp rs os fs b
+  IsWithinExp rs os fs (change_register n c b old at) = (n < length rs) × IsWithinExp rs os fs b
   IsWithinExp rs os fs (change_cell a loaded c b old at) = IsWithinExp rs os fs a × IsWithinExp rs os fs b
   IsWithinExp rs os fs (call f es pointer at) = (f < fs) × AreWithin rs os fs es
   IsWithinExp rs os fs (library c es at) = AreWithin rs os fs es
   IsWithinExp rs os fs (allocate site a at) = IsWithinExp rs os fs a
 
-  pub AreWithin : (registers objects functions : ℕ) → Exps → Type 0
+  pub AreWithin : (registers : List Bool) (objects functions : ℕ) → Exps → Type 0
   AreWithin rs os fs no_exp = Unit {0}
   AreWithin rs os fs (and_exp e es) = IsWithinExp rs os fs e × AreWithin rs os fs es
 
-abbrev pub IsWithinMaybe : (registers objects functions : ℕ) → Option Exp → Type 0
+abbrev pub IsWithinMaybe : (registers : List Bool) (objects functions : ℕ) → Option Exp → Type 0
 IsWithinMaybe rs os fs None = Unit {0}
 IsWithinMaybe rs os fs (Some e) = IsWithinExp rs os fs e
 
 abbrev mutual
-  pub IsWithinStatement : (registers objects functions : ℕ) → Statement → Type 0
+  pub IsWithinStatement : (registers : List Bool) (objects functions : ℕ) → Statement → Type 0
   IsWithinStatement rs os fs (block ss) = AreWithinStatements rs os fs ss
   IsWithinStatement rs os fs (compute e) = IsWithinExp rs os fs e
   IsWithinStatement rs os fs (branch e a b at) = IsWithinExp rs os fs e × IsWithinStatement rs os fs a × IsWithinStatement rs os fs b
@@ -54,7 +55,7 @@ abbrev mutual
   IsWithinStatement rs os fs (continue_at at) = Unit {0}
   IsWithinStatement rs os fs (gives e at) = IsWithinMaybe rs os fs e
 
-  pub AreWithinStatements : (registers objects functions : ℕ) → Statements → Type 0
+  pub AreWithinStatements : (registers : List Bool) (objects functions : ℕ) → Statements → Type 0
   AreWithinStatements rs os fs no_statement = Unit {0}
   AreWithinStatements rs os fs (and_statement a ss) = IsWithinStatement rs os fs a × AreWithinStatements rs os fs ss
 
@@ -63,7 +64,7 @@ AreWithinArrivals rs os [] = Unit {0}
 AreWithinArrivals rs os (arrives n k at ∷ more) = (n < rs) × (k < os) × AreWithinArrivals rs os more
 
 abbrev pub IsWithinFunction : ℕ → Function → Type 0
-IsWithinFunction fs f = AreWithinArrivals (length f.pointers) (length f.objects) f.arrivals × IsWithinStatement (length f.pointers) (length f.objects) fs f.body
+IsWithinFunction fs f = AreWithinArrivals (length f.pointers) (length f.objects) f.arrivals × IsWithinStatement f.pointers (length f.objects) fs f.body
 
 -- each function's registers, objects and functions are there, and so is `main`
 pub record IsWithin (p : Program) : Type 0 where

@@ -2,12 +2,14 @@
 ghost use Rattle.std.specs.Prelude.{◌≡◌, ◌+◌, ◌≤◌, ◌++◌, map, option_to_list, IfOk, OnOk};
 ghost use Rattle.c_core.specs.Core.{listed_statements};
 ghost use Rattle.c_core.specs.View.{exp_of, maybe_of, stmt_of};
+ghost use Rattle.flow_lower.specs.Kept.{kept, maybe_kept, statement_kept, statements_kept};
 ghost use Rattle.flow_lower.specs.Sizes as size;
 ghost use Rattle.flow_lower.specs.Loops as spec;
 
 use crate::sizes::{maybe_size, statement_size, sum, test_size, value_size};
+use abstract_machine::BinaryOp;
 use c_core::{Assignment, Change, Operation, Simple, Statement, Value};
-use flow_code::{BinaryOp, Bound, LoopInfo};
+use flow_code::{Bound, LoopInfo};
 use rr_base::List;
 use std::alloc::AllocError;
 
@@ -136,6 +138,34 @@ fn loop_of(
     }
 }
 
+/// Behind a condition and its branch that begin at the place.
+fn behind_branch(place: u32, test: &Value) -> Result<u32, AllocError>
+    ensures { IfOk result (λ n. n ≡ place + size.exp_size (kept (exp_of test.now)) + 1) }
+{
+    sum(sum(place, value_size(test)?)?, 1)
+}
+
+/// Behind a `return` that begins at the place.
+fn behind_return(place: u32, value: &Option<Value>) -> Result<u32, AllocError>
+    ensures { IfOk result (λ n. n ≡ place + size.maybe_size (maybe_kept (maybe_of value.now)) + 1) }
+{
+    sum(sum(place, maybe_size(value)?)?, 1)
+}
+
+/// Where the body of a `for` begins whose Mark is at the place.
+fn body_of_for(mark: u32, test: &Option<Value>) -> Result<u32, AllocError>
+    ensures { IfOk result (λ n. n ≡ mark + 1 + size.test_size (maybe_kept (maybe_of test.now))) }
+{
+    sum(sum(mark, 1)?, test_size(test)?)
+}
+
+/// Where the jump back of a loop stands whose body begins at the place.
+fn back_behind(first: u32, body: &Statement, step: &Option<Value>) -> Result<u32, AllocError>
+    ensures { IfOk result (λ n. n ≡ first + size.statement_size (statement_kept (stmt_of body.now)) + size.maybe_size (maybe_kept (maybe_of step.now))) }
+{
+    sum(sum(first, statement_size(body)?)?, maybe_size(step)?)
+}
+
 fn push_loop(found: Option<LoopInfo>, out: &mut List<LoopInfo>) -> Result<(), AllocError>
     ensures { OnOk result (out.new ≡ out.old ++ option_to_list found) }
 {
@@ -152,25 +182,24 @@ pub fn push_statement_loops(
     place: u32,
     out: &mut List<LoopInfo>,
 ) -> Result<u32, AllocError>
-    ensures end { IfOk result (λ n. n ≡ place + size.statement_size (stmt_of stmt.now)) }
+    ensures end { IfOk result (λ n. n ≡ place + size.statement_size (statement_kept (stmt_of stmt.now))) }
     ensures out { OnOk result (out.new ≡ out.old ++ spec.statement_loops (stmt_of stmt.now) place) }
 {
     match stmt {
         Statement::Block(stmts) => push_loops(stmts.as_slice(), place, out),
         Statement::Compute(value) => sum(place, value_size(value)?),
         Statement::If { test, yes, no, .. } => {
-            let then_at = sum(sum(place, value_size(test)?)?, 1)?;
-            let jump = push_statement_loops(yes, then_at, out)?;
+            let jump = push_statement_loops(yes, behind_branch(place, test)?, out)?;
             push_statement_loops(no, sum(jump, 1)?, out)
         }
         Statement::While { test, body, .. } => {
-            let first = sum(sum(sum(place, 1)?, value_size(test)?)?, 1)?;
+            let first = behind_branch(sum(place, 1)?, test)?;
             let back = push_statement_loops(body, first, out)?;
             sum(back, 1)
         }
         Statement::Do { body, test, .. } => {
             let tested = push_statement_loops(body, sum(place, 1)?, out)?;
-            sum(sum(tested, value_size(test)?)?, 1)
+            behind_branch(tested, test)
         }
         Statement::For {
             start,
@@ -180,22 +209,22 @@ pub fn push_statement_loops(
             ..
         } => {
             let mark = push_statement_loops(start, place, out)?;
-            let first = sum(sum(mark, 1)?, test_size(test)?)?;
-            let back = sum(sum(first, statement_size(body)?)?, maybe_size(step)?)?;
+            let first = body_of_for(mark, test)?;
+            let back = back_behind(first, body, step)?;
             push_loop(loop_of(test, step, mark, first, back), out)?;
             push_statement_loops(body, first, out)?;
             sum(back, 1)
         }
         Statement::Break { .. } => sum(place, 1),
         Statement::Continue { .. } => sum(place, 1),
-        Statement::Return { value, .. } => sum(sum(place, maybe_size(value)?)?, 1),
+        Statement::Return { value, .. } => behind_return(place, value),
     }
 }
 
 /// The counted loops of several statements, one after another.
 #[cycle(statement_loops)]
 fn push_loops(stmts: &[Statement], place: u32, out: &mut List<LoopInfo>) -> Result<u32, AllocError>
-    ensures end { IfOk result (λ n. n ≡ place + size.statements_size (listed_statements (map stmt_of stmts.now))) }
+    ensures end { IfOk result (λ n. n ≡ place + size.statements_size (statements_kept (listed_statements (map stmt_of stmts.now)))) }
     ensures out { OnOk result (out.new ≡ out.old ++ spec.statements_loops (listed_statements (map stmt_of stmts.now)) place) }
 {
     let mut next = place;

@@ -3,9 +3,9 @@ ghost use Rattle.std.specs.Prelude.{◌≡◌, ◌+◌, ◌++◌, ◌∷◌, IfO
 ghost use Rattle.flow_lower.specs.Lowered as spec;
 
 use crate::sizes::sum;
-use c_core::{Change, Position, UnaryOp};
+use c_core::{Change, UnaryOp};
 use flow_code::{Act, Instr, Work};
-use rr_base::List;
+use rr_base::{List, Position};
 use std::alloc::AllocError;
 
 /// The next free register, and the place of the next instruction.

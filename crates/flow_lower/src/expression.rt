@@ -1,209 +1,27 @@
 //! The code of expressions.
-ghost use Rattle.std.specs.Prelude.{◌≡◌, ◌+◌, ◌++◌, ◌∷◌, [], if◌then◌else◌, map, length, pos, Some, IfOk, OnOk};
+ghost use Rattle.std.specs.Prelude.{◌≡◌, ◌+◌, ◌++◌, map, length, false, IfOk, OnOk};
 ghost use Rattle.flow_code.specs.declared.act.Act.TheVariants as act;
 ghost use Rattle.flow_code.specs.declared.work.Work.TheVariants as work;
 ghost use Rattle.c_core.specs.Core.{listed};
-ghost use Rattle.c_core.specs.View.{exp_of, simple_of, operation_of, choice_of, assignment_of, call_of};
+ghost use Rattle.c_core.specs.View.{exp_of, operation_of, choice_of, assignment_of, call_of};
+ghost use Rattle.c_core.specs.Core as core;
+ghost use Rattle.flow_lower.specs.Kept.{kept, all_kept, before, before_all};
 ghost use Rattle.flow_lower.specs.Lowered as spec;
 
-use crate::emit::{Next, change_work, push, push_truth, push_work, unary_work};
-use crate::library::{copy_of, gives_nothing};
-use crate::sizes::{sum, value_size};
-use c_core::{Assignment, Call, Change, Choice, Operation, Position, Simple, Value};
-use flow_code::{Act, Instr, LibraryCall, Work};
-use rr_base::List;
+use crate::copies::{loses, loses_to};
+use crate::emit::{Next, unary_work};
+use crate::library::copy_of;
+use crate::pieces::{
+    Operand, moved, places_of, push_and, push_between, push_binary, push_cell_changed, push_chosen,
+    push_computed, push_given, push_left, push_library, push_loaded, push_old, push_or,
+    push_register_changed, push_set, push_simple, push_stored, push_tested,
+};
+use c_core::{Assignment, Call, Change, Choice, Operation, UnaryOp, Value};
+use flow_code::{Act, Instr, Work};
+use rr_base::{List, Position};
 use std::alloc::{AllocError, Global};
 
-/// An expression without parts: one instruction.
-fn push_alone(
-    out: &mut List<Instr>,
-    at: Position,
-    from: Next,
-    work: Work,
-) -> Result<Next, AllocError>
-    ensures register { IfOk result (λ n. n.register ≡ from.register + 1) }
-    ensures place { IfOk result (λ n. n.place ≡ from.place + 1) }
-    ensures out { OnOk result (out.new ≡ out.old ++ spec.computes at from.register work) }
-{
-    push_work(out, at, from.register, work)?;
-    let next = from.using(1)?;
-    next.behind(1)
-}
-
-/// The last instruction of an expression, whose parts end where `behind` says.
-pub fn push_last(
-    out: &mut List<Instr>,
-    at: Position,
-    behind: Next,
-    act: Act,
-) -> Result<Next, AllocError>
-    ensures register { IfOk result (λ n. n.register ≡ behind.register) }
-    ensures place { IfOk result (λ n. n.place ≡ behind.place + 1) }
-    ensures out { OnOk result (out.new ≡ out.old ++ spec.one at act) }
-{
-    push(out, at, act)?;
-    behind.behind(1)
-}
-
-fn push_computed(
-    out: &mut List<Instr>,
-    at: Position,
-    behind: Next,
-    into: u32,
-    work: Work,
-) -> Result<Next, AllocError>
-    ensures register { IfOk result (λ n. n.register ≡ behind.register) }
-    ensures place { IfOk result (λ n. n.place ≡ behind.place + 1) }
-    ensures out { OnOk result (out.new ≡ out.old ++ spec.computes at into work) }
-{
-    push_work(out, at, into, work)?;
-    behind.behind(1)
-}
-
-/// A register gets what another one holds, and so does the register of the expression.
-fn push_set(
-    out: &mut List<Instr>,
-    at: Position,
-    behind: Next,
-    register: u32,
-    from: u32,
-    into: u32,
-) -> Result<Next, AllocError>
-    ensures register { IfOk result (λ n. n.register ≡ behind.register) }
-    ensures place { IfOk result (λ n. n.place ≡ behind.place + 2) }
-    ensures out { OnOk result (out.new ≡ out.old ++ (spec.instr at (act.Compute register (work.Copy from)) ∷ spec.computes at into (work.Copy from))) }
-{
-    push_work(out, at, register, Work::Copy(from))?;
-    push_work(out, at, into, Work::Copy(from))?;
-    behind.behind(2)
-}
-
-/// A cell gets what a register holds, and so does the register of the expression.
-fn push_stored(
-    out: &mut List<Instr>,
-    at: Position,
-    behind: Next,
-    through: u32,
-    from: u32,
-    into: u32,
-) -> Result<Next, AllocError>
-    ensures register { IfOk result (λ n. n.register ≡ behind.register) }
-    ensures place { IfOk result (λ n. n.place ≡ behind.place + 2) }
-    ensures out { OnOk result (out.new ≡ out.old ++ (spec.instr at (act.StoreCell through from) ∷ spec.computes at into (work.Copy from))) }
-{
-    push(out, at, Act::StoreCell { through, from })?;
-    push_work(out, at, into, Work::Copy(from))?;
-    behind.behind(2)
-}
-
-/// The register of the expression gets what another one holds, and the rest is jumped over.
-fn push_left(
-    out: &mut List<Instr>,
-    at: Position,
-    behind: Next,
-    into: u32,
-    from: u32,
-    to: u32,
-) -> Result<Next, AllocError>
-    ensures register { IfOk result (λ n. n.register ≡ behind.register) }
-    ensures place { IfOk result (λ n. n.place ≡ behind.place + 2) }
-    ensures out { OnOk result (out.new ≡ out.old ++ (spec.instr at (act.Compute into (work.Copy from)) ∷ spec.one at (act.Jump to))) }
-{
-    push_work(out, at, into, Work::Copy(from))?;
-    push(out, at, Act::Jump { to })?;
-    behind.behind(2)
-}
-
-/// 1 or 0, by whether a register holds 0.
-fn push_tested(
-    out: &mut List<Instr>,
-    at: Position,
-    behind: Next,
-    into: u32,
-    test: u32,
-) -> Result<Next, AllocError>
-    ensures register { IfOk result (λ n. n.register ≡ behind.register) }
-    ensures place { IfOk result (λ n. n.place ≡ behind.place + 4) }
-    ensures out { OnOk result (out.new ≡ out.old ++ spec.truth_code at into test behind.place) }
-{
-    push_truth(out, at, into, test, behind.place)?;
-    behind.behind(4)
-}
-
-/// The word before a change has its register right behind that of the expression, and the word behind it the next one.
-fn push_changed(
-    out: &mut List<Instr>,
-    at: Position,
-    from: Next,
-    change: Change,
-    by: u32,
-    last: Act,
-    gives_old: bool,
-) -> Result<(), AllocError>
-    ensures { OnOk result (out.new ≡ out.old ++ (spec.instr at (act.Compute (from.register + 2) (spec.change_work change (from.register + 1) by)) ∷ spec.instr at last ∷ spec.computes at from.register (work.Copy (if gives_old then from.register + 1 else from.register + 2)))) }
-{
-    let old = sum(from.register, 1)?;
-    let new = sum(from.register, 2)?;
-    push_work(out, at, new, change_work(change, old, by))?;
-    push(out, at, last)?;
-    let given = if gives_old { old } else { new };
-    push_work(out, at, from.register, Work::Copy(given))
-}
-
-/// A call of the library. Where it gives nothing, the register of the expression gets 0.
-fn push_library(
-    out: &mut List<Instr>,
-    at: Position,
-    behind: Next,
-    into: u32,
-    call: LibraryCall,
-    arguments: List<u32>,
-) -> Result<Next, AllocError>
-    ensures register { IfOk result (λ n. n.register ≡ behind.register) }
-    ensures place { IfOk result (λ n. n.place ≡ behind.place + spec.library_size call) }
-    ensures out { OnOk result (out.new ≡ out.old ++ spec.library_code at into call arguments) }
-{
-    if gives_nothing(&call) {
-        let act = Act::Library {
-            call,
-            arguments,
-            into: None,
-        };
-        push(out, at, act)?;
-        push_work(out, at, into, Work::Constant(0))?;
-        behind.behind(2)
-    } else {
-        let act = Act::Library {
-            call,
-            arguments,
-            into: Some(into),
-        };
-        push_last(out, at, behind, act)
-    }
-}
-
-/// An expression without parts.
-fn push_simple(
-    first: u32,
-    simple: Simple,
-    at: Position,
-    from: Next,
-    out: &mut List<Instr>,
-) -> Result<Next, AllocError>
-    ensures register { IfOk result (λ n. n.register ≡ from.register + spec.width (simple_of simple at)) }
-    ensures place { IfOk result (λ n. n.place ≡ from.place + spec.exp_size (simple_of simple at)) }
-    ensures out { OnOk result (out.new ≡ out.old ++ spec.exp_code first (simple_of simple at) from.register from.place) }
-{
-    match simple {
-        Simple::Number(value) => push_alone(out, at, from, Work::Constant(value)),
-        Simple::Null => push_alone(out, at, from, Work::Constant(0)),
-        Simple::Register { number, .. } => push_alone(out, at, from, Work::Copy(number)),
-        Simple::Object(number) => push_alone(out, at, from, Work::Copy(sum(first, number)?)),
-        Simple::Global(address) => push_alone(out, at, from, Work::Address(address)),
-    }
-}
-
-/// The code of an expression. Its value comes into the first free register.
+/// The code of an expression, and the register that has its value.
 #[cycle(exp_code)]
 pub fn push_value(
     alloc: Global,
@@ -211,10 +29,11 @@ pub fn push_value(
     e: &Value,
     from: Next,
     out: &mut List<Instr>,
-) -> Result<Next, AllocError>
-    ensures register { IfOk result (λ n. n.register ≡ from.register + spec.width (exp_of e.now)) }
-    ensures place { IfOk result (λ n. n.place ≡ from.place + spec.exp_size (exp_of e.now)) }
-    ensures out { OnOk result (out.new ≡ out.old ++ spec.exp_code first (exp_of e.now) from.register from.place) }
+) -> Result<Operand, AllocError>
+    ensures value { IfOk result (λ o. o.register ≡ spec.held first (kept (exp_of e.now)) from.register) }
+    ensures register { IfOk result (λ o. o.behind.register ≡ from.register + spec.width (kept (exp_of e.now))) }
+    ensures place { IfOk result (λ o. o.behind.place ≡ from.place + spec.exp_size (kept (exp_of e.now))) }
+    ensures out { OnOk result (out.new ≡ out.old ++ spec.exp_code first (kept (exp_of e.now)) from.register from.place) }
 {
     match e {
         Value::Simple { simple, at } => push_simple(first, *simple, *at, from, out),
@@ -225,6 +44,108 @@ pub fn push_value(
     }
 }
 
+/// The first operand of an expression, whose own register comes before those of the operand.
+#[cycle(exp_code)]
+fn push_operand(
+    alloc: Global,
+    first: u32,
+    e: &Value,
+    from: Next,
+    out: &mut List<Instr>,
+) -> Result<Operand, AllocError>
+    ensures value { IfOk result (λ o. o.register ≡ spec.held first (kept (exp_of e.now)) (from.register + 1)) }
+    ensures register { IfOk result (λ o. o.behind.register ≡ from.register + 1 + spec.width (kept (exp_of e.now))) }
+    ensures place { IfOk result (λ o. o.behind.place ≡ from.place + spec.exp_size (kept (exp_of e.now))) }
+    ensures out { OnOk result (out.new ≡ out.old ++ spec.exp_code first (kept (exp_of e.now)) (from.register + 1) from.place) }
+{
+    push_value(alloc, first, e, from.using(1)?, out)
+}
+
+/// A copy of an operand's word.
+#[cycle(exp_code)]
+fn push_copy(
+    alloc: Global,
+    first: u32,
+    e: &Value,
+    at: Position,
+    from: Next,
+    out: &mut List<Instr>,
+) -> Result<Operand, AllocError>
+    ensures value { IfOk result (λ o. o.register ≡ from.register) }
+    ensures register { IfOk result (λ o. o.behind.register ≡ from.register + 1 + spec.width (kept (exp_of e.now))) }
+    ensures place { IfOk result (λ o. o.behind.place ≡ from.place + (spec.exp_size (kept (exp_of e.now)) + 1)) }
+    ensures out { OnOk result (out.new ≡ out.old ++ (spec.exp_code first (kept (exp_of e.now)) (from.register + 1) from.place ++ spec.computes at from.register (work.Copy (spec.held first (kept (exp_of e.now)) (from.register + 1))))) }
+{
+    let inner = push_operand(alloc, first, e, from, out)?;
+    let work = Work::Copy(inner.register);
+    push_computed(out, at, from.register, inner.behind, work)
+}
+
+/// An operand before another one, from the first free register on.
+#[cycle(exp_code)]
+fn push_before(
+    alloc: Global,
+    first: u32,
+    e: &Value,
+    later: &Value,
+    at: Position,
+    from: Next,
+    out: &mut List<Instr>,
+) -> Result<Operand, AllocError>
+    ensures value { IfOk result (λ o. o.register ≡ spec.held first (before at (exp_of e.now) (exp_of later.now)) from.register) }
+    ensures register { IfOk result (λ o. o.behind.register ≡ from.register + spec.width (before at (exp_of e.now) (exp_of later.now))) }
+    ensures place { IfOk result (λ o. o.behind.place ≡ from.place + spec.exp_size (before at (exp_of e.now) (exp_of later.now))) }
+    ensures out { OnOk result (out.new ≡ out.old ++ spec.exp_code first (before at (exp_of e.now) (exp_of later.now)) from.register from.place) }
+{
+    if loses(e, later) {
+        push_copy(alloc, first, e, at, from, out)
+    } else {
+        push_value(alloc, first, e, from, out)
+    }
+}
+
+/// An argument before others.
+#[cycle(exp_code)]
+fn push_before_all(
+    alloc: Global,
+    first: u32,
+    e: &Value,
+    later: &[Value],
+    at: Position,
+    from: Next,
+    out: &mut List<Instr>,
+) -> Result<Operand, AllocError>
+    ensures value { IfOk result (λ o. o.register ≡ spec.held first (before_all at (exp_of e.now) (listed (map exp_of later.now))) from.register) }
+    ensures register { IfOk result (λ o. o.behind.register ≡ from.register + spec.width (before_all at (exp_of e.now) (listed (map exp_of later.now)))) }
+    ensures place { IfOk result (λ o. o.behind.place ≡ from.place + spec.exp_size (before_all at (exp_of e.now) (listed (map exp_of later.now)))) }
+    ensures out { OnOk result (out.new ≡ out.old ++ spec.exp_code first (before_all at (exp_of e.now) (listed (map exp_of later.now))) from.register from.place) }
+{
+    if loses_to(e, later) {
+        push_copy(alloc, first, e, at, from, out)
+    } else {
+        push_value(alloc, first, e, from, out)
+    }
+}
+
+/// The first of two operands, whose expression's own register comes before those of the operands.
+#[cycle(exp_code)]
+fn push_first(
+    alloc: Global,
+    first: u32,
+    e: &Value,
+    later: &Value,
+    at: Position,
+    from: Next,
+    out: &mut List<Instr>,
+) -> Result<Operand, AllocError>
+    ensures value { IfOk result (λ o. o.register ≡ spec.held first (before at (exp_of e.now) (exp_of later.now)) (from.register + 1)) }
+    ensures register { IfOk result (λ o. o.behind.register ≡ from.register + 1 + spec.width (before at (exp_of e.now) (exp_of later.now))) }
+    ensures place { IfOk result (λ o. o.behind.place ≡ from.place + spec.exp_size (before at (exp_of e.now) (exp_of later.now))) }
+    ensures out { OnOk result (out.new ≡ out.old ++ spec.exp_code first (before at (exp_of e.now) (exp_of later.now)) (from.register + 1) from.place) }
+{
+    push_before(alloc, first, e, later, at, from.using(1)?, out)
+}
+
 /// Operands one after another, and an instruction.
 #[cycle(exp_code)]
 fn push_operation(
@@ -233,26 +154,16 @@ fn push_operation(
     operation: &Operation,
     from: Next,
     out: &mut List<Instr>,
-) -> Result<Next, AllocError>
-    ensures register { IfOk result (λ n. n.register ≡ from.register + spec.width (operation_of operation.now)) }
-    ensures place { IfOk result (λ n. n.place ≡ from.place + spec.exp_size (operation_of operation.now)) }
-    ensures out { OnOk result (out.new ≡ out.old ++ spec.exp_code first (operation_of operation.now) from.register from.place) }
+) -> Result<Operand, AllocError>
+    ensures value { IfOk result (λ o. o.register ≡ spec.held first (kept (operation_of operation.now)) from.register) }
+    ensures register { IfOk result (λ o. o.behind.register ≡ from.register + spec.width (kept (operation_of operation.now))) }
+    ensures place { IfOk result (λ o. o.behind.place ≡ from.place + spec.exp_size (kept (operation_of operation.now))) }
+    ensures out { OnOk result (out.new ≡ out.old ++ spec.exp_code first (kept (operation_of operation.now)) from.register from.place) }
 {
     match operation {
-        Operation::Load { through, at, .. } => {
-            let operand = from.using(1)?;
-            let behind = push_value(alloc, first, through, operand, out)?;
-            let act = Act::LoadCell {
-                into: from.register,
-                through: operand.register,
-            };
-            push_last(out, *at, behind, act)
-        }
+        Operation::Load { through, at, .. } => push_load(alloc, first, through, *at, from, out),
         Operation::Unary { op, operand, at } => {
-            let inner = from.using(1)?;
-            let behind = push_value(alloc, first, operand, inner, out)?;
-            let work = unary_work(*op, inner.register);
-            push_computed(out, *at, behind, from.register, work)
+            push_unary(alloc, first, *op, operand, *at, from, out)
         }
         Operation::Binary {
             op,
@@ -260,15 +171,9 @@ fn push_operation(
             right,
             at,
         } => {
-            let inner = from.using(1)?;
-            let second = push_value(alloc, first, left, inner, out)?;
-            let behind = push_value(alloc, first, right, second, out)?;
-            let work = Work::Binary {
-                op: *op,
-                left: inner.register,
-                right: second.register,
-            };
-            push_computed(out, *at, behind, from.register, work)
+            let one = push_first(alloc, first, left, right, *at, from, out)?;
+            let other = push_value(alloc, first, right, one.behind, out)?;
+            push_binary(out, *at, from.register, *op, one.register, other)
         }
         Operation::Move {
             pointer,
@@ -277,16 +182,10 @@ fn push_operation(
             back,
             at,
         } => {
-            let inner = from.using(1)?;
-            let second = push_value(alloc, first, pointer, inner, out)?;
-            let behind = push_value(alloc, first, by, second, out)?;
-            let work = Work::Move {
-                pointer: inner.register,
-                by: second.register,
-                element: *element,
-                back: *back,
-            };
-            push_computed(out, *at, behind, from.register, work)
+            let one = push_first(alloc, first, pointer, by, *at, from, out)?;
+            let other = push_value(alloc, first, by, one.behind, out)?;
+            let work = moved(one, other, *element, *back);
+            push_computed(out, *at, from.register, other.behind, work)
         }
         Operation::Advance {
             by,
@@ -294,25 +193,13 @@ fn push_operation(
             element,
             at,
         } => {
-            let inner = from.using(1)?;
-            let second = push_value(alloc, first, by, inner, out)?;
-            let behind = push_value(alloc, first, pointer, second, out)?;
-            let work = Work::Move {
-                pointer: second.register,
-                by: inner.register,
-                element: *element,
-                back: false,
-            };
-            push_computed(out, *at, behind, from.register, work)
+            let one = push_first(alloc, first, by, pointer, *at, from, out)?;
+            let other = push_value(alloc, first, pointer, one.behind, out)?;
+            let work = moved(other, one, *element, false);
+            push_computed(out, *at, from.register, other.behind, work)
         }
         Operation::Member { pointer, by, at } => {
-            let inner = from.using(1)?;
-            let behind = push_value(alloc, first, pointer, inner, out)?;
-            let work = Work::Member {
-                pointer: inner.register,
-                by: *by,
-            };
-            push_computed(out, *at, behind, from.register, work)
+            push_member(alloc, first, pointer, *by, *at, from, out)
         }
         Operation::Between {
             left,
@@ -320,56 +207,126 @@ fn push_operation(
             element,
             at,
         } => {
-            let inner = from.using(1)?;
-            let second = push_value(alloc, first, left, inner, out)?;
-            let behind = push_value(alloc, first, right, second, out)?;
-            let work = Work::Between {
-                left: inner.register,
-                right: second.register,
-                element: *element,
-            };
-            push_computed(out, *at, behind, from.register, work)
+            let one = push_first(alloc, first, left, right, *at, from, out)?;
+            let other = push_value(alloc, first, right, one.behind, out)?;
+            push_between(out, *at, from.register, *element, one.register, other)
         }
         Operation::ToPointer { operand, at } => {
-            let inner = from.using(1)?;
-            let behind = push_value(alloc, first, operand, inner, out)?;
-            push_computed(
-                out,
-                *at,
-                behind,
-                from.register,
-                Work::ToPointer(inner.register),
-            )
+            push_to_pointer(alloc, first, operand, *at, from, out)
         }
         Operation::ToNumber { operand, at } => {
-            let inner = from.using(1)?;
-            let behind = push_value(alloc, first, operand, inner, out)?;
-            push_computed(
-                out,
-                *at,
-                behind,
-                from.register,
-                Work::ToNumber(inner.register),
-            )
+            push_to_number(alloc, first, operand, *at, from, out)
         }
-        Operation::Copy { operand, at } => {
-            let inner = from.using(1)?;
-            let behind = push_value(alloc, first, operand, inner, out)?;
-            push_computed(out, *at, behind, from.register, Work::Copy(inner.register))
-        }
+        Operation::Copy { operand, at } => push_copy(alloc, first, operand, *at, from, out),
     }
 }
 
-/// Where the two values of a `?:` begin whose condition ends at the place, and where they end.
-fn places_of(place: u32, yes: &Value, no: &Value) -> Result<(u32, u32, u32), AllocError>
-    ensures then_at { IfOk result (λ r. r.0 ≡ place + 1) }
-    ensures else_at { IfOk result (λ r. r.1 ≡ place + 1 + spec.exp_size (exp_of yes.now) + 2) }
-    ensures to { IfOk result (λ r. r.2 ≡ place + 1 + spec.exp_size (exp_of yes.now) + 2 + spec.exp_size (exp_of no.now) + 1) }
+/// What the cell holds to which the operand points.
+#[cycle(exp_code)]
+fn push_load(
+    alloc: Global,
+    first: u32,
+    through: &Value,
+    at: Position,
+    from: Next,
+    out: &mut List<Instr>,
+) -> Result<Operand, AllocError>
+    ensures value { IfOk result (λ o. o.register ≡ from.register) }
+    ensures register { IfOk result (λ o. o.behind.register ≡ from.register + 1 + spec.width (kept (exp_of through.now))) }
+    ensures place { IfOk result (λ o. o.behind.place ≡ from.place + (spec.exp_size (kept (exp_of through.now)) + 1)) }
+    ensures out { OnOk result (out.new ≡ out.old ++ (spec.exp_code first (kept (exp_of through.now)) (from.register + 1) from.place ++ spec.one at (act.LoadCell from.register (spec.held first (kept (exp_of through.now)) (from.register + 1))))) }
 {
-    let then_at = sum(place, 1)?;
-    let else_at = sum(sum(then_at, value_size(yes)?)?, 2)?;
-    let to = sum(sum(else_at, value_size(no)?)?, 1)?;
-    Ok((then_at, else_at, to))
+    let inner = push_operand(alloc, first, through, from, out)?;
+    let act = Act::LoadCell {
+        into: from.register,
+        through: inner.register,
+    };
+    push_given(out, at, from.register, inner.behind, act)
+}
+
+/// An operator on one number.
+#[cycle(exp_code)]
+fn push_unary(
+    alloc: Global,
+    first: u32,
+    op: UnaryOp,
+    operand: &Value,
+    at: Position,
+    from: Next,
+    out: &mut List<Instr>,
+) -> Result<Operand, AllocError>
+    ensures value { IfOk result (λ o. o.register ≡ from.register) }
+    ensures register { IfOk result (λ o. o.behind.register ≡ from.register + spec.width (core.unary op (kept (exp_of operand.now)) at)) }
+    ensures place { IfOk result (λ o. o.behind.place ≡ from.place + spec.exp_size (core.unary op (kept (exp_of operand.now)) at)) }
+    ensures out { OnOk result (out.new ≡ out.old ++ spec.exp_code first (core.unary op (kept (exp_of operand.now)) at) from.register from.place) }
+{
+    let inner = push_operand(alloc, first, operand, from, out)?;
+    let work = unary_work(op, inner.register);
+    push_computed(out, at, from.register, inner.behind, work)
+}
+
+/// A pointer moved to a member.
+#[cycle(exp_code)]
+fn push_member(
+    alloc: Global,
+    first: u32,
+    pointer: &Value,
+    by: u32,
+    at: Position,
+    from: Next,
+    out: &mut List<Instr>,
+) -> Result<Operand, AllocError>
+    ensures value { IfOk result (λ o. o.register ≡ from.register) }
+    ensures register { IfOk result (λ o. o.behind.register ≡ from.register + spec.width (core.member (kept (exp_of pointer.now)) by at)) }
+    ensures place { IfOk result (λ o. o.behind.place ≡ from.place + spec.exp_size (core.member (kept (exp_of pointer.now)) by at)) }
+    ensures out { OnOk result (out.new ≡ out.old ++ spec.exp_code first (core.member (kept (exp_of pointer.now)) by at) from.register from.place) }
+{
+    let inner = push_operand(alloc, first, pointer, from, out)?;
+    let work = Work::Member {
+        pointer: inner.register,
+        by,
+    };
+    push_computed(out, at, from.register, inner.behind, work)
+}
+
+/// A number cast to a pointer.
+#[cycle(exp_code)]
+fn push_to_pointer(
+    alloc: Global,
+    first: u32,
+    operand: &Value,
+    at: Position,
+    from: Next,
+    out: &mut List<Instr>,
+) -> Result<Operand, AllocError>
+    ensures value { IfOk result (λ o. o.register ≡ from.register) }
+    ensures register { IfOk result (λ o. o.behind.register ≡ from.register + spec.width (core.to_pointer (kept (exp_of operand.now)) at)) }
+    ensures place { IfOk result (λ o. o.behind.place ≡ from.place + spec.exp_size (core.to_pointer (kept (exp_of operand.now)) at)) }
+    ensures out { OnOk result (out.new ≡ out.old ++ spec.exp_code first (core.to_pointer (kept (exp_of operand.now)) at) from.register from.place) }
+{
+    let inner = push_operand(alloc, first, operand, from, out)?;
+    let work = Work::ToPointer(inner.register);
+    push_computed(out, at, from.register, inner.behind, work)
+}
+
+/// A pointer cast to a number.
+#[cycle(exp_code)]
+fn push_to_number(
+    alloc: Global,
+    first: u32,
+    operand: &Value,
+    at: Position,
+    from: Next,
+    out: &mut List<Instr>,
+) -> Result<Operand, AllocError>
+    ensures value { IfOk result (λ o. o.register ≡ from.register) }
+    ensures register { IfOk result (λ o. o.behind.register ≡ from.register + spec.width (core.to_number (kept (exp_of operand.now)) at)) }
+    ensures place { IfOk result (λ o. o.behind.place ≡ from.place + spec.exp_size (core.to_number (kept (exp_of operand.now)) at)) }
+    ensures out { OnOk result (out.new ≡ out.old ++ spec.exp_code first (core.to_number (kept (exp_of operand.now)) at) from.register from.place) }
+{
+    let inner = push_operand(alloc, first, operand, from, out)?;
+    let work = Work::ToNumber(inner.register);
+    push_computed(out, at, from.register, inner.behind, work)
 }
 
 /// Operands as they are needed.
@@ -380,60 +337,40 @@ fn push_choice(
     choice: &Choice,
     from: Next,
     out: &mut List<Instr>,
-) -> Result<Next, AllocError>
-    ensures register { IfOk result (λ n. n.register ≡ from.register + spec.width (choice_of choice.now)) }
-    ensures place { IfOk result (λ n. n.place ≡ from.place + spec.exp_size (choice_of choice.now)) }
-    ensures out { OnOk result (out.new ≡ out.old ++ spec.exp_code first (choice_of choice.now) from.register from.place) }
+) -> Result<Operand, AllocError>
+    ensures value { IfOk result (λ o. o.register ≡ spec.held first (kept (choice_of choice.now)) from.register) }
+    ensures register { IfOk result (λ o. o.behind.register ≡ from.register + spec.width (kept (choice_of choice.now))) }
+    ensures place { IfOk result (λ o. o.behind.place ≡ from.place + spec.exp_size (kept (choice_of choice.now))) }
+    ensures out { OnOk result (out.new ≡ out.old ++ spec.exp_code first (kept (choice_of choice.now)) from.register from.place) }
 {
     match choice {
         Choice::And { left, right, at } => {
-            let inner = from.using(1)?;
-            let second = push_value(alloc, first, left, inner, out)?;
-            let then_at = sum(second.place, 1)?;
-            let tested = sum(then_at, value_size(right)?)?;
-            let act = Act::Branch {
-                on: inner.register,
-                then_at,
-                else_at: sum(tested, 3)?,
-            };
-            let second = push_last(out, *at, second, act)?;
-            let behind = push_value(alloc, first, right, second, out)?;
-            push_tested(out, *at, behind, from.register, second.register)
+            let inner = push_operand(alloc, first, left, from, out)?;
+            let second = push_and(out, *at, inner, right)?;
+            let tested = push_value(alloc, first, right, second, out)?;
+            push_tested(out, *at, from.register, tested)
         }
         Choice::Or { left, right, at } => {
-            let inner = from.using(1)?;
-            let second = push_value(alloc, first, left, inner, out)?;
-            let else_at = sum(second.place, 1)?;
-            let tested = sum(else_at, value_size(right)?)?;
-            let act = Act::Branch {
-                on: inner.register,
-                then_at: sum(tested, 1)?,
-                else_at,
-            };
-            let second = push_last(out, *at, second, act)?;
-            let behind = push_value(alloc, first, right, second, out)?;
-            push_tested(out, *at, behind, from.register, second.register)
+            let inner = push_operand(alloc, first, left, from, out)?;
+            let second = push_or(out, *at, inner, right)?;
+            let tested = push_value(alloc, first, right, second, out)?;
+            push_tested(out, *at, from.register, tested)
         }
         Choice::Conditional { test, yes, no, at } => {
-            let inner = from.using(1)?;
-            let second = push_value(alloc, first, test, inner, out)?;
-            let (then_at, else_at, to) = places_of(second.place, yes, no)?;
-            let act = Act::Branch {
-                on: inner.register,
-                then_at,
-                else_at,
-            };
-            let second = push_last(out, *at, second, act)?;
-            let third = push_value(alloc, first, yes, second, out)?;
-            let third = push_left(out, *at, third, from.register, second.register, to)?;
-            let behind = push_value(alloc, first, no, third, out)?;
-            push_computed(out, *at, behind, from.register, Work::Copy(third.register))
+            let tested = push_operand(alloc, first, test, from, out)?;
+            let (then_at, else_at, to) = places_of(tested.behind.place, yes, no)?;
+            let second = push_chosen(out, *at, tested, then_at, else_at)?;
+            let one = push_value(alloc, first, yes, second, out)?;
+            let third = push_left(out, *at, one.behind, from.register, one.register, to)?;
+            let other = push_value(alloc, first, no, third, out)?;
+            let work = Work::Copy(other.register);
+            push_computed(out, *at, from.register, other.behind, work)
         }
         Choice::Comma { before, value, at } => {
-            let inner = from.using(1)?;
-            let second = push_value(alloc, first, before, inner, out)?;
-            let behind = push_value(alloc, first, value, second, out)?;
-            push_computed(out, *at, behind, from.register, Work::Copy(second.register))
+            let inner = push_operand(alloc, first, before, from, out)?;
+            let other = push_value(alloc, first, value, inner.behind, out)?;
+            let work = Work::Copy(other.register);
+            push_computed(out, *at, from.register, other.behind, work)
         }
     }
 }
@@ -446,10 +383,11 @@ fn push_assignment(
     assignment: &Assignment,
     from: Next,
     out: &mut List<Instr>,
-) -> Result<Next, AllocError>
-    ensures register { IfOk result (λ n. n.register ≡ from.register + spec.width (assignment_of assignment.now)) }
-    ensures place { IfOk result (λ n. n.place ≡ from.place + spec.exp_size (assignment_of assignment.now)) }
-    ensures out { OnOk result (out.new ≡ out.old ++ spec.exp_code first (assignment_of assignment.now) from.register from.place) }
+) -> Result<Operand, AllocError>
+    ensures value { IfOk result (λ o. o.register ≡ spec.held first (kept (assignment_of assignment.now)) from.register) }
+    ensures register { IfOk result (λ o. o.behind.register ≡ from.register + spec.width (kept (assignment_of assignment.now))) }
+    ensures place { IfOk result (λ o. o.behind.place ≡ from.place + spec.exp_size (kept (assignment_of assignment.now))) }
+    ensures out { OnOk result (out.new ≡ out.old ++ spec.exp_code first (kept (assignment_of assignment.now)) from.register from.place) }
 {
     match assignment {
         Assignment::Set {
@@ -457,22 +395,15 @@ fn push_assignment(
             value,
             at,
         } => {
-            let inner = from.using(1)?;
-            let behind = push_value(alloc, first, value, inner, out)?;
-            push_set(out, *at, behind, *register, inner.register, from.register)
+            let inner = push_operand(alloc, first, value, from, out)?;
+            let into = from.register;
+            push_set(out, *at, inner.behind, *register, inner.register, into)
         }
         Assignment::Store { through, value, at } => {
-            let inner = from.using(1)?;
-            let second = push_value(alloc, first, through, inner, out)?;
-            let behind = push_value(alloc, first, value, second, out)?;
-            push_stored(
-                out,
-                *at,
-                behind,
-                inner.register,
-                second.register,
-                from.register,
-            )
+            let cell = push_first(alloc, first, through, value, *at, from, out)?;
+            let given = push_value(alloc, first, value, cell.behind, out)?;
+            let into = from.register;
+            push_stored(out, *at, given.behind, cell.register, given.register, into)
         }
         Assignment::ChangeRegister {
             register,
@@ -481,17 +412,9 @@ fn push_assignment(
             gives_old,
             at,
         } => {
-            let old = sum(from.register, 1)?;
-            let new = sum(from.register, 2)?;
-            let inner = from.using(3)?;
-            let inner = push_computed(out, *at, inner, old, Work::Copy(*register))?;
-            let behind = push_value(alloc, first, operand, inner, out)?;
-            let last = Act::Compute {
-                into: *register,
-                work: Work::Copy(new),
-            };
-            push_changed(out, *at, from, *change, inner.register, last, *gives_old)?;
-            behind.behind(3)
+            let inner = push_old(out, *at, from, *register)?;
+            let by = push_value(alloc, first, operand, inner, out)?;
+            push_register_changed(out, *at, from, *change, by, *register, *gives_old)
         }
         Assignment::ChangeCell {
             through,
@@ -501,22 +424,11 @@ fn push_assignment(
             gives_old,
             at,
         } => {
-            let old = sum(from.register, 1)?;
-            let new = sum(from.register, 2)?;
             let inner = from.using(3)?;
-            let second = push_value(alloc, first, through, inner, out)?;
-            let load = Act::LoadCell {
-                into: old,
-                through: inner.register,
-            };
-            let second = push_last(out, *loaded_at, second, load)?;
-            let behind = push_value(alloc, first, operand, second, out)?;
-            let last = Act::StoreCell {
-                through: inner.register,
-                from: new,
-            };
-            push_changed(out, *at, from, *change, second.register, last, *gives_old)?;
-            behind.behind(3)
+            let cell = push_before(alloc, first, through, operand, *at, inner, out)?;
+            let second = push_loaded(out, *loaded_at, from, cell.behind, cell.register)?;
+            let by = push_value(alloc, first, operand, second, out)?;
+            push_cell_changed(out, *at, from, *change, by, cell.register, *gives_old)
         }
     }
 }
@@ -529,10 +441,11 @@ fn push_call(
     call: &Call,
     from: Next,
     out: &mut List<Instr>,
-) -> Result<Next, AllocError>
-    ensures register { IfOk result (λ n. n.register ≡ from.register + spec.width (call_of call.now)) }
-    ensures place { IfOk result (λ n. n.place ≡ from.place + spec.exp_size (call_of call.now)) }
-    ensures out { OnOk result (out.new ≡ out.old ++ spec.exp_code first (call_of call.now) from.register from.place) }
+) -> Result<Operand, AllocError>
+    ensures value { IfOk result (λ o. o.register ≡ spec.held first (kept (call_of call.now)) from.register) }
+    ensures register { IfOk result (λ o. o.behind.register ≡ from.register + spec.width (kept (call_of call.now))) }
+    ensures place { IfOk result (λ o. o.behind.place ≡ from.place + spec.exp_size (kept (call_of call.now))) }
+    ensures out { OnOk result (out.new ≡ out.old ++ spec.exp_code first (kept (call_of call.now)) from.register from.place) }
 {
     match call {
         Call::Function {
@@ -541,14 +454,12 @@ fn push_call(
             at,
             ..
         } => {
-            let inner = from.using(1)?;
-            let mut registers = List::new(alloc);
-            let behind = push_values(
+            let Arguments { registers, behind } = push_values(
                 alloc,
                 first,
                 arguments.as_slice(),
-                inner,
-                &mut registers,
+                *at,
+                from,
                 out,
             )?;
             let act = Act::Call {
@@ -556,58 +467,65 @@ fn push_call(
                 arguments: registers,
                 into: Some(from.register),
             };
-            push_last(out, *at, behind, act)
+            push_given(out, *at, from.register, behind, act)
         }
         Call::Library {
             call: library,
             arguments,
             at,
         } => {
-            let inner = from.using(1)?;
-            let mut registers = List::new(alloc);
-            let behind = push_values(
+            let Arguments { registers, behind } = push_values(
                 alloc,
                 first,
                 arguments.as_slice(),
-                inner,
-                &mut registers,
+                *at,
+                from,
                 out,
             )?;
             let copy = copy_of(alloc, library)?;
             push_library(out, *at, behind, from.register, copy, registers)
         }
         Call::Allocate { site, size, at } => {
-            let inner = from.using(1)?;
-            let behind = push_value(alloc, first, size, inner, out)?;
+            let inner = push_operand(alloc, first, size, from, out)?;
             let act = Act::Alloc {
                 into: from.register,
                 site: *site,
                 size: Some(inner.register),
             };
-            push_last(out, *at, behind, act)
+            push_given(out, *at, from.register, inner.behind, act)
         }
     }
 }
 
-/// The code of several expressions, one after another, and the register of the value of each.
+/// The registers of the arguments of a call, and what is free behind them.
+#[derive(Drop)]
+struct Arguments {
+    registers: List<u32>,
+    behind: Next,
+}
+
+/// The arguments of a call, one after another.
 #[cycle(exp_code)]
 fn push_values(
     alloc: Global,
     first: u32,
     es: &[Value],
+    at: Position,
     from: Next,
-    registers: &mut List<u32>,
     out: &mut List<Instr>,
-) -> Result<Next, AllocError>
-    ensures register { IfOk result (λ n. n.register ≡ from.register + length (spec.exps_kinds (listed (map exp_of es.now)))) }
-    ensures place { IfOk result (λ n. n.place ≡ from.place + spec.exps_size (listed (map exp_of es.now))) }
-    ensures registers { OnOk result (registers.new ≡ registers.old ++ spec.value_registers from.register (listed (map exp_of es.now))) }
-    ensures out { OnOk result (out.new ≡ out.old ++ spec.exps_code first (listed (map exp_of es.now)) from.register from.place) }
+) -> Result<Arguments, AllocError>
+    ensures values { IfOk result (λ a. a.registers ≡ spec.value_registers first (from.register + 1) (all_kept at (listed (map exp_of es.now)))) }
+    ensures register { IfOk result (λ a. a.behind.register ≡ from.register + 1 + length (spec.exps_kinds (all_kept at (listed (map exp_of es.now))))) }
+    ensures place { IfOk result (λ a. a.behind.place ≡ from.place + spec.exps_size (all_kept at (listed (map exp_of es.now)))) }
+    ensures out { OnOk result (out.new ≡ out.old ++ spec.exps_code first (all_kept at (listed (map exp_of es.now))) (from.register + 1) from.place) }
 {
-    let mut next = from;
-    for e in es {
-        registers.push(next.register)?;
-        next = push_value(alloc, first, e, next, out)?;
+    let mut behind = from.using(1)?;
+    let mut registers = List::new(alloc);
+    for index in 0..es.len() {
+        let later = &es[index + 1..];
+        let given = push_before_all(alloc, first, &es[index], later, at, behind, out)?;
+        registers.push(given.register)?;
+        behind = given.behind;
     }
-    Ok(next)
+    Ok(Arguments { registers, behind })
 }

@@ -2,6 +2,7 @@
 ghost use Rattle.std.specs.Prelude.{◌≡◌, ◌+◌, ◌++◌, ◌∷◌, true, map, length, replicate, None, IfOk, OnOk};
 ghost use Rattle.flow_code.specs.declared.act.Act.TheVariants as act;
 ghost use Rattle.c_core.specs.View.{stmt_of, arrival_of, function_of, core_of};
+ghost use Rattle.flow_lower.specs.Kept.{statement_kept};
 ghost use Rattle.flow_lower.specs.Loops.{statement_loops};
 ghost use Rattle.flow_lower.specs.Lowered as spec;
 
@@ -10,9 +11,9 @@ use crate::emit::{Next, push};
 use crate::kinds::push_statement_kinds;
 use crate::sizes::{statement_size, sum};
 use crate::statement::{Around, push_statement};
-use c_core::{Arrival, Core, CoreFunction, Position};
+use c_core::{Arrival, Core, CoreFunction};
 use flow_code::{Act, Code, Function, Instr, LoopInfo};
-use rr_base::{Bytes, List};
+use rr_base::{Bytes, List, Position};
 use std::alloc::{AllocError, Global};
 
 /// A count that doesn't fit 32 bits is one of what the machine's memory can't hold.
@@ -69,7 +70,7 @@ fn push_body(
     from: Next,
     out: &mut List<Instr>,
 ) -> Result<(), AllocError>
-    ensures { OnOk result (out.new ≡ out.old ++ (spec.statement_code first (stmt_of function.now.body) from.register from.place (from.place + spec.statement_size (stmt_of function.now.body)) (from.place + spec.statement_size (stmt_of function.now.body)) ++ spec.one function.now.at (act.Return None))) }
+    ensures { OnOk result (out.new ≡ out.old ++ (spec.statement_code first (statement_kept (stmt_of function.now.body)) from.register from.place (from.place + spec.statement_size (statement_kept (stmt_of function.now.body))) (from.place + spec.statement_size (statement_kept (stmt_of function.now.body))) ++ spec.one function.now.at (act.Return None))) }
 {
     let end = sum(from.place, statement_size(&function.body)?)?;
     let around = Around { out: end, on: end };

@@ -1,11 +1,13 @@
 //! Which registers of a function are pointers.
 ghost use Rattle.std.specs.Prelude.{◌≡◌, ◌++◌, ◌∷◌, [], map, OnOk};
-ghost use Rattle.c_core.specs.declared.position.Position.{Position};
+ghost use Rattle.rr_base.specs.declared.position.Position.{Position};
 ghost use Rattle.c_core.specs.Core.{listed, listed_statements};
 ghost use Rattle.c_core.specs.View.{exp_of, simple_of, operation_of, choice_of, assignment_of, call_of, maybe_of, stmt_of};
 ghost use Rattle.c_core.specs.Meaning as meaning;
+ghost use Rattle.flow_lower.specs.Kept.{kept, all_kept, maybe_kept, statement_kept, statements_kept, before, before_all};
 ghost use Rattle.flow_lower.specs.Lowered as spec;
 
+use crate::copies::{loses, loses_to};
 use c_core::{Assignment, Call, Change, Choice, Operation, Simple, Statement, Value};
 use rr_base::List;
 use std::alloc::AllocError;
@@ -20,7 +22,7 @@ fn is_pointer_change(change: Change) -> bool
 }
 
 fn is_pointer_simple(simple: Simple) -> bool
-    ensures { (at : Position) → result ≡ meaning.is_pointer (simple_of simple at) }
+    ensures { (at : Position) → result ≡ meaning.is_pointer (kept (simple_of simple at)) }
 {
     match simple {
         Simple::Number(_) => false,
@@ -34,7 +36,7 @@ fn is_pointer_simple(simple: Simple) -> bool
 /// Whether an expression gives a pointer.
 #[cycle(is_pointer)]
 fn is_pointer(e: &Value) -> bool
-    ensures { result ≡ meaning.is_pointer (exp_of e.now) }
+    ensures { result ≡ meaning.is_pointer (kept (exp_of e.now)) }
 {
     match e {
         Value::Simple { simple, .. } => is_pointer_simple(*simple),
@@ -47,7 +49,7 @@ fn is_pointer(e: &Value) -> bool
 
 #[cycle(is_pointer)]
 fn is_pointer_operation(operation: &Operation) -> bool
-    ensures { result ≡ meaning.is_pointer (operation_of operation.now) }
+    ensures { result ≡ meaning.is_pointer (kept (operation_of operation.now)) }
 {
     match operation {
         Operation::Load { pointer, .. } => *pointer,
@@ -65,7 +67,7 @@ fn is_pointer_operation(operation: &Operation) -> bool
 
 #[cycle(is_pointer)]
 fn is_pointer_choice(choice: &Choice) -> bool
-    ensures { result ≡ meaning.is_pointer (choice_of choice.now) }
+    ensures { result ≡ meaning.is_pointer (kept (choice_of choice.now)) }
 {
     match choice {
         Choice::And { .. } => false,
@@ -77,7 +79,7 @@ fn is_pointer_choice(choice: &Choice) -> bool
 
 #[cycle(is_pointer)]
 fn is_pointer_assignment(assignment: &Assignment) -> bool
-    ensures { result ≡ meaning.is_pointer (assignment_of assignment.now) }
+    ensures { result ≡ meaning.is_pointer (kept (assignment_of assignment.now)) }
 {
     match assignment {
         Assignment::Set { value, .. } => is_pointer(value),
@@ -88,7 +90,7 @@ fn is_pointer_assignment(assignment: &Assignment) -> bool
 }
 
 fn is_pointer_call(call: &Call) -> bool
-    ensures { result ≡ meaning.is_pointer (call_of call.now) }
+    ensures { result ≡ meaning.is_pointer (kept (call_of call.now)) }
 {
     match call {
         Call::Function { gives_pointer, .. } => *gives_pointer,
@@ -97,13 +99,25 @@ fn is_pointer_call(call: &Call) -> bool
     }
 }
 
+fn push_simple_kinds(simple: Simple, out: &mut List<bool>) -> Result<(), AllocError>
+    ensures { (at : Position) → OnOk result (out.new ≡ out.old ++ spec.exp_kinds (kept (simple_of simple at))) }
+{
+    match simple {
+        Simple::Number(_) => out.push(false),
+        Simple::Null => out.push(true),
+        Simple::Register { .. } => Ok(()),
+        Simple::Object(_) => Ok(()),
+        Simple::Global(_) => out.push(true),
+    }
+}
+
 /// The kinds of the registers of an expression, that of its value first.
 #[cycle(exp_kinds)]
 pub fn push_kinds(e: &Value, out: &mut List<bool>) -> Result<(), AllocError>
-    ensures { OnOk result (out.new ≡ out.old ++ spec.exp_kinds (exp_of e.now)) }
+    ensures { OnOk result (out.new ≡ out.old ++ spec.exp_kinds (kept (exp_of e.now))) }
 {
     match e {
-        Value::Simple { simple, .. } => out.push(is_pointer_simple(*simple)),
+        Value::Simple { simple, .. } => push_simple_kinds(*simple, out),
         Value::Operates(operation) => push_operation_kinds(operation, out),
         Value::Chooses(choice) => push_choice_kinds(choice, out),
         Value::Assigns(assignment) => push_assignment_kinds(assignment, out),
@@ -111,29 +125,51 @@ pub fn push_kinds(e: &Value, out: &mut List<bool>) -> Result<(), AllocError>
     }
 }
 
+/// Those of an operand before another one.
+#[cycle(exp_kinds)]
+fn push_kinds_before(e: &Value, later: &Value, out: &mut List<bool>) -> Result<(), AllocError>
+    ensures { (at : Position) → OnOk result (out.new ≡ out.old ++ spec.exp_kinds (before at (exp_of e.now) (exp_of later.now))) }
+{
+    if loses(e, later) {
+        out.push(is_pointer(e))?;
+    }
+    push_kinds(e, out)
+}
+
+/// Those of an argument before others.
+#[cycle(exp_kinds)]
+fn push_kinds_before_all(e: &Value, later: &[Value], out: &mut List<bool>) -> Result<(), AllocError>
+    ensures { (at : Position) → OnOk result (out.new ≡ out.old ++ spec.exp_kinds (before_all at (exp_of e.now) (listed (map exp_of later.now)))) }
+{
+    if loses_to(e, later) {
+        out.push(is_pointer(e))?;
+    }
+    push_kinds(e, out)
+}
+
 #[cycle(exp_kinds)]
 fn push_operation_kinds(operation: &Operation, out: &mut List<bool>) -> Result<(), AllocError>
-    ensures { OnOk result (out.new ≡ out.old ++ spec.exp_kinds (operation_of operation.now)) }
+    ensures { OnOk result (out.new ≡ out.old ++ spec.exp_kinds (kept (operation_of operation.now))) }
 {
     out.push(is_pointer_operation(operation))?;
     match operation {
         Operation::Load { through, .. } => push_kinds(through, out),
         Operation::Unary { operand, .. } => push_kinds(operand, out),
         Operation::Binary { left, right, .. } => {
-            push_kinds(left, out)?;
+            push_kinds_before(left, right, out)?;
             push_kinds(right, out)
         }
         Operation::Move { pointer, by, .. } => {
-            push_kinds(pointer, out)?;
+            push_kinds_before(pointer, by, out)?;
             push_kinds(by, out)
         }
         Operation::Advance { by, pointer, .. } => {
-            push_kinds(by, out)?;
+            push_kinds_before(by, pointer, out)?;
             push_kinds(pointer, out)
         }
         Operation::Member { pointer, .. } => push_kinds(pointer, out),
         Operation::Between { left, right, .. } => {
-            push_kinds(left, out)?;
+            push_kinds_before(left, right, out)?;
             push_kinds(right, out)
         }
         Operation::ToPointer { operand, .. } => push_kinds(operand, out),
@@ -144,7 +180,7 @@ fn push_operation_kinds(operation: &Operation, out: &mut List<bool>) -> Result<(
 
 #[cycle(exp_kinds)]
 fn push_choice_kinds(choice: &Choice, out: &mut List<bool>) -> Result<(), AllocError>
-    ensures { OnOk result (out.new ≡ out.old ++ spec.exp_kinds (choice_of choice.now)) }
+    ensures { OnOk result (out.new ≡ out.old ++ spec.exp_kinds (kept (choice_of choice.now))) }
 {
     out.push(is_pointer_choice(choice))?;
     match choice {
@@ -180,7 +216,7 @@ fn push_change_kinds(change: Change, out: &mut List<bool>) -> Result<(), AllocEr
 
 #[cycle(exp_kinds)]
 fn push_assignment_kinds(assignment: &Assignment, out: &mut List<bool>) -> Result<(), AllocError>
-    ensures { OnOk result (out.new ≡ out.old ++ spec.exp_kinds (assignment_of assignment.now)) }
+    ensures { OnOk result (out.new ≡ out.old ++ spec.exp_kinds (kept (assignment_of assignment.now))) }
 {
     match assignment {
         Assignment::Set { value, .. } => {
@@ -189,7 +225,7 @@ fn push_assignment_kinds(assignment: &Assignment, out: &mut List<bool>) -> Resul
         }
         Assignment::Store { through, value, .. } => {
             out.push(is_pointer(value))?;
-            push_kinds(through, out)?;
+            push_kinds_before(through, value, out)?;
             push_kinds(value, out)
         }
         Assignment::ChangeRegister {
@@ -207,7 +243,7 @@ fn push_assignment_kinds(assignment: &Assignment, out: &mut List<bool>) -> Resul
             ..
         } => {
             push_change_kinds(*change, out)?;
-            push_kinds(through, out)?;
+            push_kinds_before(through, operand, out)?;
             push_kinds(operand, out)
         }
     }
@@ -215,7 +251,7 @@ fn push_assignment_kinds(assignment: &Assignment, out: &mut List<bool>) -> Resul
 
 #[cycle(exp_kinds)]
 fn push_call_kinds(call: &Call, out: &mut List<bool>) -> Result<(), AllocError>
-    ensures { OnOk result (out.new ≡ out.old ++ spec.exp_kinds (call_of call.now)) }
+    ensures { OnOk result (out.new ≡ out.old ++ spec.exp_kinds (kept (call_of call.now))) }
 {
     out.push(is_pointer_call(call))?;
     match call {
@@ -227,16 +263,16 @@ fn push_call_kinds(call: &Call, out: &mut List<bool>) -> Result<(), AllocError>
 
 #[cycle(exp_kinds)]
 fn push_all_kinds(es: &[Value], out: &mut List<bool>) -> Result<(), AllocError>
-    ensures { OnOk result (out.new ≡ out.old ++ spec.exps_kinds (listed (map exp_of es.now))) }
+    ensures { (at : Position) → OnOk result (out.new ≡ out.old ++ spec.exps_kinds (all_kept at (listed (map exp_of es.now)))) }
 {
-    for e in es {
-        push_kinds(e, out)?;
+    for index in 0..es.len() {
+        push_kinds_before_all(&es[index], &es[index + 1..], out)?;
     }
     Ok(())
 }
 
 fn push_maybe_kinds(e: &Option<Value>, out: &mut List<bool>) -> Result<(), AllocError>
-    ensures { OnOk result (out.new ≡ out.old ++ spec.maybe_kinds (maybe_of e.now)) }
+    ensures { OnOk result (out.new ≡ out.old ++ spec.maybe_kinds (maybe_kept (maybe_of e.now))) }
 {
     match e {
         None => Ok(()),
@@ -247,7 +283,7 @@ fn push_maybe_kinds(e: &Option<Value>, out: &mut List<bool>) -> Result<(), Alloc
 /// The kinds of the registers of a statement.
 #[cycle(statement_kinds)]
 pub fn push_statement_kinds(stmt: &Statement, out: &mut List<bool>) -> Result<(), AllocError>
-    ensures { OnOk result (out.new ≡ out.old ++ spec.statement_kinds (stmt_of stmt.now)) }
+    ensures { OnOk result (out.new ≡ out.old ++ spec.statement_kinds (statement_kept (stmt_of stmt.now))) }
 {
     match stmt {
         Statement::Block(stmts) => push_statements_kinds(stmts.as_slice(), out),
@@ -285,7 +321,7 @@ pub fn push_statement_kinds(stmt: &Statement, out: &mut List<bool>) -> Result<()
 
 #[cycle(statement_kinds)]
 fn push_statements_kinds(stmts: &[Statement], out: &mut List<bool>) -> Result<(), AllocError>
-    ensures { OnOk result (out.new ≡ out.old ++ spec.statements_kinds (listed_statements (map stmt_of stmts.now))) }
+    ensures { OnOk result (out.new ≡ out.old ++ spec.statements_kinds (statements_kept (listed_statements (map stmt_of stmts.now)))) }
 {
     for stmt in stmts {
         push_statement_kinds(stmt, out)?;

@@ -2,6 +2,7 @@
 //! tree, in each of its threads and whatever is answered; `law_valid` says that the code of a sound tree is valid.
 #![tactic(auto)]
 
+mod copies;
 mod counted_loops;
 mod emit;
 mod expression;
@@ -9,6 +10,7 @@ mod function;
 mod kinds;
 mod laws;
 mod library;
+mod pieces;
 mod sizes;
 mod statement;
 

@@ -2,7 +2,7 @@
 ghost use Rattle.std.specs.Prelude.{◌≡◌, IfOk};
 ghost use Rattle.flow_lower.specs.Lowered as spec;
 
-use flow_code::LibraryCall;
+use abstract_machine::LibraryCall;
 use rr_base::List;
 use std::alloc::{AllocError, Global};
 

@@ -1,11 +1,14 @@
 //! How many instructions the code of a core tree has. It tells where jumps go that are made before their target.
 ghost use Rattle.std.specs.Prelude.{◌≡◌, ◌+◌, map, IfOk};
+ghost use Rattle.rr_base.specs.declared.position.Position.{Position};
 ghost use Rattle.c_core.specs.Core.{listed, listed_statements};
-ghost use Rattle.c_core.specs.View.{exp_of, operation_of, choice_of, assignment_of, call_of, maybe_of, stmt_of};
+ghost use Rattle.c_core.specs.View.{exp_of, simple_of, operation_of, choice_of, assignment_of, call_of, maybe_of, stmt_of};
+ghost use Rattle.flow_lower.specs.Kept.{kept, all_kept, maybe_kept, statement_kept, statements_kept, before, before_all};
 ghost use Rattle.flow_lower.specs.Lowered as spec;
 
+use crate::copies::{loses, loses_to};
 use crate::library::library_size;
-use c_core::{Assignment, Call, Choice, Operation, Statement, Value};
+use c_core::{Assignment, Call, Choice, Operation, Simple, Statement, Value};
 use std::alloc::AllocError;
 
 /// The sum, if it fits. Code with more instructions or registers doesn't fit the machine's memory either.
@@ -42,13 +45,25 @@ fn conditional_size(test: u32, yes: u32, no: u32) -> Result<u32, AllocError>
     sum_of(test, 1, rest)
 }
 
+fn simple_size(simple: Simple) -> u32
+    ensures { (at : Position) → result ≡ spec.exp_size (kept (simple_of simple at)) }
+{
+    match simple {
+        Simple::Number(_) => 1,
+        Simple::Null => 1,
+        Simple::Register { .. } => 0,
+        Simple::Object(_) => 0,
+        Simple::Global(_) => 1,
+    }
+}
+
 /// The instructions of an expression.
 #[cycle(exp_size)]
 pub fn value_size(e: &Value) -> Result<u32, AllocError>
-    ensures { IfOk result (λ n. n ≡ spec.exp_size (exp_of e.now)) }
+    ensures { IfOk result (λ n. n ≡ spec.exp_size (kept (exp_of e.now))) }
 {
     match e {
-        Value::Simple { .. } => Ok(1),
+        Value::Simple { simple, .. } => Ok(simple_size(*simple)),
         Value::Operates(operation) => operation_size(operation),
         Value::Chooses(choice) => choice_size(choice),
         Value::Assigns(assignment) => assignment_size(assignment),
@@ -56,18 +71,60 @@ pub fn value_size(e: &Value) -> Result<u32, AllocError>
     }
 }
 
+/// The instructions of an operand before another one.
+#[cycle(exp_size)]
+fn size_before(e: &Value, later: &Value) -> Result<u32, AllocError>
+    ensures { (at : Position) → IfOk result (λ n. n ≡ spec.exp_size (before at (exp_of e.now) (exp_of later.now))) }
+{
+    let size = value_size(e)?;
+    if loses(e, later) {
+        sum(size, 1)
+    } else {
+        Ok(size)
+    }
+}
+
+/// The instructions of an argument before others.
+#[cycle(exp_size)]
+fn size_before_all(e: &Value, later: &[Value]) -> Result<u32, AllocError>
+    ensures { (at : Position) → IfOk result (λ n. n ≡ spec.exp_size (before_all at (exp_of e.now) (listed (map exp_of later.now)))) }
+{
+    let size = value_size(e)?;
+    if loses_to(e, later) {
+        sum(size, 1)
+    } else {
+        Ok(size)
+    }
+}
+
 #[cycle(exp_size)]
 fn operation_size(operation: &Operation) -> Result<u32, AllocError>
-    ensures { IfOk result (λ n. n ≡ spec.exp_size (operation_of operation.now)) }
+    ensures { IfOk result (λ n. n ≡ spec.exp_size (kept (operation_of operation.now))) }
 {
     match operation {
         Operation::Load { through, .. } => sum(value_size(through)?, 1),
         Operation::Unary { operand, .. } => sum(value_size(operand)?, 1),
-        Operation::Binary { left, right, .. } => sum_of(value_size(left)?, value_size(right)?, 1),
-        Operation::Move { pointer, by, .. } => sum_of(value_size(pointer)?, value_size(by)?, 1),
-        Operation::Advance { by, pointer, .. } => sum_of(value_size(by)?, value_size(pointer)?, 1),
+        Operation::Binary { left, right, .. } => sum_of(
+            size_before(left, right)?,
+            value_size(right)?,
+            1,
+        ),
+        Operation::Move { pointer, by, .. } => sum_of(
+            size_before(pointer, by)?,
+            value_size(by)?,
+            1,
+        ),
+        Operation::Advance { by, pointer, .. } => sum_of(
+            size_before(by, pointer)?,
+            value_size(pointer)?,
+            1,
+        ),
         Operation::Member { pointer, .. } => sum(value_size(pointer)?, 1),
-        Operation::Between { left, right, .. } => sum_of(value_size(left)?, value_size(right)?, 1),
+        Operation::Between { left, right, .. } => sum_of(
+            size_before(left, right)?,
+            value_size(right)?,
+            1,
+        ),
         Operation::ToPointer { operand, .. } => sum(value_size(operand)?, 1),
         Operation::ToNumber { operand, .. } => sum(value_size(operand)?, 1),
         Operation::Copy { operand, .. } => sum(value_size(operand)?, 1),
@@ -76,7 +133,7 @@ fn operation_size(operation: &Operation) -> Result<u32, AllocError>
 
 #[cycle(exp_size)]
 fn choice_size(choice: &Choice) -> Result<u32, AllocError>
-    ensures { IfOk result (λ n. n ≡ spec.exp_size (choice_of choice.now)) }
+    ensures { IfOk result (λ n. n ≡ spec.exp_size (kept (choice_of choice.now))) }
 {
     match choice {
         Choice::And { left, right, .. } => sum_of_four(value_size(left)?, 1, value_size(right)?, 4),
@@ -90,25 +147,25 @@ fn choice_size(choice: &Choice) -> Result<u32, AllocError>
 
 #[cycle(exp_size)]
 fn assignment_size(assignment: &Assignment) -> Result<u32, AllocError>
-    ensures { IfOk result (λ n. n ≡ spec.exp_size (assignment_of assignment.now)) }
+    ensures { IfOk result (λ n. n ≡ spec.exp_size (kept (assignment_of assignment.now))) }
 {
     match assignment {
         Assignment::Set { value, .. } => sum(value_size(value)?, 2),
         Assignment::Store { through, value, .. } => {
-            sum_of(value_size(through)?, value_size(value)?, 2)
+            sum_of(size_before(through, value)?, value_size(value)?, 2)
         }
         Assignment::ChangeRegister { operand, .. } => sum_of(1, value_size(operand)?, 3),
         Assignment::ChangeCell {
             through,
             operand,
             ..
-        } => sum_of_four(value_size(through)?, 1, value_size(operand)?, 3),
+        } => sum_of_four(size_before(through, operand)?, 1, value_size(operand)?, 3),
     }
 }
 
 #[cycle(exp_size)]
 fn call_size(call: &Call) -> Result<u32, AllocError>
-    ensures { IfOk result (λ n. n ≡ spec.exp_size (call_of call.now)) }
+    ensures { IfOk result (λ n. n ≡ spec.exp_size (kept (call_of call.now))) }
 {
     match call {
         Call::Function { arguments, .. } => sum(values_size(arguments.as_slice())?, 1),
@@ -121,21 +178,21 @@ fn call_size(call: &Call) -> Result<u32, AllocError>
     }
 }
 
-/// The instructions of several expressions, one after another.
+/// The instructions of arguments, one after another.
 #[cycle(exp_size)]
 fn values_size(es: &[Value]) -> Result<u32, AllocError>
-    ensures { IfOk result (λ n. n ≡ spec.exps_size (listed (map exp_of es.now))) }
+    ensures { (at : Position) → IfOk result (λ n. n ≡ spec.exps_size (all_kept at (listed (map exp_of es.now)))) }
 {
     let mut size = 0;
-    for e in es {
-        size = sum(size, value_size(e)?)?;
+    for index in 0..es.len() {
+        size = sum(size, size_before_all(&es[index], &es[index + 1..])?)?;
     }
     Ok(size)
 }
 
 /// The instructions of an expression that may not be there.
 pub fn maybe_size(e: &Option<Value>) -> Result<u32, AllocError>
-    ensures { IfOk result (λ n. n ≡ spec.maybe_size (maybe_of e.now)) }
+    ensures { IfOk result (λ n. n ≡ spec.maybe_size (maybe_kept (maybe_of e.now))) }
 {
     match e {
         None => Ok(0),
@@ -145,7 +202,7 @@ pub fn maybe_size(e: &Option<Value>) -> Result<u32, AllocError>
 
 /// The instructions of a condition that may not be there, with its branch.
 pub fn test_size(e: &Option<Value>) -> Result<u32, AllocError>
-    ensures { IfOk result (λ n. n ≡ spec.test_size (maybe_of e.now)) }
+    ensures { IfOk result (λ n. n ≡ spec.test_size (maybe_kept (maybe_of e.now))) }
 {
     match e {
         None => Ok(0),
@@ -164,7 +221,7 @@ fn for_size(start: u32, test: u32, body: u32, step: u32) -> Result<u32, AllocErr
 /// The instructions of a statement.
 #[cycle(statement_size)]
 pub fn statement_size(stmt: &Statement) -> Result<u32, AllocError>
-    ensures { IfOk result (λ n. n ≡ spec.statement_size (stmt_of stmt.now)) }
+    ensures { IfOk result (λ n. n ≡ spec.statement_size (statement_kept (stmt_of stmt.now))) }
 {
     match stmt {
         Statement::Block(stmts) => statements_size(stmts.as_slice()),
@@ -201,7 +258,7 @@ pub fn statement_size(stmt: &Statement) -> Result<u32, AllocError>
 /// The instructions of several statements, one after another.
 #[cycle(statement_size)]
 fn statements_size(stmts: &[Statement]) -> Result<u32, AllocError>
-    ensures { IfOk result (λ n. n ≡ spec.statements_size (listed_statements (map stmt_of stmts.now))) }
+    ensures { IfOk result (λ n. n ≡ spec.statements_size (statements_kept (listed_statements (map stmt_of stmts.now)))) }
 {
     let mut size = 0;
     for stmt in stmts {

@@ -3,14 +3,16 @@ ghost use Rattle.std.specs.Prelude.{◌≡◌, ◌+◌, ◌++◌, ◌∷◌, map
 ghost use Rattle.flow_code.specs.declared.act.Act.TheVariants as act;
 ghost use Rattle.c_core.specs.Core.{listed_statements};
 ghost use Rattle.c_core.specs.View.{exp_of, maybe_of, stmt_of};
+ghost use Rattle.flow_lower.specs.Kept.{kept, maybe_kept, statement_kept, statements_kept};
 ghost use Rattle.flow_lower.specs.Lowered as spec;
 
 use crate::emit::Next;
-use crate::expression::{push_last, push_value};
+use crate::expression::push_value;
+use crate::pieces::push_last;
 use crate::sizes::{maybe_size, statement_size, sum, test_size, value_size};
-use c_core::{Position, Statement, Value};
+use c_core::{Statement, Value};
 use flow_code::{Act, Instr};
-use rr_base::List;
+use rr_base::{List, Position};
 use std::alloc::{AllocError, Global};
 
 /// Where the loop round a statement is left and continued.
@@ -28,13 +30,13 @@ fn push_maybe(
     from: Next,
     out: &mut List<Instr>,
 ) -> Result<Next, AllocError>
-    ensures register { IfOk result (λ n. n.register ≡ from.register + length (spec.maybe_kinds (maybe_of e.now))) }
-    ensures place { IfOk result (λ n. n.place ≡ from.place + spec.maybe_size (maybe_of e.now)) }
-    ensures out { OnOk result (out.new ≡ out.old ++ spec.maybe_code first (maybe_of e.now) from.register from.place) }
+    ensures register { IfOk result (λ n. n.register ≡ from.register + length (spec.maybe_kinds (maybe_kept (maybe_of e.now)))) }
+    ensures place { IfOk result (λ n. n.place ≡ from.place + spec.maybe_size (maybe_kept (maybe_of e.now))) }
+    ensures out { OnOk result (out.new ≡ out.old ++ spec.maybe_code first (maybe_kept (maybe_of e.now)) from.register from.place) }
 {
     match e {
         None => Ok(from),
-        Some(e) => push_value(alloc, first, e, from, out),
+        Some(e) => Ok(push_value(alloc, first, e, from, out)?.behind),
     }
 }
 
@@ -48,17 +50,35 @@ fn push_condition(
     else_at: u32,
     out: &mut List<Instr>,
 ) -> Result<Next, AllocError>
-    ensures register { IfOk result (λ n. n.register ≡ from.register + spec.width (exp_of e.now)) }
-    ensures place { IfOk result (λ n. n.place ≡ from.place + spec.exp_size (exp_of e.now) + 1) }
-    ensures out { OnOk result (out.new ≡ out.old ++ (spec.exp_code first (exp_of e.now) from.register from.place ++ spec.one at (act.Branch from.register (from.place + spec.exp_size (exp_of e.now) + 1) else_at))) }
+    ensures register { IfOk result (λ n. n.register ≡ from.register + spec.width (kept (exp_of e.now))) }
+    ensures place { IfOk result (λ n. n.place ≡ from.place + spec.exp_size (kept (exp_of e.now)) + 1) }
+    ensures out { OnOk result (out.new ≡ out.old ++ (spec.exp_code first (kept (exp_of e.now)) from.register from.place ++ spec.one at (act.Branch (spec.held first (kept (exp_of e.now)) from.register) (from.place + spec.exp_size (kept (exp_of e.now)) + 1) else_at))) }
 {
-    let behind = push_value(alloc, first, e, from, out)?;
+    let tested = push_value(alloc, first, e, from, out)?;
     let act = Act::Branch {
-        on: from.register,
-        then_at: sum(behind.place, 1)?,
+        on: tested.register,
+        then_at: sum(tested.behind.place, 1)?,
         else_at,
     };
-    push_last(out, at, behind, act)
+    push_last(out, at, tested.behind, act)
+}
+
+/// The Mark of a loop, and its condition.
+fn push_marked(
+    alloc: Global,
+    first: u32,
+    e: &Value,
+    at: Position,
+    from: Next,
+    else_at: u32,
+    out: &mut List<Instr>,
+) -> Result<Next, AllocError>
+    ensures register { IfOk result (λ n. n.register ≡ from.register + spec.width (kept (exp_of e.now))) }
+    ensures place { IfOk result (λ n. n.place ≡ from.place + 1 + spec.exp_size (kept (exp_of e.now)) + 1) }
+    ensures out { OnOk result (out.new ≡ out.old ++ (spec.instr at act.Mark ∷ (spec.exp_code first (kept (exp_of e.now)) from.register (from.place + 1) ++ spec.one at (act.Branch (spec.held first (kept (exp_of e.now)) from.register) (from.place + 1 + spec.exp_size (kept (exp_of e.now)) + 1) else_at)))) }
+{
+    let marked = push_last(out, at, from, Act::Mark)?;
+    push_condition(alloc, first, e, at, marked, else_at, out)
 }
 
 /// A condition that may not be there.
@@ -71,9 +91,9 @@ fn push_test(
     else_at: u32,
     out: &mut List<Instr>,
 ) -> Result<Next, AllocError>
-    ensures register { IfOk result (λ n. n.register ≡ from.register + length (spec.maybe_kinds (maybe_of e.now))) }
-    ensures place { IfOk result (λ n. n.place ≡ from.place + spec.test_size (maybe_of e.now)) }
-    ensures out { OnOk result (out.new ≡ out.old ++ spec.test_code first at (maybe_of e.now) from.register from.place else_at) }
+    ensures register { IfOk result (λ n. n.register ≡ from.register + length (spec.maybe_kinds (maybe_kept (maybe_of e.now)))) }
+    ensures place { IfOk result (λ n. n.place ≡ from.place + spec.test_size (maybe_kept (maybe_of e.now))) }
+    ensures out { OnOk result (out.new ≡ out.old ++ spec.test_code first at (maybe_kept (maybe_of e.now)) from.register from.place else_at) }
 {
     match e {
         None => Ok(from),
@@ -89,16 +109,16 @@ fn push_return(
     from: Next,
     out: &mut List<Instr>,
 ) -> Result<Next, AllocError>
-    ensures register { IfOk result (λ n. n.register ≡ from.register + length (spec.maybe_kinds (maybe_of e.now))) }
-    ensures place { IfOk result (λ n. n.place ≡ from.place + (spec.maybe_size (maybe_of e.now) + 1)) }
-    ensures out { OnOk result (out.new ≡ out.old ++ spec.return_code first at (maybe_of e.now) from.register from.place) }
+    ensures register { IfOk result (λ n. n.register ≡ from.register + length (spec.maybe_kinds (maybe_kept (maybe_of e.now)))) }
+    ensures place { IfOk result (λ n. n.place ≡ from.place + (spec.maybe_size (maybe_kept (maybe_of e.now)) + 1)) }
+    ensures out { OnOk result (out.new ≡ out.old ++ spec.return_code first at (maybe_kept (maybe_of e.now)) from.register from.place) }
 {
     match e {
         None => push_last(out, at, from, Act::Return { value: None }),
         Some(e) => {
-            let behind = push_value(alloc, first, e, from, out)?;
-            let value = Some(from.register);
-            push_last(out, at, behind, Act::Return { value })
+            let given = push_value(alloc, first, e, from, out)?;
+            let value = Some(given.register);
+            push_last(out, at, given.behind, Act::Return { value })
         }
     }
 }
@@ -110,8 +130,8 @@ fn places_of_if(
     yes: &Statement,
     no: &Statement,
 ) -> Result<(u32, u32), AllocError>
-    ensures else_at { IfOk result (λ r. r.0 ≡ place + spec.exp_size (exp_of test.now) + 1 + spec.statement_size (stmt_of yes.now) + 1) }
-    ensures to { IfOk result (λ r. r.1 ≡ place + spec.exp_size (exp_of test.now) + 1 + spec.statement_size (stmt_of yes.now) + 1 + spec.statement_size (stmt_of no.now)) }
+    ensures else_at { IfOk result (λ r. r.0 ≡ place + spec.exp_size (kept (exp_of test.now)) + 1 + spec.statement_size (statement_kept (stmt_of yes.now)) + 1) }
+    ensures to { IfOk result (λ r. r.1 ≡ place + spec.exp_size (kept (exp_of test.now)) + 1 + spec.statement_size (statement_kept (stmt_of yes.now)) + 1 + spec.statement_size (statement_kept (stmt_of no.now))) }
 {
     let then_at = sum(sum(place, value_size(test)?)?, 1)?;
     let else_at = sum(sum(then_at, statement_size(yes)?)?, 1)?;
@@ -121,8 +141,8 @@ fn places_of_if(
 
 /// Where a loop is left and continued that begins at the place.
 fn places_of_while(place: u32, test: &Value, body: &Statement) -> Result<Around, AllocError>
-    ensures out { IfOk result (λ r. r.out ≡ place + 1 + spec.exp_size (exp_of test.now) + 1 + spec.statement_size (stmt_of body.now) + 1) }
-    ensures on { IfOk result (λ r. r.on ≡ place + 1 + spec.exp_size (exp_of test.now) + 1 + spec.statement_size (stmt_of body.now)) }
+    ensures out { IfOk result (λ r. r.out ≡ place + 1 + spec.exp_size (kept (exp_of test.now)) + 1 + spec.statement_size (statement_kept (stmt_of body.now)) + 1) }
+    ensures on { IfOk result (λ r. r.on ≡ place + 1 + spec.exp_size (kept (exp_of test.now)) + 1 + spec.statement_size (statement_kept (stmt_of body.now))) }
 {
     let begin = sum(sum(sum(place, 1)?, value_size(test)?)?, 1)?;
     let on = sum(begin, statement_size(body)?)?;
@@ -131,8 +151,8 @@ fn places_of_while(place: u32, test: &Value, body: &Statement) -> Result<Around,
 }
 
 fn places_of_do(place: u32, body: &Statement, test: &Value) -> Result<Around, AllocError>
-    ensures out { IfOk result (λ r. r.out ≡ place + 1 + spec.statement_size (stmt_of body.now) + spec.exp_size (exp_of test.now) + 1) }
-    ensures on { IfOk result (λ r. r.on ≡ place + 1 + spec.statement_size (stmt_of body.now)) }
+    ensures out { IfOk result (λ r. r.out ≡ place + 1 + spec.statement_size (statement_kept (stmt_of body.now)) + spec.exp_size (kept (exp_of test.now)) + 1) }
+    ensures on { IfOk result (λ r. r.on ≡ place + 1 + spec.statement_size (statement_kept (stmt_of body.now))) }
 {
     let on = sum(sum(place, 1)?, statement_size(body)?)?;
     let out = sum(sum(on, value_size(test)?)?, 1)?;
@@ -146,13 +166,127 @@ fn places_of_for(
     body: &Statement,
     step: &Option<Value>,
 ) -> Result<Around, AllocError>
-    ensures out { IfOk result (λ r. r.out ≡ mark + 1 + spec.test_size (maybe_of test.now) + spec.statement_size (stmt_of body.now) + spec.maybe_size (maybe_of step.now) + 1) }
-    ensures on { IfOk result (λ r. r.on ≡ mark + 1 + spec.test_size (maybe_of test.now) + spec.statement_size (stmt_of body.now)) }
+    ensures out { IfOk result (λ r. r.out ≡ mark + 1 + spec.test_size (maybe_kept (maybe_of test.now)) + spec.statement_size (statement_kept (stmt_of body.now)) + spec.maybe_size (maybe_kept (maybe_of step.now)) + 1) }
+    ensures on { IfOk result (λ r. r.on ≡ mark + 1 + spec.test_size (maybe_kept (maybe_of test.now)) + spec.statement_size (statement_kept (stmt_of body.now))) }
 {
     let begin = sum(sum(mark, 1)?, test_size(test)?)?;
     let on = sum(begin, statement_size(body)?)?;
     let out = sum(sum(on, maybe_size(step)?)?, 1)?;
     Ok(Around { out, on })
+}
+
+/// What comes before the body of a loop: where the body begins, and where it is left and continued.
+#[derive(Clone, Copy, Debug)]
+struct Head {
+    inner: Next,
+    inside: Around,
+}
+
+/// The condition of an `if`, and where its second branch ends.
+fn push_if_head(
+    alloc: Global,
+    first: u32,
+    test: &Value,
+    yes: &Statement,
+    no: &Statement,
+    at: Position,
+    from: Next,
+    out: &mut List<Instr>,
+) -> Result<(Next, u32), AllocError>
+    ensures register { IfOk result (λ r. r.0.register ≡ from.register + spec.width (kept (exp_of test.now))) }
+    ensures place { IfOk result (λ r. r.0.place ≡ from.place + spec.exp_size (kept (exp_of test.now)) + 1) }
+    ensures to { IfOk result (λ r. r.1 ≡ from.place + spec.exp_size (kept (exp_of test.now)) + 1 + spec.statement_size (statement_kept (stmt_of yes.now)) + 1 + spec.statement_size (statement_kept (stmt_of no.now))) }
+    ensures out { OnOk result (out.new ≡ out.old ++ (spec.exp_code first (kept (exp_of test.now)) from.register from.place ++ spec.one at (act.Branch (spec.held first (kept (exp_of test.now)) from.register) (from.place + spec.exp_size (kept (exp_of test.now)) + 1) (from.place + spec.exp_size (kept (exp_of test.now)) + 1 + spec.statement_size (statement_kept (stmt_of yes.now)) + 1)))) }
+{
+    let (else_at, to) = places_of_if(from.place, test, yes, no)?;
+    let inner = push_condition(alloc, first, test, at, from, else_at, out)?;
+    Ok((inner, to))
+}
+
+/// The Mark and the condition of a `while`.
+fn push_while_head(
+    alloc: Global,
+    first: u32,
+    test: &Value,
+    body: &Statement,
+    at: Position,
+    from: Next,
+    out: &mut List<Instr>,
+) -> Result<Head, AllocError>
+    ensures register { IfOk result (λ h. h.inner.register ≡ from.register + spec.width (kept (exp_of test.now))) }
+    ensures place { IfOk result (λ h. h.inner.place ≡ from.place + 1 + spec.exp_size (kept (exp_of test.now)) + 1) }
+    ensures left { IfOk result (λ h. h.inside.out ≡ from.place + 1 + spec.exp_size (kept (exp_of test.now)) + 1 + spec.statement_size (statement_kept (stmt_of body.now)) + 1) }
+    ensures continued { IfOk result (λ h. h.inside.on ≡ from.place + 1 + spec.exp_size (kept (exp_of test.now)) + 1 + spec.statement_size (statement_kept (stmt_of body.now))) }
+    ensures out { OnOk result (out.new ≡ out.old ++ (spec.instr at act.Mark ∷ (spec.exp_code first (kept (exp_of test.now)) from.register (from.place + 1) ++ spec.one at (act.Branch (spec.held first (kept (exp_of test.now)) from.register) (from.place + 1 + spec.exp_size (kept (exp_of test.now)) + 1) (from.place + 1 + spec.exp_size (kept (exp_of test.now)) + 1 + spec.statement_size (statement_kept (stmt_of body.now)) + 1))))) }
+{
+    let inside = places_of_while(from.place, test, body)?;
+    let inner = push_marked(alloc, first, test, at, from, inside.out, out)?;
+    Ok(Head { inner, inside })
+}
+
+/// The condition of a `do` whose Mark is at the place.
+fn push_do_test(
+    alloc: Global,
+    first: u32,
+    test: &Value,
+    at: Position,
+    from: Next,
+    mark: u32,
+    else_at: u32,
+    out: &mut List<Instr>,
+) -> Result<Next, AllocError>
+    ensures register { IfOk result (λ n. n.register ≡ from.register + spec.width (kept (exp_of test.now))) }
+    ensures place { IfOk result (λ n. n.place ≡ from.place + spec.exp_size (kept (exp_of test.now)) + 1) }
+    ensures out { OnOk result (out.new ≡ out.old ++ (spec.exp_code first (kept (exp_of test.now)) from.register from.place ++ spec.one at (act.Branch (spec.held first (kept (exp_of test.now)) from.register) mark else_at))) }
+{
+    let tested = push_value(alloc, first, test, from, out)?;
+    let act = Act::Branch {
+        on: tested.register,
+        then_at: mark,
+        else_at,
+    };
+    push_last(out, at, tested.behind, act)
+}
+
+/// The Mark and the condition of a `for`.
+fn push_for_head(
+    alloc: Global,
+    first: u32,
+    test: &Option<Value>,
+    body: &Statement,
+    step: &Option<Value>,
+    at: Position,
+    mark: Next,
+    out: &mut List<Instr>,
+) -> Result<Head, AllocError>
+    ensures register { IfOk result (λ h. h.inner.register ≡ mark.register + length (spec.maybe_kinds (maybe_kept (maybe_of test.now)))) }
+    ensures place { IfOk result (λ h. h.inner.place ≡ mark.place + 1 + spec.test_size (maybe_kept (maybe_of test.now))) }
+    ensures left { IfOk result (λ h. h.inside.out ≡ mark.place + 1 + spec.test_size (maybe_kept (maybe_of test.now)) + spec.statement_size (statement_kept (stmt_of body.now)) + spec.maybe_size (maybe_kept (maybe_of step.now)) + 1) }
+    ensures continued { IfOk result (λ h. h.inside.on ≡ mark.place + 1 + spec.test_size (maybe_kept (maybe_of test.now)) + spec.statement_size (statement_kept (stmt_of body.now))) }
+    ensures out { OnOk result (out.new ≡ out.old ++ (spec.instr at act.Mark ∷ spec.test_code first at (maybe_kept (maybe_of test.now)) mark.register (mark.place + 1) (mark.place + 1 + spec.test_size (maybe_kept (maybe_of test.now)) + spec.statement_size (statement_kept (stmt_of body.now)) + spec.maybe_size (maybe_kept (maybe_of step.now)) + 1))) }
+{
+    let inside = places_of_for(mark.place, test, body, step)?;
+    let tested = push_last(out, at, mark, Act::Mark)?;
+    let inner = push_test(alloc, first, test, at, tested, inside.out, out)?;
+    Ok(Head { inner, inside })
+}
+
+/// The last part of a `for`, and the jump back to its Mark.
+fn push_step(
+    alloc: Global,
+    first: u32,
+    step: &Option<Value>,
+    at: Position,
+    from: Next,
+    mark: u32,
+    out: &mut List<Instr>,
+) -> Result<Next, AllocError>
+    ensures register { IfOk result (λ n. n.register ≡ from.register + length (spec.maybe_kinds (maybe_kept (maybe_of step.now)))) }
+    ensures place { IfOk result (λ n. n.place ≡ from.place + spec.maybe_size (maybe_kept (maybe_of step.now)) + 1) }
+    ensures out { OnOk result (out.new ≡ out.old ++ (spec.maybe_code first (maybe_kept (maybe_of step.now)) from.register from.place ++ spec.one at (act.Jump mark))) }
+{
+    let behind = push_maybe(alloc, first, step, from, out)?;
+    push_last(out, at, behind, Act::Jump { to: mark })
 }
 
 /// The code of a statement.
@@ -165,40 +299,31 @@ pub fn push_statement(
     around: Around,
     out: &mut List<Instr>,
 ) -> Result<Next, AllocError>
-    ensures register { IfOk result (λ n. n.register ≡ from.register + length (spec.statement_kinds (stmt_of stmt.now))) }
-    ensures place { IfOk result (λ n. n.place ≡ from.place + spec.statement_size (stmt_of stmt.now)) }
-    ensures out { OnOk result (out.new ≡ out.old ++ spec.statement_code first (stmt_of stmt.now) from.register from.place around.out around.on) }
+    ensures register { IfOk result (λ n. n.register ≡ from.register + length (spec.statement_kinds (statement_kept (stmt_of stmt.now)))) }
+    ensures place { IfOk result (λ n. n.place ≡ from.place + spec.statement_size (statement_kept (stmt_of stmt.now))) }
+    ensures out { OnOk result (out.new ≡ out.old ++ spec.statement_code first (statement_kept (stmt_of stmt.now)) from.register from.place around.out around.on) }
 {
     match stmt {
         Statement::Block(stmts) => {
             push_statements(alloc, first, stmts.as_slice(), from, around, out)
         }
-        Statement::Compute(value) => push_value(alloc, first, value, from, out),
+        Statement::Compute(value) => Ok(push_value(alloc, first, value, from, out)?.behind),
         Statement::If { test, yes, no, at } => {
-            let (else_at, to) = places_of_if(from.place, test, yes, no)?;
-            let inner = push_condition(alloc, first, test, *at, from, else_at, out)?;
+            let (inner, to) = push_if_head(alloc, first, test, yes, no, *at, from, out)?;
             let behind = push_statement(alloc, first, yes, inner, around, out)?;
             let behind = push_last(out, *at, behind, Act::Jump { to })?;
             push_statement(alloc, first, no, behind, around, out)
         }
         Statement::While { test, body, at } => {
-            let inside = places_of_while(from.place, test, body)?;
-            let marked = push_last(out, *at, from, Act::Mark)?;
-            let inner = push_condition(alloc, first, test, *at, marked, inside.out, out)?;
-            let behind = push_statement(alloc, first, body, inner, inside, out)?;
+            let head = push_while_head(alloc, first, test, body, *at, from, out)?;
+            let behind = push_statement(alloc, first, body, head.inner, head.inside, out)?;
             push_last(out, *at, behind, Act::Jump { to: from.place })
         }
         Statement::Do { body, test, at } => {
             let inside = places_of_do(from.place, body, test)?;
             let marked = push_last(out, *at, from, Act::Mark)?;
             let tested = push_statement(alloc, first, body, marked, inside, out)?;
-            let behind = push_value(alloc, first, test, tested, out)?;
-            let act = Act::Branch {
-                on: tested.register,
-                then_at: from.place,
-                else_at: inside.out,
-            };
-            push_last(out, *at, behind, act)
+            push_do_test(alloc, first, test, *at, tested, from.place, inside.out, out)
         }
         Statement::For {
             start,
@@ -208,12 +333,9 @@ pub fn push_statement(
             at,
         } => {
             let mark = push_statement(alloc, first, start, from, around, out)?;
-            let inside = places_of_for(mark.place, test, body, step)?;
-            let tested = push_last(out, *at, mark, Act::Mark)?;
-            let inner = push_test(alloc, first, test, *at, tested, inside.out, out)?;
-            let stepped = push_statement(alloc, first, body, inner, inside, out)?;
-            let behind = push_maybe(alloc, first, step, stepped, out)?;
-            push_last(out, *at, behind, Act::Jump { to: mark.place })
+            let head = push_for_head(alloc, first, test, body, step, *at, mark, out)?;
+            let stepped = push_statement(alloc, first, body, head.inner, head.inside, out)?;
+            push_step(alloc, first, step, *at, stepped, mark.place, out)
         }
         Statement::Break { at } => push_last(out, *at, from, Act::Jump { to: around.out }),
         Statement::Continue { at } => push_last(out, *at, from, Act::Jump { to: around.on }),
@@ -231,9 +353,9 @@ fn push_statements(
     around: Around,
     out: &mut List<Instr>,
 ) -> Result<Next, AllocError>
-    ensures register { IfOk result (λ n. n.register ≡ from.register + length (spec.statements_kinds (listed_statements (map stmt_of stmts.now)))) }
-    ensures place { IfOk result (λ n. n.place ≡ from.place + spec.statements_size (listed_statements (map stmt_of stmts.now))) }
-    ensures out { OnOk result (out.new ≡ out.old ++ spec.statements_code first (listed_statements (map stmt_of stmts.now)) from.register from.place around.out around.on) }
+    ensures register { IfOk result (λ n. n.register ≡ from.register + length (spec.statements_kinds (statements_kept (listed_statements (map stmt_of stmts.now))))) }
+    ensures place { IfOk result (λ n. n.place ≡ from.place + spec.statements_size (statements_kept (listed_statements (map stmt_of stmts.now)))) }
+    ensures out { OnOk result (out.new ≡ out.old ++ spec.statements_code first (statements_kept (listed_statements (map stmt_of stmts.now))) from.register from.place around.out around.on) }
 {
     let mut next = from;
     for stmt in stmts {

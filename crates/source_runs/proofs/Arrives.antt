@@ -3,8 +3,8 @@ use Rattle.std.proofs.Common.{◌≡◌, ℕ, ◌⊎◌, inl, inr, refl, sym, su
 use Rattle.sync_objects.specs.Setup.{SetupView}
 use Rattle.rr_base.specs.declared.trap.Trap.TheVariants as trap
 use Rattle.flow_code.specs.declared.code.Code.{Code}
-use Rattle.flow_code.specs.declared.thread.Due.TheVariants as due
-use Rattle.flow_code.specs.declared.thread.Action.{Action}
+use Rattle.abstract_machine.specs.declared.event.Due.TheVariants as due
+use Rattle.abstract_machine.specs.declared.event.Action.{Action}
 use Rattle.flow_code.specs.Threads.{Thread}
 use Rattle.flow_code.specs.Next.{due_of, action_at, stepped}
 use Rattle.flow_code.specs.Settle.{settled, IsRunnable}

@@ -4,7 +4,7 @@ use Rattle.std.proofs.lemmas.Bool.{eqb-true}
 use Rattle.rr_base.specs.declared.trap.Trap.{Trap}
 use Rattle.rr_base.specs.declared.trap.Trap.TheVariants as trap
 use Rattle.sync_objects.specs.Setup.{SetupView}
-use Rattle.flow_code.specs.declared.thread.Action.{Action}
+use Rattle.abstract_machine.specs.declared.event.Action.{Action}
 use Rattle.c_core.specs.Core.{Program}
 use Rattle.c_core.specs.Runs.{Run, does, traps, ends, Event, done, trapped, events}
 use Rattle.c_core.specs.Meaning.{run_of}

@@ -1,5 +1,5 @@
 -- A thread that has made an event has begun, and has ended only where it has left the live threads or halted the program.
-use Rattle.std.proofs.Common.{◌≡◌, ℕ, zero, suc, ◌-◌, ⊎_elim, ◌==◌, Bool, true, false, if◌then◌else◌, length, Option, Some, None, Result, Ok, Err, refl, sym, ap, subst, ◌∙◌, ℤ}
+use Rattle.std.proofs.Common.{◌≡◌, ℕ, zero, suc, ◌-◌, ⊎_elim, ◌==◌, Bool, true, false, if◌then◌else◌, List, [], ◌∷◌, length, Option, Some, None, Result, Ok, Err, refl, sym, ap, subst, ◌∙◌, ℤ}
 use Rattle.std.specs.Prelude.{slice_get}
 use Rattle.std.proofs.lemmas.Bool.{true≢false}
 use Rattle.sync_objects.specs.Setup.{SetupView}
@@ -13,16 +13,21 @@ use Rattle.flow_code.specs.declared.act.Act.TheVariants as act
 use Rattle.flow_code.specs.declared.code.Code.{Code}
 use Rattle.flow_code.specs.declared.thread.Phase.{Phase}
 use Rattle.flow_code.specs.declared.thread.Phase.TheVariants as phase
-use Rattle.flow_code.specs.declared.thread.Due.{Due}
-use Rattle.flow_code.specs.declared.thread.Due.TheVariants as due
-use Rattle.flow_code.specs.declared.thread.Action.{Action}
-use Rattle.flow_code.specs.declared.thread.Action.TheVariants as action
-use Rattle.flow_code.specs.declared.thread.Onward.{Onward}
-use Rattle.flow_code.specs.declared.thread.Onward.TheVariants as onward
+use Rattle.abstract_machine.specs.declared.event.Due.{Due}
+use Rattle.abstract_machine.specs.declared.event.Due.TheVariants as due
+use Rattle.abstract_machine.specs.declared.event.Action.{Action}
+use Rattle.abstract_machine.specs.declared.event.Action.TheVariants as action
+use Rattle.abstract_machine.specs.declared.event.Onward.{Onward}
+use Rattle.abstract_machine.specs.declared.event.Onward.TheVariants as onward
+use Rattle.flow_code.specs.declared.thread.Stripe.{Stripe}
+use Rattle.flow_code.specs.declared.region.Region.{Region}
+use Rattle.flow_code.specs.Holding.{region_of, lacked, taken, open_place, to_give, gives_at, parting, left_behind}
+use Rattle.abstract_machine.proofs.Calls.{is_retake}
 use Rattle.flow_code.specs.Works.{work_of}
-use Rattle.flow_code.specs.Library.{library_onward}
+use Rattle.abstract_machine.specs.Library.{library_onward}
 use Rattle.flow_code.specs.Threads.{Frame, Thread, is_main}
-use Rattle.flow_code.specs.Next.{words_of, value_of, act_at, pointers_of, caller, due_of, computed, went_on, returned, end_onward, back_in, act_after, begun_after, phase_after, after_due, has_ended, has_begun, action_at, action_of, stepped}
+use Rattle.flow_code.specs.Next.{value_of, act_at, pointers_of, caller, due_of, computed, went_on, returned, end_onward, back_in, on_unless, act_after, begun_after, phase_after, after_due, has_ended, has_begun, action_at, action_of, stepped}
+use Rattle.abstract_machine.specs.Registers.{words_of}
 use Rattle.flow_code.proofs.Counts.{action_counts, stepped_is, operate_after}
 use Rattle.flow_code.proofs.Dues.{operate_by_code}
 use Rattle.flow_code.proofs.Goings.{ThreadOperates, runs, slot_ends, thread_ends, thread_goes}
@@ -61,6 +66,22 @@ module _ (code : Code) (s : SetupView) (t : ℕ) (th : Thread) where
         by true = end_begun (is_main code th.top.function) th.top.made
         by false = back_begun value (slice_get th.below (length th.below - 1))
 
+    left_begun : (xs : List Stripe) (q : Thread) → has_begun q.phase ≡ true → has_begun (left_behind th xs q).phase ≡ true
+    left_begun [] q h = h
+    left_begun (x ∷ xs) q h = begun_here
+
+    take_begun : (r : Option Region) (next : Option ℕ) → has_begun (on_unless next (taken code th r next)).phase ≡ true
+    take_begun None None = begun_here
+    take_begun None (Some n) = begun_here
+    take_begun (Some r) None = begun_here
+    take_begun (Some r) (Some n) = begun_here
+
+    give_begun : (place : Option ℕ) (next : Option (ℕ × ℕ)) → has_begun (on_unless next (gives_at th place next)).phase ≡ true
+    give_begun None None = begun_here
+    give_begun None (Some x) = begun_here
+    give_begun (Some i) None = begun_here
+    give_begun (Some i) (Some x) = begun_here
+
     act_begun : (o : Option Act) (answer : ℤ) → has_begun (act_after code s t th o answer).phase ≡ true
     act_begun None answer = begun_here
     act_begun (Some (act.Compute into work)) answer = computed_begun into (work_of s.slots code.sites (pointers_of code th.top) th.top.registers work)
@@ -70,12 +91,12 @@ module _ (code : Code) (s : SetupView) (t : ℕ) (th : Thread) where
     act_begun (Some (act.StoreCell through from)) answer = begun_here
     act_begun (Some act.Mark) answer = begun_here
     act_begun (Some (act.Call function arguments into)) answer = refl
-    act_begun (Some (act.Library call arguments into)) answer = went_on_begun _ into (library_onward (caller code s t th) call (words_of th.top.registers arguments) th.top.made th.top.kept answer)
+    act_begun (Some (act.Library call arguments into)) answer = left_begun (parting call th.top.made th.stripes) _ (went_on_begun _ into (library_onward (caller code s t th) call (words_of th.top.registers arguments) th.top.made th.top.kept answer))
     act_begun (Some (act.Jump to)) answer = begun_here
     act_begun (Some (act.Branch on then_at else_at)) answer = begun_here
     act_begun (Some (act.Return value)) answer = returned_begun (value_of th.top.registers value)
-    act_begun (Some (act.Take region)) answer = begun_here
-    act_begun (Some (act.Give region)) answer = begun_here
+    act_begun (Some (act.Take region)) answer = take_begun (region_of code th.top region) (lacked code th (region_of code th.top region))
+    act_begun (Some (act.Give region)) answer = give_begun (open_place code th region) (to_give code th region)
 
 begun_after_begun : (code : Code) (s : SetupView) (t : ℕ) (th : Thread) (f : ℕ) (answer : ℤ) → has_begun (begun_after code s t th f answer).phase ≡ true
 begun_after_begun code s zero th f answer = refl
@@ -94,13 +115,18 @@ phase_begun code s t th phase.Closed answer e lives = absurd (true≢false lives
 
 -- ---- after an event
 
+-- an operation that isn't one on a stripe takes no stripe again
+strong_first : (o : Op) → is_weak (name_of o) ≡ false → is_retake (name_of o) ≡ false
+strong_first op.Retake e = absurd (true≢false e)
+strong_first o e = refl
+
 due_phase : (code : Code) (s : SetupView) (t : ℕ) (th : Thread) (d : Due) (answer : ℤ) → IsEvent (action_of d) → (after_due code s t th d answer).phase ≡ (phase_after code s t th th.phase answer).phase
 due_phase code s t th due.Nothing answer e = absurd e
 due_phase code s t th due.Quiet answer e = absurd e
 due_phase code s t th (due.Load c) answer e = refl
 due_phase code s t th (due.Store c w) answer e = refl
 due_phase code s t th due.Mark answer e = refl
-due_phase code s t th (due.Operate o obj) answer e = ap (λ (z : Thread). z.phase) (operate_after code s t th o obj answer e.1)
+due_phase code s t th (due.Operate o obj) answer e = ap (λ (z : Thread). z.phase) (operate_after code s t th o obj answer (strong_first o e.1))
 due_phase code s t th (due.Trap kind) answer e = absurd (true≢false e.0)
 
 -- the thread has begun
@@ -143,7 +169,7 @@ event_ends code s t th (action.Store c w) answer at e = (action_counts code s t 
 event_ends code s t th action.Mark answer at e = (action_counts code s t th action.Mark answer tt at).lives
 event_ends code s t th (action.Operate o obj) answer at e =
     let is = operate_due (due_of code s t th) o obj e.0 (sym (action_is code s t th) ∙ at) in
-    ap (λ (z : Thread). has_ended z.phase) (stepped_is code s t th (due.Operate o obj) answer is ∙ operate_after code s t th o obj answer e.1)
+    ap (λ (z : Thread). has_ended z.phase) (stepped_is code s t th (due.Operate o obj) answer is ∙ operate_after code s t th o obj answer (strong_first o e.1))
     ∙ ⊎_elim (λ h. operates_end code s t th _ o obj (thread_goes code s t th (due.Operate o obj) answer h.0).2) (λ h. absurd (no_retake o e.1 h.1)) (operate_by_code code s t th o obj is)
 event_ends code s t th action.Quiet answer at e = absurd e
 event_ends code s t th action.Ended answer at e = absurd e

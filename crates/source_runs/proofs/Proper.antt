@@ -1,6 +1,7 @@
 -- The events of a source's thread are loads, stores, marks, and operations other than a trap and those on stripes.
-use Rattle.std.proofs.Common.{◌≡◌, ℕ, zero, suc, ◌+◌, Bool, true, false, if◌then◌else◌, nat_le, nat_eq, ◌&&◌, not, ℤ, pos, List, [], ◌∷◌, Option, Some, None, Result, Ok, Err, refl, ap}
+use Rattle.std.proofs.Common.{◌≡◌, ℕ, zero, suc, ◌+◌, Bool, true, false, if◌then◌else◌, nat_le, nat_eq, ◌&&◌, ◌||◌, not, ℤ, pos, List, [], ◌∷◌, Option, Some, None, Result, Ok, Err, refl, ap}
 use Rattle.std.specs.Prelude.{slice_get}
+use Rattle.std.proofs.lemmas.Bool.{true≢false}
 use Rattle.sync_objects.specs.Setup.{SetupView}
 use Rattle.sync_objects.specs.Names.{name_of, is_ending, is_weak}
 use Rattle.sync_objects.specs.declared.object.ObjId.TheVariants as object_id
@@ -9,19 +10,22 @@ use Rattle.sync_objects.specs.declared.operation.Op.TheVariants as op
 use Rattle.rr_base.specs.declared.trap.Trap.{Trap}
 use Rattle.rr_base.specs.declared.trap.Trap.TheVariants as trap
 use Rattle.rr_base.specs.declared.layout.CellKind.{CellKind}
-use Rattle.flow_code.specs.declared.act.LibraryCall.{LibraryCall}
-use Rattle.flow_code.specs.declared.thread.Due.{Due}
-use Rattle.flow_code.specs.declared.thread.Due.TheVariants as due
-use Rattle.flow_code.specs.declared.thread.Action.{Action}
-use Rattle.flow_code.specs.declared.thread.Action.TheVariants as action
-use Rattle.flow_code.specs.declared.thread.Onward.{Onward}
-use Rattle.flow_code.specs.declared.thread.Onward.TheVariants as onward
-use Rattle.flow_code.specs.Values.{number, word}
-use Rattle.flow_code.specs.Pointers.{resolved, pointer_at}
-use Rattle.flow_code.specs.Library.{Caller, count_in, library_due, library_onward}
-use Rattle.flow_code.specs.Threads.{argument_cell, result_cell, size_of}
-use Rattle.flow_code.specs.Next.{access_kind, most_frames, is_size, cells_in}
-use Rattle.flow_code.proofs.Calls.{CallOperates, goes as goes_on, ends_slot, leaves_all, CallGoes, call_goes}
+use Rattle.abstract_machine.specs.declared.library_call.LibraryCall.{LibraryCall}
+use Rattle.abstract_machine.specs.declared.library_call.LibraryCall.TheVariants as call
+use Rattle.abstract_machine.specs.declared.event.Due.{Due}
+use Rattle.abstract_machine.specs.declared.event.Due.TheVariants as due
+use Rattle.abstract_machine.specs.declared.event.Action.{Action}
+use Rattle.abstract_machine.specs.declared.event.Action.TheVariants as action
+use Rattle.abstract_machine.specs.declared.event.Onward.{Onward}
+use Rattle.abstract_machine.specs.declared.event.Onward.TheVariants as onward
+use Rattle.abstract_machine.specs.Values.{number, word}
+use Rattle.abstract_machine.specs.Pointers.{resolved, pointer_at}
+use Rattle.abstract_machine.specs.Library.{Caller, count_in, library_due, library_onward}
+use Rattle.abstract_machine.specs.Cells.{argument_cell, result_cell, size_of}
+use Rattle.abstract_machine.specs.Cells.{access_kind, is_size, cells_in}
+use Rattle.abstract_machine.specs.Limits.{most_frames}
+use Rattle.flow_lower.proofs.Calls.{IsPlain, plain_due}
+use Rattle.abstract_machine.proofs.Calls.{CallOperates, goes as goes_on, ends_slot, leaves_all, CallGoes, call_goes}
 use Rattle.c_core.specs.Core as core
 use Rattle.c_core.specs.Core.{Exp, null, register, object, global, load, unary, binary, move, advance, member, between, to_pointer, to_number, copy, both, either, conditional, comma, set_register, store, change_register, change_cell, call, library, allocate, Exps, no_exp, and_exp, Statement, block, compute, branch, while_loop, do_loop, for_loop, break_at, continue_at, gives, Statements, no_statement, and_statement, Arrival, arrives, Function, Program}
 use Rattle.c_core.specs.Runs.{Run, does, traps, ends, State, M, counted, is_free, event, choose, result_at}
@@ -92,14 +96,36 @@ operates_event w c ws made kept answer o (goes_on e h) = not_ending o e
 operates_event w c ws made kept answer o (ends_slot e h) = ap is_trap e
 operates_event w c ws made kept answer o (leaves_all e h) = ap is_trap e
 
-event_due : (w : Caller) (c : LibraryCall) (ws : List ℕ) (made : ℕ) (kept answer : ℤ) (d : Due) → CallGoes w c ws made kept answer d → IsEventDue d
-event_due w c ws made kept answer due.Nothing h = tt
-event_due w c ws made kept answer due.Quiet h = tt
-event_due w c ws made kept answer (due.Load x) h = tt
-event_due w c ws made kept answer (due.Store x v) h = tt
-event_due w c ws made kept answer due.Mark h = tt
-event_due w c ws made kept answer (due.Operate o obj) h = (operates_event w c ws made kept answer o h.2, h.0.strong)
-event_due w c ws made kept answer (due.Trap kind) h = tt
+-- no operation on a stripe is due in a call by itself
+abbrev IsStrong : Due → Type 0
+IsStrong (due.Operate o obj) = is_weak (name_of o) ≡ false
+IsStrong _ = Unit {0}
+
+plain_strong : (d : Due) → IsPlain d → IsStrong d
+plain_strong (due.Operate o obj) h = by (is_ending (name_of o)) (is_weak (name_of o)) h
+  where
+    by : (a b : Bool) → (a || b) ≡ false → b ≡ false
+    by true b e = absurd (true≢false e)
+    by false b e = e
+plain_strong _ h = tt
+
+exit_strong : (w : Caller) (ws : List ℕ) (made : ℕ) (kept : ℤ) → IsStrong (library_due w call.Exit ws made kept)
+exit_strong w ws zero kept = tt
+exit_strong w ws (suc zero) kept = refl
+exit_strong w ws (suc (suc n)) kept = refl
+
+call_strong : (w : Caller) (c : LibraryCall) (ws : List ℕ) (made : ℕ) (kept : ℤ) → IsStrong (library_due w c ws made kept)
+call_strong w call.Exit ws made kept = exit_strong w ws made kept
+call_strong w c ws made kept = plain_strong (library_due w c ws made kept) (plain_due w c ws made kept tt)
+
+event_due : (w : Caller) (c : LibraryCall) (ws : List ℕ) (made : ℕ) (kept answer : ℤ) (d : Due) → CallGoes w c ws made kept answer d → IsStrong d → IsEventDue d
+event_due w c ws made kept answer due.Nothing h k = tt
+event_due w c ws made kept answer due.Quiet h k = tt
+event_due w c ws made kept answer (due.Load x) h k = tt
+event_due w c ws made kept answer (due.Store x v) h k = tt
+event_due w c ws made kept answer due.Mark h k = tt
+event_due w c ws made kept answer (due.Operate o obj) h k = (operates_event w c ws made kept answer o h.2, k)
+event_due w c ws made kept answer (due.Trap kind) h k = tt
 
 module _ (p : Program) (s : SetupView) (t : ℕ) where
   by_due_proper : (line : ℕ) (d : Due) → IsEventDue d → Keeps (meaning.by_due p s t line d)
@@ -120,7 +146,7 @@ module _ (p : Program) (s : SetupView) (t : ℕ) where
   library_proper zero line c ws made kept σ k h = end_proper
   library_proper (suc n) line c ws made kept σ k h =
       let w = meaning.caller p s t σ in
-      by_due_proper line (library_due w c ws made kept) (event_due w c ws made kept (pos 0) (library_due w c ws made kept) (call_goes w c ws made kept (pos 0))) σ _ (λ answer σ1.
+      by_due_proper line (library_due w c ws made kept) (event_due w c ws made kept (pos 0) (library_due w c ws made kept) (call_goes w c ws made kept (pos 0)) (call_strong w c ws made kept)) σ _ (λ answer σ1.
       onwards_proper (meaning.library_from p s t n line c ws (made + 1)) (λ z. library_proper n line c ws (made + 1) z) (library_onward w c ws made kept answer) _ k h)
 
   -- ---- cells

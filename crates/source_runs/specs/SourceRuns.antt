@@ -12,10 +12,10 @@ use Rattle.sync_objects.specs.declared.operation.Op.TheVariants as op
 use Rattle.rr_base.specs.declared.layout.CellKind.{CellKind}
 use Rattle.rr_base.specs.declared.layout.CellKind.TheVariants as kind
 use Rattle.rr_base.specs.declared.trap.Trap.TheVariants as trap
-use Rattle.flow_code.specs.declared.thread.Action.{Action}
-use Rattle.flow_code.specs.declared.thread.Action.TheVariants as action
-use Rattle.flow_code.specs.Values.{number}
-use Rattle.flow_code.specs.Works.{based}
+use Rattle.abstract_machine.specs.declared.event.Action.{Action}
+use Rattle.abstract_machine.specs.declared.event.Action.TheVariants as action
+use Rattle.abstract_machine.specs.Values.{number}
+use Rattle.abstract_machine.specs.Operators.{based}
 use Rattle.c_core.specs.Core.{Program}
 use Rattle.c_core.specs.Runs.{Run, does, traps, Event, done, trapped, with_value}
 use Rattle.c_core.specs.Meaning.{run_of}

@@ -9,10 +9,10 @@ use Rattle.c_tree.specs.Tree.{Object, Fields, Code, defined, prototype, Outer, s
 use Rattle.c_types.specs.declared.names.Signature.{Signature}
 use Rattle.c_types.specs.declared.types.ObjectType.{ObjectType}
 use Rattle.c_types.specs.Scopes.{Known, Members, member_among, has_name, with_text}
-use Rattle.c_types.specs.Declarators.{is_numbered_below, is_struct_defined, struct_faults, after_struct, with_fields}
-use Rattle.c_types.specs.Statements.{declared_by, after_declared, after_objects}
-use Rattle.c_types.specs.Programs.{signature_of, after_function, outer_faults, after_outer, outers_faults, structs_with}
-use Rattle.c_types.specs.Spots.{known_behind}
+use Rattle.c_programs.specs.Declarators.{is_numbered_below, is_struct_defined, struct_faults, after_struct, with_fields}
+use Rattle.c_programs.specs.Statements.{declared_by, after_declared, after_objects}
+use Rattle.c_programs.specs.Programs.{signature_of, after_function, outer_faults, after_outer, outers_faults, structs_with}
+use Rattle.c_sites.specs.Spots.{known_behind}
 use Rattle.source_sound.proofs.Environment.{IsFormed}
 use Rattle.source_sound.proofs.FileLists.{append_nil}
 use Rattle.source_sound.proofs.FileStructs.{IsMember, AreMembers, AllMembers, AreStructs, struct_known, struct_defined}

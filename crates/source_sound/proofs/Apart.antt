@@ -1,6 +1,6 @@
 -- Lists of faults without one, taken apart, and tests that hold.
 use Rattle.std.proofs.Common.{◌≡◌, Bool, true, false, not, ◌&&◌, ◌||◌, List, [], ◌∷◌, ◌++◌, Option, Some, None, is_none, is_some, refl, sym, ap, ◌∙◌, true≢false, ◌⊎◌, inl, inr}
-use Rattle.c_tree.specs.Tree.{Place}
+use Rattle.rr_base.specs.declared.position.Position.{Position}
 use Rattle.c_types.specs.declared.fault.FaultKind.{FaultKind}
 use Rattle.c_types.specs.Found.{where_it_comes}
 
@@ -27,12 +27,12 @@ append_nil₄ xs ys zs ws h =
     let two = append_nil₃ xs ys zs one.0 in
     (two.0, two.1, two.2, one.1)
 
-pub comes_not : (b : Bool) (k : FaultKind) (at : Place) → where_it_comes b k at ≡ [] → b ≡ false
+pub comes_not : (b : Bool) (k : FaultKind) (at : Position) → where_it_comes b k at ≡ [] → b ≡ false
 comes_not true k at h = not_nothing _ _ h
 comes_not false k at h = refl
 
 -- the rule is kept
-pub keeps : (b : Bool) (k : FaultKind) (at : Place) → where_it_comes (not b) k at ≡ [] → b ≡ true
+pub keeps : (b : Bool) (k : FaultKind) (at : Position) → where_it_comes (not b) k at ≡ [] → b ≡ true
 keeps true k at h = refl
 keeps false k at h = not_nothing _ _ h
 

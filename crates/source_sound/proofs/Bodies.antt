@@ -13,10 +13,10 @@ use Rattle.c_types.specs.Constants.{constant_named}
 use Rattle.c_types.specs.Library.{starred_type}
 use Rattle.c_types.specs.Scopes.{Known, Scope, Meaning, variable, function_of, has_name, member_of, cells_of_type, opened}
 use Rattle.c_types.specs.Standing.{is_main}
-use Rattle.c_types.specs.Declarators.{params_faults, after_params}
-use Rattle.c_types.specs.Statements.{parts_faults}
-use Rattle.c_types.specs.Addresses.{numbered_from, parts_addressed}
-use Rattle.c_types.specs.Spots.{in_function, definition_spots}
+use Rattle.c_programs.specs.Declarators.{params_faults, after_params}
+use Rattle.c_programs.specs.Statements.{parts_faults}
+use Rattle.c_sites.specs.Addresses.{numbered_from, parts_addressed}
+use Rattle.c_sites.specs.Spots.{in_function, definition_spots}
 use Rattle.c_core.specs.Core.{Program}
 use Rattle.c_elaborate.specs.Here.{Source, global_named, function_counted}
 use Rattle.c_elaborate.specs.Calls.{gives_pointer}

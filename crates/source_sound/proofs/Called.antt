@@ -2,7 +2,8 @@
 use Rattle.std.proofs.Common.{◌≡◌, ℕ, zero, suc, ◌+◌, ◌==◌, Bool, true, false, not, ◌&&◌, if◌then◌else◌, List, [], ◌∷◌, ◌++◌, length, replicate, Option, Some, None, is_some, refl, sym, ap, ◌∙◌, subst, arith}
 use Rattle.std.proofs.lemmas.Bool.{and_from, eqb-true}
 use Rattle.c_lexer.specs.Bytes.{Text}
-use Rattle.c_tree.specs.Tree.{Place, Exp, text, Exps, no_exp, and_exp}
+use Rattle.c_tree.specs.Tree.{Exp, text, Exps, no_exp, and_exp}
+use Rattle.rr_base.specs.declared.position.Position.{Position}
 use Rattle.c_types.specs.declared.types.BaseType.{BaseType}
 use Rattle.c_types.specs.declared.types.BaseType.TheVariants as base
 use Rattle.c_types.specs.declared.types.Layer.{Layer}
@@ -23,8 +24,8 @@ use Rattle.c_types.specs.Scopes.{Meaning, variable, function_of, seen, has_name,
 use Rattle.c_types.specs.Operands.{Standing, no_type, a_value, operand_of, layered_operand, layered_value, type_value, accepts}
 use Rattle.c_types.specs.Standing.{Target, no_target, some_target, target_of, malloc_standing, standing, is_main, Callee, callee, callee_wants, call_standing, given_type, format_of, some_library_callee, library_callee, function_callee, callee_of, is_root, is_text, fit_wanted}
 use Rattle.c_types.specs.Found.{where_it_comes}
-use Rattle.c_types.specs.Faults.{first_place, count_of, count_faults, begins_with_text, some_library_wants, library_wants, wants_of, has_no_target, library_call_faults, unseen_call_faults, callee_faults, format_faults, root_faults, argument_faults, is_judged, where_judged, one_argument_faults, faults, arguments_faults}
-use Rattle.c_core.specs.declared.position.Position.{Position}
+use Rattle.c_rules.specs.Faults.{first_place, count_of, count_faults, begins_with_text, some_library_wants, library_wants, wants_of, has_no_target, library_call_faults, unseen_call_faults, callee_faults, format_faults, root_faults, argument_faults, is_judged, where_judged, one_argument_faults, faults, arguments_faults}
+use Rattle.rr_base.specs.declared.position.Position.{Position}
 use Rattle.c_core.specs.Core as core
 use Rattle.c_core.specs.Core.{Function, Program}
 use Rattle.c_core.specs.Meaning.{is_pointer}
@@ -54,7 +55,7 @@ length_numbers zero = refl
 length_numbers (suc n) = ap suc (length_numbers n)
 
 -- the count of arguments has no fault
-counted : (many count : ℕ) (at : Place) → count_faults many count at ≡ [] → many ≡ count
+counted : (many count : ℕ) (at : Position) → count_faults many count at ≡ [] → many ≡ count
 counted many count at h = eqb-true many count (keeps (many == count) fault.BadCall at h)
 
 found_either : {A : Type 0} (b : Bool) (x y : Found) → (if b then x ∷ [] else y ∷ []) ≡ [] → A
@@ -88,7 +89,7 @@ module _ (p : Program) (home : ℕ → Option ℕ) (f : Function) (h : Here) (su
         fit = and_from _ _ (and_from _ _ a g.typed) all.fit;
       }
 
-  pub argument_fits : (x : Wanted) (e : Exp) (ws : List Wanted) (es : Exps) (at : Place) → AreWanted (x ∷ ws) → one_argument_faults h.known x at e (faults h.known no_target e) ≡ [] →
+  pub argument_fits : (x : Wanted) (e : Exp) (ws : List Wanted) (es : Exps) (at : Position) → AreWanted (x ∷ ws) → one_argument_faults h.known x at e (faults h.known no_target e) ≡ [] →
       (faults h.known no_target e ≡ [] → stands (standing h.known no_target e) (held h no_target e)) → AllFit ws es → AllFit (x ∷ ws) (and_exp e es)
   argument_fits (wants.Fits t) e ws es at w none own all =
       let apart = append_nil (faults h.known no_target e) _ none in
@@ -123,12 +124,12 @@ module _ (p : Program) (home : ℕ → Option ℕ) (f : Function) (h : Here) (su
   fit_stands c ws s es x e fit k =
       subst (λ z. stands (call_standing z (fit_wanted h.known (callee_wants z) es)) x) (sym e) (where_true p home f suits.structs (fit_wanted h.known ws es) s no_type x fit k)
 
-  abbrev All : Place → Exps → Type 0
+  abbrev All : Position → Exps → Type 0
   All at es = (ws : List Wanted) → arguments_faults h.known ws at es ≡ [] → count_of es ≡ length ws → AreWanted ws → AllFit ws es
 
   -- ---- a function of the source
 
-  function_stands : (w : Target) (name : Text) (g : Signature) (es : Exps) (at : Place) (o : Position) → seen h.known name ≡ Some (function_of g) →
+  function_stands : (w : Target) (name : Text) (g : Signature) (es : Exps) (at : Position) (o : Position) → seen h.known name ≡ Some (function_of g) →
       callee_faults h.known name w (begins_with_text es) (format_of es) (count_of es) at (Some (function_of g)) ≡ [] → arguments_faults h.known g.params at es ≡ [] → All at es →
       stands (call_standing (callee_of h.known w name (format_of es) (Some (function_of g))) (fit_wanted h.known (callee_wants (callee_of h.known w name (format_of es) (Some (function_of g)))) es))
       (held_value (core.call (function_counted (function_numbered h.known name)) (core.listed (arguments h g.params es)) (gives_pointer g.result) o))
@@ -154,7 +155,7 @@ module _ (p : Program) (home : ℕ → Option ℕ) (f : Function) (h : Here) (su
   plain_given library.PrintFormat x = absurd x
   plain_given _ x = (tt, refl)
 
-  plain_stands : (c : LibraryName) (es : Exps) (at : Place) (o : Position) → IsPlain p home f c → count_faults (count_of es) (length (wanted_by c)) at ≡ [] → arguments_faults h.known (wanted_by c) at es ≡ [] → All at es →
+  plain_stands : (c : LibraryName) (es : Exps) (at : Position) (o : Position) → IsPlain p home f c → count_faults (count_of es) (length (wanted_by c)) at ≡ [] → arguments_faults h.known (wanted_by c) at es ≡ [] → All at es →
       stands (call_standing (callee (wanted_by c) (type_value (bare (given_by c)))) (fit_wanted h.known (wanted_by c) es)) (held_value (core.library (library_of h.known c es) (core.listed (arguments h (wanted_by c) es)) o))
   plain_stands c es at o x none none' all =
       let fits = all (wanted_by c) none' (counted (count_of es) (length (wanted_by c)) at none) (library_wanted c) in
@@ -162,7 +163,7 @@ module _ (p : Program) (home : ℕ → Option ℕ) (f : Function) (h : Here) (su
       where_true p home f suits.structs (fit_wanted h.known (wanted_by c) es) (type_value (bare (given_by c))) no_type _ fits.fit
       (given.0, given.1, (fits.kinds ∙ plain_kinds p home f h.known c es x, library_starts p home f h suits c es x fits.fit, fits.sound))
 
-  malloc_stands : (w : Target) (es : Exps) (at : Place) (site : ℕ) (o : Position) → IsFormedTarget suits.structs w → HasSite p site →
+  malloc_stands : (w : Target) (es : Exps) (at : Position) (site : ℕ) (o : Position) → IsFormedTarget suits.structs w → HasSite p site →
       where_it_comes (has_no_target w) fault.OutOfProfile at ++ count_faults (count_of es) 1 at ≡ [] → arguments_faults h.known (wanted_by library.Malloc) at es ≡ [] → All at es →
       stands (call_standing (callee (wanted_by library.Malloc) (malloc_standing w)) (fit_wanted h.known (wanted_by library.Malloc) es)) (held_value (core.allocate site (first_of (arguments h (wanted_by library.Malloc) es) o) o))
   malloc_stands no_target es at site o formed has none none' all = not_nothing _ [] (append_nil (where_it_comes true fault.OutOfProfile at) (count_faults (count_of es) 1 at) none).0
@@ -174,7 +175,7 @@ module _ (p : Program) (home : ℕ → Option ℕ) (f : Function) (h : Here) (su
       (formed_or_void suits.structs t.layers t.base formed, refl, (has, first_whole p home f (arguments h ws es) o fits.kinds, first_sound p home f (arguments h ws es) o fits.sound))
 
   -- `printf` begins with its format
-  format_stands : (w : Target) (bytes : Text) (here : Place) (es : Exps) (at here' : Place) (o : Position) (site : ℕ) (n : Option ℕ) → conversions bytes ≡ n →
+  format_stands : (w : Target) (bytes : Text) (here : Position) (es : Exps) (at here' : Position) (o : Position) (site : ℕ) (n : Option ℕ) → conversions bytes ≡ n →
       library_call_faults library.PrintFormat w true n (suc (count_of es)) at ≡ [] → format_faults true (Some library.PrintFormat) None n here' ≡ [] →
       arguments_faults h.known (some_library_wants library.PrintFormat n) at (and_exp (text bytes here) es) ≡ [] → All at (and_exp (text bytes here) es) →
       stands (call_standing (some_library_callee library.PrintFormat w n) (fit_wanted h.known (callee_wants (some_library_callee library.PrintFormat w n)) (and_exp (text bytes here) es)))
@@ -188,24 +189,24 @@ module _ (p : Program) (home : ℕ → Option ℕ) (f : Function) (h : Here) (su
       where_true p home f suits.structs (fit_wanted h.known ws whole_list) (a_value (bare base.Int)) no_type _ fits.fit
       (tt, refl, (fits.kinds ∙ printf_kinds p home f h.known bytes here es n e, tt, fits.sound))
 
-  abbrev PrintStands : Target → Exps → Place → Place → Position → ℕ → Type 0
+  abbrev PrintStands : Target → Exps → Position → Position → Position → ℕ → Type 0
   PrintStands w es at here' o site = library_call_faults library.PrintFormat w (begins_with_text es) (format_of es) (count_of es) at ≡ [] → format_faults (begins_with_text es) (Some library.PrintFormat) None (format_of es) here' ≡ [] →
       arguments_faults h.known (some_library_wants library.PrintFormat (format_of es)) at es ≡ [] → All at es →
       stands (call_standing (some_library_callee library.PrintFormat w (format_of es)) (fit_wanted h.known (callee_wants (some_library_callee library.PrintFormat w (format_of es))) es))
       (held_value (library_called h.known site (Some library.PrintFormat) es (arguments h (some_library_wants library.PrintFormat (format_of es)) es) o))
 
-  not_text : {A : Type 0} (e : Exp) (own rest : List Found) (at : Place) → is_text e ≡ false → (where_judged (not (is_text e)) own ++ where_it_comes (not (is_text e)) fault.OutOfProfile (first_place e)) ++ rest ≡ [] → A
+  not_text : {A : Type 0} (e : Exp) (own rest : List Found) (at : Position) → is_text e ≡ false → (where_judged (not (is_text e)) own ++ where_it_comes (not (is_text e)) fault.OutOfProfile (first_place e)) ++ rest ≡ [] → A
   not_text e own rest at isn h =
       let one = append_nil (where_judged (not (is_text e)) own ++ where_it_comes (not (is_text e)) fault.OutOfProfile (first_place e)) rest h in
       let two = append_nil (where_judged (not (is_text e)) own) (where_it_comes (not (is_text e)) fault.OutOfProfile (first_place e)) one.0 in
       never (sym isn ∙ keeps (is_text e) fault.OutOfProfile (first_place e) two.1)
 
-  print_stands : (w : Target) (es : Exps) (at here' : Place) (o : Position) (site : ℕ) → PrintStands w es at here' o site
+  print_stands : (w : Target) (es : Exps) (at here' : Position) (o : Position) (site : ℕ) → PrintStands w es at here' o site
   print_stands w no_exp at here' o site none none' none'' all = not_nothing _ [] none
   print_stands w (and_exp (text bytes here) es) at here' o site none none' none'' all = format_stands w bytes here es at here' o site (conversions bytes) refl none none' none'' all
   print_stands w (and_exp e es) at here' o site none none' none'' all = not_text e (faults h.known no_target e) (arguments_faults h.known [] at es) at refl none''
 
-  some_stands : (w : Target) (c : LibraryName) (es : Exps) (at here' : Place) (o : Position) (site : ℕ) → IsFormedTarget suits.structs w → (c ≡ library.Malloc → HasSite p site) →
+  some_stands : (w : Target) (c : LibraryName) (es : Exps) (at here' : Position) (o : Position) (site : ℕ) → IsFormedTarget suits.structs w → (c ≡ library.Malloc → HasSite p site) →
       library_call_faults c w (begins_with_text es) (format_of es) (count_of es) at ≡ [] → format_faults (begins_with_text es) (Some c) None (format_of es) here' ≡ [] →
       arguments_faults h.known (some_library_wants c (format_of es)) at es ≡ [] → All at es →
       stands (call_standing (some_library_callee c w (format_of es)) (fit_wanted h.known (callee_wants (some_library_callee c w (format_of es))) es))
@@ -235,7 +236,7 @@ module _ (p : Program) (home : ℕ → Option ℕ) (f : Function) (h : Here) (su
   some_stands w library.PutChar es at here' o site formed has none none' none'' all = plain_stands library.PutChar es at o tt none none'' all
   some_stands w library.PutText es at here' o site formed has none none' none'' all = plain_stands library.PutText es at o tt none none'' all
 
-  library_stands : (w : Target) (name : Text) (c : Option LibraryName) (es : Exps) (at here' : Place) (o : Position) (site : ℕ) → IsFormedTarget suits.structs w → (c ≡ Some library.Malloc → HasSite p site) →
+  library_stands : (w : Target) (name : Text) (c : Option LibraryName) (es : Exps) (at here' : Position) (o : Position) (site : ℕ) → IsFormedTarget suits.structs w → (c ≡ Some library.Malloc → HasSite p site) →
       unseen_call_faults c name w (begins_with_text es) (format_of es) (count_of es) at ≡ [] → format_faults (begins_with_text es) c None (format_of es) here' ≡ [] →
       arguments_faults h.known (library_wants c (format_of es)) at es ≡ [] → All at es →
       stands (call_standing (library_callee c w (format_of es)) (fit_wanted h.known (callee_wants (library_callee c w (format_of es))) es))
@@ -245,7 +246,7 @@ module _ (p : Program) (home : ℕ → Option ℕ) (f : Function) (h : Here) (su
 
   -- ---- any call
 
-  pub called_stands : (w : Target) (name : Text) (m : Option Meaning) (es : Exps) (at here' : Place) (o : Position) (site : ℕ) → seen h.known name ≡ m → IsFormedTarget suits.structs w →
+  pub called_stands : (w : Target) (name : Text) (m : Option Meaning) (es : Exps) (at here' : Position) (o : Position) (site : ℕ) → seen h.known name ≡ m → IsFormedTarget suits.structs w →
       (m ≡ None → library_named name ≡ Some library.Malloc → HasSite p site) →
       callee_faults h.known name w (begins_with_text es) (format_of es) (count_of es) at m ≡ [] → format_faults (begins_with_text es) (library_named name) m (format_of es) here' ≡ [] →
       arguments_faults h.known (wants_of name (format_of es) m) at es ≡ [] → All at es →

@@ -2,9 +2,10 @@
 use Rattle.std.proofs.Common.{◌≡◌, ℕ, zero, suc, ◌==◌, nat_lt, Bool, true, false, not, ◌&&◌, if◌then◌else◌, List, [], ◌∷◌, replicate, Option, Some, None, refl, sym, ap, ◌∙◌, subst, arith}
 use Rattle.std.proofs.lemmas.Bool.{eqb-true, lt-ltb}
 use Rattle.c_lexer.specs.Bytes.{Text}
-use Rattle.flow_code.specs.declared.act.LibraryCall.TheVariants as library_call
+use Rattle.abstract_machine.specs.declared.library_call.LibraryCall.TheVariants as library_call
 use Rattle.flow_code.specs.Kinds.{library_kinds}
-use Rattle.c_tree.specs.Tree.{Place, Exp, named, text, Exps, no_exp, and_exp}
+use Rattle.c_tree.specs.Tree.{Exp, named, text, Exps, no_exp, and_exp}
+use Rattle.rr_base.specs.declared.position.Position.{Position}
 use Rattle.c_types.specs.declared.types.BaseType.{BaseType}
 use Rattle.c_types.specs.declared.types.BaseType.TheVariants as base
 use Rattle.c_types.specs.declared.library.StarredType.{StarredType}
@@ -18,9 +19,9 @@ use Rattle.c_types.specs.Scopes.{Known, Meaning, variable, function_of, seen, ha
 use Rattle.c_types.specs.Operands.{Operand, type_operand, accepts, is_void}
 use Rattle.c_types.specs.Library.{starred_type, an_int, wanted_by}
 use Rattle.c_types.specs.Format.{conversions}
-use Rattle.c_types.specs.Roots.{third_name}
+use Rattle.c_sites.specs.Roots.{third_name}
 use Rattle.c_types.specs.Standing.{is_main, is_pointer_to_void, wants_pointer_to_void, gives_pointer_to_void, has_root_types, is_root_type, is_root, fit_wanted}
-use Rattle.c_core.specs.declared.position.Position.{Position}
+use Rattle.rr_base.specs.declared.position.Position.{Position}
 use Rattle.c_core.specs.Core as core
 use Rattle.c_core.specs.Core.{Function, Program}
 use Rattle.c_core.specs.Meaning.{is_pointer}
@@ -99,7 +100,7 @@ module _ (p : Program) (home : ℕ → Option ℕ) (f : Function) where
   -- ---- kinds of the library
 
   -- of `printf`, by its format
-  pub printf_kinds : (known : Known) (bytes : Text) (at : Place) (es : Exps) (n : ℕ) → conversions bytes ≡ Some n →
+  pub printf_kinds : (known : Known) (bytes : Text) (at : Position) (es : Exps) (n : ℕ) → conversions bytes ≡ Some n →
       wanted_kinds p home f (wants.Text ∷ replicate n an_int) ≡ library_kinds (library_of known library.PrintFormat (and_exp (text bytes at) es))
   printf_kinds known bytes at es n e = numbers_kinds n ∙ sym (format_numbers bytes n e)
 

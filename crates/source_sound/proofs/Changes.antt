@@ -1,7 +1,7 @@
 -- Assignments, `++` and `--`: what they change is there, and takes what it gets.
 use Rattle.std.proofs.Common.{◌≡◌, ℕ, ◌≤◌, Bool, true, false, not, ◌&&◌, if◌then◌else◌, pos, List, [], ◌∷◌, Option, Some, None, refl, sym, ap, ◌∙◌}
 use Rattle.std.proofs.lemmas.Bool.{and_from}
-use Rattle.flow_code.specs.declared.work.BinaryOp.{BinaryOp as FlowOp}
+use Rattle.abstract_machine.specs.declared.operator.BinaryOp.{BinaryOp as FlowOp}
 use Rattle.c_tree.specs.declared.expr.AssignOp.{AssignOp}
 use Rattle.c_tree.specs.declared.expr.AssignOp.TheVariants as assign_op
 use Rattle.c_types.specs.declared.types.BaseType.{BaseType}
@@ -12,8 +12,8 @@ use Rattle.c_types.specs.declared.types.ObjectType.{ObjectType}
 use Rattle.c_types.specs.Scopes.{cells_of_type}
 use Rattle.c_types.specs.Operands.{Standing, no_type, zero_literal, null_literal, a_value, a_place, Operand, whole, pointing, type_operand, layered_operand, layered_value, type_value, is_void, is_typed, is_whole, layered_accepts, accepts, layered_moves, moves, layered_is_int, is_int_type, assigns}
 use Rattle.c_types.specs.Standing.{layered_struct, stepped, assign_standing}
-use Rattle.c_types.specs.Faults.{standing_type, assigns_to, steps}
-use Rattle.c_core.specs.declared.position.Position.{Position}
+use Rattle.c_rules.specs.Faults.{standing_type, assigns_to, steps}
+use Rattle.rr_base.specs.declared.position.Position.{Position}
 use Rattle.c_core.specs.declared.value.Change.TheVariants as change
 use Rattle.c_core.specs.Core as core
 use Rattle.c_core.specs.Core.{Function, Program}

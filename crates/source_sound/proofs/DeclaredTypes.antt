@@ -6,7 +6,8 @@ use Rattle.std.proofs.lemmas.Option.{same_Some}
 use Rattle.std.proofs.lemmas.List.Quantifiers.{position-Some}
 use Rattle.c_tree.specs.declared.ctype.Specifier.{Specifier}
 use Rattle.c_tree.specs.declared.ctype.Specifier.TheVariants as specifier
-use Rattle.c_tree.specs.Tree.{Place, Exp, Declared, declared}
+use Rattle.c_tree.specs.Tree.{Exp, Declared, declared}
+use Rattle.rr_base.specs.declared.position.Position.{Position}
 use Rattle.c_types.specs.declared.types.BaseType.{BaseType}
 use Rattle.c_types.specs.declared.types.BaseType.TheVariants as base
 use Rattle.c_types.specs.declared.types.Layer.{Layer}
@@ -16,9 +17,9 @@ use Rattle.c_types.specs.Found.{first_among}
 use Rattle.c_types.specs.Numbers.{Computed}
 use Rattle.c_types.specs.Constants.{is_constant}
 use Rattle.c_types.specs.Scopes.{Known, base_of, struct_numbered, is_complete, is_complete_layered, is_complete_base}
-use Rattle.c_types.specs.Faults.{name_place, mismatch, specifier_faults, lacks_struct_by, expression_faults}
-use Rattle.c_types.specs.Sizes.{is_sound, is_short, is_trap, value_here, constant_faults, length_faults, is_short_length, positive_value, length_of}
-use Rattle.c_types.specs.Declarators.{with_arrays, type_by, arrays_of, complete_by, declared_type, is_void_specifier, lengths_faults, declarator_faults}
+use Rattle.c_rules.specs.Faults.{name_place, mismatch, specifier_faults, lacks_struct_by, expression_faults}
+use Rattle.c_rules.specs.Sizes.{is_sound, is_short, is_trap, value_here, constant_faults, length_faults, is_short_length, positive_value, length_of}
+use Rattle.c_programs.specs.Declarators.{with_arrays, type_by, arrays_of, complete_by, declared_type, is_void_specifier, lengths_faults, declarator_faults}
 use Rattle.source_sound.proofs.Environment.{IsFormedBase, IsFormedPointee, IsFormedLayered, IsFormed}
 use Rattle.source_sound.proofs.FileLists.{append_nil, nil3, where_nil}
 use Rattle.source_sound.proofs.Structs.{IsWithin}
@@ -98,7 +99,7 @@ constant_when known e fs cs = by (is_constant e) (is_sound known e) (is_trap (va
     by true false t is h = absurd (true≢false (sym is))
     by false s t is h = absurd (true≢false h)
 
-length_known : (known : Known) (at : Place) (e : Exp) → length_faults known at e ≡ [] → IsPositive (length_of known e)
+length_known : (known : Known) (at : Position) (e : Exp) → length_faults known at e ≡ [] → IsPositive (length_of known e)
 length_known known at e h =
     let a = nil3 (expression_faults known e) (constant_faults known e) (mismatch (is_short_length known e) at) h in
     let c = constant_when known e a.0 a.1 in
@@ -113,7 +114,7 @@ add_positive : (o : Option ℕ) (ns : List (Option ℕ)) → IsPositive o → Ar
 add_positive None ns h g = absurd h
 add_positive (Some n) ns h g = (h, g)
 
-pub lengths_known : (known : Known) (at : Place) (es : List Exp) → lengths_faults known at es ≡ [] → ArePositive (map (length_of known) es)
+pub lengths_known : (known : Known) (at : Position) (es : List Exp) → lengths_faults known at es ≡ [] → ArePositive (map (length_of known) es)
 lengths_known known at [] h = tt
 lengths_known known at (e ∷ es) h =
     let a = append_nil (length_faults known at e) (lengths_faults known at es) h in

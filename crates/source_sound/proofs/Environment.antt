@@ -2,7 +2,7 @@
 -- and are of the kind that their types tell.
 use Rattle.std.specs.Prelude.{◌≡◌, ℕ, ◌<◌, ◌≤◌, Bool, true, false, List, [], ◌∷◌, Option, Some, None}
 use Rattle.c_lexer.specs.Bytes.{Text}
-use Rattle.c_tree.specs.Tree.{Place}
+use Rattle.rr_base.specs.declared.position.Position.{Position}
 use Rattle.c_types.specs.declared.types.BaseType.{BaseType}
 use Rattle.c_types.specs.declared.types.BaseType.TheVariants as base
 use Rattle.c_types.specs.declared.types.Layer.{Layer}
@@ -17,8 +17,8 @@ use Rattle.c_types.specs.Library.{starred_type}
 use Rattle.c_types.specs.Scopes.{Meaning, variable, function_of, seen, has_name, member_of, struct_numbered, function_numbered, cells_of_type}
 use Rattle.c_types.specs.Operands.{Standing, zero_literal, a_place, operand_of}
 use Rattle.c_types.specs.Standing.{Target, no_target, some_target, target_of, type_struct, is_main}
-use Rattle.c_types.specs.Spots.{Spot}
-use Rattle.c_core.specs.declared.position.Position.{Position}
+use Rattle.c_sites.specs.Spots.{Spot}
+use Rattle.rr_base.specs.declared.position.Position.{Position}
 use Rattle.c_core.specs.Core.{Function, Program}
 use Rattle.c_core.specs.Meaning.{is_pointer}
 use Rattle.c_elaborate.specs.Held.{Held, held_register, held_cells, held_zero, held_value, is_pointing}
@@ -90,7 +90,7 @@ abbrev pub AreKept : Here → List ℕ → Type 0
 AreKept h [] = Unit {0}
 AreKept h (n ∷ ns) = IsKept (home_numbered h.frame (Some n)) × AreKept h ns
 
-abbrev pub places_of : List Spot → List Place
+abbrev pub places_of : List Spot → List Position
 places_of [] = []
 places_of (s ∷ ss) = s.place ∷ places_of ss
 
@@ -146,6 +146,6 @@ module _ (p : Program) (home : ℕ → Option ℕ) (f : Function) where
     pub functions : (name : Text) (g : Signature) → seen h.known name ≡ Some (function_of g) → has_name h.known.defined name ≡ true → is_main name ≡ false → CallSuits h name g
 
   -- each of these places is that of a site
-  abbrev pub HaveSites : Here → List Place → Type 0
+  abbrev pub HaveSites : Here → List Position → Type 0
   HaveSites h [] = Unit {0}
   HaveSites h (at ∷ ats) = HasSite p (site_at h.source.sites at) × HaveSites h ats

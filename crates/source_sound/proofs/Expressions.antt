@@ -1,8 +1,9 @@
 -- An expression without a fault: what stands for it is there, and is of the kind that is known of it.
 use Rattle.std.proofs.Common.{◌≡◌, ℕ, suc, pred, true, false, not, ◌&&◌, List, [], ◌∷◌, length, Option, Some, None, refl, sym, ap, subst, arith}
-use Rattle.flow_code.specs.declared.work.BinaryOp.TheVariants as flow
+use Rattle.abstract_machine.specs.declared.operator.BinaryOp.TheVariants as flow
 use Rattle.c_tree.specs.declared.ctype.CType.{CType}
-use Rattle.c_tree.specs.Tree.{Place, Exp, comma, assign, conditional, binary, prefix, sizeof_exp, sizeof_type, cast, index, member, arrow, post_increment, post_decrement, named, call, number, letter, text, null, paren, Exps, no_exp, and_exp}
+use Rattle.c_tree.specs.Tree.{Exp, comma, assign, conditional, binary, prefix, sizeof_exp, sizeof_type, cast, index, member, arrow, post_increment, post_decrement, named, call, number, letter, text, null, paren, Exps, no_exp, and_exp}
+use Rattle.rr_base.specs.declared.position.Position.{Position}
 use Rattle.c_types.specs.declared.library.Wanted.{Wanted}
 use Rattle.c_types.specs.declared.library.Wanted.TheVariants as wants
 use Rattle.c_types.specs.declared.fault.FaultKind.TheVariants as fault
@@ -10,11 +11,11 @@ use Rattle.c_types.specs.Library.{library_named}
 use Rattle.c_types.specs.Scopes.{seen, type_named}
 use Rattle.c_types.specs.Operands.{Standing, Operand, operand_of, as_value, takes, is_scalar}
 use Rattle.c_types.specs.Standing.{Target, no_target, assigned_target, cast_target, casts_to, can_index, struct_of, pointed_struct, let_go, behind, is_sized, format_of, standing, last_standing}
-use Rattle.c_types.specs.Faults.{mismatch, condition_takes, go_faults, step_faults, cast_faults, specifier_faults, assign_faults, prefix_faults, member_faults, callee_faults, format_faults, begins_with_text, count_of, place_of_first, call_faults, wants_of, one_argument_faults, faults, rest_faults, arguments_faults}
-use Rattle.c_types.specs.Initials.{is_address}
-use Rattle.c_types.specs.Addresses.{where_address, number_of_operand, addressed, all_addressed}
-use Rattle.c_types.specs.Spots.{is_malloc, where_malloc, allocations, all_allocations}
-use Rattle.c_core.specs.declared.position.Position.{Position}
+use Rattle.c_rules.specs.Faults.{mismatch, condition_takes, go_faults, step_faults, cast_faults, specifier_faults, assign_faults, prefix_faults, member_faults, callee_faults, format_faults, begins_with_text, count_of, place_of_first, call_faults, wants_of, one_argument_faults, faults, rest_faults, arguments_faults}
+use Rattle.c_programs.specs.Initials.{is_address}
+use Rattle.c_sites.specs.Addresses.{where_address, number_of_operand, addressed, all_addressed}
+use Rattle.c_sites.specs.Spots.{is_malloc, where_malloc, allocations, all_allocations}
+use Rattle.rr_base.specs.declared.position.Position.{Position}
 use Rattle.c_core.specs.Core as core
 use Rattle.c_core.specs.Core.{Function, Program}
 use Rattle.c_elaborate.specs.Held.{Held, held_value, held_zero, value_by, position_of}
@@ -58,10 +59,10 @@ module _ (p : Program) (home : ℕ → Option ℕ) (f : Function) (h : Here) (su
       let u = type_known h.known structs suits.names t false none in
       subst (IsKnownType structs) (sym u.1) u.2
 
-  cast_apart : (t : CType) (a : Operand) (at : Place) → cast_faults h.known t a at ≡ [] → (casts_to (type_named h.known t) t.stars && is_scalar a) ≡ true
+  cast_apart : (t : CType) (a : Operand) (at : Position) → cast_faults h.known t a at ≡ [] → (casts_to (type_named h.known t) t.stars && is_scalar a) ≡ true
   cast_apart t a at none = keeps (casts_to (type_named h.known t) t.stars && is_scalar a) fault.TypeMismatch at (append_nil (mismatch (not (casts_to (type_named h.known t) t.stars && is_scalar a)) at) (specifier_faults h.known false t.specifier) none).0
 
-  cast_specifier : (t : CType) (a : Operand) (at : Place) → cast_faults h.known t a at ≡ [] → specifier_faults h.known false t.specifier ≡ []
+  cast_specifier : (t : CType) (a : Operand) (at : Position) → cast_faults h.known t a at ≡ [] → specifier_faults h.known false t.specifier ≡ []
   cast_specifier t a at none = (append_nil (mismatch (not (casts_to (type_named h.known t) t.stars && is_scalar a)) at) (specifier_faults h.known false t.specifier) none).1
 
   -- ---- commas
@@ -220,7 +221,7 @@ module _ (p : Program) (home : ℕ → Option ℕ) (f : Function) (h : Here) (su
         next_tail s v x xs at (tail_stands xs (behind s (let_go (standing h.known no_target x))) both_words at
         (behind_stands p home f h suits s (let_go (standing h.known no_target x)) v both_words k gone) (sound, g.sound) more.2 sites'.1 kept'.1)
 
-    pub arguments_fit : (es : Exps) (ws : List Wanted) (at : Place) → arguments_faults h.known ws at es ≡ [] → HaveSites p home f h (places_of (all_allocations h.known es)) → AreKept h (all_addressed h.numbers es) → count_of es ≡ length ws → AreWanted ws → AllFit p home f h suits ws es
+    pub arguments_fit : (es : Exps) (ws : List Wanted) (at : Position) → arguments_faults h.known ws at es ≡ [] → HaveSites p home f h (places_of (all_allocations h.known es)) → AreKept h (all_addressed h.numbers es) → count_of es ≡ length ws → AreWanted ws → AllFit p home f h suits ws es
     arguments_fit no_exp [] at none sites kept c v = no_arguments p home f h suits
     arguments_fit no_exp (x ∷ ws) at none sites kept c v = absurd (no_count (length ws) c)
     arguments_fit (and_exp e es) [] at none sites kept c v = absurd (no_count (count_of es) (sym c))

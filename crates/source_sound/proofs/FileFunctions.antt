@@ -11,19 +11,20 @@ use Rattle.c_tree.specs.declared.name.Name.{Name}
 use Rattle.c_tree.specs.declared.ctype.Specifier.{Specifier}
 use Rattle.c_tree.specs.declared.program.Param.{Param}
 use Rattle.c_tree.specs.declared.program.Params.{Params}
-use Rattle.c_tree.specs.Tree.{Place, Parts, Object, Fields, Code, defined, prototype, Outer, structure, function, objects}
+use Rattle.c_tree.specs.Tree.{Parts, Object, Fields, Code, defined, prototype, Outer, structure, function, objects}
+use Rattle.rr_base.specs.declared.position.Position.{Position}
 use Rattle.c_types.specs.declared.fault.FaultKind.TheVariants as fault
 use Rattle.c_types.specs.declared.library.StarredType.{StarredType}
 use Rattle.c_types.specs.declared.names.Signature.{Signature}
 use Rattle.c_types.specs.Found.{where_it_comes}
-use Rattle.c_types.specs.Faults.{name_place, mismatch}
+use Rattle.c_rules.specs.Faults.{name_place, mismatch}
 use Rattle.c_types.specs.Scopes.{Known, Scope, Meaning, variable, function_of, innermost, with_text, has_name, opened}
 use Rattle.c_types.specs.Standing.{is_main as is_main_name}
-use Rattle.c_types.specs.Declarators.{is_struct_defined, with_fields, struct_cells, after_struct, listed_params, wanted_of}
-use Rattle.c_types.specs.Statements.{declared_by, after_declared, after_objects}
-use Rattle.c_types.specs.Programs.{signature_of, result_of, after_function, after_outer, again_faults, is_main_signature, int_result, agree, agree_on_result, agree_on_params, functions_with}
-use Rattle.c_types.specs.Addresses.{count_of_outer}
-use Rattle.c_types.specs.Spots.{known_behind}
+use Rattle.c_programs.specs.Declarators.{is_struct_defined, with_fields, struct_cells, after_struct, listed_params, wanted_of}
+use Rattle.c_programs.specs.Statements.{declared_by, after_declared, after_objects}
+use Rattle.c_programs.specs.Programs.{signature_of, result_of, after_function, after_outer, again_faults, is_main_signature, int_result, agree, agree_on_result, agree_on_params, functions_with}
+use Rattle.c_sites.specs.Addresses.{count_of_outer}
+use Rattle.c_sites.specs.Spots.{known_behind}
 use Rattle.c_core.specs.Core.{Function}
 use Rattle.c_core.specs.Meaning.{is_main}
 use Rattle.c_elaborate.specs.declared.local.Local.{Local}
@@ -188,7 +189,7 @@ module _ (s : Source) (n : ℕ) (whole : IsWhole s n) (Good : ℕ → Type 0) (g
       by false same e rec = rec e
 
   -- no function is defined twice
-  once : (known : Known) (name : Name) (f : Signature) (at : Place) → AreFound known known.begun → again_faults (found known name.text) (true && has_name known.begun name.text) f at ≡ [] → has_name known.begun name.text ≡ false
+  once : (known : Known) (name : Name) (f : Signature) (at : Position) → AreFound known known.begun → again_faults (found known name.text) (true && has_name known.begun name.text) f at ≡ [] → has_name known.begun name.text ≡ false
   once known name f at h e = by (has_name known.begun name.text) refl e
     where
       no_more_than : (o : Option Meaning) → is_some o ≡ true → again_faults o true f at ≡ [] → ⊥

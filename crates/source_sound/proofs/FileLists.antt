@@ -3,7 +3,7 @@ use Rattle.std.proofs.Common.{◌≡◌, ℕ, zero, suc, ◌≤◌, Bool, true, 
 use Rattle.std.proofs.lemmas.Option.{none-some}
 use Rattle.std.proofs.lemmas.Slice.Eq.{bytes_eq-Decides}
 use Rattle.c_lexer.specs.Bytes.{Text}
-use Rattle.c_tree.specs.Tree.{Place}
+use Rattle.rr_base.specs.declared.position.Position.{Position}
 use Rattle.c_types.specs.declared.fault.Found.{Found}
 use Rattle.c_types.specs.declared.fault.FaultKind.{FaultKind}
 use Rattle.c_types.specs.Found.{where_it_comes, first_among, is_before}
@@ -23,11 +23,11 @@ nil4 a b c d e = let y = append_nil (a ++ b ++ c) d e in let x = nil3 a b c y.0 
 pub nil5 : {A : Type 0} (a b c d f : List A) → a ++ b ++ c ++ d ++ f ≡ [] → (a ≡ []) × (b ≡ []) × (c ≡ []) × (d ≡ []) × (f ≡ [])
 nil5 a b c d f e = let y = append_nil (a ++ b ++ c ++ d) f e in let x = nil4 a b c d y.0 in (x.0, x.1, x.2, x.3, y.1)
 
-pub where_nil : (b : Bool) (k : FaultKind) (at : Place) → where_it_comes b k at ≡ [] → b ≡ false
+pub where_nil : (b : Bool) (k : FaultKind) (at : Position) → where_it_comes b k at ≡ [] → b ≡ false
 where_nil true k at e = cc
 where_nil false k at e = refl
 
-pub not_nil : (b : Bool) (k : FaultKind) (at : Place) → where_it_comes (not b) k at ≡ [] → b ≡ true
+pub not_nil : (b : Bool) (k : FaultKind) (at : Position) → where_it_comes (not b) k at ≡ [] → b ≡ true
 not_nil true k at e = refl
 not_nil false k at e = cc
 

@@ -11,14 +11,14 @@ use Rattle.c_types.specs.declared.types.ObjectType.{ObjectType}
 use Rattle.c_types.specs.Constants.{constant_named}
 use Rattle.c_types.specs.Types.{kinds_of_type, members_kinds, struct_kinds}
 use Rattle.c_types.specs.Scopes.{Known, Scope, Members, variable, seen, with_name, cells_of_type, cells_of_some}
-use Rattle.c_types.specs.Declarators.{declared_type, declared_name, declarator_faults, taken_faults, size_faults}
-use Rattle.c_types.specs.Initials.{value_target, start_faults}
-use Rattle.c_types.specs.Statements.{most_global_cells, declared_by, declared_faults, cells_of_declared, global_name_faults, global_cells_with, object_faults, objects_faults, after_declared, after_objects}
-use Rattle.c_types.specs.Faults.{mismatch, name_place}
+use Rattle.c_programs.specs.Declarators.{declared_type, declared_name, declarator_faults, taken_faults, size_faults}
+use Rattle.c_programs.specs.Initials.{value_target, start_faults}
+use Rattle.c_programs.specs.Statements.{most_global_cells, declared_by, declared_faults, cells_of_declared, global_name_faults, global_cells_with, object_faults, objects_faults, after_declared, after_objects}
+use Rattle.c_rules.specs.Faults.{mismatch, name_place}
 use Rattle.c_types.specs.Found.{where_it_comes}
 use Rattle.c_types.specs.declared.fault.FaultKind.TheVariants as fault
 use Rattle.c_types.specs.Standing.{is_main}
-use Rattle.c_types.specs.Spots.{types_of_members, layout_by, lengths_allocations, initial_allocations, file_level, declared_lengths, declared_spots, object_spots, objects_spots}
+use Rattle.c_sites.specs.Spots.{types_of_members, layout_by, lengths_allocations, initial_allocations, file_level, declared_lengths, declared_spots, object_spots, objects_spots}
 use Rattle.c_elaborate.specs.Here.{Source, global_named}
 use Rattle.c_elaborate.specs.Initials.{kinds_of_some}
 use Rattle.c_elaborate.specs.Globals.{object_words, objects_words, start_words}

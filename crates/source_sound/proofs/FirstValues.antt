@@ -4,7 +4,8 @@ use Rattle.rr_base.specs.declared.layout.CellKind.{CellKind}
 use Rattle.rr_base.specs.declared.layout.CellKind.TheVariants as cell
 use Rattle.c_lexer.specs.Bytes.{Text}
 use Rattle.c_tree.specs.declared.ctype.Specifier.{Specifier}
-use Rattle.c_tree.specs.Tree.{Place, Exp, Init, value, braces, mutex_start, cond_start, Inits, no_init, and_init, Object, plain, initialised, Declares, declares}
+use Rattle.c_tree.specs.Tree.{Exp, Init, value, braces, mutex_start, cond_start, Inits, no_init, and_init, Object, plain, initialised, Declares, declares}
+use Rattle.rr_base.specs.declared.position.Position.{Position}
 use Rattle.c_types.specs.declared.types.BaseType.{BaseType}
 use Rattle.c_types.specs.declared.types.BaseType.TheVariants as base
 use Rattle.c_types.specs.declared.types.Layer.{Layer}
@@ -13,13 +14,13 @@ use Rattle.c_types.specs.declared.types.ObjectType.{ObjectType}
 use Rattle.c_types.specs.Scopes.{Known, cells_of_some}
 use Rattle.c_types.specs.Operands.{operand_of, type_operand, accepts}
 use Rattle.c_types.specs.Standing.{Target, no_target, standing}
-use Rattle.c_types.specs.Faults.{mismatch, faults}
-use Rattle.c_types.specs.Initials.{layered_part, part_at, part_type, starts_as, value_target, where_global, global_value_faults, initial_faults, inits_faults, start_faults}
-use Rattle.c_types.specs.Declarators.{declared_type, declared_name}
-use Rattle.c_types.specs.Statements.{declared_by, after_declared, declared_faults, object_faults, objects_faults, declares_faults}
-use Rattle.c_types.specs.Spots.{in_function, allocations, initial_allocations, initials_allocations, declared_spots, object_spots, objects_spots, declares_spots}
-use Rattle.c_types.specs.Addresses.{addressed, initial_addressed, initials_addressed, declared_addressed, object_addressed, objects_addressed, declares_addressed, after_name}
-use Rattle.c_core.specs.declared.position.Position.{Position}
+use Rattle.c_rules.specs.Faults.{mismatch, faults}
+use Rattle.c_programs.specs.Initials.{layered_part, part_at, part_type, starts_as, value_target, where_global, global_value_faults, initial_faults, inits_faults, start_faults}
+use Rattle.c_programs.specs.Declarators.{declared_type, declared_name}
+use Rattle.c_programs.specs.Statements.{declared_by, after_declared, declared_faults, object_faults, objects_faults, declares_faults}
+use Rattle.c_sites.specs.Spots.{in_function, allocations, initial_allocations, initials_allocations, declared_spots, object_spots, objects_spots, declares_spots}
+use Rattle.c_sites.specs.Addresses.{addressed, initial_addressed, initials_addressed, declared_addressed, object_addressed, objects_addressed, declares_addressed, after_name}
+use Rattle.rr_base.specs.declared.position.Position.{Position}
 use Rattle.c_core.specs.Core as core
 use Rattle.c_core.specs.Core.{Function, Program}
 use Rattle.c_core.specs.Meaning.{is_pointer}
@@ -87,7 +88,7 @@ module _ (p : Program) (home : ℕ → Option ℕ) (f : Function) (structs : ℕ
     word_sound h (Some t) e s have none fit = (wanted_by_parts p home f wanted h no_target t e s tt have none fit).1
 
     mutual
-      started_sound : (h : Here) (k : ℕ) (at : Position) (t : Option ObjectType) (offset : ℕ) (place : Place) (i : Init) → Suits p home f h → k < length f.objects
+      started_sound : (h : Here) (k : ℕ) (at : Position) (t : Option ObjectType) (offset : ℕ) (place : Position) (i : Init) → Suits p home f h → k < length f.objects
           → Have p h.frame h.source.sites (initial_addressed h.numbers i) (initial_allocations h.known no_target i) → initial_faults h.known false no_target t place i ≡ [] → AreAllSound (started h k at t offset i)
       started_sound h k at t offset place (value e) s lt have none =
           let parts = three_nil (faults h.known no_target e) (mismatch (not (starts_as t (operand_of (standing h.known no_target e)))) place) (where_global false (global_value_faults h.known t e)) none in
@@ -97,7 +98,7 @@ module _ (p : Program) (home : ℕ → Option ℕ) (f : Function) (structs : ℕ
       started_sound h k at t offset place (mutex_start end) s lt have none = tt
       started_sound h k at t offset place (cond_start end) s lt have none = tt
 
-      parts_started_sound : (h : Here) (k : ℕ) (at : Position) (t : Option ObjectType) (begin i offset : ℕ) (place : Place) (is : Inits) → Suits p home f h → k < length f.objects
+      parts_started_sound : (h : Here) (k : ℕ) (at : Position) (t : Option ObjectType) (begin i offset : ℕ) (place : Position) (is : Inits) → Suits p home f h → k < length f.objects
           → Have p h.frame h.source.sites (initials_addressed h.numbers is) (initials_allocations h.known is) → inits_faults h.known false t i place is ≡ [] → AreAllSound (parts_started h k at t begin i offset is)
       parts_started_sound h k at t begin i offset place no_init s lt have none = cleared_sound k at offset (drop (offset - begin) (kinds_of_some h.source t)) lt
       parts_started_sound h k at t begin i offset place (and_init x is) s lt have none =
@@ -118,7 +119,7 @@ module _ (p : Program) (home : ℕ → Option ℕ) (f : Function) (structs : ℕ
     zero_sound false at = (refl, tt)
 
     mutual
-      first_sound : (h : Here) (t : ObjectType) (w : Target) (at : Position) (place : Place) (i : Init) (s : Suits p home f h) → IsFormedTarget s.structs w → IsScalar t → Have p h.frame h.source.sites (initial_addressed h.numbers i) (initial_allocations h.known w i)
+      first_sound : (h : Here) (t : ObjectType) (w : Target) (at : Position) (place : Position) (i : Init) (s : Suits p home f h) → IsFormedTarget s.structs w → IsScalar t → Have p h.frame h.source.sites (initial_addressed h.numbers i) (initial_allocations h.known w i)
           → initial_faults h.known false w (Some t) place i ≡ [] → IsWord (is_pointing (type_operand t)) (first_word h (is_pointing (type_operand t)) w at i)
       first_sound h t w at place (value e) s formed scalar have none =
           let parts = three_nil (faults h.known w e) (mismatch (not (accepts t (operand_of (standing h.known w e)))) place) (where_global false (global_value_faults h.known (Some t) e)) none in
@@ -127,7 +128,7 @@ module _ (p : Program) (home : ℕ → Option ℕ) (f : Function) (structs : ℕ
       first_sound h t w at place (mutex_start end) s formed scalar have none = zero_sound (is_pointing (type_operand t)) at
       first_sound h t w at place (cond_start end) s formed scalar have none = zero_sound (is_pointing (type_operand t)) at
 
-      braces_sound : (h : Here) (t : ObjectType) (at : Position) (place : Place) (is : Inits) → Suits p home f h → IsScalar t → Have p h.frame h.source.sites (initials_addressed h.numbers is) (initials_allocations h.known is)
+      braces_sound : (h : Here) (t : ObjectType) (at : Position) (place : Position) (is : Inits) → Suits p home f h → IsScalar t → Have p h.frame h.source.sites (initials_addressed h.numbers is) (initials_allocations h.known is)
           → inits_faults h.known false (Some t) 0 place is ≡ [] → IsWord (is_pointing (type_operand t)) (first_of_braces h (is_pointing (type_operand t)) at is)
       braces_sound h t at place no_init s scalar have none = zero_sound (is_pointing (type_operand t)) at
       braces_sound h t at place (and_init x is) s scalar have none =
@@ -138,7 +139,7 @@ module _ (p : Program) (home : ℕ → Option ℕ) (f : Function) (structs : ℕ
 
     -- ---- either
 
-    object_begun_sound : (h : Here) (k : ℕ) (t : ObjectType) (at : Position) (place : Place) (i : Init) (s : Suits p home f h) → IsFormed s.structs t → k < length f.objects
+    object_begun_sound : (h : Here) (k : ℕ) (t : ObjectType) (at : Position) (place : Position) (i : Init) (s : Suits p home f h) → IsFormed s.structs t → k < length f.objects
         → Have p h.frame h.source.sites (initial_addressed h.numbers i) (initial_allocations h.known (value_target (Some t)) i) → start_faults h.known false (Some t) place i ≡ [] → AreAllSound (object_begun h k (Some t) i at)
     object_begun_sound h k t at place (value e) s formed lt have none =
         let w = value_target (Some t) in
@@ -149,7 +150,7 @@ module _ (p : Program) (home : ℕ → Option ℕ) (f : Function) (structs : ℕ
     object_begun_sound h k t at place (mutex_start end) s formed lt have none = tt
     object_begun_sound h k t at place (cond_start end) s formed lt have none = tt
 
-    begun_sound : (h : Here) (x : Home) (t : ObjectType) (at : Position) (place : Place) (i : Init) (s : Suits p home f h) → IsFormed s.structs t → HomeSuits p home f structs x t
+    begun_sound : (h : Here) (x : Home) (t : ObjectType) (at : Position) (place : Position) (i : Init) (s : Suits p home f h) → IsFormed s.structs t → HomeSuits p home f structs x t
         → Have p h.frame h.source.sites (initial_addressed h.numbers i) (initial_allocations h.known (value_target (Some t)) i) → start_faults h.known false (Some t) place i ≡ [] → AreAllSound (begun h (Some x) (Some t) i at)
     begun_sound h (kept_in.Register n) t at place i s formed suited have none =
         let word = first_sound h t (value_target (Some t)) at place i s (target_formed s.structs t formed) suited.1 have none in
@@ -158,7 +159,7 @@ module _ (p : Program) (home : ℕ → Option ℕ) (f : Function) (structs : ℕ
 
     -- ---- the objects of a declaration
 
-    begun_by : (h : Here) (o : Option Home) (q : Option ObjectType) (x : Home) (t : ObjectType) (at : Position) (place : Place) (i : Init) → o ≡ Some x → q ≡ Some t → (s : Suits p home f h) → IsFormed s.structs t → HomeSuits p home f structs x t
+    begun_by : (h : Here) (o : Option Home) (q : Option ObjectType) (x : Home) (t : ObjectType) (at : Position) (place : Position) (i : Init) → o ≡ Some x → q ≡ Some t → (s : Suits p home f h) → IsFormed s.structs t → HomeSuits p home f structs x t
         → Have p h.frame h.source.sites (initial_addressed h.numbers i) (initial_allocations h.known (value_target q) i) → start_faults h.known false q place i ≡ [] → AreAllSound (begun h o q i at)
     begun_by h o q x t at place i is typed s formed suited have none =
         let have' = subst (λ z. Have p h.frame h.source.sites (initial_addressed h.numbers i) (initial_allocations h.known (value_target z) i)) typed have in

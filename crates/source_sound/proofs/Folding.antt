@@ -18,7 +18,7 @@ use Rattle.c_types.specs.Constants.{constant_named, is_int_specifier, is_int, is
 use Rattle.c_types.specs.Scopes.{Known, Meaning, seen, base_of, starred, type_named, is_complete}
 use Rattle.c_types.specs.Operands.{Standing, no_type, zero_literal, Operand, any_operand, whole, zero_operand, null_operand, pointing, no_operand, operand_of, is_typed, is_whole, is_scalar, are_whole, takes, settled, int_value, result_of, binary_standing, can_choose, chosen}
 use Rattle.c_types.specs.Standing.{Target, no_target, cast_target, made_int, prefix_standing, conditional_standing, is_sized, sizeof_standing, sizeof_type_standing, casts_to, cast_standing, constant_standing, named_standing, number_standing, standing}
-use Rattle.c_core.specs.declared.position.Position.{Position}
+use Rattle.rr_base.specs.declared.position.Position.{Position}
 use Rattle.c_core.specs.Core as core
 use Rattle.c_core.specs.Core.{Function, Program}
 use Rattle.c_elaborate.specs.Held.{Held, held_value}

@@ -5,15 +5,16 @@ use Rattle.rr_base.specs.declared.layout.Site.{Site}
 use Rattle.c_lexer.specs.Bytes.{Text}
 use Rattle.c_tree.specs.declared.name.Name.{Name}
 use Rattle.c_tree.specs.declared.program.Param.{Param}
-use Rattle.c_tree.specs.Tree.{place_at, Parts}
+use Rattle.c_tree.specs.Tree.{Parts}
+use Rattle.rr_base.specs.Positions.{position_at}
 use Rattle.c_types.specs.declared.types.ObjectType.{ObjectType}
 use Rattle.c_types.specs.declared.library.StarredType.{StarredType}
 use Rattle.c_types.specs.Scopes.{Known, member_of, cells_of_type, opened}
-use Rattle.c_types.specs.Faults.{mismatch, specifier_faults}
-use Rattle.c_types.specs.Declarators.{cannot_pass, param_place, param_name_faults, param_faults, params_faults, after_param, after_params}
-use Rattle.c_types.specs.Statements.{parts_faults}
-use Rattle.c_types.specs.Addresses.{Numbered, is_among, numbered_from, parts_addressed}
-use Rattle.c_types.specs.Spots.{in_function, formals_spots, parts_spots, definition_spots}
+use Rattle.c_rules.specs.Faults.{mismatch, specifier_faults}
+use Rattle.c_programs.specs.Declarators.{cannot_pass, param_place, param_name_faults, param_faults, params_faults, after_param, after_params}
+use Rattle.c_programs.specs.Statements.{parts_faults}
+use Rattle.c_sites.specs.Addresses.{Numbered, is_among, numbered_from, parts_addressed}
+use Rattle.c_sites.specs.Spots.{in_function, formals_spots, parts_spots, definition_spots}
 use Rattle.c_core.specs.Core as core
 use Rattle.c_core.specs.Core.{Function, Program, Arrival}
 use Rattle.c_elaborate.specs.declared.local.Local.{Local}
@@ -164,8 +165,8 @@ module _ (p : Program) (home : ℕ → Option ℕ) (structs : ℕ) (s : Source) 
       sites_append : (xs ys : List Local) → sites_of s.sites (xs ++ ys) ≡ sites_of s.sites xs ++ sites_of s.sites ys
       sites_append [] ys = refl
       sites_append (x ∷ xs) ys =
-          ap (λ zs. (if x.is_kept then site_at s.sites (place_at x.line x.column) ∷ [] else []) ++ zs) (sites_append xs ys)
-          ∙ sym (append_assoc (if x.is_kept then site_at s.sites (place_at x.line x.column) ∷ [] else []) (sites_of s.sites xs) (sites_of s.sites ys))
+          ap (λ zs. (if x.is_kept then site_at s.sites (position_at x.line x.column) ∷ [] else []) ++ zs) (sites_append xs ys)
+          ∙ sym (append_assoc (if x.is_kept then site_at s.sites (position_at x.line x.column) ∷ [] else []) (sites_of s.sites xs) (sites_of s.sites ys))
 
   arrivals_here : Each (ArrivesBelow (length function_here.pointers) (length function_here.objects)) function_here.arrivals
   arrivals_here =

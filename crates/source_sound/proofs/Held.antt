@@ -5,14 +5,15 @@ use Rattle.c_lexer.specs.Bytes.{Text}
 use Rattle.c_tree.specs.declared.name.Name.{Name}
 use Rattle.c_tree.specs.declared.ctype.Specifier.{Specifier}
 use Rattle.c_tree.specs.declared.program.Param.{Param}
-use Rattle.c_tree.specs.Tree.{Place, Exp, comma, assign, conditional, binary, prefix, sizeof_exp, sizeof_type, cast, index, member, arrow, post_increment, post_decrement, named, call, number, letter, text, null, paren, Exps, no_exp, and_exp, Declared, Init, value, braces, mutex_start, cond_start, Inits, no_init, and_init, Object, plain, initialised, Declares, declares, Start, start_declares, start_computes, Statement, block, compute, break_at, continue_at, gives, branch, branch_else, while_loop, do_loop, for_loop, Parts, no_part, and_declares, and_does, Code, defined, prototype, Fields, fields}
+use Rattle.c_tree.specs.Tree.{Exp, comma, assign, conditional, binary, prefix, sizeof_exp, sizeof_type, cast, index, member, arrow, post_increment, post_decrement, named, call, number, letter, text, null, paren, Exps, no_exp, and_exp, Declared, Init, value, braces, mutex_start, cond_start, Inits, no_init, and_init, Object, plain, initialised, Declares, declares, Start, start_declares, start_computes, Statement, block, compute, break_at, continue_at, gives, branch, branch_else, while_loop, do_loop, for_loop, Parts, no_part, and_declares, and_does, Code, defined, prototype, Fields, fields}
+use Rattle.rr_base.specs.declared.position.Position.{Position}
 use Rattle.c_types.specs.Scopes.{Known, type_named, opened}
 use Rattle.c_types.specs.Standing.{Target, no_target, assigned_target, cast_target, standing}
-use Rattle.c_types.specs.Declarators.{declared_type, declared_name, param_type, after_param, after_params}
-use Rattle.c_types.specs.Initials.{value_target}
-use Rattle.c_types.specs.Statements.{declared_by, after_declared, after_declares, after_start}
-use Rattle.c_types.specs.Addresses.{count_of_locals, count_of_start, count_of_declares}
-use Rattle.c_types.specs.Spots.{Holder, a_global, a_local, an_allocation, Spot, spot_named, site_of, where_malloc, is_malloc, allocations, all_allocations, maybe_allocations, lengths_allocations, initial_allocations, initials_allocations, where_kept, Where, in_function, is_cell_in, is_kept, is_kept_declared, declared_lengths, declared_spots, object_spots, objects_spots, declares_spots, start_spots, for_spots, statement_spots, parts_spots, members_allocations, fields_allocations, formal_spot, formals_spots, code_spots}
+use Rattle.c_programs.specs.Declarators.{declared_type, declared_name, param_type, after_param, after_params}
+use Rattle.c_programs.specs.Initials.{value_target}
+use Rattle.c_programs.specs.Statements.{declared_by, after_declared, after_declares, after_start}
+use Rattle.c_sites.specs.Addresses.{count_of_locals, count_of_start, count_of_declares}
+use Rattle.c_sites.specs.Spots.{Holder, a_global, a_local, an_allocation, Spot, spot_named, site_of, where_malloc, is_malloc, allocations, all_allocations, maybe_allocations, lengths_allocations, initial_allocations, initials_allocations, where_kept, Where, in_function, is_cell_in, is_kept, is_kept_declared, declared_lengths, declared_spots, object_spots, objects_spots, declares_spots, start_spots, for_spots, statement_spots, parts_spots, members_allocations, fields_allocations, formal_spot, formals_spots, code_spots}
 use Rattle.c_elaborate.specs.Globals.{holder_kinds}
 use Rattle.source_sound.proofs.Homes.{kinds_in}
 
@@ -47,7 +48,7 @@ module _ (ks : List (List CellKind)) where
 
 -- ---- expressions
 
-malloc_other : (b : Bool) (w : Target) (at : Place) → AreOthers (where_malloc b w at)
+malloc_other : (b : Bool) (w : Target) (at : Position) → AreOthers (where_malloc b w at)
 malloc_other true w at = (tt, tt)
 malloc_other false w at = tt
 

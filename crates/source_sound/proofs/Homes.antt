@@ -5,12 +5,12 @@ use Rattle.std.proofs.lemmas.Option.{same_Some, none-some}
 use Rattle.rr_base.specs.Words.{pack}
 use Rattle.rr_base.specs.declared.layout.CellKind.{CellKind}
 use Rattle.rr_base.specs.declared.layout.Layout.{Layout}
-use Rattle.flow_code.specs.Pointers.{site_at}
-use Rattle.flow_code.specs.Threads.{size_of, size_in}
+use Rattle.abstract_machine.specs.Pointers.{site_at}
+use Rattle.abstract_machine.specs.Cells.{size_of, size_in}
 use Rattle.c_lexer.specs.Bytes.{Text}
 use Rattle.c_lexer.specs.Names.{entry_of}
 use Rattle.c_types.specs.Scopes.{with_name}
-use Rattle.c_types.specs.Spots.{Holder, a_global, a_local, an_allocation, Spot, site_of, layout_by}
+use Rattle.c_sites.specs.Spots.{Holder, a_global, a_local, an_allocation, Spot, site_of, layout_by}
 use Rattle.c_elaborate.specs.Here.{pointer_or_null}
 use Rattle.c_elaborate.specs.Globals.{with_global, holder_cells, globals_after, holder_kinds, global_kinds}
 use Rattle.source_sound.proofs.FileLists.{text_same}

@@ -5,9 +5,9 @@ use Rattle.c_lexer.specs.Names.{entry_of}
 use Rattle.c_tree.specs.Tree.{Outer}
 use Rattle.c_types.specs.declared.library.StarredType.{StarredType}
 use Rattle.c_types.specs.Scopes.{Known, Scope, Meaning, variable, function_of, seen_in, or_else, opened}
-use Rattle.c_types.specs.Declarators.{after_params}
-use Rattle.c_types.specs.Statements.{parts_faults}
-use Rattle.c_types.specs.Whole.{first_fault}
+use Rattle.c_programs.specs.Declarators.{after_params}
+use Rattle.c_programs.specs.Statements.{parts_faults}
+use Rattle.c_sites.specs.Whole.{first_fault}
 use Rattle.c_core.specs.Core.{Function, Program}
 use Rattle.c_elaborate.specs.Here.{Source, function_counted}
 use Rattle.c_elaborate.specs.Calls.{gives_pointer}

@@ -3,7 +3,8 @@ use Rattle.std.proofs.Common.{◌≡◌, ℕ, ◌+◌, ◌≤◌, Bool, true, fa
 use Rattle.rr_base.specs.declared.layout.CellKind.{CellKind}
 use Rattle.flow_code.specs.Valid.{layout_fits}
 use Rattle.c_lexer.specs.Bytes.{Text}
-use Rattle.c_tree.specs.Tree.{Place, Exp, comma, assign, conditional, binary, prefix, sizeof_exp, sizeof_type, cast, index, member, arrow, post_increment, post_decrement, named, call, number, letter, text, null, paren, Exps, no_exp, and_exp, Init, value, braces, mutex_start, cond_start, Inits, no_init, and_init}
+use Rattle.c_tree.specs.Tree.{Exp, comma, assign, conditional, binary, prefix, sizeof_exp, sizeof_type, cast, index, member, arrow, post_increment, post_decrement, named, call, number, letter, text, null, paren, Exps, no_exp, and_exp, Init, value, braces, mutex_start, cond_start, Inits, no_init, and_init}
+use Rattle.rr_base.specs.declared.position.Position.{Position}
 use Rattle.c_types.specs.declared.types.BaseType.{BaseType}
 use Rattle.c_types.specs.declared.types.Layer.{Layer}
 use Rattle.c_types.specs.declared.types.Layer.TheVariants as layer
@@ -20,11 +21,11 @@ use Rattle.c_types.specs.Scopes.{Known, Meaning, seen, type_named}
 use Rattle.c_types.specs.Operands.{operand_of, takes, is_scalar}
 use Rattle.c_types.specs.Library.{library_named}
 use Rattle.c_types.specs.Standing.{Target, no_target, some_target, target_of, assigned_target, cast_target, is_sized, casts_to, can_index, struct_of, pointed_struct, format_of, is_text, standing}
-use Rattle.c_types.specs.Faults.{mismatch, specifier_faults, member_faults, count_of, count_faults, begins_with_text, wants_of, has_no_target, unseen_call_faults, callee_faults, format_faults, argument_faults, is_judged, is_named, where_judged, one_argument_faults, condition_takes, go_faults, step_faults, place_of_first, cast_faults, assign_faults, prefix_faults, call_faults, faults, rest_faults, arguments_faults, expression_faults}
-use Rattle.c_types.specs.Sizes.{constant_faults, length_faults, is_short_length}
-use Rattle.c_types.specs.Declarators.{lengths_faults}
-use Rattle.c_types.specs.Initials.{starts_as, part_at, part_type, where_global, global_value_faults, initial_faults, inits_faults}
-use Rattle.c_types.specs.Spots.{Spot, layout_by, type_of_target, is_malloc_call, is_malloc, where_malloc, allocations, all_allocations, lengths_allocations, initial_allocations, initials_allocations}
+use Rattle.c_rules.specs.Faults.{mismatch, specifier_faults, member_faults, count_of, count_faults, begins_with_text, wants_of, has_no_target, unseen_call_faults, callee_faults, format_faults, argument_faults, is_judged, is_named, where_judged, one_argument_faults, condition_takes, go_faults, step_faults, place_of_first, cast_faults, assign_faults, prefix_faults, call_faults, faults, rest_faults, arguments_faults, expression_faults}
+use Rattle.c_rules.specs.Sizes.{constant_faults, length_faults, is_short_length}
+use Rattle.c_programs.specs.Declarators.{lengths_faults}
+use Rattle.c_programs.specs.Initials.{starts_as, part_at, part_type, where_global, global_value_faults, initial_faults, inits_faults}
+use Rattle.c_sites.specs.Spots.{Spot, layout_by, type_of_target, is_malloc_call, is_malloc, where_malloc, allocations, all_allocations, lengths_allocations, initial_allocations, initials_allocations}
 use Rattle.std.specs.Prelude.{is_none}
 use Rattle.source_sound.proofs.Environment.{IsFormed}
 use Rattle.source_sound.proofs.FileLists.{append_nil, nil3, nil4, where_nil}
@@ -65,7 +66,7 @@ module _ (ks : List (List CellKind)) (n : ℕ) (small : AreSmall ks) (size : len
 
   -- ---- calls
 
-  library_laid : (c : Option LibraryName) (name : Text) (w : Target) (is_format : Bool) (format : Option ℕ) (many : ℕ) (at : Place) → IsGoodTarget n w → unseen_call_faults c name w is_format format many at ≡ [] → Laid (where_malloc (is_malloc_call c) w at)
+  library_laid : (c : Option LibraryName) (name : Text) (w : Target) (is_format : Bool) (format : Option ℕ) (many : ℕ) (at : Position) → IsGoodTarget n w → unseen_call_faults c name w is_format format many at ≡ [] → Laid (where_malloc (is_malloc_call c) w at)
   library_laid None name w is_format format many at target h = tt
   library_laid (Some library.Malloc) name w is_format format many at target h = (target_fits w target (where_nil _ _ _ (append_nil (where_it_comes (has_no_target w) fault.OutOfProfile at) (count_faults many 1 at) h).0), tt)
   library_laid (Some library.Create) name w is_format format many at target h = tt
@@ -92,7 +93,7 @@ module _ (ks : List (List CellKind)) (n : ℕ) (small : AreSmall ks) (size : len
   library_laid (Some library.PutChar) name w is_format format many at target h = tt
   library_laid (Some library.PutText) name w is_format format many at target h = tt
 
-  malloc_laid : (known : Known) (name : Text) (w : Target) (is_format : Bool) (format : Option ℕ) (many : ℕ) (at : Place) (m : Option Meaning) → IsGoodTarget n w → callee_faults known name w is_format format many at m ≡ [] → Laid (where_malloc (not (is_some m) && is_malloc_call (library_named name)) w at)
+  malloc_laid : (known : Known) (name : Text) (w : Target) (is_format : Bool) (format : Option ℕ) (many : ℕ) (at : Position) (m : Option Meaning) → IsGoodTarget n w → callee_faults known name w is_format format many at m ≡ [] → Laid (where_malloc (not (is_some m) && is_malloc_call (library_named name)) w at)
   malloc_laid known name w is_format format many at (Some m) target h = tt
   malloc_laid known name w is_format format many at None target h = library_laid (library_named name) name w is_format format many at target h
 
@@ -200,7 +201,7 @@ module _ (ks : List (List CellKind)) (n : ℕ) (small : AreSmall ks) (size : len
           let p = nil3 (faults known no_target e) (go_faults (standing known no_target e) e) (rest_faults known es) h in
           laid (allocations known no_target e) (all_allocations known es) (exp_laid no_target tt e p.0) (rest_laid es p.2)
 
-      arguments_laid : (ws : List Wanted) (at : Place) (es : Exps) → arguments_faults known ws at es ≡ [] → Laid (all_allocations known es)
+      arguments_laid : (ws : List Wanted) (at : Position) (es : Exps) → arguments_faults known ws at es ≡ [] → Laid (all_allocations known es)
       arguments_laid ws at no_exp h = tt
       arguments_laid [] at (and_exp e es) h =
           let p = append_nil (faults known no_target e) (arguments_faults known [] at es) h in
@@ -210,7 +211,7 @@ module _ (ks : List (List CellKind)) (n : ℕ) (small : AreSmall ks) (size : len
           let q = append_nil (where_judged (is_judged x e) (faults known no_target e)) (argument_faults known x e (standing known no_target e) at) p.0 in
           laid (allocations known no_target e) (all_allocations known es) (judged x e (faults known no_target e) q.0 (λ k. exp_laid no_target tt e k)) (arguments_laid ws at es p.1)
 
-    pub lengths_laid : (at : Place) (es : List Exp) → lengths_faults known at es ≡ [] → Laid (lengths_allocations known es)
+    pub lengths_laid : (at : Position) (es : List Exp) → lengths_faults known at es ≡ [] → Laid (lengths_allocations known es)
     lengths_laid at [] h = tt
     lengths_laid at (e ∷ es) h =
         let p = append_nil (length_faults known at e) (lengths_faults known at es) h in
@@ -218,13 +219,13 @@ module _ (ks : List (List CellKind)) (n : ℕ) (small : AreSmall ks) (size : len
         laid (allocations known no_target e) (lengths_allocations known es) (exp_laid no_target tt e q.0) (lengths_laid at es p.1)
 
     mutual
-      pub initial_laid : (is_global : Bool) (w : Target) → IsGoodTarget n w → (t : Option ObjectType) (at : Place) (i : Init) → initial_faults known is_global w t at i ≡ [] → Laid (initial_allocations known w i)
+      pub initial_laid : (is_global : Bool) (w : Target) → IsGoodTarget n w → (t : Option ObjectType) (at : Position) (i : Init) → initial_faults known is_global w t at i ≡ [] → Laid (initial_allocations known w i)
       initial_laid is_global w target t at (value e) h = exp_laid w target e (nil3 (faults known w e) (mismatch (not (starts_as t (operand_of (standing known w e)))) at) (where_global is_global (global_value_faults known t e)) h).0
       initial_laid is_global w target t at (braces is trailing here') h = initials_laid is_global t 0 at is h
       initial_laid is_global w target t at (mutex_start here') h = tt
       initial_laid is_global w target t at (cond_start here') h = tt
 
-      initials_laid : (is_global : Bool) (t : Option ObjectType) (k : ℕ) (at : Place) (is : Inits) → inits_faults known is_global t k at is ≡ [] → Laid (initials_allocations known is)
+      initials_laid : (is_global : Bool) (t : Option ObjectType) (k : ℕ) (at : Position) (is : Inits) → inits_faults known is_global t k at is ≡ [] → Laid (initials_allocations known is)
       initials_laid is_global t k at no_init h = tt
       initials_laid is_global t k at (and_init i is) h =
           let p = nil3 (initial_faults known is_global no_target (part_type (part_at known t k)) at i) (mismatch (is_none (part_at known t k)) at) (inits_faults known is_global t (k + 1) at is) h in

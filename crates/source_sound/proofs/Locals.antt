@@ -3,8 +3,9 @@ use Rattle.std.proofs.Common.{◌≡◌, ℕ, zero, suc, ◌+◌, ◌-◌, ◌<�
 use Rattle.std.proofs.lemmas.List.{length-map}
 use Rattle.rr_base.proofs.Lists.{slice_get-append_at}
 use Rattle.rr_base.specs.declared.layout.Site.{Site}
-use Rattle.c_tree.specs.Tree.{place_at, Declares, declares, Start, start_declares, start_computes, Statement, block, compute, break_at, continue_at, gives, branch, branch_else, while_loop, do_loop, for_loop, Parts, no_part, and_declares, and_does}
-use Rattle.c_types.specs.Addresses.{is_among, count_of_declares, count_of_start, count_of_locals, count_of_parts}
+use Rattle.c_tree.specs.Tree.{Declares, declares, Start, start_declares, start_computes, Statement, block, compute, break_at, continue_at, gives, branch, branch_else, while_loop, do_loop, for_loop, Parts, no_part, and_declares, and_does}
+use Rattle.rr_base.specs.Positions.{position_at}
+use Rattle.c_sites.specs.Addresses.{is_among, count_of_declares, count_of_start, count_of_locals, count_of_parts}
 use Rattle.c_elaborate.specs.declared.home.Home.{Home}
 use Rattle.c_elaborate.specs.declared.home.Home.TheVariants as kept_in
 use Rattle.c_elaborate.specs.declared.local.Local.{Local}
@@ -170,7 +171,7 @@ sites_count_one false s rest n e = omega (arith, e)
 
 pub sites_count : (sites : List Site) (ls : List Local) → length (sites_of sites ls) ≡ kept_count ls
 sites_count sites [] = refl
-sites_count sites (l ∷ ls) = sites_count_one l.is_kept (site_at sites (place_at l.line l.column)) (sites_of sites ls) (kept_count ls) (sites_count sites ls)
+sites_count sites (l ∷ ls) = sites_count_one l.is_kept (site_at sites (position_at l.line l.column)) (sites_of sites ls) (kept_count ls) (sites_count sites ls)
 
 -- the home of each formal and local of a function fits it
 pub homes_fit : (sites : List Site) (formals locals : List Local)

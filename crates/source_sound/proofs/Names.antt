@@ -6,7 +6,8 @@ use Rattle.c_tree.specs.declared.ctype.Specifier.TheVariants as specifier
 use Rattle.c_tree.specs.declared.ctype.CType.{CType}
 use Rattle.c_tree.specs.declared.expr.PrefixOp.{PrefixOp}
 use Rattle.c_tree.specs.declared.expr.PrefixOp.TheVariants as prefix_op
-use Rattle.c_tree.specs.Tree.{Place, Exp, comma, assign, conditional, binary, prefix, sizeof_exp, sizeof_type, cast, index, member, arrow, post_increment, post_decrement, named, call, number, letter, text, null, paren}
+use Rattle.c_tree.specs.Tree.{Exp, comma, assign, conditional, binary, prefix, sizeof_exp, sizeof_type, cast, index, member, arrow, post_increment, post_decrement, named, call, number, letter, text, null, paren}
+use Rattle.rr_base.specs.declared.position.Position.{Position}
 use Rattle.c_types.specs.declared.types.BaseType.{BaseType}
 use Rattle.c_types.specs.declared.types.BaseType.TheVariants as base
 use Rattle.c_types.specs.declared.types.Layer.TheVariants as layer
@@ -17,9 +18,9 @@ use Rattle.c_types.specs.Library.{library_named}
 use Rattle.c_types.specs.Scopes.{Known, Meaning, variable, function_of, seen, struct_numbered, base_of, starred, type_named, member_of}
 use Rattle.c_types.specs.Operands.{Standing, no_type, zero_literal, null_literal, a_value, a_place, Operand, any_operand, whole, zero_operand, null_operand, pointing, no_operand, operand_of, is_void, is_typed, int_value}
 use Rattle.c_types.specs.Standing.{Target, no_target, pointee, can_index, element_place, place_by, struct_of, pointed_struct, member_standing, constant_standing, named_standing, sizeof_type_standing, standing}
-use Rattle.c_types.specs.Faults.{name_place, mismatch, lacks_struct_by, is_unknown_struct, specifier_faults, is_some_void, name_can_be_place, can_be_place, sizeof_type_faults}
-use Rattle.c_types.specs.Addresses.{number_seen, maybe_listed, number_of_operand}
-use Rattle.c_core.specs.declared.position.Position.{Position}
+use Rattle.c_rules.specs.Faults.{name_place, mismatch, lacks_struct_by, is_unknown_struct, specifier_faults, is_some_void, name_can_be_place, can_be_place, sizeof_type_faults}
+use Rattle.c_sites.specs.Addresses.{number_seen, maybe_listed, number_of_operand}
+use Rattle.rr_base.specs.declared.position.Position.{Position}
 use Rattle.c_core.specs.Core as core
 use Rattle.c_core.specs.Core.{Function, Program}
 use Rattle.c_elaborate.specs.declared.home.Home.{Home}
@@ -90,7 +91,7 @@ sized_by known (suc n) (specifier.PthreadMutexT line column) v h = refl
 sized_by known (suc n) (specifier.PthreadCondT line column) v h = refl
 sized_by known (suc n) (specifier.PthreadBarrierT line column) v h = refl
 
-pub sized_type : (known : Known) (t : CType) (at : Place) → sizeof_type_faults known t at ≡ [] → sizeof_type_standing known (type_named known t) ≡ int_value
+pub sized_type : (known : Known) (t : CType) (at : Position) → sizeof_type_faults known t at ≡ [] → sizeof_type_standing known (type_named known t) ≡ int_value
 sized_type known t at h =
     let none = append_nil (mismatch (is_some_void (type_named known t)) at) (specifier_faults known (t.stars == 0) t.specifier) h in
     sized_by known t.stars t.specifier (comes_not (is_some_void (type_named known t)) fault.TypeMismatch at none.0) none.1
@@ -150,7 +151,7 @@ module _ (p : Program) (home : ℕ → Option ℕ) (f : Function) (structs : ℕ
   some_named name (Some (function_of g)) h = never h
   some_named name None h = some_unseen (constant_named name) (not_true (is_some (constant_named name)) (both (not (is_some (constant_named name))) (not (is_some (library_named name))) h).0)
 
-  some_prefix : (known : Known) (w : Target) (o : PrefixOp) (a : Exp) (at : Place) → can_be_place known (prefix o a at) ≡ true → IsPlaceOrNone (standing known w (prefix o a at))
+  some_prefix : (known : Known) (w : Target) (o : PrefixOp) (a : Exp) (at : Position) → can_be_place known (prefix o a at) ≡ true → IsPlaceOrNone (standing known w (prefix o a at))
   some_prefix known w prefix_op.Indirect a at h = some_pointee (operand_of (standing known no_target a))
   some_prefix known w prefix_op.Address a at h = never h
   some_prefix known w prefix_op.Plus a at h = never h
@@ -227,7 +228,7 @@ module _ (p : Program) (home : ℕ → Option ℕ) (f : Function) (structs : ℕ
   named_in_cells h s name (Some (function_of g)) false n at place k e = no_zero s at place e
   named_in_cells h s name (Some (variable t)) false n at place k e = variable_in_cells h name (home_of h name) at (kept_name h (number_seen h.numbers.scopes name) k)
 
-  prefix_in_cells : (h : Here) (w : Target) (o : PrefixOp) (a : Exp) (at : Place) → can_be_place h.known (prefix o a at) ≡ true → IsInCells (held h w (prefix o a at))
+  prefix_in_cells : (h : Here) (w : Target) (o : PrefixOp) (a : Exp) (at : Position) → can_be_place h.known (prefix o a at) ≡ true → IsInCells (held h w (prefix o a at))
   prefix_in_cells h w prefix_op.Indirect a at e = tt
   prefix_in_cells h w prefix_op.Address a at e = never e
   prefix_in_cells h w prefix_op.Plus a at e = never e

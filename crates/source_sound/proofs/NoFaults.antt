@@ -1,24 +1,24 @@
 -- A list of faults that is empty: each of its parts is empty, and what would be a fault doesn't come.
 use Rattle.std.proofs.Common.{◌≡◌, Bool, true, false, not, ◌&&◌, ◌||◌, List, [], ◌∷◌, ◌++◌, refl}
-use Rattle.c_tree.specs.Tree.{Place}
+use Rattle.rr_base.specs.declared.position.Position.{Position}
 use Rattle.c_types.specs.declared.fault.FaultKind.{FaultKind}
 use Rattle.c_types.specs.Found.{where_it_comes}
-use Rattle.c_types.specs.Faults.{mismatch}
+use Rattle.c_rules.specs.Faults.{mismatch}
 
 pub append_nil : {A : Type 0} (xs ys : List A) → xs ++ ys ≡ [] → (xs ≡ []) × (ys ≡ [])
 append_nil [] ys e = (refl, e)
 append_nil (x ∷ xs) ys e = let no : ⊥ = cc in absurd no
 
-pub never : (b : Bool) (kind : FaultKind) (at : Place) → where_it_comes b kind at ≡ [] → b ≡ false
+pub never : (b : Bool) (kind : FaultKind) (at : Position) → where_it_comes b kind at ≡ [] → b ≡ false
 never true kind at e = cc
 never false kind at e = refl
 
-pub matches : (b : Bool) (at : Place) → mismatch b at ≡ [] → b ≡ false
+pub matches : (b : Bool) (at : Position) → mismatch b at ≡ [] → b ≡ false
 matches true at e = cc
 matches false at e = refl
 
 -- what must hold for a match
-pub fits : (b : Bool) (at : Place) → mismatch (not b) at ≡ [] → b ≡ true
+pub fits : (b : Bool) (at : Position) → mismatch (not b) at ≡ [] → b ≡ true
 fits true at e = refl
 fits false at e = cc
 

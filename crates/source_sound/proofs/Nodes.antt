@@ -5,8 +5,9 @@ use Rattle.c_lexer.specs.Bytes.{Text}
 use Rattle.c_tree.specs.declared.expr.AssignOp.{AssignOp}
 use Rattle.c_tree.specs.declared.expr.PrefixOp.{PrefixOp}
 use Rattle.c_tree.specs.declared.expr.PrefixOp.TheVariants as prefix_op
-use Rattle.flow_code.specs.declared.work.BinaryOp.{BinaryOp as FlowOp}
-use Rattle.c_tree.specs.Tree.{Place, Exp, named, number, sizeof_exp}
+use Rattle.abstract_machine.specs.declared.operator.BinaryOp.{BinaryOp as FlowOp}
+use Rattle.c_tree.specs.Tree.{Exp, named, number, sizeof_exp}
+use Rattle.rr_base.specs.declared.position.Position.{Position}
 use Rattle.c_types.specs.declared.types.ObjectType.{ObjectType}
 use Rattle.c_types.specs.declared.fault.FaultKind.TheVariants as fault
 use Rattle.c_types.specs.Numbers.{is_zero}
@@ -14,13 +15,13 @@ use Rattle.c_types.specs.Constants.{constant_named, is_constant}
 use Rattle.c_types.specs.Library.{library_named}
 use Rattle.c_types.specs.Scopes.{Meaning, variable, function_of, seen, has_name}
 use Rattle.c_types.specs.Operands.{Standing, no_type, zero_literal, null_literal, a_value, a_place, operand_of, as_value, int_value, is_scalar}
-use Rattle.c_types.specs.Sizes.{value_here, size_here}
+use Rattle.c_rules.specs.Sizes.{value_here, size_here}
 use Rattle.c_types.specs.Standing.{Target, no_target, stepped, prefix_standing, assign_standing, casts_to, cast_standing, named_standing, can_go, let_go, behind, is_sized, standing}
 use Rattle.c_types.specs.Found.{where_it_comes, found_at}
-use Rattle.c_types.specs.Faults.{mismatch, own_place, place_faults, can_be_place, go_faults, steps, standing_type, assigns_to, needs_place, prefix_takes, step_faults, assign_faults, prefix_faults, named_faults}
-use Rattle.c_types.specs.Initials.{is_address}
-use Rattle.c_types.specs.Addresses.{where_address, number_of_operand}
-use Rattle.c_core.specs.declared.position.Position.{Position}
+use Rattle.c_rules.specs.Faults.{mismatch, own_place, place_faults, can_be_place, go_faults, steps, standing_type, assigns_to, needs_place, prefix_takes, step_faults, assign_faults, prefix_faults, named_faults}
+use Rattle.c_programs.specs.Initials.{is_address}
+use Rattle.c_sites.specs.Addresses.{where_address, number_of_operand}
+use Rattle.rr_base.specs.declared.position.Position.{Position}
 use Rattle.c_core.specs.Core as core
 use Rattle.c_core.specs.Core.{Function, Program}
 use Rattle.c_core.specs.Meaning.{is_pointer}
@@ -52,7 +53,7 @@ module _ (p : Program) (home : ℕ → Option ℕ) (f : Function) (h : Here) (su
       folded_stands p home f suits.structs (is_constant e) (value_here h.known e) (standing h.known w e) x o
       (λ k. constant_is_int h.known suits.own w e is k (stands_gives p home f suits.structs (standing h.known w e) x s).typed) s
 
-  pub number_stands : (n : ℤ) (at : Place) (w : Target) → stands (standing h.known w (number n at)) (held h w (number n at))
+  pub number_stands : (n : ℤ) (at : Position) (w : Target) → stands (standing h.known w (number n at)) (held h w (number n at))
   number_stands n at w = by (is_zero n)
     where
       by : (b : Bool) → Stands p home f suits.structs (if b then zero_literal else int_value) (if b then held_zero (position_of at) else held_value (core.number n (position_of at)))
@@ -60,7 +61,7 @@ module _ (p : Program) (home : ℕ → Option ℕ) (f : Function) (h : Here) (su
       by false = (tt, refl, tt)
 
   -- the operand of `sizeof` has a size
-  pub sized_stands : (w : Target) (a : Exp) (at : Place) → stands (standing h.known no_target a) (held h no_target a) → is_sized h.known (standing h.known no_target a) ≡ true → stands (standing h.known w (sizeof_exp a at)) (held h w (sizeof_exp a at))
+  pub sized_stands : (w : Target) (a : Exp) (at : Position) → stands (standing h.known no_target a) (held h no_target a) → is_sized h.known (standing h.known no_target a) ≡ true → stands (standing h.known w (sizeof_exp a at)) (held h w (sizeof_exp a at))
   sized_stands w a at s e =
       value_stands p home f suits.structs true (pos (size_here h.known (sizeof_exp a at))) (standing h.known w (sizeof_exp a at)) (held_zero (position_of at)) (position_of at) refl
       (ap (λ c. if c then int_value else no_type) (and_from _ _ e (stands_gives p home f suits.structs (standing h.known no_target a) (held h no_target a) s).typed))
@@ -76,12 +77,12 @@ module _ (p : Program) (home : ℕ → Option ℕ) (f : Function) (h : Here) (su
   not_constant None x s at e k = k
   not_constant (Some n) x s at e k = never' (ap is_some e)
 
-  undeclared_constant : (b c : Bool) (at : Place) → (if b then [] else (if c then found_at fault.TypeMismatch at ∷ [] else found_at fault.UnknownName at ∷ [])) ≡ [] → b ≡ true
+  undeclared_constant : (b c : Bool) (at : Position) → (if b then [] else (if c then found_at fault.TypeMismatch at ∷ [] else found_at fault.UnknownName at ∷ [])) ≡ [] → b ≡ true
   undeclared_constant true c at e = refl
   undeclared_constant false true at e = not_nothing _ _ e
   undeclared_constant false false at e = not_nothing _ _ e
 
-  named_by : (name : Text) (at : Place) (o : Position) (m : Option Meaning) → seen h.known name ≡ m → named_faults h.known m name at ≡ [] →
+  named_by : (name : Text) (at : Position) (o : Position) (m : Option Meaning) → seen h.known name ≡ m → named_faults h.known m name at ≡ [] →
       stands (named_standing m (constant_named name)) (constant_by (is_some (constant_named name)) (Ok (unwrap_or (constant_named name) (pos 0))) o (named_held h name m o))
   named_by name at o (Some (variable None)) e none = absurd (suits.typed name e)
   named_by name at o (Some (variable (Some t))) e none =
@@ -92,12 +93,12 @@ module _ (p : Program) (home : ℕ → Option ℕ) (f : Function) (h : Here) (su
       let is = undeclared_constant (is_some (constant_named name)) (is_some (library_named name)) at none in
       value_stands p home f suits.structs (is_some (constant_named name)) (unwrap_or (constant_named name) (pos 0)) (named_standing None (constant_named name)) (held_zero o) o is (named_int h.known suits.own name None e is)
 
-  pub named_stands : (name : Text) (at : Place) (w : Target) → named_faults h.known (seen h.known name) name at ≡ [] → stands (standing h.known w (named name at)) (held h w (named name at))
+  pub named_stands : (name : Text) (at : Position) (w : Target) → named_faults h.known (seen h.known name) name at ≡ [] → stands (standing h.known w (named name at)) (held h w (named name at))
   named_stands name at w none = named_by name at (position_of at) (seen h.known name) refl none
 
   -- ---- changes
 
-  pub steps_stands : (a : Exp) (o : FlowOp) (old : Bool) (at : Place) (q : Position) → stands (standing h.known no_target a) (held h no_target a) → step_faults h.known a (standing h.known no_target a) at ≡ [] →
+  pub steps_stands : (a : Exp) (o : FlowOp) (old : Bool) (at : Position) (q : Position) → stands (standing h.known no_target a) (held h no_target a) → step_faults h.known a (standing h.known no_target a) at ≡ [] →
       stands (stepped (standing h.known no_target a)) (held_value (stepped_in h.source o (part_by (standing h.known no_target a) (held h no_target a)) old q))
   steps_stands a o old at q s none =
       let apart = append_nil (place_faults (can_be_place h.known a) at) (mismatch (not (steps (standing_type (standing h.known no_target a)))) at) none in
@@ -105,7 +106,7 @@ module _ (p : Program) (home : ℕ → Option ℕ) (f : Function) (h : Here) (su
       (is_place p home f suits.structs h.known no_target a (held h no_target a) (keeps (can_be_place h.known a) fault.NotPlace at apart.0) s)
       (keeps (steps (standing_type (standing h.known no_target a))) fault.TypeMismatch at apart.1)
 
-  pub assigns_stands : (a : Exp) (o : AssignOp) (b : Part) (at : Place) (q : Position) → stands (standing h.known no_target a) (held h no_target a) → PartGives p home f suits.structs b →
+  pub assigns_stands : (a : Exp) (o : AssignOp) (b : Part) (at : Position) (q : Position) → stands (standing h.known no_target a) (held h no_target a) → PartGives p home f suits.structs b →
       assign_faults h.known o a (standing h.known no_target a) (operand_in b) at ≡ [] →
       stands (assign_standing o (standing h.known no_target a) (operand_in b)) (held_value (assigned_in h.source o (part_by (standing h.known no_target a) (held h no_target a)) b q))
   assigns_stands a o b at q s g none =
@@ -126,7 +127,7 @@ module _ (p : Program) (home : ℕ → Option ℕ) (f : Function) (h : Here) (su
   suits_prefix prefix_op.Not a c k s = tt
   suits_prefix prefix_op.Complement a c k s = tt
 
-  pub prefixed_stands : (o : PrefixOp) (a : Exp) (at : Place) (q : Position) → stands (standing h.known no_target a) (held h no_target a) → AreKept h (where_address (is_address o) (number_of_operand h.numbers a)) →
+  pub prefixed_stands : (o : PrefixOp) (a : Exp) (at : Position) (q : Position) → stands (standing h.known no_target a) (held h no_target a) → AreKept h (where_address (is_address o) (number_of_operand h.numbers a)) →
       prefix_faults h.known o a (standing h.known no_target a) at ≡ [] → stands (prefix_standing o (standing h.known no_target a)) (prefix_in h.source o (part_by (standing h.known no_target a) (held h no_target a)) q)
   prefixed_stands o a at q s k none =
       let apart = append_nil (place_faults (not (needs_place o) || can_be_place h.known a) at) (mismatch (not (prefix_takes o (standing h.known no_target a))) at) none in

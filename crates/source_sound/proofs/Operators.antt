@@ -1,8 +1,8 @@
 -- Operators with two or three operands: what stands for them is there, and of the kind that is known.
 use Rattle.std.proofs.Common.{◌≡◌, ◌⊎◌, inl, inr, ℕ, ◌≤◌, Bool, true, false, not, ◌&&◌, ◌||◌, if◌then◌else◌, Option, refl, sym, ◌∙◌}
 use Rattle.std.proofs.lemmas.Bool.{and_from}
-use Rattle.flow_code.specs.declared.work.BinaryOp.{BinaryOp as FlowOp}
-use Rattle.flow_code.specs.declared.work.BinaryOp.TheVariants as flow
+use Rattle.abstract_machine.specs.declared.operator.BinaryOp.{BinaryOp as FlowOp}
+use Rattle.abstract_machine.specs.declared.operator.BinaryOp.TheVariants as flow
 use Rattle.flow_code.specs.Kinds.{is_comparison}
 use Rattle.c_tree.specs.declared.expr.BinaryOp.{BinaryOp}
 use Rattle.c_tree.specs.declared.expr.BinaryOp.TheVariants as op
@@ -11,7 +11,7 @@ use Rattle.c_types.specs.Types.{pointer_to}
 use Rattle.c_types.specs.Scopes.{cells_of_type}
 use Rattle.c_types.specs.Operands.{no_type, Operand, any_operand, whole, zero_operand, null_operand, pointing, no_operand, is_void, is_typed, is_whole, is_scalar, is_some_pointer, is_movable, points_to_void, are_alike, are_compatible, are_whole, can_add, have_distance, can_subtract, takes, int_value, a_value, sum_of, difference_of, result_of, binary_standing, can_choose, chosen_target, chosen}
 use Rattle.c_types.specs.Standing.{can_index, element_place, index_standing, conditional_standing}
-use Rattle.c_core.specs.declared.position.Position.{Position}
+use Rattle.rr_base.specs.declared.position.Position.{Position}
 use Rattle.c_core.specs.Core as core
 use Rattle.c_core.specs.Core.{Function, Program}
 use Rattle.c_elaborate.specs.Held.{held_cells, held_value, Part, operand_in, is_pointing}

@@ -2,11 +2,11 @@
 use Rattle.std.proofs.Common.{◌≡◌, ℕ, ◌≤◌, Bool, true, false, ◌&&◌, if◌then◌else◌, List, [], ◌∷◌, Option, Some, None, is_none, refl, sym, ap, ◌∙◌, subst}
 use Rattle.std.proofs.lemmas.Bool.{and_from}
 use Rattle.c_lexer.specs.Bytes.{Text}
-use Rattle.flow_code.specs.declared.work.BinaryOp.TheVariants as flow
+use Rattle.abstract_machine.specs.declared.operator.BinaryOp.TheVariants as flow
 use Rattle.c_tree.specs.declared.name.Name.{Name}
 use Rattle.c_tree.specs.declared.expr.PrefixOp.{PrefixOp}
 use Rattle.c_tree.specs.declared.expr.PrefixOp.TheVariants as prefix_op
-use Rattle.c_tree.specs.Tree.{Place}
+use Rattle.rr_base.specs.declared.position.Position.{Position}
 use Rattle.c_types.specs.declared.types.BaseType.{BaseType}
 use Rattle.c_types.specs.declared.types.BaseType.TheVariants as base
 use Rattle.c_types.specs.declared.types.Layer.{Layer}
@@ -15,9 +15,9 @@ use Rattle.c_types.specs.declared.fault.FaultKind.TheVariants as fault
 use Rattle.c_types.specs.Scopes.{Known, member_of, cells_of_type}
 use Rattle.c_types.specs.Operands.{Standing, no_type, zero_literal, null_literal, a_value, a_place, Operand, any_operand, whole, zero_operand, null_operand, pointing, no_operand, operand_of, type_operand, layered_operand, type_value, is_void, is_typed, is_whole, is_scalar}
 use Rattle.c_types.specs.Standing.{pointee, address, prefix_standing, layered_struct, struct_of, pointed_struct, place_by, member_standing, casts_to, cast_standing}
-use Rattle.c_types.specs.Faults.{can_follow, prefix_takes, lacks_struct, lacks_member, member_faults, name_place, mismatch}
+use Rattle.c_rules.specs.Faults.{can_follow, prefix_takes, lacks_struct, lacks_member, member_faults, name_place, mismatch}
 use Rattle.c_types.specs.Found.{where_it_comes}
-use Rattle.c_core.specs.declared.position.Position.{Position}
+use Rattle.rr_base.specs.declared.position.Position.{Position}
 use Rattle.c_core.specs.Core as core
 use Rattle.c_core.specs.Core.{Function, Program}
 use Rattle.c_core.specs.Meaning.{is_pointer}
@@ -169,7 +169,7 @@ module _ (p : Program) (home : ℕ → Option ℕ) (f : Function) (structs : ℕ
 
   module _ (known : Known) (members : (k : ℕ) (name : Text) (m : Option ObjectType) → member_of known k name ≡ Some m → (t : ObjectType) × (m ≡ Some t) × IsFormed structs t) where
     -- the struct, and the type of its member
-    pub member_known : (a : Operand) (k : Option ℕ) (name : Name) (at : Place) → is_typed a ≡ true → member_faults known a k name at ≡ [] →
+    pub member_known : (a : Operand) (k : Option ℕ) (name : Name) (at : Position) → is_typed a ≡ true → member_faults known a k name at ≡ [] →
         (j : ℕ) × (t : ObjectType) × (k ≡ Some j) × (member_standing known k name.text ≡ a_place t) × IsFormed structs t
     member_known a k name at typed none =
         let none' = append_nil (mismatch (lacks_struct a k) at) (where_it_comes (lacks_member known k name.text) fault.UnknownName (name_place name)) none in
@@ -179,13 +179,13 @@ module _ (p : Program) (home : ℕ → Option ℕ) (f : Function) (structs : ℕ
         let t = members some.0 name.text m.0 m.1 in
         (some.0, t.0, some.1, ap (λ z. member_standing known z name.text) some.1 ∙ ap place_by (m.1 ∙ ap Some t.1), t.2)
 
-    pub member_stands : (sa : Standing) (x : Held) (name : Name) (at : Place) (by : ℕ) (o : Position) → Stands p home f structs sa x → member_faults known (operand_of sa) (struct_of sa) name at ≡ [] →
+    pub member_stands : (sa : Standing) (x : Held) (name : Name) (at : Position) (by : ℕ) (o : Position) → Stands p home f structs sa x → member_faults known (operand_of sa) (struct_of sa) name at ≡ [] →
         Stands p home f structs (member_standing known (struct_of sa) name.text) (member_in x by o)
     member_stands sa x name at by o h none =
         let m = member_known (operand_of sa) (struct_of sa) name at (stands_gives p home f structs sa x h).typed none in
         subst (λ z. Stands p home f structs z (member_in x by o)) (sym m.3) (struct_in_cells sa x m.0 by o m.1 h m.2 m.4)
 
-    pub arrow_stands : (a : Part) (name : Name) (at : Place) (by : ℕ) (o : Position) → PartGives p home f structs a → member_faults known (operand_in a) (pointed_struct (operand_in a)) name at ≡ [] →
+    pub arrow_stands : (a : Part) (name : Name) (at : Position) (by : ℕ) (o : Position) → PartGives p home f structs a → member_faults known (operand_in a) (pointed_struct (operand_in a)) name at ≡ [] →
         Stands p home f structs (member_standing known (pointed_struct (operand_in a)) name.text) (arrow_in a by o)
     arrow_stands a name at by o g none =
         let m = member_known (operand_in a) (pointed_struct (operand_in a)) name at g.typed none in

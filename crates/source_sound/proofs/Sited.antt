@@ -4,16 +4,16 @@ use Rattle.std.specs.List.{position_or_len}
 use Rattle.std.proofs.lemmas.Bool.Decides.{nat_tests}
 use Rattle.rr_base.specs.declared.layout.CellKind.{CellKind}
 use Rattle.rr_base.specs.declared.layout.Site.{Site}
-use Rattle.c_tree.specs.Tree.{Place}
-use Rattle.c_types.specs.Spots.{Spot, site_of}
+use Rattle.rr_base.specs.declared.position.Position.{Position}
+use Rattle.c_sites.specs.Spots.{Spot, site_of}
 use Rattle.c_elaborate.specs.Here.{stands_at, site_counted, site_at}
 
 -- a site stands at the place
-abbrev pub StandsIn : List Site → Place → Type 0
+abbrev pub StandsIn : List Site → Position → Type 0
 StandsIn [] at = ⊥
 StandsIn (s ∷ ss) at = (stands_at at s ≡ true) ⊎ StandsIn ss at
 
-passed : (ss : List Site) (at : Place) → StandsIn ss at → position_or_len (stands_at at) ss < length ss
+passed : (ss : List Site) (at : Position) → StandsIn ss at → position_or_len (stands_at at) ss < length ss
 passed [] at h = absurd h
 passed (s ∷ ss) at h = by (λ k. passed ss at k) (stands_at at s) refl h
   where
@@ -22,7 +22,7 @@ passed (s ∷ ss) at h = by (λ k. passed ss at k) (stands_at at s) refl h
     by rec false e (inl same) = absurd cc
     by rec false e (inr more) = let lt = rec more in omega (arith, lt)
 
-pub counted : (ss : List Site) (at : Place) → StandsIn ss at → (1 ≤ site_at ss at) × (site_at ss at ≤ length ss)
+pub counted : (ss : List Site) (at : Position) → StandsIn ss at → (1 ≤ site_at ss at) × (site_at ss at ≤ length ss)
 counted ss at h =
     let lt = passed ss at h in
     let is : site_at ss at ≡ position_or_len (stands_at at) ss + 1 = ap (λ b. site_counted (cond b (Some (position_or_len (stands_at at) ss)) None)) (lt-ltb (position_or_len (stands_at at) ss) (length ss) lt) in

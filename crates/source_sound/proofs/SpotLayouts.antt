@@ -3,17 +3,18 @@ use Rattle.std.proofs.Common.{◌≡◌, ℕ, ◌+◌, Bool, true, false, not, �
 use Rattle.flow_code.specs.Valid.{layout_fits}
 use Rattle.c_lexer.specs.Bytes.{Text}
 use Rattle.c_tree.specs.declared.ctype.Specifier.{Specifier}
-use Rattle.c_tree.specs.Tree.{Place, Exp, Declared, declared, Object, plain, initialised, Declares, declares, Start, start_declares, start_computes, Statement, block, compute, break_at, continue_at, gives, branch, branch_else, while_loop, do_loop, for_loop, Parts, no_part, and_declares, and_does}
+use Rattle.c_tree.specs.Tree.{Exp, Declared, declared, Object, plain, initialised, Declares, declares, Start, start_declares, start_computes, Statement, block, compute, break_at, continue_at, gives, branch, branch_else, while_loop, do_loop, for_loop, Parts, no_part, and_declares, and_does}
+use Rattle.rr_base.specs.declared.position.Position.{Position}
 use Rattle.c_types.specs.declared.library.StarredType.{StarredType}
 use Rattle.c_types.specs.Scopes.{Known, Scope, Meaning, variable, declared_in, declare, opened}
 use Rattle.c_types.specs.Operands.{operand_of, is_scalar}
 use Rattle.c_types.specs.Standing.{no_target, standing}
-use Rattle.c_types.specs.Faults.{name_place, mismatch, specifier_faults, expression_faults, go_faults}
-use Rattle.c_types.specs.Declarators.{declared_type, declared_name, is_void_specifier, declarator_faults, lengths_faults, taken_faults, size_faults}
-use Rattle.c_types.specs.Initials.{value_target, start_faults}
-use Rattle.c_types.specs.Statements.{declared_by, cells_of_declared, global_name_faults, global_cells_with, after_declared, declared_faults, object_faults, objects_faults, after_objects, declares_faults, after_declares, computed_faults, condition_faults, test_faults, gives_fit, return_faults, start_of_for_faults, after_start, statement_faults, parts_faults}
-use Rattle.c_types.specs.Addresses.{count_of_locals, count_of_start, count_of_declares}
-use Rattle.c_types.specs.Spots.{Spot, spot_named, where_kept, Where, in_function, holder_in, is_cell_in, is_global_level, is_kept_declared, declared_lengths, layout_by, allocations, maybe_allocations, lengths_allocations, initial_allocations, declared_spots, object_spots, objects_spots, declares_spots, start_spots, for_spots, statement_spots, parts_spots}
+use Rattle.c_rules.specs.Faults.{name_place, mismatch, specifier_faults, expression_faults, go_faults}
+use Rattle.c_programs.specs.Declarators.{declared_type, declared_name, is_void_specifier, declarator_faults, lengths_faults, taken_faults, size_faults}
+use Rattle.c_programs.specs.Initials.{value_target, start_faults}
+use Rattle.c_programs.specs.Statements.{declared_by, cells_of_declared, global_name_faults, global_cells_with, after_declared, declared_faults, object_faults, objects_faults, after_objects, declares_faults, after_declares, computed_faults, condition_faults, test_faults, gives_fit, return_faults, start_of_for_faults, after_start, statement_faults, parts_faults}
+use Rattle.c_sites.specs.Addresses.{count_of_locals, count_of_start, count_of_declares}
+use Rattle.c_sites.specs.Spots.{Spot, spot_named, where_kept, Where, in_function, holder_in, is_cell_in, is_global_level, is_kept_declared, declared_lengths, layout_by, allocations, maybe_allocations, lengths_allocations, initial_allocations, declared_spots, object_spots, objects_spots, declares_spots, start_spots, for_spots, statement_spots, parts_spots}
 use Rattle.c_elaborate.specs.Here.{Source}
 use Rattle.source_sound.proofs.Environment.{IsFormed}
 use Rattle.source_sound.proofs.FileLists.{append_nil, nil3, nil4}
@@ -123,10 +124,10 @@ module _ (s : Source) (n : ℕ) (whole : IsWhole s n) (small : AreSmall s.kinds)
   one_laid : (known : Known) (e : Exp) → IsAt known → expression_faults known e ≡ [] → Laid (allocations known no_target e)
   one_laid known e h none = exp_laid s.kinds n small size known (typed_at known h) no_target tt e none
 
-  condition_laid : (known : Known) (at : Place) (e : Exp) → IsAt known → condition_faults known at e ≡ [] → Laid (allocations known no_target e)
+  condition_laid : (known : Known) (at : Position) (e : Exp) → IsAt known → condition_faults known at e ≡ [] → Laid (allocations known no_target e)
   condition_laid known at e h none = one_laid known e h (append_nil (expression_faults known e) (mismatch (not (is_scalar (operand_of (standing known no_target e)))) at) none).0
 
-  test_laid : (known : Known) (at : Place) (e : Option Exp) → IsAt known → test_faults known at e ≡ [] → Laid (maybe_allocations known e)
+  test_laid : (known : Known) (at : Position) (e : Option Exp) → IsAt known → test_faults known at e ≡ [] → Laid (maybe_allocations known e)
   test_laid known at None h none = tt
   test_laid known at (Some e) h none = condition_laid known at e h none
 
@@ -134,7 +135,7 @@ module _ (s : Source) (n : ℕ) (whole : IsWhole s n) (small : AreSmall s.kinds)
   computed_laid known None h none = tt
   computed_laid known (Some e) h none = one_laid known e h (append_nil (expression_faults known e) (go_faults (standing known no_target e) e) none).0
 
-  returned_laid : (known : Known) (result : Option StarredType) (at : Place) (e : Option Exp) → IsAt known → return_faults known result at e ≡ [] → Laid (maybe_allocations known e)
+  returned_laid : (known : Known) (result : Option StarredType) (at : Position) (e : Option Exp) → IsAt known → return_faults known result at e ≡ [] → Laid (maybe_allocations known e)
   returned_laid known result at None h none = tt
   returned_laid known result at (Some e) h none = one_laid known e h (append_nil (expression_faults known e) (mismatch (not (gives_fit result (operand_of (standing known no_target e)))) at) none).0
 

@@ -1,16 +1,17 @@
 -- The statements of a function are sound where they have no fault.
 use Rattle.std.proofs.Common.{◌≡◌, ℕ, ◌+◌, Bool, true, not, List, [], ◌∷◌, ◌++◌, length, Option, Some, None, sym, ◌∙◌, subst, arith}
 use Rattle.c_lexer.specs.Bytes.{Text}
-use Rattle.c_tree.specs.Tree.{Place, Exp, Object, Declares, declares, Start, start_declares, start_computes, Statement, block, compute, break_at, continue_at, gives, branch, branch_else, while_loop, do_loop, for_loop, Parts, no_part, and_declares, and_does}
+use Rattle.c_tree.specs.Tree.{Exp, Object, Declares, declares, Start, start_declares, start_computes, Statement, block, compute, break_at, continue_at, gives, branch, branch_else, while_loop, do_loop, for_loop, Parts, no_part, and_declares, and_does}
+use Rattle.rr_base.specs.declared.position.Position.{Position}
 use Rattle.c_types.specs.declared.library.StarredType.{StarredType}
 use Rattle.c_types.specs.Scopes.{opened}
 use Rattle.c_types.specs.Operands.{operand_of, type_operand, is_scalar, accepts}
 use Rattle.c_types.specs.Library.{starred_type}
 use Rattle.c_types.specs.Standing.{no_target, standing}
-use Rattle.c_types.specs.Faults.{mismatch, expression_faults, go_faults}
-use Rattle.c_types.specs.Statements.{declared_by, after_declares, declares_faults, computed_faults, condition_faults, test_faults, gives_fit, return_faults, start_of_for_faults, after_start, statement_faults, parts_faults}
-use Rattle.c_types.specs.Spots.{in_function, allocations, maybe_allocations, declares_spots, start_spots, for_spots, statement_spots, parts_spots}
-use Rattle.c_types.specs.Addresses.{Numbered, addressed, maybe_addressed, start_addressed, for_addressed, declares_addressed, statement_addressed, parts_addressed, after_names, after_name, after_declaration, after_for_start, behind_statement, inside, count_of_declares, count_of_start, count_of_locals}
+use Rattle.c_rules.specs.Faults.{mismatch, expression_faults, go_faults}
+use Rattle.c_programs.specs.Statements.{declared_by, after_declares, declares_faults, computed_faults, condition_faults, test_faults, gives_fit, return_faults, start_of_for_faults, after_start, statement_faults, parts_faults}
+use Rattle.c_sites.specs.Spots.{in_function, allocations, maybe_allocations, declares_spots, start_spots, for_spots, statement_spots, parts_spots}
+use Rattle.c_sites.specs.Addresses.{Numbered, addressed, maybe_addressed, start_addressed, for_addressed, declares_addressed, statement_addressed, parts_addressed, after_names, after_name, after_declaration, after_for_start, behind_statement, inside, count_of_declares, count_of_start, count_of_locals}
 use Rattle.c_core.specs.Core.{Function, Program}
 use Rattle.c_core.specs.Meaning.{is_pointer}
 use Rattle.c_elaborate.specs.declared.local.Local.{Local}
@@ -51,11 +52,11 @@ module _ (p : Program) (home : ℕ → Option ℕ) (f : Function) (structs : ℕ
   value_sound : (h : Here) (e : Exp) → Inside p home f structs h → Have p h.frame h.source.sites (addressed h.numbers e) (allocations h.known no_target e) → expression_faults h.known e ≡ [] → IsSoundExp p home f (value_of h e)
   value_sound h e i have none = value_by_parts p home f values h e (suits p home f structs h i) have none
 
-  condition_sound : (h : Here) (e : Exp) (at : Place) → Inside p home f structs h → Have p h.frame h.source.sites (addressed h.numbers e) (allocations h.known no_target e) → condition_faults h.known at e ≡ [] → IsSoundExp p home f (value_of h e)
+  condition_sound : (h : Here) (e : Exp) (at : Position) → Inside p home f structs h → Have p h.frame h.source.sites (addressed h.numbers e) (allocations h.known no_target e) → condition_faults h.known at e ≡ [] → IsSoundExp p home f (value_of h e)
   condition_sound h e at i have none =
       value_sound h e i have (append_nil (expression_faults h.known e) (mismatch (not (is_scalar (operand_of (standing h.known no_target e)))) at) none).0
 
-  test_sound : (h : Here) (e : Option Exp) (at : Place) → Inside p home f structs h → Have p h.frame h.source.sites (maybe_addressed h.numbers e) (maybe_allocations h.known e) → test_faults h.known at e ≡ [] → IsSoundMaybe p home f (maybe_value h e)
+  test_sound : (h : Here) (e : Option Exp) (at : Position) → Inside p home f structs h → Have p h.frame h.source.sites (maybe_addressed h.numbers e) (maybe_allocations h.known e) → test_faults h.known at e ≡ [] → IsSoundMaybe p home f (maybe_value h e)
   test_sound h None at i have none = tt
   test_sound h (Some e) at i have none = condition_sound h e at i have none
 
@@ -69,7 +70,7 @@ module _ (p : Program) (home : ℕ → Option ℕ) (f : Function) (structs : ℕ
 
   module _ (result : StarredType) (is_result : gives_pointer (Some result) ≡ f.gives_pointer) where
     -- what is returned is of the kind that the function gives
-    given_sound : (h : Here) (e : Option Exp) (at : Place) → Inside p home f structs h → Have p h.frame h.source.sites (maybe_addressed h.numbers e) (maybe_allocations h.known e) → return_faults h.known (Some result) at e ≡ [] → IsSoundResult p home f (given h e)
+    given_sound : (h : Here) (e : Option Exp) (at : Position) → Inside p home f structs h → Have p h.frame h.source.sites (maybe_addressed h.numbers e) (maybe_allocations h.known e) → return_faults h.known (Some result) at e ≡ [] → IsSoundResult p home f (given h e)
     given_sound h None at i have none = tt
     given_sound h (Some e) at i have none =
         let t = starred_type result in

@@ -4,7 +4,7 @@ use Rattle.std.proofs.Common.{◌≡◌, ℕ, Bool, true, false, not, ◌&&◌, 
 use Rattle.c_lexer.specs.Bytes.{Text}
 use Rattle.c_tree.specs.declared.expr.AssignOp.{AssignOp}
 use Rattle.c_tree.specs.declared.expr.AssignOp.TheVariants as assign_op
-use Rattle.c_tree.specs.Tree.{Place}
+use Rattle.rr_base.specs.declared.position.Position.{Position}
 use Rattle.c_types.specs.declared.types.BaseType.{BaseType}
 use Rattle.c_types.specs.declared.types.Layer.{Layer}
 use Rattle.c_types.specs.declared.types.Layer.TheVariants as layer
@@ -14,8 +14,8 @@ use Rattle.c_types.specs.Library.{library_named}
 use Rattle.c_types.specs.Scopes.{seen}
 use Rattle.c_types.specs.Operands.{Standing, no_type, zero_literal, null_literal, a_value, a_place, is_void}
 use Rattle.c_types.specs.Standing.{Target, no_target, target_of, layered_target, type_target, assigned_target, cast_target}
-use Rattle.c_types.specs.Initials.{value_target}
-use Rattle.c_types.specs.Spots.{Spot, is_malloc_call, is_malloc, where_malloc}
+use Rattle.c_programs.specs.Initials.{value_target}
+use Rattle.c_sites.specs.Spots.{Spot, is_malloc_call, is_malloc, where_malloc}
 use Rattle.c_core.specs.Core.{Function, Program}
 use Rattle.c_elaborate.specs.Held.{Held, held_register, held_cells, held_zero, held_value}
 use Rattle.c_elaborate.specs.Here.{Here, site_at}
@@ -77,12 +77,12 @@ module _ (p : Program) (home : ℕ → Option ℕ) (f : Function) where
       let two = sites_apart h xs ys one.0 in
       (two.0, two.1, one.1)
 
-  malloc_here : (h : Here) (b : Bool) (w : Target) (at : Place) → b ≡ true → HaveSites p home f h (places_of (where_malloc b w at)) → HasSite p (site_at h.source.sites at)
+  malloc_here : (h : Here) (b : Bool) (w : Target) (at : Position) → b ≡ true → HaveSites p home f h (places_of (where_malloc b w at)) → HasSite p (site_at h.source.sites at)
   malloc_here h true w at e s = s.0
   malloc_here h false w at e s = never e
 
   -- the site of a `malloc`
-  pub malloc_site : (h : Here) (name : Text) (w : Target) (at : Place) → HaveSites p home f h (places_of (where_malloc (is_malloc h.known name) w at)) → seen h.known name ≡ None → library_named name ≡ Some library.Malloc → HasSite p (site_at h.source.sites at)
+  pub malloc_site : (h : Here) (name : Text) (w : Target) (at : Position) → HaveSites p home f h (places_of (where_malloc (is_malloc h.known name) w at)) → seen h.known name ≡ None → library_named name ≡ Some library.Malloc → HasSite p (site_at h.source.sites at)
   malloc_site h name w at s e e' =
       malloc_here h (is_malloc h.known name) w at (ap (λ z. not (is_some z) && is_malloc_call (library_named name)) e ∙ ap is_malloc_call e') s
 

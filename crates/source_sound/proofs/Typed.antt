@@ -8,7 +8,8 @@ use Rattle.c_tree.specs.declared.name.Name.{Name}
 use Rattle.c_tree.specs.declared.ctype.Specifier.{Specifier}
 use Rattle.c_tree.specs.declared.ctype.Specifier.TheVariants as specifier
 use Rattle.c_tree.specs.declared.program.Param.{Param}
-use Rattle.c_tree.specs.Tree.{Place, Exp, Declared, declared}
+use Rattle.c_tree.specs.Tree.{Exp, Declared, declared}
+use Rattle.rr_base.specs.declared.position.Position.{Position}
 use Rattle.c_types.specs.declared.types.BaseType.{BaseType}
 use Rattle.c_types.specs.declared.types.BaseType.TheVariants as base
 use Rattle.c_types.specs.declared.types.Layer.{Layer}
@@ -21,10 +22,10 @@ use Rattle.c_types.specs.Constants.{is_constant}
 use Rattle.c_types.specs.Scopes.{Known, struct_numbered, base_of, starred, is_complete_base, is_complete_layered, is_complete}
 use Rattle.c_types.specs.Operands.{type_operand}
 use Rattle.c_types.specs.Standing.{layered_target, type_target, layered_struct, type_struct}
-use Rattle.c_types.specs.Faults.{first_place, name_place, mismatch, specifier_faults, lacks_struct_by, is_unknown_struct, expression_faults}
-use Rattle.c_types.specs.Sizes.{value_here, is_trap, is_sound, constant_faults, is_short, is_short_length, length_faults, positive, positive_value, length_of}
-use Rattle.c_types.specs.Declarators.{with_arrays, type_by, arrays_of, complete_by, declared_type, is_void_specifier, cannot_pass, passed_by, param_type, declarator_faults, lengths_faults}
-use Rattle.c_types.specs.Spots.{is_kept_specifier, is_kept}
+use Rattle.c_rules.specs.Faults.{first_place, name_place, mismatch, specifier_faults, lacks_struct_by, is_unknown_struct, expression_faults}
+use Rattle.c_rules.specs.Sizes.{value_here, is_trap, is_sound, constant_faults, is_short, is_short_length, length_faults, positive, positive_value, length_of}
+use Rattle.c_programs.specs.Declarators.{with_arrays, type_by, arrays_of, complete_by, declared_type, is_void_specifier, cannot_pass, passed_by, param_type, declarator_faults, lengths_faults}
+use Rattle.c_sites.specs.Spots.{is_kept_specifier, is_kept}
 use Rattle.c_elaborate.specs.Held.{is_pointing}
 use Rattle.source_sound.proofs.Environment.{IsFormedBase, IsFormedPointee, IsFormedLayered, IsFormed, IsFormedTarget}
 use Rattle.source_sound.proofs.NoFaults.{append_nil, three_nil, never, matches, not_false}
@@ -157,13 +158,13 @@ length_by true true (Err t) a b e = let no : ⊥ = cc in absurd no
 length_by true true (Ok (pos n)) a b e = (n, positive_found n b)
 length_by true true (Ok (negsuc n)) a b e = let no : ⊥ = cc in absurd no
 
-length_known : (known : Known) (at : Place) (e : Exp) → length_faults known at e ≡ [] → (n : ℕ) × (length_of known e ≡ Some n)
+length_known : (known : Known) (at : Position) (e : Exp) → length_faults known at e ≡ [] → (n : ℕ) × (length_of known e ≡ Some n)
 length_known known at e none =
     let parts = three_nil (expression_faults known e) (constant_faults known e) (mismatch (is_short_length known e) at) none in
     let sound : is_sound known e ≡ true = ap (λ xs. is_none (first_among None xs)) parts.0 in
     length_by (is_constant e) (is_sound known e) (value_here known e) (never (not (is_constant e) || (is_sound known e && is_trap (value_here known e))) fault.NotConstant (first_place e) parts.1) (matches (is_short_length known e) at parts.2) sound
 
-lengths_known : (known : Known) (at : Place) (es : List Exp) (ls : List Layer) → lengths_faults known at es ≡ [] → (arrays : List Layer) × (with_arrays ls (map (length_of known) es) ≡ Some arrays)
+lengths_known : (known : Known) (at : Position) (es : List Exp) (ls : List Layer) → lengths_faults known at es ≡ [] → (arrays : List Layer) × (with_arrays ls (map (length_of known) es) ≡ Some arrays)
 lengths_known known at [] ls none = (ls, refl)
 lengths_known known at (e ∷ es) ls none =
     let parts = append_nil (length_faults known at e) (lengths_faults known at es) none in

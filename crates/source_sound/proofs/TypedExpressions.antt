@@ -15,7 +15,8 @@ use Rattle.c_tree.specs.declared.expr.PrefixOp.{PrefixOp}
 use Rattle.c_tree.specs.declared.expr.PrefixOp.TheVariants as prefix_op
 use Rattle.c_tree.specs.declared.expr.AssignOp.{AssignOp}
 use Rattle.c_tree.specs.declared.expr.AssignOp.TheVariants as assign_op
-use Rattle.c_tree.specs.Tree.{Place, Exp, comma, assign, conditional, binary, prefix, sizeof_exp, sizeof_type, cast, index, member, arrow, post_increment, post_decrement, named, call, number, letter, text, null, paren, Exps, no_exp, and_exp}
+use Rattle.c_tree.specs.Tree.{Exp, comma, assign, conditional, binary, prefix, sizeof_exp, sizeof_type, cast, index, member, arrow, post_increment, post_decrement, named, call, number, letter, text, null, paren, Exps, no_exp, and_exp}
+use Rattle.rr_base.specs.declared.position.Position.{Position}
 use Rattle.c_types.specs.declared.types.BaseType.{BaseType}
 use Rattle.c_types.specs.declared.types.BaseType.TheVariants as base
 use Rattle.c_types.specs.declared.types.Layer.TheVariants as layer
@@ -35,8 +36,8 @@ use Rattle.c_types.specs.Scopes.{Known, Scope, Members, Meaning, variable, funct
 use Rattle.c_types.specs.Operands.{Standing, no_type, zero_literal, null_literal, a_value, a_place, Operand, any_operand, whole, zero_operand, null_operand, pointing, no_operand, operand_of, type_value, is_void, layered_is_void, is_typed, is_scalar, accepts, int_value, takes}
 use Rattle.c_types.specs.Library.{starred_type, an_int, wanted_by, given_by, library_named}
 use Rattle.c_types.specs.Standing.{Target, no_target, type_target, assigned_target, cast_target, malloc_standing, pointee, is_sized, sizeof_type_standing, casts_to, cast_standing, can_index, struct_of, pointed_struct, place_by, member_standing, named_standing, is_main, callee, callee_wants, call_standing, given_type, format_of, number_standing, index_standing, prefix_standing, assign_standing, stepped, element_place, some_library_callee, library_callee, function_callee, callee_of, is_root, is_text, is_null, fits_wanted, can_go, let_go, behind, standing, last_standing, fit_wanted}
-use Rattle.c_types.specs.Faults.{name_place, mismatch, specifier_faults, is_some_void, name_can_be_place, is_indirect, can_be_place, standing_type, assigns_to, steps, prefix_takes, needs_place, place_faults, lacks_struct, lacks_member, member_faults, named_faults, count_of, count_faults, begins_with_text, printf_wants, some_library_wants, library_wants, wants_of, has_no_target, printf_count_faults, library_call_faults, unseen_call_faults, callee_faults, format_faults, is_named, where_judged, one_argument_faults, condition_takes, go_faults, step_faults, place_of_first, sizeof_type_faults, cast_faults, assign_faults, prefix_faults, call_faults, faults, rest_faults, arguments_faults, root_faults, first_place}
-use Rattle.c_types.specs.Declarators.{is_void_specifier}
+use Rattle.c_rules.specs.Faults.{name_place, mismatch, specifier_faults, is_some_void, name_can_be_place, is_indirect, can_be_place, standing_type, assigns_to, steps, prefix_takes, needs_place, place_faults, lacks_struct, lacks_member, member_faults, named_faults, count_of, count_faults, begins_with_text, printf_wants, some_library_wants, library_wants, wants_of, has_no_target, printf_count_faults, library_call_faults, unseen_call_faults, callee_faults, format_faults, is_named, where_judged, one_argument_faults, condition_takes, go_faults, step_faults, place_of_first, sizeof_type_faults, cast_faults, assign_faults, prefix_faults, call_faults, faults, rest_faults, arguments_faults, root_faults, first_place}
+use Rattle.c_programs.specs.Declarators.{is_void_specifier}
 use Rattle.source_sound.proofs.Environment.{IsFormed}
 use Rattle.source_sound.proofs.FileLists.{append_nil, nil3, nil4, where_nil, not_nil}
 use Rattle.source_sound.proofs.DeclaredTypes.{IsFileBase, base_known, complete_specifier, AreDeclarable, only_pointers, pointers_formed}
@@ -113,14 +114,14 @@ module _ (n : ℕ) where
   complete_starred known s zero b h e v = complete_specifier known s b h (no_void_specifier known s b e v) e
   complete_starred known s (suc k) b h e v = refl
 
-  sizeof_good : (known : Known) (t : CType) (at : Place) → length known.struct_names ≡ n → sizeof_type_faults known t at ≡ [] → IsGood n (sizeof_type_standing known (type_named known t))
+  sizeof_good : (known : Known) (t : CType) (at : Position) → length known.struct_names ≡ n → sizeof_type_faults known t at ≡ [] → IsGood n (sizeof_type_standing known (type_named known t))
   sizeof_good known t at size h =
       let a = append_nil (mismatch (is_some_void (type_named known t)) at) (specifier_faults known (t.stars == 0) t.specifier) h in
       let is = type_known known (t.stars == 0) t size a.1 in
       let v : is_void (starred t.stars is.0) ≡ false = ap is_some_void (sym is.2) ∙ where_nil _ _ _ a.0 in
       subst (λ o. IsGood n (sizeof_type_standing known o)) (sym is.2) (where_good n (is_complete known (starred t.stars is.0)) int_value (complete_starred known t.specifier t.stars is.0 a.1 is.1 v) tt)
 
-  cast_good : (known : Known) (t : CType) (a : Operand) (at : Place) → length known.struct_names ≡ n → IsGoodOperand n a → cast_faults known t a at ≡ [] → IsGood n (cast_standing (type_named known t) t.stars a)
+  cast_good : (known : Known) (t : CType) (a : Operand) (at : Position) → length known.struct_names ≡ n → IsGoodOperand n a → cast_faults known t a at ≡ [] → IsGood n (cast_standing (type_named known t) t.stars a)
   cast_good known t a at size g h =
       let p = append_nil (mismatch (not (casts_to (type_named known t) t.stars && is_scalar a)) at) (specifier_faults known false t.specifier) h in
       let is = type_known known false t size p.1 in
@@ -267,19 +268,19 @@ module _ (n : ℕ) where
   needs_object prefix_op.Not s place h e = tt
   needs_object prefix_op.Complement s place h e = tt
 
-  prefix_typed : (known : Known) (op : PrefixOp) (a : Exp) (at : Place) → IsGood n (standing known no_target a) → prefix_faults known op a (standing known no_target a) at ≡ [] → IsGood n (prefix_standing op (standing known no_target a))
+  prefix_typed : (known : Known) (op : PrefixOp) (a : Exp) (at : Position) → IsGood n (standing known no_target a) → prefix_faults known op a (standing known no_target a) at ≡ [] → IsGood n (prefix_standing op (standing known no_target a))
   prefix_typed known op a at g h =
       let s = standing known no_target a in
       let p = append_nil (place_faults (not (needs_place op) || can_be_place known a) at) (mismatch (not (prefix_takes op s)) at) h in
       prefix_good n op s g (needs_object op s (can_be_place known a) (λ e. is_object known no_target a e g) (not_nil (not (needs_place op) || can_be_place known a) _ _ p.0)) (not_nil (prefix_takes op s) _ _ p.1)
 
-  step_typed : (known : Known) (a : Exp) (at : Place) → IsGood n (standing known no_target a) → step_faults known a (standing known no_target a) at ≡ [] → IsGood n (stepped (standing known no_target a))
+  step_typed : (known : Known) (a : Exp) (at : Position) → IsGood n (standing known no_target a) → step_faults known a (standing known no_target a) at ≡ [] → IsGood n (stepped (standing known no_target a))
   step_typed known a at g h =
       let s = standing known no_target a in
       let p = append_nil (place_faults (can_be_place known a) at) (mismatch (not (steps (standing_type s))) at) h in
       stepped_good n s g (is_object known no_target a (not_nil (can_be_place known a) _ _ p.0) g) (not_nil (steps (standing_type s)) _ _ p.1)
 
-  assign_typed : (known : Known) (op : AssignOp) (a : Exp) (b : Operand) (at : Place) → IsGood n (standing known no_target a) → IsGoodOperand n b → assign_faults known op a (standing known no_target a) b at ≡ [] → IsGood n (assign_standing op (standing known no_target a) b)
+  assign_typed : (known : Known) (op : AssignOp) (a : Exp) (b : Operand) (at : Position) → IsGood n (standing known no_target a) → IsGoodOperand n b → assign_faults known op a (standing known no_target a) b at ≡ [] → IsGood n (assign_standing op (standing known no_target a) b)
   assign_typed known op a b at g k h =
       let s = standing known no_target a in
       let p = append_nil (place_faults (can_be_place known a) at) (mismatch (not (assigns_to op (standing_type s) b)) at) h in
@@ -295,7 +296,7 @@ module _ (n : ℕ) where
   lacking (pointing t) k g e = e
   lacking no_operand k g e = e
 
-  member_good : (known : Known) (a : Operand) (k : Option ℕ) (name : Name) (at : Place) → AreTyped known → IsGoodOperand n a → member_faults known a k name at ≡ [] → IsGood n (member_standing known k name.text)
+  member_good : (known : Known) (a : Operand) (k : Option ℕ) (name : Name) (at : Position) → AreTyped known → IsGoodOperand n a → member_faults known a k name at ≡ [] → IsGood n (member_standing known k name.text)
   member_good known a k name at typed g h =
       let p = append_nil (mismatch (lacks_struct a k) at) (where_it_comes (lacks_member known k name.text) fault.UnknownName (name_place name)) h in
       by k (lacking a k g (where_nil _ _ _ p.0)) (where_nil _ _ _ p.1)
@@ -310,7 +311,7 @@ module _ (n : ℕ) where
 
   -- ---- names
 
-  named_good : (known : Known) (name : Text) (at : Place) (m : Option Meaning) → seen known name ≡ m → AreTyped known → named_faults known m name at ≡ [] → IsGood n (named_standing m (constant_named name))
+  named_good : (known : Known) (name : Text) (at : Position) (m : Option Meaning) → seen known name ≡ m → AreTyped known → named_faults known m name at ≡ [] → IsGood n (named_standing m (constant_named name))
   named_good known name at (Some (variable None)) is typed h = seen_typed known.scopes name (variable None) typed.names is
   named_good known name at (Some (variable (Some t))) is typed h = seen_typed known.scopes name (variable (Some t)) typed.names is
   named_good known name at (Some (function_of f)) is typed h = let p = append_nil (where_it_comes (not (has_name known.defined name)) fault.UnknownName at) (mismatch true at) h in absurd (true≢false (where_nil true _ _ p.1))
@@ -323,14 +324,14 @@ module _ (n : ℕ) where
 
   -- ---- calls
 
-  same_count : (a b : ℕ) (at : Place) → count_faults a b at ≡ [] → a ≡ b
+  same_count : (a b : ℕ) (at : Position) → count_faults a b at ≡ [] → a ≡ b
   same_count a b at h = let e : (a == b) ≡ true = not_nil (a == b) _ _ h in grind (arith, nat_tests)
 
   -- the arguments fit
   abbrev Fit : Known → List Wanted → Exps → Type 0
   Fit known ws es = fit_wanted known ws es ≡ true
 
-  one_fits : (known : Known) (x : Wanted) (e : Exp) (at : Place) → (faults known no_target e ≡ [] → IsGood n (standing known no_target e)) → one_argument_faults known x at e (faults known no_target e) ≡ [] → fits_wanted known x e (standing known no_target e) ≡ true
+  one_fits : (known : Known) (x : Wanted) (e : Exp) (at : Position) → (faults known no_target e ≡ [] → IsGood n (standing known no_target e)) → one_argument_faults known x at e (faults known no_target e) ≡ [] → fits_wanted known x e (standing known no_target e) ≡ true
   one_fits known (wants.Fits t) e at rec h =
       let s = standing known no_target e in
       let p = append_nil (faults known no_target e) (mismatch (not (accepts (starred_type t) (operand_of s))) at) h in
@@ -363,7 +364,7 @@ module _ (n : ℕ) where
   plain_given known ws b es fit = where_good n (fit_wanted known ws es) (type_value (bare b)) fit tt
 
   -- a format is known where the call has no fault
-  printf_good : (known : Known) (w : Target) (format : Option ℕ) (es : Exps) (at here' : Place) → format_of es ≡ format → ((many : ℕ) → count_of es ≡ length (printf_wants format) → Fit known (printf_wants format) es) →
+  printf_good : (known : Known) (w : Target) (format : Option ℕ) (es : Exps) (at here' : Position) → format_of es ≡ format → ((many : ℕ) → count_of es ≡ length (printf_wants format) → Fit known (printf_wants format) es) →
       printf_count_faults (begins_with_text es) format (count_of es) at ≡ [] → format_faults (begins_with_text es) (Some library.PrintFormat) None format here' ≡ [] → arguments_faults known (printf_wants format) at es ≡ [] → LibraryGives known w library.PrintFormat format es
   printf_good known w None es at here' is fit c f args = absurd (no_text es c f args)
     where
@@ -432,7 +433,7 @@ module _ (n : ℕ) where
           by true e h = same_count (count_of es) (m + 1) at h ∙ sym long
           by false e h = absurd (no_format es e is)
 
-  library_good : (known : Known) (w : Target) (c : LibraryName) (format : Option ℕ) (es : Exps) (at here' : Place) → IsGoodTarget n w → format_of es ≡ format → (count_of es ≡ length (some_library_wants c format) → Fit known (some_library_wants c format) es) →
+  library_good : (known : Known) (w : Target) (c : LibraryName) (format : Option ℕ) (es : Exps) (at here' : Position) → IsGoodTarget n w → format_of es ≡ format → (count_of es ≡ length (some_library_wants c format) → Fit known (some_library_wants c format) es) →
       library_call_faults c w (begins_with_text es) format (count_of es) at ≡ [] → format_faults (begins_with_text es) (Some c) None format here' ≡ [] → arguments_faults known (some_library_wants c format) at es ≡ [] → LibraryGives known w c format es
   library_good known w library.Malloc format es at here' target is fit c f args =
       let p = append_nil (where_it_comes (has_no_target w) fault.OutOfProfile at) (count_faults (count_of es) 1 at) c in
@@ -461,7 +462,7 @@ module _ (n : ℕ) where
   library_good known w library.PutChar format es at here' target is fit c f args = plain_given known (wanted_by library.PutChar) (given_by library.PutChar) es (fit (same_count (count_of es) (length (wanted_by library.PutChar)) at c))
   library_good known w library.PutText format es at here' target is fit c f args = plain_given known (wanted_by library.PutText) (given_by library.PutText) es (fit (same_count (count_of es) (length (wanted_by library.PutText)) at c))
 
-  unseen_good : (known : Known) (w : Target) (name : Text) (c : Option LibraryName) (format : Option ℕ) (es : Exps) (at here' : Place) → IsGoodTarget n w → format_of es ≡ format → (count_of es ≡ length (library_wants c format) → Fit known (library_wants c format) es) →
+  unseen_good : (known : Known) (w : Target) (name : Text) (c : Option LibraryName) (format : Option ℕ) (es : Exps) (at here' : Position) → IsGoodTarget n w → format_of es ≡ format → (count_of es ≡ length (library_wants c format) → Fit known (library_wants c format) es) →
       unseen_call_faults c name w (begins_with_text es) format (count_of es) at ≡ [] → format_faults (begins_with_text es) c None format here' ≡ [] → arguments_faults known (library_wants c format) at es ≡ [] → IsGood n (call_standing (library_callee c w format) (fit_wanted known (callee_wants (library_callee c w format)) es))
   unseen_good known w name None format es at here' target is fit c f args = by (is_some (constant_named name)) c
     where
@@ -470,7 +471,7 @@ module _ (n : ℕ) where
       by false h = cc
   unseen_good known w name (Some c) format es at here' target is fit f g args = library_good known w c format es at here' target is fit f g args
 
-  called_good : (known : Known) (w : Target) (name : Text) (es : Exps) (at : Place) (m : Option Meaning) → seen known name ≡ m → AreTyped known → IsGoodTarget n w →
+  called_good : (known : Known) (w : Target) (name : Text) (es : Exps) (at : Position) (m : Option Meaning) → seen known name ≡ m → AreTyped known → IsGoodTarget n w →
       (count_of es ≡ length (wants_of name (format_of es) m) → Fit known (wants_of name (format_of es) m) es) →
       callee_faults known name w (begins_with_text es) (format_of es) (count_of es) at m ≡ [] → format_faults (begins_with_text es) (library_named name) m (format_of es) (place_of_first es) ≡ [] → arguments_faults known (wants_of name (format_of es) m) at es ≡ [] →
       IsGood n (call_standing (callee_of known w name (format_of es) m) (fit_wanted known (callee_wants (callee_of known w name (format_of es) m)) es))
@@ -562,7 +563,7 @@ module _ (n : ℕ) where
           let one = let_go_good n (standing known no_target e) (exp_good no_target tt e p.0) (not_nil (can_go (standing known no_target e)) _ _ p.1) in
           rest_good (behind s (let_go (standing known no_target e))) (behind_good n s (let_go (standing known no_target e)) g one) es p.2
 
-      all_fit : (ws : List Wanted) (at : Place) (es : Exps) → count_of es ≡ length ws → arguments_faults known ws at es ≡ [] → Fit known ws es
+      all_fit : (ws : List Wanted) (at : Position) (es : Exps) → count_of es ≡ length ws → arguments_faults known ws at es ≡ [] → Fit known ws es
       all_fit [] at no_exp many h = refl
       all_fit [] at (and_exp e es) many h = absurd (omega (arith, many))
       all_fit (x ∷ ws) at no_exp many h = absurd (omega (arith, many))

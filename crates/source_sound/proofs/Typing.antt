@@ -16,7 +16,7 @@ use Rattle.c_types.specs.Types.{pointer_to}
 use Rattle.c_types.specs.Operands.{Standing, no_type, zero_literal, null_literal, a_value, a_place, Operand, any_operand, whole, zero_operand, null_operand, pointing, no_operand, base_operand, layered_operand, operand_of, layered_value, type_value, as_value, layered_is_void, is_void, is_typed, is_whole, is_scalar, are_whole, settled, int_value, sum_of, difference_of, result_of, takes, binary_standing, can_choose, voider, chosen_target, chosen, moves, assigns}
 use Rattle.c_types.specs.Library.{starred_type}
 use Rattle.c_types.specs.Standing.{Target, no_target, some_target, target_of, layered_target, malloc_standing, pointee, address, stepped, made_int, prefix_standing, conditional_standing, assign_standing, element_place, can_index, index_standing, let_go, can_go, behind, given_type}
-use Rattle.c_types.specs.Faults.{standing_type, assigns_to, steps, can_follow, prefix_takes}
+use Rattle.c_rules.specs.Faults.{standing_type, assigns_to, steps, can_follow, prefix_takes}
 use Rattle.source_sound.proofs.Environment.{IsFormedBase, IsFormedPointee, IsFormedLayered, IsFormed, IsFormedGiven, IsFormedValue}
 use Rattle.source_sound.proofs.DeclaredTypes.{ArePointers, AreDeclarable, only_pointers}
 

@@ -8,12 +8,12 @@ use Rattle.c_types.specs.declared.types.ObjectType.{ObjectType}
 use Rattle.c_types.specs.declared.library.StarredType.{StarredType}
 use Rattle.c_types.specs.Library.{starred_type}
 use Rattle.c_types.specs.Operands.{Standing, no_type, zero_literal, null_literal, a_value, a_place, operand_of, type_operand, layered_operand, is_typed, is_whole, is_some_pointer, accepts}
-use Rattle.c_types.specs.Initials.{layered_is_array}
+use Rattle.c_programs.specs.Initials.{layered_is_array}
 use Rattle.c_types.specs.Standing.{Target, no_target, standing}
-use Rattle.c_types.specs.Faults.{faults}
-use Rattle.c_types.specs.Addresses.{addressed}
-use Rattle.c_types.specs.Spots.{allocations}
-use Rattle.c_core.specs.declared.position.Position.{Position}
+use Rattle.c_rules.specs.Faults.{faults}
+use Rattle.c_sites.specs.Addresses.{addressed}
+use Rattle.c_sites.specs.Spots.{allocations}
+use Rattle.rr_base.specs.declared.position.Position.{Position}
 use Rattle.c_core.specs.Core as core
 use Rattle.c_core.specs.Core.{Function, Program}
 use Rattle.c_core.specs.Meaning.{is_pointer}

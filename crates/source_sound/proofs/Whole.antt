@@ -5,16 +5,16 @@ use Rattle.std.proofs.lemmas.List.{length-map}
 use Rattle.rr_base.specs.Words.{pack}
 use Rattle.rr_base.specs.declared.layout.CellKind.{CellKind}
 use Rattle.rr_base.specs.declared.layout.Site.{Site}
-use Rattle.flow_code.specs.Threads.{size_of}
+use Rattle.abstract_machine.specs.Cells.{size_of}
 use Rattle.flow_code.specs.Valid.{sites_fit}
 use Rattle.c_lexer.specs.Bytes.{Text}
 use Rattle.c_lexer.specs.Names.{entry_of}
 use Rattle.c_tree.specs.Tree.{Outer}
 use Rattle.c_types.specs.Scopes.{Known}
-use Rattle.c_types.specs.Programs.{known_at_start}
-use Rattle.c_types.specs.Addresses.{program_addressed}
-use Rattle.c_types.specs.Spots.{Spot, site_of, known_behind, kinds_of_structs, program_spots, program_sites}
-use Rattle.c_types.specs.Whole.{first_fault}
+use Rattle.c_programs.specs.Programs.{known_at_start}
+use Rattle.c_sites.specs.Addresses.{program_addressed}
+use Rattle.c_sites.specs.Spots.{Spot, site_of, known_behind, kinds_of_structs, program_spots, program_sites}
+use Rattle.c_sites.specs.Whole.{first_fault}
 use Rattle.c_core.specs.Core.{Program}
 use Rattle.c_elaborate.specs.Here.{Source, global_named}
 use Rattle.c_elaborate.specs.Globals.{global_kinds}

@@ -8,7 +8,8 @@ use Rattle.rr_base.specs.declared.layout.CellKind.TheVariants as kind
 use Rattle.c_lexer.specs.Bytes.{Text}
 use Rattle.c_tree.specs.declared.expr.PrefixOp.{PrefixOp}
 use Rattle.c_tree.specs.declared.expr.PrefixOp.TheVariants as prefix_op
-use Rattle.c_tree.specs.Tree.{Place, Exp, comma, assign, conditional, binary, prefix, sizeof_exp, sizeof_type, cast, index, member, arrow, post_increment, post_decrement, named, call, number, letter, text, null, paren, Init, value, braces, mutex_start, cond_start, Inits, no_init, and_init}
+use Rattle.c_tree.specs.Tree.{Exp, comma, assign, conditional, binary, prefix, sizeof_exp, sizeof_type, cast, index, member, arrow, post_increment, post_decrement, named, call, number, letter, text, null, paren, Init, value, braces, mutex_start, cond_start, Inits, no_init, and_init}
+use Rattle.rr_base.specs.declared.position.Position.{Position}
 use Rattle.c_types.specs.declared.types.BaseType.{BaseType}
 use Rattle.c_types.specs.declared.types.BaseType.TheVariants as base
 use Rattle.c_types.specs.declared.types.Layer.{Layer}
@@ -19,13 +20,13 @@ use Rattle.c_types.specs.Numbers.{is_zero}
 use Rattle.c_types.specs.Constants.{constant_named}
 use Rattle.c_types.specs.Types.{repeated, base_kinds, layered_kinds, kinds_of_type, members_kinds}
 use Rattle.c_types.specs.Found.{where_it_comes}
-use Rattle.c_types.specs.Faults.{mismatch, faults, first_place}
-use Rattle.c_types.specs.Sizes.{value_here, constant_faults}
+use Rattle.c_rules.specs.Faults.{mismatch, faults, first_place}
+use Rattle.c_rules.specs.Sizes.{value_here, constant_faults}
 use Rattle.c_types.specs.Scopes.{Known, Meaning, variable, function_of, seen, Members, members_of}
 use Rattle.c_types.specs.Operands.{Operand, operand_of, accepts, layered_accepts, same_base}
 use Rattle.c_types.specs.Standing.{Target, no_target, standing}
-use Rattle.c_types.specs.Initials.{alike_part, part_at, part_type, is_array_meaning, is_variable, is_variable_name, is_address, is_constant_address, layered_is_pointer, global_value_faults, starts_as, layered_is_base, may_be_base, where_global, value_faults, initial_faults, inits_faults}
-use Rattle.c_types.specs.Spots.{types_of_members}
+use Rattle.c_programs.specs.Initials.{alike_part, part_at, part_type, is_array_meaning, is_variable, is_variable_name, is_address, is_constant_address, layered_is_pointer, global_value_faults, starts_as, layered_is_base, may_be_base, where_global, value_faults, initial_faults, inits_faults}
+use Rattle.c_sites.specs.Spots.{types_of_members}
 use Rattle.c_elaborate.specs.Here.{Source, global_named}
 use Rattle.c_elaborate.specs.Globals.{address_word, computed_word, constant_word, start_words, parts_words}
 use Rattle.source_sound.proofs.FileLists.{nil3, where_nil, not_nil}
@@ -145,7 +146,7 @@ module _ (Good : ℕ → Type 0) where
     operand_word (text bytes at) h = absurd (true≢false (sym h))
     operand_word (null at) h = absurd (true≢false (sym h))
 
-    prefix_word : (op : PrefixOp) (e : Exp) (at : Place) → (is_address op && is_variable_name known e) ≡ true → IsNullOr (constant_word s known (prefix op e at))
+    prefix_word : (op : PrefixOp) (e : Exp) (at : Position) → (is_address op && is_variable_name known e) ≡ true → IsNullOr (constant_word s known (prefix op e at))
     prefix_word prefix_op.Address e at h = inr (operand_word e h)
     prefix_word prefix_op.Indirect e at h = absurd (true≢false (sym h))
     prefix_word prefix_op.Plus e at h = absurd (true≢false (sym h))
@@ -192,7 +193,7 @@ module _ (Good : ℕ → Type 0) where
     layers_value (layer.Pointer ∷ ls) b a e own h g = (address_good e (not_nil (is_constant_address known e) _ _ g), tt)
     layers_value (layer.Array m ∷ ls) b a e own h g = absurd (true≢false (sym h))
 
-    value_good : (w : Target) (t : ObjectType) (at : Place) (e : Exp) → value_faults known true w (Some t) at e ≡ [] → AreWords (kinds_of_type s.kinds t) (constant_word s known e ∷ [])
+    value_good : (w : Target) (t : ObjectType) (at : Position) (e : Exp) → value_faults known true w (Some t) at e ≡ [] → AreWords (kinds_of_type s.kinds t) (constant_word s known e ∷ [])
     value_good w t at e h =
         let a = nil3 (faults known w e) (mismatch (not (starts_as (Some t) (operand_of (standing known w e)))) at) (where_global true (global_value_faults known (Some t) e)) h in
         layers_value t.layers t.base (operand_of (standing known w e)) e (constant_faults known e) (not_nil (accepts t (operand_of (standing known w e))) _ _ a.1) a.2
@@ -314,7 +315,7 @@ module _ (Good : ℕ → Type 0) where
     this_part t k ts h = let e : k ≡ k + 0 = omega arith in ap (λ i. part_at known (Some t) i) e ∙ h 0
 
     mutual
-      pub start_good : (w : Target) (t : ObjectType) (at : Place) (i : Init) → IsWithin (length known.structs) t.layers t.base → initial_faults known true w (Some t) at i ≡ [] → AreWords (kinds_of_type s.kinds t) (start_words s known (Some t) i)
+      pub start_good : (w : Target) (t : ObjectType) (at : Position) (i : Init) → IsWithin (length known.structs) t.layers t.base → initial_faults known true w (Some t) at i ≡ [] → AreWords (kinds_of_type s.kinds t) (start_words s known (Some t) i)
       start_good w t at (value e) h g = value_good w t at e g
       start_good w t at (braces is trailing here) h g =
           let parts = has_parts t.layers t.base h in
@@ -323,7 +324,7 @@ module _ (Good : ℕ → Type 0) where
       start_good w t at (mutex_start here) h g = base_start base.Mutex t.layers t.base (not_nil (may_be_base base.Mutex (Some t)) _ _ g) (tt, tt)
       start_good w t at (cond_start here) h g = base_start base.Cond t.layers t.base (not_nil (may_be_base base.Cond (Some t)) _ _ g) (tt, tt)
 
-      inits_good : (t : ObjectType) (k : ℕ) (ts : List ObjectType) (at : Place) (is : Inits) → ArePartsFrom t k ts → AllWithin ts → inits_faults known true (Some t) k at is ≡ [] → AreFirst (members_kinds s.kinds ts) (parts_words s known (Some t) k is)
+      inits_good : (t : ObjectType) (k : ℕ) (ts : List ObjectType) (at : Position) (is : Inits) → ArePartsFrom t k ts → AllWithin ts → inits_faults known true (Some t) k at is ≡ [] → AreFirst (members_kinds s.kinds ts) (parts_words s known (Some t) k is)
       inits_good t k ts at no_init are within g = tt
       inits_good t k [] at (and_init x is) are within g =
           let a = nil3 (initial_faults known true no_target (part_type (part_at known (Some t) k)) at x) (mismatch (is_none (part_at known (Some t) k)) at) (inits_faults known true (Some t) (k + 1) at is) g in

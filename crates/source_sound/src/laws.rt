@@ -1,7 +1,7 @@
 //! The law of sources.
 ghost use Rattle.std.specs.Prelude.{◌≡◌, ◌≤◌, ◌^◌, List, None, length};
 ghost use Rattle.c_tree.specs.Tree.{Outer};
-ghost use Rattle.c_types.specs.Whole.{first_fault};
+ghost use Rattle.c_sites.specs.Whole.{first_fault};
 ghost use Rattle.c_elaborate.specs.Whole.{core_of_source};
 ghost use Rattle.flow_lower.specs.Sound.{IsSound};
 ghost use Rattle.source_sound.specs.Members.{StructsHaveMembers};

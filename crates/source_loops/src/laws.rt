@@ -1,0 +1,10 @@
+//! The law of a source's loops.
+ghost use Rattle.std.specs.Prelude.{◌≡◌, true};
+ghost use Rattle.c_core.specs.Core.{Program};
+ghost use Rattle.flow_lower.specs.Lowered.{lowered};
+ghost use Rattle.weak_sound.specs.Apart.{loops_are_apart};
+
+/// The Marks of the loops that a core tree's code lists ascend in each function.
+pub fn law_loops_are_apart()
+    ensures { (p : Program) → loops_are_apart (lowered p) ≡ true }
+{}

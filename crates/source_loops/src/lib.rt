@@ -1,0 +1,6 @@
+//! The loops of a source's code are as weak locks need them. It stands on `flow_lower` and `weak_sound`.
+#![tactic(auto)]
+
+mod laws;
+
+pub use laws::law_loops_are_apart;
