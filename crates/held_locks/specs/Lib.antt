@@ -1,0 +1,3 @@
+pub mod HandOffs
+pub mod Holders
+pub mod ThreadStripes

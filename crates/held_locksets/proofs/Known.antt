@@ -1,0 +1,171 @@
+-- What a function knows of its registers is what they hold, wherever a frame of it stands.
+use Rattle.std.proofs.Common.{◌≡◌, ◌≢◌, ℕ, zero, suc, ◌+◌, ◌*◌, ◌^◌, ◌<◌, nat_lt, nat_le, not, Bool, true, false, if◌then◌else◌, ℤ, List, length, Option, Some, None, refl, sym, ap, subst, ◌∙◌, arith}
+use Rattle.std.specs.Prelude.{slice_get, slice_set}
+use Rattle.std.proofs.lemmas.Bool.{and_parts, leb-false}
+use Rattle.std.proofs.lemmas.Option.{same_Some}
+use Rattle.std.proofs.lemmas.List.{get_or-set_other, get_or-set_same}
+use Rattle.rr_base.specs.Words.{base_of, offset_of}
+use Rattle.abstract_machine.specs.Registers.{register}
+use Rattle.abstract_machine.specs.Values.{number}
+use Rattle.flow_code.specs.declared.act.Act.{Act}
+use Rattle.flow_code.specs.declared.act.Instr.{Instr}
+use Rattle.flow_code.specs.declared.code.Function.{Function}
+use Rattle.flow_code.specs.Next.{act_in}
+use Rattle.flow_code.proofs.ValidParts.{each}
+use Rattle.facts.specs.Blocks.{begins_block, assigns, constant_of, constant_at}
+use Rattle.facts.specs.Paths.{Root, global, formal, Known, known_formal, known_of, known_at, path_to, naming_of, naming_at, most_cells}
+use Rattle.facts.specs.declared.locks.LockPath.{LockPath}
+use Rattle.facts.specs.declared.locks.LockPath.TheVariants.{Cell, Formal}
+use Rattle.facts.specs.declared.locks.Naming.TheVariants.{Nowhere, Named}
+use Rattle.held_locksets.specs.Leading.{is_fixed}
+use Rattle.held_locksets.proofs.Addresses.{on_base, on_offset}
+
+-- ---- registers
+
+pub set_same : (rs : List ℕ) (into w : ℕ) → into < length rs → register (slice_set rs into w) into ≡ w
+set_same rs into w lt = get_or-set_same rs into w 0 lt
+
+pub set_other : (rs : List ℕ) (into w r : ℕ) → r ≢ into → register (slice_set rs into w) r ≡ register rs r
+set_other rs into w r ne = get_or-set_other rs into r w 0 ne
+
+pub not_false : (b : Bool) → not b ≡ true → b ≡ false
+not_false true e = cc
+not_false false e = refl
+
+-- no instruction assigns a fixed formal
+pub never : (f : Function) (k : ℕ) (i : Instr) (r : ℕ) → slice_get f.instrs k ≡ Some i → is_fixed f r ≡ true → assigns r (Some i.act) ≡ false
+never f k i r at fixed = not_false (assigns r (Some i.act)) (each (λ j. not (assigns r (Some j.act))) f.instrs k i (and_parts (nat_lt r f.formals) _ fixed).1 at)
+
+-- ---- words behind roots
+
+abbrev pub RootIs : ℕ → Function → List ℕ → Root → ℕ → Type 0
+RootIs slots f rs (global b) v = (base_of v ≡ b + 2 * slots) × (offset_of v ≡ 0)
+RootIs slots f rs (formal i) v = (is_fixed f i ≡ true) × (v ≡ register rs i)
+
+-- the word is so many cells behind the root's
+pub record IsBehind (slots : ℕ) (f : Function) (rs : List ℕ) (n : Known) (w : ℕ) : Type 0 where
+  pub root : ℕ
+  pub is : RootIs slots f rs n.root root
+  pub word : w ≡ root + n.cells
+  pub near : offset_of root + n.cells < 2 ^ 16
+
+-- each register holds what is known of it
+pub record IsKnown (slots : ℕ) (f : Function) (k : ℕ) (rs : List ℕ) : Type 0 where
+  pub long : length rs ≡ f.registers
+  pub words : (r : ℕ) (n : Known) → known_at f.formals f.instrs k r ≡ Some n → IsBehind slots f rs n (register rs r)
+  pub constants : (r : ℕ) (z : ℤ) → constant_at f.instrs k r ≡ Some z → number (register rs r) ≡ z
+
+abbrev pub known_to : Root → ℕ → Known
+known_to x n = record { root = x; cells = n }
+
+pub formal_is : (slots : ℕ) (f : Function) (rs : List ℕ) (r : ℕ) (n : Known) → known_formal f.formals f.instrs r ≡ Some n → IsBehind slots f rs n (register rs r)
+formal_is slots f rs r n e = by (is_fixed f r) refl e
+  where
+    by : (b : Bool) → is_fixed f r ≡ b → (if b then Some (known_to (formal r) 0) else None) ≡ Some n → IsBehind slots f rs n (register rs r)
+    by true h g = subst (λ z. IsBehind slots f rs z (register rs r)) (same_Some (known_to (formal r) 0) n g) (record { root = register rs r; is = (h, refl); word = omega arith; near = omega arith })
+    by false h g = cc
+
+if_true : {A : Type 0} (b : Bool) (x y z : A) → b ≡ true → (if b then x else y) ≡ z → x ≡ z
+if_true true x y z e h = h
+if_true false x y z e h = cc
+
+none_some : {A : Type 0} (x : A) → None ≡ Some x → ⊥
+none_some x e = cc
+
+-- where a block begins no register is known but formals
+pub begins : (slots : ℕ) (f : Function) (k : ℕ) (rs : List ℕ) → length rs ≡ f.registers → begins_block f.instrs k ≡ true → IsKnown slots f k rs
+begins slots f zero rs long e = record { long = long; words = λ r n g. formal_is slots f rs r n g; constants = λ r z g. absurd (none_some z g) }
+begins slots f (suc k) rs long e = record {
+  long = long;
+  words = λ r n g. formal_is slots f rs r n (if_true (begins_block f.instrs (suc k)) (known_formal f.formals f.instrs r) _ (Some n) e g);
+  constants = λ r z g. absurd (none_some z (if_true (begins_block f.instrs (suc k)) None _ (Some z) e g));
+}
+
+-- ---- one instruction
+
+abbrev pub known_before : Function → ℕ → ℕ → Option Known
+known_before f k q = known_at f.formals f.instrs k q
+
+abbrev pub constant_before : Function → ℕ → ℕ → Option ℤ
+constant_before f k q = constant_at f.instrs k q
+
+-- an instruction that changes no register but the one that it assigns, to what is known of that behind it
+pub record Changes (slots : ℕ) (f : Function) (k : ℕ) (a : Act) (rs qs : List ℕ) : Type 0 where
+  pub long : length qs ≡ length rs
+  pub others : (r : ℕ) → assigns r (Some a) ≡ false → register qs r ≡ register rs r
+  pub gives : (r : ℕ) (n : Known) → assigns r (Some a) ≡ true → known_of (known_before f k) (constant_before f k) (Some a) ≡ Some n → IsBehind slots f rs n (register qs r)
+  pub constant : (r : ℕ) (z : ℤ) → assigns r (Some a) ≡ true → constant_of (Some a) ≡ Some z → number (register qs r) ≡ z
+
+root_kept : (slots : ℕ) (f : Function) (rs qs : List ℕ) (x : Root) (v : ℕ) → ((i : ℕ) → is_fixed f i ≡ true → register qs i ≡ register rs i) → RootIs slots f rs x v → RootIs slots f qs x v
+root_kept slots f rs qs (global b) v h r = r
+root_kept slots f rs qs (formal i) v h r = (r.0, r.1 ∙ sym (h i r.0))
+
+pub behind_kept : (slots : ℕ) (f : Function) (rs qs : List ℕ) (n : Known) (w : ℕ) → ((i : ℕ) → is_fixed f i ≡ true → register qs i ≡ register rs i) → IsBehind slots f rs n w → IsBehind slots f qs n w
+behind_kept slots f rs qs n w h b = record { root = b.root; is = root_kept slots f rs qs n.root b.root h b.is; word = b.word; near = b.near }
+
+pub step : (slots : ℕ) (f : Function) (k : ℕ) (i : Instr) (rs qs : List ℕ) → slice_get f.instrs k ≡ Some i → IsKnown slots f k rs → Changes slots f k i.act rs qs → IsKnown slots f (suc k) qs
+step slots f k i rs qs at h c = record { long = c.long ∙ h.long; words = λ r n e. first r n (begins_block f.instrs (suc k)) e; constants = λ r z e. third r z (begins_block f.instrs (suc k)) e }
+  where
+    fixed : (r : ℕ) → is_fixed f r ≡ true → register qs r ≡ register rs r
+    fixed r e = c.others r (never f k i r at e)
+
+    second : (r : ℕ) (n : Known) (b : Bool) → assigns r (Some i.act) ≡ b → (if b then known_of (known_before f k) (constant_before f k) (Some i.act) else known_at f.formals f.instrs k r) ≡ Some n → IsBehind slots f qs n (register qs r)
+    second r n true a g = behind_kept slots f rs qs n (register qs r) fixed (c.gives r n a g)
+    second r n false a g = subst (IsBehind slots f qs n) (sym (c.others r a)) (behind_kept slots f rs qs n (register rs r) fixed (h.words r n g))
+
+    first : (r : ℕ) (n : Known) (b : Bool) → (if b then known_formal f.formals f.instrs r else if assigns r (act_in (slice_get f.instrs k)) then known_of (known_before f k) (constant_before f k) (act_in (slice_get f.instrs k)) else known_at f.formals f.instrs k r) ≡ Some n → IsBehind slots f qs n (register qs r)
+    first r n true g = formal_is slots f qs r n g
+    first r n false g = second r n (assigns r (Some i.act)) refl (subst (λ o. (if assigns r (act_in o) then known_of (known_before f k) (constant_before f k) (act_in o) else known_at f.formals f.instrs k r) ≡ Some n) at g)
+
+    fourth : (r : ℕ) (z : ℤ) (b : Bool) → assigns r (Some i.act) ≡ b → (if b then constant_of (Some i.act) else constant_at f.instrs k r) ≡ Some z → number (register qs r) ≡ z
+    fourth r z true a g = c.constant r z a g
+    fourth r z false a g = ap number (c.others r a) ∙ h.constants r z g
+
+    third : (r : ℕ) (z : ℤ) (b : Bool) → (if b then None else if assigns r (act_in (slice_get f.instrs k)) then constant_of (act_in (slice_get f.instrs k)) else constant_at f.instrs k r) ≡ Some z → number (register qs r) ≡ z
+    third r z true g = cc
+    third r z false g = fourth r z (assigns r (Some i.act)) refl (subst (λ o. (if assigns r (act_in o) then constant_of (act_in o) else constant_at f.instrs k r) ≡ Some z) at g)
+
+-- ---- the names of locks
+
+-- the word is the one to which the path leads
+abbrev pub IsAt : ℕ → Function → List ℕ → LockPath → ℕ → Type 0
+IsAt slots f rs (Cell m) w = base_of w + offset_of w ≡ 2 * slots + m
+IsAt slots f rs (Formal j m) w = (is_fixed f j ≡ true) × (w ≡ register rs j + m) × (offset_of (register rs j) + m < 2 ^ 16)
+
+path_is : (slots : ℕ) (f : Function) (rs : List ℕ) (x : Root) (n w : ℕ) → IsBehind slots f rs (known_to x n) w → IsAt slots f rs (path_to x n) w
+path_is slots f rs (global b) n w h =
+    let start = h.is.0 in
+    let front = h.is.1 in
+    let base = on_base h.root n h.near in
+    let offset = on_offset h.root n h.near in
+    let whole : base_of w + offset_of w ≡ base_of (h.root + n) + offset_of (h.root + n) = ap (λ z. base_of z + offset_of z) h.word in
+    whole ∙ ap (λ z. z + offset_of (h.root + n)) base ∙ ap (λ z. base_of h.root + z) offset ∙ sum (base_of h.root) (offset_of h.root) start front
+  where
+    sum : (x y : ℕ) → x ≡ b + 2 * slots → y ≡ 0 → x + (y + n) ≡ 2 * slots + (b + n)
+    sum x y e g = omega arith
+path_is slots f rs (formal i) n w h = (h.is.0, h.word ∙ ap (λ z. z + n) h.is.1, subst (λ z. offset_of z + n < 2 ^ 16) h.is.1 h.near)
+
+module _ (slots : ℕ) (f : Function) (k : ℕ) (rs : List ℕ) (h : IsKnown slots f k rs) (r : ℕ) where
+  -- a register that has a name stands where its path leads
+  pub named : (p : LockPath) → naming_at f k r ≡ Named p → IsAt slots f rs p (register rs r)
+  named p e = by (known_at f.formals f.instrs k r) refl e
+    where
+      in_reach : (n : Known) (b : Bool) → known_at f.formals f.instrs k r ≡ Some n → (if b then Named (path_to n.root n.cells) else Nowhere) ≡ Named p → IsAt slots f rs p (register rs r)
+      in_reach n true g i = let same : path_to n.root n.cells ≡ p = cc in subst (λ z. IsAt slots f rs z (register rs r)) same (path_is slots f rs n.root n.cells (register rs r) (let b = h.words r n g in record { root = b.root; is = b.is; word = b.word; near = b.near }))
+      in_reach n false g i = cc
+
+      by : (o : Option Known) → known_at f.formals f.instrs k r ≡ o → naming_of o ≡ Named p → IsAt slots f rs p (register rs r)
+      by None g i = cc
+      by (Some n) g i = in_reach n (nat_le n.cells most_cells) g i
+
+  -- no register points beyond every object
+  pub nowhere : naming_at f k r ≡ Nowhere → ⊥
+  nowhere e = by (known_at f.formals f.instrs k r) refl e
+    where
+      in_reach : (n : Known) (b : Bool) → nat_le n.cells most_cells ≡ b → known_at f.formals f.instrs k r ≡ Some n → (if b then Named (path_to n.root n.cells) else Nowhere) ≡ Nowhere → ⊥
+      in_reach n true c g i = cc
+      in_reach n false c g i = let far = leb-false n.cells most_cells c in let near = (h.words r n g).near in absurd (omega arith)
+
+      by : (o : Option Known) → known_at f.formals f.instrs k r ≡ o → naming_of o ≡ Nowhere → ⊥
+      by None g i = cc
+      by (Some n) g i = in_reach n (nat_le n.cells most_cells) refl g i

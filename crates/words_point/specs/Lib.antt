@@ -1,0 +1,4 @@
+pub mod Objects
+pub mod Pointing
+pub mod Creations
+pub mod States
