@@ -1,0 +1,67 @@
+-- Worked rows: what is left of a run, and of a thread, without weak locks.
+use Rattle.std.proofs.Common.{◌≡◌, ℕ, false, [], ◌∷◌, map, None, refl, pos}
+use Rattle.sync_objects.specs.declared.object.ObjId.TheVariants as object
+use Rattle.sync_objects.specs.declared.operation.Op.{Op}
+use Rattle.sync_objects.specs.declared.operation.Op.TheVariants as op
+use Rattle.abstract_machine.specs.declared.event.Action.{Action}
+use Rattle.abstract_machine.specs.declared.event.Action.TheVariants as action
+use Rattle.flow_code.specs.declared.act.Act.{Act}
+use Rattle.flow_code.specs.declared.act.Act.TheVariants as act
+use Rattle.flow_code.specs.declared.act.Instr.{Instr}
+use Rattle.flow_code.specs.declared.code.Code.{Code}
+use Rattle.flow_code.specs.Threads.{Frame}
+use Rattle.c_core.specs.Runs.{done}
+use Rattle.source_runs.specs.RunEvents.{without_stripes}
+use Rattle.source_runs.specs.SourceRuns.{ThreadDeed, own, stops}
+use Rattle.erasure.proofs.Bare.{frame_with, bare_frame}
+
+-- ---- deeds
+
+deed : ℕ → Action → ThreadDeed
+deed t a = record { thread = t; deed = own (done a (pos 0)) }
+
+on_stripe : Op → Action
+on_stripe o = action.Operate o (object.Weak 0 3)
+
+stop : ThreadDeed
+stop = record { thread = 1; deed = stops }
+
+-- a stripe is taken, revoked and taken again, and given after a store
+deeds_row :
+    without_stripes (deed 0 (on_stripe op.Take) ∷ deed 0 (on_stripe op.Revoke) ∷ deed 0 (on_stripe op.Retake) ∷ deed 0 (action.Store 7 1) ∷ deed 0 (on_stripe op.Give) ∷ stop ∷ [])
+    ≡ deed 0 (action.Store 7 1) ∷ stop ∷ []
+unfolding deed on_stripe stop
+deeds_row = refl
+
+-- ---- frames
+
+instr : Act → Instr
+instr a = record { line = 1; column = 1; act = a }
+
+-- a Mark within a region
+guarded : Code
+guarded = record {
+  functions = record {
+    name = [];
+    line = 1;
+    formals = 0;
+    registers = 0;
+    pointers = [];
+    gives_pointer = false;
+    instrs = map instr (act.Take 0 ∷ act.Mark ∷ act.Give 0 ∷ act.Return None ∷ []);
+    loops = [];
+    regions = [];
+  } ∷ [];
+  sites = [];
+  globals = [];
+  global_kinds = [];
+  locks = [];
+}
+
+frame : ℕ → Frame
+frame k = frame_with 0 k 0 (pos 0) []
+
+-- at the Take and at the Mark it stands at the Mark, and at the Give and the return at the return
+frames_row : map (bare_frame guarded) (frame 0 ∷ frame 1 ∷ frame 2 ∷ frame 3 ∷ []) ≡ frame 0 ∷ frame 0 ∷ frame 1 ∷ frame 1 ∷ []
+unfolding instr guarded frame
+frames_row = refl

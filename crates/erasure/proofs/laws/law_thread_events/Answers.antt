@@ -1,0 +1,6 @@
+use Rattle.source_runs.proofs.Parts.{parts}
+use Rattle.erasure.specs.Erased.{IsAnywhere}
+use Rattle.erasure.proofs.laws.law_thread_events.Goals as goal
+
+pub returns : goal.returns
+returns c = λ p setup deeds t run. parts p setup IsAnywhere deeds t run

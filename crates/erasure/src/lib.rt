@@ -1,0 +1,11 @@
+//! Weak locks change nothing of what a source does: each run of a code with weak locks is a run of the source, once the
+//! operations on stripes are left out of it. This crate joins `weak_code`, which says what such a code is, and
+//! `source_runs`, which says what a run of a source is. It has no program, and promises its laws.
+#![tactic(auto)]
+
+mod laws;
+
+pub use laws::{
+    law_erased_run, law_erased_walk, law_erasure, law_stripped_run, law_stripped_walk,
+    law_thread_events,
+};

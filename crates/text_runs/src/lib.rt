@@ -1,0 +1,70 @@
+//! Runs of a text: what the machine of its code does is a run of the source, and so is what that of its weakened code does. It
+//! joins `front`, which reads a text, with `source_runs` and `erasure`, whose laws are of core trees. It has no program, and
+//! promises its four laws.
+#![tactic(auto)]
+
+ghost use Rattle.std.specs.Prelude.{◌≡◌, ◌≤◌, ◌^◌, List, length, Some};
+ghost use Rattle.sync_objects.specs.Setup.{SetupView, IsWithinLimits};
+ghost use Rattle.sync_objects.specs.declared.entry.Entry.{Entry};
+ghost use Rattle.c_lexer.specs.Bytes.{Text};
+ghost use Rattle.c_tree.specs.Tree.{Outer};
+ghost use Rattle.c_elaborate.specs.Whole.{core_of_source};
+ghost use Rattle.facts.specs.declared.pair.Pair.{Pair};
+ghost use Rattle.facts.specs.PointsTo.{Tables};
+ghost use Rattle.weak_facts.specs.declared.grain.Grained.{Grained};
+ghost use Rattle.weak_facts.specs.declared.range.Range.{Range};
+ghost use Rattle.weak_code.specs.Weakened.{weakened};
+ghost use Rattle.erasure.specs.Erased.{erased_events, erased_walk, IsAnywhere};
+ghost use Rattle.core_run.specs.Histories.{run_of};
+ghost use Rattle.core_run.specs.Machine.{Told, start_state};
+ghost use Rattle.core_run.specs.Walks.{walk_of};
+ghost use Rattle.front.specs.Plain.{plain_code};
+ghost use Rattle.front.specs.Readings.{sound, IsReading};
+ghost use Rattle.runs.specs.Labels.{Label};
+ghost use Rattle.runs.specs.Steps.{State};
+ghost use Rattle.source_runs.specs.RunEvents.{events_of_run};
+ghost use Rattle.source_runs.specs.SourceRuns.{IsSourceRun, IsBeforeEntry};
+ghost use Rattle.source_runs.specs.WalkEvents.{events_of_walk};
+
+/// Each run of the code of a text that is read as a source without a fault, in any interleaving, with any stops and closes, is
+/// a run of that source.
+pub fn law_text_run()
+    ensures { (text : Text) (os : List Outer) (setup : SetupView) (labels : List Label) (end : State Told) →
+        length text ≤ 2 ^ 20 →
+        IsReading text (sound os) →
+        IsWithinLimits setup →
+        run_of (plain_code os) setup labels ≡ Some end →
+        IsSourceRun (core_of_source os) setup IsBeforeEntry (events_of_run (plain_code os) setup labels) }
+{}
+
+/// So is each walk of its code, by whatever list of entries: that of a log that `replay` reads, for one.
+pub fn law_text_walk()
+    ensures { (text : Text) (os : List Outer) (setup : SetupView) (entries : List Entry) (end : State Told) →
+        length text ≤ 2 ^ 20 →
+        IsReading text (sound os) →
+        IsWithinLimits setup →
+        walk_of (plain_code os) setup entries (start_state (plain_code os) setup) ≡ Some end →
+        IsSourceRun (core_of_source os) setup IsBeforeEntry (events_of_walk (plain_code os) setup entries) }
+{}
+
+/// Each run of the weakened code of such a text, in any interleaving, with any revokes, stops and closes, is a run of the source
+/// once the operations on stripes are left out, whatever pairs, ranges and grains the code was weakened by. Only where a
+/// thread's list in the log is full may it trap in place of what it does next.
+pub fn law_text_erasure()
+    ensures { (text : Text) (os : List Outer) (t : Tables) (vs : List Pair) (rs : List Range) (rows : List Grained) (setup : SetupView) (labels : List Label) (end : State Told) →
+        length text ≤ 2 ^ 20 →
+        IsReading text (sound os) →
+        IsWithinLimits setup →
+        run_of (weakened (plain_code os) t vs rs rows) setup labels ≡ Some end →
+        IsSourceRun (core_of_source os) setup IsAnywhere (erased_events (weakened (plain_code os) t vs rs rows) setup labels) }
+{}
+
+/// So is each walk of it, by whatever list of entries.
+pub fn law_text_erased_walk()
+    ensures { (text : Text) (os : List Outer) (t : Tables) (vs : List Pair) (rs : List Range) (rows : List Grained) (setup : SetupView) (entries : List Entry) (end : State Told) →
+        length text ≤ 2 ^ 20 →
+        IsReading text (sound os) →
+        IsWithinLimits setup →
+        walk_of (weakened (plain_code os) t vs rs rows) setup entries (start_state (weakened (plain_code os) t vs rs rows) setup) ≡ Some end →
+        IsSourceRun (core_of_source os) setup IsAnywhere (erased_walk (weakened (plain_code os) t vs rs rows) setup entries) }
+{}
