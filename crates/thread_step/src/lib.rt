@@ -1,0 +1,10 @@
+//! One thread's run with what a recording keeps of it: the interpreter of `core_run`, the list of the thread's entries with
+//! their numbers, and the pieces that it has printed. It stands on `core_run`. It promises that each step leaves what the
+//! machine's step leaves of the thread and of its lists, and that a step for which room was reserved takes no memory.
+#![tactic(auto)]
+
+mod laws;
+mod run;
+
+pub use laws::law_operation;
+pub use run::ThreadRun;

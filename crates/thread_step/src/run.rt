@@ -1,0 +1,296 @@
+// A thread's run with its lists.
+ghost use Rattle.std.specs.Prelude.{◌≡◌, ◌≢◌, ◌<◌, ◌++◌, ◌∷◌, [], true, false, OnOk, IfOk};
+ghost use Rattle.std.specs.Vec.{vec_len, vec_capacity};
+ghost use Rattle.sync_objects.specs.Names.{name_of};
+ghost use Rattle.flow_code.specs.Next.{gave_up, stopped, shut, has_ended, has_begun, holds as holds_stripe};
+ghost use Rattle.flow_code.specs.Settle.{IsRunnable, settled};
+ghost use Rattle.abstract_machine.specs.Limits.{most_entries, most_revokes};
+ghost use Rattle.core_run.specs.Endings.{ending_of, trap_of};
+ghost use Rattle.core_run.specs.Machine.{start_thread, entry_of, operated, marked};
+ghost use Rattle.core_run.specs.Pieces.{piece_at};
+ghost use Rattle.flow_code.specs.Next.{act_at};
+ghost use Rattle.sync_objects.specs.declared.operation.OpName.TheVariants as name;
+ghost use Rattle.sync_objects.specs.declared.object.ObjId.TheVariants as object;
+ghost use Rattle.thread_step.specs.Steps.{Stepping, IsReady, IsPiece, IsSameRun, told_of, next_of, after};
+
+use core_run::{Action, Ending, Entry, Flow, Noted, Setup};
+use flow_code::Code;
+use rr_base::{Bytes, Trap};
+use std::alloc::{AllocError, Global};
+use std::marker::Model;
+use std::mem;
+use sync_objects::{ObjId, Op, OpName};
+
+/// One running thread of a code, with the list of its entries and the pieces that it has printed.
+#[derive(Drop)]
+pub struct ThreadRun<'a> {
+    alloc: Global,
+    thread: u8,
+    flow: Flow<'a>,
+    noted: Vec<Noted>,
+    pieces: Vec<Bytes>,
+    // What the next print prints.
+    ready: Bytes,
+}
+
+impl<'a> Model for ThreadRun<'a> {
+    ghost use Rattle.std.specs.Prelude.{◌≡◌, nat_lt};
+    ghost use Rattle.std.specs.Vec.{vec_len, vec_capacity};
+    ghost use Rattle.thread_step.specs.Steps.{Stepping};
+
+    ghost Value = { Stepping };
+
+    ghost view = { λ r. record {
+      flow = r.flow;
+      entries = r.noted.items;
+      pieces = r.pieces.items;
+      has_entry = nat_lt (vec_len r.noted) (vec_capacity r.noted);
+      has_piece = nat_lt (vec_len r.pieces) (vec_capacity r.pieces);
+      ready = r.ready;
+    } };
+
+    ghost invariant = { λ r. r.thread ≡ r.flow.number };
+}
+
+// Puts an entry behind the others, where there is room.
+fn put_entry(noted: &mut Vec<Noted>, entry: Noted)
+    requires { vec_len noted.old < vec_capacity noted.old }
+    ensures { noted.new.items ≡ noted.old.items ++ entry ∷ [] }
+{
+    match noted.push(entry) {
+        Ok(()) => {}
+        Err(_) => unreachable!(),
+    }
+}
+
+// Puts a piece behind the others, where there is room.
+fn put_piece(pieces: &mut Vec<Bytes>, piece: Bytes)
+    requires { vec_len pieces.old < vec_capacity pieces.old }
+    ensures { pieces.new.items ≡ pieces.old.items ++ piece ∷ [] }
+{
+    match pieces.push(piece) {
+        Ok(()) => {}
+        Err(_) => unreachable!(),
+    }
+}
+
+impl<'a> ThreadRun<'a> {
+    /// Thread `thread` of the code at its start, with empty lists.
+    pub fn new(
+        alloc: Global,
+        code: &'a Code,
+        setup: &'a Setup,
+        thread: u8,
+    ) -> Result<ThreadRun<'a>, AllocError>
+        requires runnable { IsRunnable code.now }
+        requires thread { thread < setup.now.slots }
+        ensures flow { IfOk result (λ r. (r.flow.code ≡ code.now) × (r.flow.setup ≡ setup.now) × (r.flow.number ≡ thread)) }
+        ensures told { IfOk result (λ r. told_of r ≡ record { thread = start_thread code.now setup.now thread; entries = []; accesses = []; pieces = [] }) }
+    {
+        let flow = Flow::new(alloc, code, setup, thread)?;
+        Ok(ThreadRun {
+            alloc,
+            thread,
+            flow,
+            noted: Vec::new(alloc),
+            pieces: Vec::new(alloc),
+            ready: Bytes::new(alloc),
+        })
+    }
+
+    /// The thread's entries, in order, each with its number among the operations of its object.
+    pub fn noted(&self) -> &[Noted]
+        ensures { result.now ≡ self.now.entries }
+    {
+        self.noted.as_slice()
+    }
+
+    /// What each of its prints has printed, in order.
+    pub fn pieces(&self) -> &[Bytes]
+        ensures { result.now ≡ self.now.pieces }
+    {
+        self.pieces.as_slice()
+    }
+
+    /// The two lists: its entries and its pieces.
+    pub fn into_lists(self) -> (Vec<Noted>, Vec<Bytes>)
+        ensures { (result.0.items ≡ self.entry.entries) × (result.1.items ≡ self.entry.pieces) }
+    {
+        let ThreadRun { noted, pieces, .. } = self;
+        (noted, pieces)
+    }
+
+    /// What comes next: a quiet step, or what the thread does to the words.
+    pub fn next_action(&self) -> Action
+        ensures { result ≡ next_of self.now }
+    {
+        self.flow.next_action()
+    }
+
+    // Has ready what the next step prints.
+    fn reserve_piece(&mut self) -> Result<(), AllocError>
+        ensures flow { self.new.flow ≡ self.old.flow }
+        ensures entries { self.new.entries ≡ self.old.entries }
+        ensures pieces { self.new.pieces ≡ self.old.pieces }
+        ensures has_entry { self.new.has_entry ≡ self.old.has_entry }
+        ensures has_piece { self.new.has_piece ≡ self.old.has_piece }
+        ensures bytes { OnOk result (IsPiece self.new.flow.code self.new.flow.kept.thread self.new.ready (next_of self.new)) }
+    {
+        if let Action::Operate { op: Op::Print, .. } = self.flow.next_action() {
+            self.ready = self.flow.piece()?;
+        }
+        Ok(())
+    }
+
+    /// Makes room for one more step: for what the interpreter needs, an entry and a piece. A quiet step is one too.
+    pub fn reserve(&mut self) -> Result<(), AllocError>
+        ensures same { IsSameRun self.old self.new }
+        ensures told { told_of self.new ≡ told_of self.old }
+        ensures ready { OnOk result (IsReady self.new) }
+    {
+        self.flow.reserve()?;
+        self.noted.reserve(1)?;
+        self.pieces.reserve(1)?;
+        self.reserve_piece()
+    }
+
+    // Notes an entry of the thread as it stands.
+    fn note(&mut self, op: OpName, obj: ObjId, number: u32)
+        requires { self.old.has_entry ≡ true }
+        ensures flow { self.new.flow ≡ self.old.flow }
+        ensures entries { self.new.entries ≡ self.old.entries ++ record { entry = entry_of self.old.flow.number self.old.flow.kept.thread op obj; number = number } ∷ [] }
+        ensures pieces { self.new.pieces ≡ self.old.pieces }
+        ensures has_piece { self.new.has_piece ≡ self.old.has_piece }
+        ensures bytes { self.new.ready ≡ self.old.ready }
+    {
+        let entry = Entry {
+            thread: self.thread,
+            count: self.flow.count(),
+            op,
+            obj,
+        };
+        put_entry(&mut self.noted, Noted { entry, number });
+    }
+
+    // Puts the bytes that are ready behind what was printed.
+    fn print(&mut self)
+        requires { self.old.has_piece ≡ true }
+        ensures flow { self.new.flow ≡ self.old.flow }
+        ensures entries { self.new.entries ≡ self.old.entries }
+        ensures pieces { self.new.pieces ≡ self.old.pieces ++ self.old.ready ∷ [] }
+    {
+        let piece = mem::replace(&mut self.ready, Bytes::new(self.alloc));
+        put_piece(&mut self.pieces, piece);
+    }
+
+    /// One step, with its answer: a quiet one, or what comes next. An operation is noted as an entry with its number among
+    /// those of its object, and a print with what it prints.
+    pub fn take_answer(&mut self, answer: i64, number: u32)
+        requires { IsReady self.old }
+        ensures same { IsSameRun self.old self.new }
+        ensures told { told_of self.new ≡ after self.old.flow.code self.old.flow.setup self.old.flow.number (told_of self.old) (next_of self.old) answer number }
+    {
+        if let Action::Operate { op, obj } = self.flow.next_action() {
+            self.note(op.name(), obj, number);
+            if matches!(op, Op::Print) {
+                self.print();
+            }
+        }
+        self.flow.take_answer(answer);
+    }
+
+    /// All quiet steps. After an Err some of them are made, and the others are still to come.
+    pub fn settle(&mut self) -> Result<(), AllocError>
+        ensures same { IsSameRun self.old self.new }
+        ensures lists { (self.new.entries ≡ self.old.entries) × (self.new.pieces ≡ self.old.pieces) }
+        ensures thread { OnOk result (self.new.flow.kept.thread ≡ settled self.old.flow.code self.old.flow.setup self.old.flow.number self.old.flow.kept.thread) }
+        ensures rest { settled self.new.flow.code self.new.flow.setup self.new.flow.number self.new.flow.kept.thread ≡ settled self.old.flow.code self.old.flow.setup self.old.flow.number self.old.flow.kept.thread }
+        ensures quiet { OnOk result (next_of self.new ≢ Action.Quiet) }
+    {
+        self.flow.settle()
+    }
+
+    /// What a revoke of a stripe that the thread holds does to it, noted with its number.
+    pub fn give_up(&mut self, lock: u16, stripe: u8, number: u32)
+        requires room { self.old.has_entry ≡ true }
+        requires entries { self.old.flow.kept.thread.entries < most_entries }
+        requires revokes { self.old.flow.kept.thread.revokes < most_revokes }
+        ensures same { IsSameRun self.old self.new }
+        ensures told { told_of self.new ≡ operated (told_of self.old) (gave_up self.old.flow.kept.thread lock stripe) (record { entry = entry_of self.old.flow.number self.old.flow.kept.thread name.Revoke (object.Weak lock stripe); number = number }) [] }
+    {
+        self.note(OpName::Revoke, ObjId::Weak { lock, stripe }, number);
+        self.flow.give_up(lock, stripe);
+    }
+
+    /// What a stop does to the thread, noted with its number.
+    pub fn stop(&mut self, number: u32)
+        requires room { self.old.has_entry ≡ true }
+        requires open { has_ended self.old.flow.kept.thread.phase ≡ false }
+        ensures same { IsSameRun self.old self.new }
+        ensures told { told_of self.new ≡ operated (told_of self.old) (stopped self.old.flow.kept.thread) (record { entry = entry_of self.old.flow.number self.old.flow.kept.thread name.Stop object.Halt; number = number }) [] }
+    {
+        self.note(OpName::Stop, ObjId::Halt, number);
+        self.flow.stop();
+    }
+
+    /// What a close of the thread's slot does to it, noted with its number.
+    pub fn shut(&mut self, number: u32)
+        requires room { self.old.has_entry ≡ true }
+        requires open { has_ended self.old.flow.kept.thread.phase ≡ false }
+        ensures same { IsSameRun self.old self.new }
+        ensures told { told_of self.new ≡ operated (told_of self.old) (shut self.old.flow.kept.thread) (record { entry = entry_of self.old.flow.number self.old.flow.kept.thread name.Close (object.Slot self.old.flow.number); number = number }) [] }
+    {
+        let slot = self.thread;
+        self.note(OpName::Close, ObjId::Slot(slot), number);
+        self.flow.shut();
+    }
+
+    /// How many events the thread has made.
+    pub fn count(&self) -> u32
+        ensures { result ≡ self.now.flow.kept.thread.count }
+    {
+        self.flow.count()
+    }
+
+    /// How many entries it has that aren't ending ones.
+    pub fn entries(&self) -> u32
+        ensures { result ≡ self.now.flow.kept.thread.entries }
+    {
+        self.flow.entries()
+    }
+
+    /// How many of its entries are revokes.
+    pub fn revokes(&self) -> u32
+        ensures { result ≡ self.now.flow.kept.thread.revokes }
+    {
+        self.flow.revokes()
+    }
+
+    /// Whether the thread has begun. Thread 0 has begun at the start.
+    pub fn has_begun(&self) -> bool
+        ensures { result ≡ has_begun self.now.flow.kept.thread.phase }
+    {
+        self.flow.has_begun()
+    }
+
+    /// Whether the thread holds the stripe.
+    pub fn holds(&self, lock: u16, stripe: u8) -> bool
+        ensures { result ≡ holds_stripe self.now.flow.kept.thread.stripes lock stripe }
+    {
+        self.flow.holds(lock, stripe)
+    }
+
+    /// How the thread has ended; None exactly where it hasn't.
+    pub fn ending(&self) -> Option<Ending>
+        ensures { result ≡ ending_of self.now.flow.kept.thread.phase }
+    {
+        self.flow.ending()
+    }
+
+    /// The kind and the line of the thread's trap; None exactly where it hasn't trapped.
+    pub fn trap(&self) -> Option<(Trap, u32)>
+        ensures { result ≡ trap_of self.now.flow.kept.thread.phase }
+    {
+        self.flow.trap()
+    }
+}
