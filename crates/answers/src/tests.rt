@@ -14,10 +14,17 @@ fn words_of(alloc: Global, line: &str) -> Result<Vec<String>, AllocError> {
 #[test]
 fn words_are_a_job(rt: HostRuntime) -> Result<(), Fail> {
     let rows = [
-        ("replay bank.c bank.log", Some(("bank.c", Some("bank.log")))),
-        ("replay a- b", Some(("a-", Some("b")))),
-        ("races bank.c", Some(("bank.c", None))),
+        (
+            "replay bank.c bank.log",
+            Some(("replay", "bank.c", Some("bank.log"))),
+        ),
+        ("replay a- b", Some(("replay", "a-", Some("b")))),
+        ("races bank.c", Some(("races", "bank.c", None))),
         ("races -a", None),
+        ("weaken bank.c", Some(("weaken", "bank.c", None))),
+        ("weaken -a", None),
+        ("weaken a b", None),
+        ("weaken", None),
         ("races a b", None),
         ("races", None),
         ("record bank.c", None),
@@ -32,8 +39,9 @@ fn words_are_a_job(rt: HostRuntime) -> Result<(), Fail> {
     for (line, want) in rows {
         let words = words_of(rt.alloc(), line)?;
         let found = match job_of(words.as_slice()) {
-            Some(Job::Replay { source, log }) => Some((source, Some(log))),
-            Some(Job::Races { source }) => Some((source, None)),
+            Some(Job::Replay { source, log }) => Some(("replay", source, Some(log))),
+            Some(Job::Races { source }) => Some(("races", source, None)),
+            Some(Job::Weaken { source }) => Some(("weaken", source, None)),
             None => None,
         };
         assert_eq!(rt; found, want, "{line}");

@@ -10,6 +10,8 @@ pub enum Job<'a> {
     Replay { source: &'a str, log: &'a str },
     /// The accesses of a source that may race.
     Races { source: &'a str },
+    /// The weak locks of a source, and the accesses that they guard.
+    Weaken { source: &'a str },
 }
 
 fn is_name(word: &str) -> bool
@@ -41,12 +43,31 @@ fn races_of<'a>(command: &str, source: &'a str) -> Option<Job<'a>>
     }
 }
 
+fn weaken_of<'a>(command: &str, source: &'a str) -> Option<Job<'a>>
+    ensures { option_map spec.told result ≡ spec.weaken_of command.now source.now }
+{
+    if command == "weaken" && is_name(source) {
+        Some(Job::Weaken { source })
+    } else {
+        None
+    }
+}
+
+fn listing_of<'a>(command: &str, source: &'a str) -> Option<Job<'a>>
+    ensures { option_map spec.told result ≡ spec.listing_of command.now source.now }
+{
+    match races_of(command, source) {
+        Some(job) => Some(job),
+        None => weaken_of(command, source),
+    }
+}
+
 /// The job that the words behind the program's name are, where they are one.
 pub fn job_of(words: &[String]) -> Option<Job<'_>>
     ensures { option_map spec.told result ≡ spec.job_of (map string_bytes words.now) }
 {
     match words {
-        [command, source] => races_of(command, source),
+        [command, source] => listing_of(command, source),
         [command, source, log] => replay_of(command, source, log),
         _ => None,
     }

@@ -1,3 +1,6 @@
+pub mod Locks
 pub mod Orders
-pub mod Unique
+pub mod Sorting
+pub mod Sorted
 pub mod Rows
+pub mod WeakRows

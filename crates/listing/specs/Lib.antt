@@ -1,2 +1,4 @@
 pub mod Lines
+pub mod Sorting
 pub mod Text
+pub mod WeakText

@@ -1,5 +1,5 @@
 -- The lines by which race pairs are listed: where each access stands in the source, and the order of lines.
-use Rattle.std.specs.Prelude.{◌==◌, ◌&&◌, ◌||◌, nat_lt, Bool, true, false, not, if◌then◌else◌, List, [], ◌∷◌, Option, Some, None, slice_get}
+use Rattle.std.specs.Prelude.{◌==◌, ◌&&◌, ◌||◌, nat_lt, Bool, true, false, not, if◌then◌else◌, List, Option, Some, None, slice_get}
 use Rattle.rr_base.specs.declared.layout.Place.{Place}
 use Rattle.flow_code.specs.declared.act.Instr.{Instr}
 use Rattle.flow_code.specs.declared.code.Code.{Code}
@@ -10,6 +10,7 @@ use Rattle.facts.specs.declared.pair.AccessAt.{AccessAt}
 use Rattle.facts.specs.declared.pair.Pair.{Pair}
 use Rattle.listing.specs.declared.line.Line.{Line}
 use Rattle.listing.specs.declared.line.Shown.{Shown}
+use Rattle.listing.specs.Sorting.{sorted_by}
 
 -- ---- an access as the source shows it
 
@@ -52,10 +53,5 @@ line_of code v = in_order v.place (shown code v.first) (shown code v.second)
 abbrev pub line_less : Line → Line → Bool
 line_less l m = place_less l.place m.place || (place_same l.place m.place && (shown_less l.first m.first || (shown_same l.first m.first && shown_less l.second m.second)))
 
-abbrev pub with_line : Line → List Line → List Line
-with_line l [] = l ∷ []
-with_line l (m ∷ ms) = if line_less m l then m ∷ with_line l ms else l ∷ m ∷ ms
-
 abbrev pub sorted_lines : List Line → List Line
-sorted_lines [] = []
-sorted_lines (l ∷ ls) = with_line l (sorted_lines ls)
+sorted_lines ls = sorted_by line_less ls

@@ -1,12 +1,11 @@
-//! The listing of pairs of accesses that may race, for a reader of the source: a line for each pair, in order, and their
-//! number. It stands on `rr_base`, `flow_code` and `facts`.
+//! Listings for a reader of the source: of the pairs of accesses that may race, and of the weak locks with the accesses that
+//! they guard. It stands on `rr_base`, `flow_code`, `facts` and `weak_facts`.
 #![tactic(auto)]
 
 mod line;
 mod lines;
 mod text;
+mod weak;
 
 pub use text::races_text;
-
-#[cfg(test)]
-mod tests;
+pub use weak::weak_text;

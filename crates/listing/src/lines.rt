@@ -4,8 +4,9 @@ ghost use Rattle.facts.specs.Accesses as accesses;
 ghost use Rattle.listing.specs.Lines as lines;
 
 use crate::line::{Line, Shown};
+use abstract_machine::LibraryCall;
 use facts::{AccessAt, Pair};
-use flow_code::{Act, Code, LibraryCall};
+use flow_code::{Act, Code};
 use std::alloc::{AllocError, Global};
 
 fn call_stores(call: &LibraryCall, arguments: &[u32]) -> bool
@@ -36,7 +37,7 @@ fn stores(act: &Act) -> bool
 }
 
 /// An access as the source shows it, at line 0 if the code doesn't have its instruction.
-fn shown(code: &Code, at: AccessAt) -> Shown
+pub(crate) fn shown(code: &Code, at: AccessAt) -> Shown
     ensures { result ≡ lines.shown code.now at }
 {
     let nowhere = Shown {
@@ -98,6 +99,6 @@ pub(crate) fn sorted(alloc: Global, code: &Code, pairs: &[Pair]) -> Result<Vec<L
     ensures { IfOk result (λ all. all.items ≡ lines.sorted_lines (map (lines.line_of code.now) pairs.now)) }
 {
     let mut all = unsorted(alloc, code, pairs)?;
-    all.sort_unstable();
+    all.sort()?;
     Ok(all)
 }

@@ -4,14 +4,15 @@ ghost use Rattle.listing.specs.Text as listing;
 
 use crate::line::{Line, Shown};
 use crate::lines::sorted;
+use abstract_machine::site_at;
 use facts::Pair;
-use flow_code::{Code, site_at};
+use flow_code::Code;
 use itoa::Buffer;
 use rr_base::{Bytes, List, Place};
 use std::alloc::{AllocError, Global};
 
-// A number behind a word.
-fn push_numbered(out: &mut Bytes, word: &[u8], number: u64) -> Result<(), AllocError>
+/// A number behind a word.
+pub(crate) fn push_numbered(out: &mut Bytes, word: &[u8], number: u64) -> Result<(), AllocError>
     ensures { OnOk result (out.new ≡ out.old ++ (word.now ++ decimal number)) }
 {
     let mut buffer = Buffer::new();
@@ -19,7 +20,8 @@ fn push_numbered(out: &mut Bytes, word: &[u8], number: u64) -> Result<(), AllocE
     out.extend_from_slice(buffer.format(number).as_bytes())
 }
 
-fn push_place(out: &mut Bytes, code: &Code, place: Place) -> Result<(), AllocError>
+/// A place by the name of its site, and its class.
+pub(crate) fn push_place(out: &mut Bytes, code: &Code, place: Place) -> Result<(), AllocError>
     ensures { OnOk result (out.new ≡ out.old ++ listing.place_text code.now place) }
 {
     if let Some(site) = site_at(code.sites.as_slice(), place.site) {
@@ -28,7 +30,8 @@ fn push_place(out: &mut Bytes, code: &Code, place: Place) -> Result<(), AllocErr
     push_numbered(out, b"+", u64::from(place.class))
 }
 
-fn kind(store: bool) -> &'static [u8]
+/// Whether an access loads or stores, between two blanks.
+pub(crate) fn kind(store: bool) -> &'static [u8]
     ensures { result.now ≡ listing.kind_text store }
 {
     if store { b" store " } else { b" load " }

@@ -22,6 +22,3 @@ pub use log::Log;
 pub use part::is_name;
 pub use read::read_log;
 pub use write::write_log;
-
-#[cfg(test)]
-mod tests;

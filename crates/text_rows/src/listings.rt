@@ -1,9 +1,10 @@
-use super::*;
 use facts::{AccessAt, Pair};
-use flow_code::{Act, Code, Function, Instr};
+use flow_code::{Act, Code, Function, Instr, LockInfo};
+use listing::{races_text, weak_text};
 use rr_base::{CellKind, Layout, List, Place, Site};
 use std::alloc::{AllocError, Global};
 use std::test::Fail;
+use weak_facts::{Grain, Grained};
 
 const X: Place = Place { site: 2, class: 0 };
 
@@ -117,5 +118,39 @@ fn lists_pairs(rt: HostRuntime) -> Result<(), Fail> {
         let text = races_text(rt.alloc(), &code, pairs)?;
         assert_eq!(rt; text.as_slice(), want.as_bytes(), "{want}");
     }
+    Ok(())
+}
+
+const LOCKS: [LockInfo; 2] = [
+    LockInfo {
+        site: 1,
+        class: 12,
+        stripes: 8,
+    },
+    LockInfo {
+        site: 2,
+        class: 0,
+        stripes: 1,
+    },
+];
+
+fn row(access: AccessAt, grain: Grain) -> Grained {
+    Grained { access, grain }
+}
+
+#[test]
+fn lists_weak_locks(rt: HostRuntime) -> Result<(), Fail> {
+    let code = code(rt.alloc())?;
+    let none = weak_text(rt.alloc(), &code, &[], &[])?;
+    assert!(rt; none.as_slice().is_empty());
+    let rows = [
+        row(at(0, 0), Grain::Block(1)),
+        row(at(0, 1), Grain::Loop(0)),
+        row(at(1, 0), Grain::Instruction),
+    ];
+    let text = weak_text(rt.alloc(), &code, LOCKS.as_slice(), rows.as_slice())?;
+    let want =
+        b"lock w0 items+12 stripes 8\nlock w1 x+0 stripes 1\naccess 5:9 load loop 7:3\naccess 7:3 store block 5:9\naccess 14:16 load instruction 14:16\n";
+    assert_eq!(rt; text.as_slice(), want.as_slice());
     Ok(())
 }

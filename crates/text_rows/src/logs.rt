@@ -1,4 +1,4 @@
-use super::*;
+use order_log::{LogFault, is_name, read_log, write_log};
 use std::alloc::{AllocError, Global};
 use std::test::Fail;
 
