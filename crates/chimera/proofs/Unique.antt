@@ -17,26 +17,21 @@ use Rattle.order_log.specs.declared.fault.LogFault.{LogFault}
 use Rattle.order_log.specs.declared.fault.LogFault.TheVariants.{LogSyntax, LogLimit, OutOfMemory}
 use Rattle.order_log.specs.Log.{LogView}
 use Rattle.order_log.proofs.Only.{log_at-only}
-use Rattle.front.specs.Plain.{plain_code}
 use Rattle.front.specs.Readings.{Reading, sound, refused}
 use Rattle.front.proofs.One.{one_reading}
-use Rattle.answers.specs.Jobs.Asked.{Replay, Races}
-use Rattle.facts.specs.declared.locks.Summary.{Summary}
-use Rattle.facts.specs.declared.pair.Pair.{Pair}
-use Rattle.facts.specs.Pairs.{ArePairs}
-use Rattle.facts.specs.PointsTo.{Tables, IsPointsTo}
-use Rattle.facts.specs.Summaries.{AreSummaries}
-use Rattle.facts.proofs.Tables as tables
-use Rattle.facts.proofs.Summaries as summaries
+use Rattle.front.proofs.OneWeakened.{one_weakened}
+use Rattle.front.specs.Plain.{plain_code}
+use Rattle.answers.specs.Jobs.Asked.{Replay, Races, Weaken}
 use Rattle.listing.specs.Text.{races_text_of}
-use Rattle.lock_sound.specs.Weakened.{Analysed, IsAnalysed}
-use Rattle.chimera.specs.Races as races
-use Rattle.chimera.specs.Races.{ListsRaces, Lists}
+use Rattle.listing.specs.WeakText.{weak_text_of}
+use Rattle.lock_sound.specs.Weakened.{Analysed}
+use Rattle.chimera.specs.Listings.{ListsRaces, ListsWeakLocks}
+use Rattle.chimera.specs.Sources.{IsByReading, IsOfSource}
 use Rattle.answers.specs.declared.answer.Part.{Part}
 use Rattle.answers.specs.declared.answer.Part.TheVariants as part
 use Rattle.answers.specs.declared.answer.Answer.{Answer}
 use Rattle.answers.specs.declared.answer.Answer.TheVariants as answer
-use Rattle.chimera.specs.Replays.{no_reads, answer_of, IsByReading, Reads, IsByLog, Replays, IsOfFile, OneAnswer}
+use Rattle.chimera.specs.Replays.{no_reads, answer_of, Walks, IsByLog, Replays, IsOfFile, OneAnswer}
 
 same_some : {A : Type 0} (x y : A) → Some x ≡ Some y → x ≡ y
 same_some x y e = cc e
@@ -61,10 +56,10 @@ module _ (code : Code) (s : SetupView) where
       let all : walk_of code s (take (length es) es) st ≡ None = refused_on es n (length es) st le h in
       absurd (cc (w, subst (λ xs. walk_of code s xs st ≡ None) (take_all (length es) es (omega arith)) all))
 
-  one_place : (es : List Entry) (a b : ℕ) → IsRefusedAt code s es a → IsRefusedAt code s es b → a ≡ b
+  one_place : (es : List Entry) (a b : ℕ) → IsRefusedAt code s (start_state code s) es a → IsRefusedAt code s (start_state code s) es b → a ≡ b
   one_place es a b h g = by (cases_lt a b) (cases_lt b a)
     where
-      earlier : (i j : ℕ) → IsRefusedAt code s es i → IsRefusedAt code s es j → i < j → ⊥
+      earlier : (i j : ℕ) → IsRefusedAt code s (start_state code s) es i → IsRefusedAt code s (start_state code s) es j → i < j → ⊥
       earlier i j h g lt =
           let none : walk_of code s (take j es) (start_state code s) ≡ None = refused_on es (i + 1) j (start_state code s) (omega (arith, lt)) h.refused in
           absurd (cc (none, g.front))
@@ -74,19 +69,19 @@ module _ (code : Code) (s : SetupView) where
       by (inr ge) (inl lt) = absurd (earlier b a g h lt)
       by (inr ge) (inr le) = omega (arith, le, ge)
 
-  wrong_once : (es : List Entry) (a b : ℕ) → IsRefusedAt code s es a ⊎ IsUnfinished code s es a → IsRefusedAt code s es b ⊎ IsUnfinished code s es b → a ≡ b
+  wrong_once : (es : List Entry) (a b : ℕ) → IsRefusedAt code s (start_state code s) es a ⊎ IsUnfinished code s (start_state code s) es a → IsRefusedAt code s (start_state code s) es b ⊎ IsUnfinished code s (start_state code s) es b → a ≡ b
   wrong_once es a b (inl h) (inl g) = one_place es a b h g
   wrong_once es a b (inl h) (inr g) = absurd (not_refused es (a + 1) (start_state code s) g.last g.walked (omega (arith, h.within)) h.refused)
   wrong_once es a b (inr h) (inl g) = absurd (not_refused es (b + 1) (start_state code s) h.last h.walked (omega (arith, g.within)) g.refused)
   wrong_once es a b (inr h) (inr g) = omega (arith, h.all, g.all)
 
-  never_both : (es : List Entry) (at : ℕ) (st : State Told) → IsWhole code s es st → IsRefusedAt code s es at ⊎ IsUnfinished code s es at → ⊥
+  never_both : (es : List Entry) (at : ℕ) (st : State Told) → IsWhole code s (start_state code s) es st → IsRefusedAt code s (start_state code s) es at ⊎ IsUnfinished code s (start_state code s) es at → ⊥
   never_both es at st h (inl g) = not_refused es (at + 1) (start_state code s) st h.walked (omega (arith, g.within)) g.refused
   never_both es at st h (inr g) =
       let same : st ≡ g.last = same_some st g.last (sym h.walked ∙ g.walked) in
       g.open_end (subst (AllEnded (machine code s)) same h.ended)
 
-  same_state : (es : List Entry) (st st' : State Told) → IsWhole code s es st → IsWhole code s es st' → st ≡ st'
+  same_state : (es : List Entry) (st st' : State Told) → IsWhole code s (start_state code s) es st → IsWhole code s (start_state code s) es st' → st ≡ st'
   same_state es st st' h g = same_some st st' (sym h.walked ∙ g.walked)
 
   trap_both : (st st' : State Told) → st ≡ st' → first_trap 0 st.threads ≡ first_trap 0 st'.threads
@@ -97,7 +92,7 @@ module _ (code : Code) (s : SetupView) where
   one_walk es f (walk.Done out reads ends) (walk.Trapped kind thread line out' reads' ends') h g =
       let e = trap_both h.0 g.0 (same_state es h.0 g.0 h.1.whole g.1.whole) in
       absurd (cc (sym h.2 ∙ e ∙ g.2))
-  one_walk es f (walk.Done out reads ends) (walk.Wrong at) h g = absurd (never_both es at h.0 h.1.whole g)
+  one_walk es f (walk.Done out reads ends) (walk.Wrong at) h g = absurd (never_both es g.0 h.0 h.1.whole g.2)
   one_walk es f (walk.Trapped kind thread line out reads ends) (walk.Done out' reads' ends') h g =
       let e = trap_both h.0 g.0 (same_state es h.0 g.0 h.1.whole g.1.whole) in
       absurd (cc (sym h.2 ∙ e ∙ g.2))
@@ -105,24 +100,33 @@ module _ (code : Code) (s : SetupView) where
       let e : TrapOf thread kind line ≡ TrapOf thread' kind' line' = sym h.2 ∙ trap_both h.0 g.0 (same_state es h.0 g.0 h.1.whole g.1.whole) ∙ g.2 in
       let o : out ≡ out' = h.1.out_is ∙ sym g.1.out_is in
       cc (e, o)
-  one_walk es f (walk.Trapped kind thread line out reads ends) (walk.Wrong at) h g = absurd (never_both es at h.0 h.1.whole g)
-  one_walk es f (walk.Wrong at) (walk.Done out reads ends) h g = absurd (never_both es at g.0 g.1.whole h)
-  one_walk es f (walk.Wrong at) (walk.Trapped kind thread line out reads ends) h g = absurd (never_both es at g.0 g.1.whole h)
-  one_walk es f (walk.Wrong a) (walk.Wrong b) h g = ap answer.WrongEntry (wrong_once es a b h g)
+  one_walk es f (walk.Trapped kind thread line out reads ends) (walk.Wrong at) h g = absurd (never_both es g.0 h.0 h.1.whole g.2)
+  one_walk es f (walk.Wrong at) (walk.Done out reads ends) h g = absurd (never_both es h.0 g.0 g.1.whole h.2)
+  one_walk es f (walk.Wrong at) (walk.Trapped kind thread line out reads ends) h g = absurd (never_both es h.0 g.0 g.1.whole h.2)
+  one_walk es f (walk.Wrong a) (walk.Wrong b) h g = ap answer.WrongEntry (h.1 ∙ ap (λ n. 0 + n) (wrong_once es h.0 g.0 h.2 g.2) ∙ sym g.1)
 
--- ---- from the log up
+-- ---- a source
 
-one_by_reading : (log : LogView) (r : Reading) (a b : Answer) → IsByReading log r a → IsByReading log r b → a ≡ b
-one_by_reading log (sound os) a b h g = h.told ∙ one_walk (plain_code os) log.setup log.entries no_reads h.walk g.walk h.is g.is ∙ sym g.told
-one_by_reading log (refused fault) a b h g = h ∙ sym g
+module _ (OfCode : Code → Answer → Type 0) (one : (code : Code) (a b : Answer) → OfCode code a → OfCode code b → a ≡ b) where
+  one_by_reading : (r : Reading) (a b : Answer) → IsByReading OfCode r a → IsByReading OfCode r b → a ≡ b
+  one_by_reading (sound os) a b h g = one (plain_code os) a b h g
+  one_by_reading (refused fault) a b h g = h ∙ sym g
 
-one_by_source : (source : List ℕ) (log : LogView) (a b : Answer) → Reads source log a → Reads source log b → a ≡ b
-one_by_source source log a b h g =
-    let same : h.reading ≡ g.reading = one_reading source h.reading g.reading h.is g.is in
-    one_by_reading log g.reading a b (subst (λ r. IsByReading log r a) same h.answers) g.answers
+  one_by_source : (source : List ℕ) (a b : Answer) → IsOfSource OfCode source a → IsOfSource OfCode source b → a ≡ b
+  one_by_source source a b h g =
+      let same : h.reading ≡ g.reading = one_reading source h.reading g.reading h.is g.is in
+      one_by_reading g.reading a b (subst (λ r. IsByReading OfCode r a) same h.answers) g.answers
+
+-- ---- a log
+
+one_of_walks : (log : LogView) (code : Code) (a b : Answer) → Walks log code a → Walks log code b → a ≡ b
+one_of_walks log code a b h g =
+    let same : h.found ≡ g.found = one_weakened h.found g.found h.is g.is (h.of ∙ sym g.of) (h.by_profile ∙ sym g.by_profile) in
+    let walks : WalkIs g.found.weak log.setup log.entries no_reads h.walk = subst (λ (w : Analysed). WalkIs w.weak log.setup log.entries no_reads h.walk) same h.walks in
+    h.told ∙ one_walk g.found.weak log.setup log.entries no_reads h.walk g.walk walks g.walks ∙ sym g.told
 
 one_by_log : (source : List ℕ) (r : Result LogView LogFault) (a b : Answer) → IsByLog source r a → IsByLog source r b → a ≡ b
-one_by_log source (Ok log) a b h g = one_by_source source log a b h g
+one_by_log source (Ok log) a b h g = one_by_source (Walks log) (λ code c d. one_of_walks log code c d) source a b h g
 one_by_log source (Err (LogSyntax line)) a b h g = h ∙ sym g
 one_by_log source (Err (LogLimit line)) a b h g = h ∙ sym g
 one_by_log source (Err OutOfMemory) a b h g = absurd h
@@ -132,33 +136,19 @@ one_replay source log a b h g =
     let same : h.read ≡ g.read = sym (log_at-only log h.read h.is) ∙ log_at-only log g.read g.is in
     one_by_log source g.read a b (subst (λ r. IsByLog source r a) same h.by_log) g.by_log
 
--- ---- the race listing
+-- ---- the listings
 
-one_of_found : (c d : Code) (t u : Tables) (ss ts : List Summary) (vs ws : List Pair) → c ≡ d → IsPointsTo c t → IsPointsTo d u → AreSummaries c ss → AreSummaries d ts → ArePairs c t ss vs → ArePairs d u ts ws → races_text_of c vs ≡ races_text_of d ws
-one_of_found c d t u ss ts vs ws e p q s r v w =
-    let p' : IsPointsTo d t = subst (λ x. IsPointsTo x t) e p in
-    let s' : AreSummaries d ss = subst (λ x. AreSummaries x ss) e s in
-    let v' : ArePairs d t ss vs = subst (λ x. ArePairs x t ss vs) e v in
-    let points : t ≡ u = tables.one_answer d t u p' q in
-    let sums : ss ≡ ts = summaries.one_answer d ss ts s' r in
-    let v'' : ArePairs d u ts vs = subst (λ x. ArePairs d u x vs) sums (subst (λ x. ArePairs d x ss vs) points v') in
-    let same : vs ≡ ws = summaries.one_list d u ts vs ws v'' w in
-    ap (λ x. races_text_of x vs) e ∙ ap (λ x. races_text_of d x) same
+one_of_races : (code : Code) (a b : Answer) → ListsRaces code a → ListsRaces code b → a ≡ b
+one_of_races code a b h g =
+    let same : h.found ≡ g.found = one_weakened h.found g.found h.is g.is (h.of ∙ sym g.of) (h.for_all ∙ sym g.for_all) in
+    h.told ∙ ap (λ (w : Analysed). answer.Done (races_text_of w.plain w.pairs)) same ∙ sym g.told
 
-one_listing : (code : Code) (a b : Answer) → ListsRaces code a → ListsRaces code b → a ≡ b
-one_listing code a b h g =
-    let f = h.found in
-    let k = g.found in
-    h.told ∙ ap answer.Done (one_of_found f.plain k.plain f.points k.points f.summaries k.summaries f.pairs k.pairs (h.of ∙ sym g.of) h.is.points g.is.points h.is.summaries g.is.summaries h.is.pairs g.is.pairs) ∙ sym g.told
+one_of_locks : (code : Code) (a b : Answer) → ListsWeakLocks code a → ListsWeakLocks code b → a ≡ b
+one_of_locks code a b h g =
+    let same : h.found ≡ g.found = one_weakened h.found g.found h.is g.is (h.of ∙ sym g.of) (h.for_all ∙ sym g.for_all) in
+    h.told ∙ ap (λ (w : Analysed). answer.Done (weak_text_of w.plain w.weak.locks w.grains.rows)) same ∙ sym g.told
 
-one_listed : (r : Reading) (a b : Answer) → races.IsByReading r a → races.IsByReading r b → a ≡ b
-one_listed (sound os) a b h g = one_listing (plain_code os) a b h g
-one_listed (refused fault) a b h g = h ∙ sym g
-
-one_lists : (source : List ℕ) (a b : Answer) → Lists source a → Lists source b → a ≡ b
-one_lists source a b h g =
-    let same : h.reading ≡ g.reading = one_reading source h.reading g.reading h.is g.is in
-    one_listed g.reading a b (subst (λ r. races.IsByReading r a) same h.answers) g.answers
+-- ---- the files
 
 one_of_file : (most : ℕ) (what : Part) (o : Option (List ℕ)) (P Q : List ℕ → Type 0) (a b : Answer) → ((t : List ℕ) → P t → Q t → a ≡ b) → IsOfFile most what o P a → IsOfFile most what o Q b → a ≡ b
 one_of_file most what None P Q a b next h g = absurd h
@@ -167,10 +157,13 @@ one_of_file most what (Some t) P Q a b next (inl h) (inr g) = absurd (omega (ari
 one_of_file most what (Some t) P Q a b next (inr h) (inl g) = absurd (omega (arith, h.0, g.0))
 one_of_file most what (Some t) P Q a b next (inr h) (inr g) = h.1 ∙ sym g.1
 
+one_of_source_file : (OfCode : Code → Answer → Type 0) → ((code : Code) (a b : Answer) → OfCode code a → OfCode code b → a ≡ b) → (o : Option (List ℕ)) (a b : Answer) → IsOfFile 1048576 part.Source o (λ text. IsOfSource OfCode text a) a → IsOfFile 1048576 part.Source o (λ text. IsOfSource OfCode text b) b → a ≡ b
+one_of_source_file OfCode one o a b h g = one_of_file 1048576 part.Source o (λ text. IsOfSource OfCode text a) (λ text. IsOfSource OfCode text b) a b (λ text. one_by_source OfCode one text a b) h g
+
 pub one_answer : OneAnswer
 one_answer files None a b h g = h ∙ sym g
 one_answer files (Some (Replay source log)) a b h g =
     one_of_file 1048576 part.Source (files source) (λ text. IsOfFile 536870912 part.Log (files log) (λ entries. Replays text entries a) a) (λ text. IsOfFile 536870912 part.Log (files log) (λ entries. Replays text entries b) b) a b
     (λ text h' g'. one_of_file 536870912 part.Log (files log) (λ entries. Replays text entries a) (λ entries. Replays text entries b) a b (λ entries. one_replay text entries a b) h' g') h g
-one_answer files (Some (Races source)) a b h g =
-    one_of_file 1048576 part.Source (files source) (λ text. Lists text a) (λ text. Lists text b) a b (λ text. one_lists text a b) h g
+one_answer files (Some (Races source)) a b h g = one_of_source_file ListsRaces one_of_races (files source) a b h g
+one_answer files (Some (Weaken source)) a b h g = one_of_source_file ListsWeakLocks one_of_locks (files source) a b h g

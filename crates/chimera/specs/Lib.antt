@@ -1,3 +1,4 @@
-pub mod Races
+pub mod Sources
+pub mod Listings
 pub mod Replays
 pub mod Endings

@@ -1,25 +1,25 @@
--- The answer that a list of words has on files: that of the walk of the log on the code of the source, or the listing of
--- the source's race pairs, or the first thing that stands against it.
+-- The answer that a list of words has on files: that of the walk of the log on the weakened code of the source, or a listing
+-- of the source's race pairs or weak locks, or the first thing that stands against it.
 use Rattle.std.specs.Prelude.{◌≡◌, ◌≤◌, ◌<◌, ◌⊎◌, ℕ, List, Option, Some, None, Result, Ok, Err, length, false}
 use Rattle.rr_base.specs.Files.{Files}
 use Rattle.answers.specs.Jobs.{Asked}
-use Rattle.answers.specs.Jobs.Asked.{Replay, Races}
+use Rattle.answers.specs.Jobs.Asked.{Replay, Races, Weaken}
 use Rattle.answers.specs.declared.answer.Part.{Part}
 use Rattle.answers.specs.declared.answer.Part.TheVariants as part
 use Rattle.answers.specs.declared.answer.Answer.{Answer}
 use Rattle.answers.specs.declared.answer.Answer.TheVariants as answer
-use Rattle.front.specs.Plain.{plain_code}
-use Rattle.front.specs.Readings.{Reading, sound, refused, IsReading}
 use Rattle.core_run.specs.declared.access.Formula.{Formula}
 use Rattle.core_run.specs.declared.outcome.Walk.{Walk}
 use Rattle.core_run.specs.declared.outcome.Walk.TheVariants as walk
 use Rattle.core_run.specs.Walks.{WalkIs}
 use Rattle.flow_code.specs.declared.code.Code.{Code}
+use Rattle.lock_sound.specs.Weakened.{Analysed, IsAnalysed}
 use Rattle.order_log.specs.declared.fault.LogFault.{LogFault}
 use Rattle.order_log.specs.declared.fault.LogFault.TheVariants.{LogSyntax, LogLimit, OutOfMemory}
 use Rattle.order_log.specs.Log.{LogView}
 use Rattle.order_log.specs.Reading as log_text
-use Rattle.chimera.specs.Races.{Lists}
+use Rattle.chimera.specs.Listings.{ListsRaces, ListsWeakLocks}
+use Rattle.chimera.specs.Sources.{IsOfSource}
 
 -- ---- the walk
 
@@ -32,29 +32,20 @@ answer_of (walk.Done out reads ends) = answer.Done out
 answer_of (walk.Trapped kind thread line out reads ends) = answer.Trapped out kind thread line
 answer_of (walk.Wrong at) = answer.WrongEntry at
 
--- a walk of the log on the code
+-- a walk of the log on the code with the weak locks that it has for the log's profile
 pub record Walks (log : LogView) (code : Code) (a : Answer) : Type 0 where
+  pub found : Analysed
+  pub is : IsAnalysed found
+  pub of : found.plain ≡ code
+  pub by_profile : found.profile ≡ log.profile
   pub walk : Walk
-  pub is : WalkIs code log.setup log.entries no_reads walk
+  pub walks : WalkIs found.weak log.setup log.entries no_reads walk
   pub told : a ≡ answer_of walk
-
--- ---- the source
-
--- a source without a fault is walked as its code, and any other is refused for its first fault
-abbrev pub IsByReading : LogView → Reading → Answer → Type 0
-IsByReading log (sound os) a = Walks log (plain_code os) a
-IsByReading log (refused fault) a = a ≡ answer.SourceRefused fault.number fault.line fault.column
-
--- what a source comes to, and the answer of a log on it
-pub record Reads (source : List ℕ) (log : LogView) (a : Answer) : Type 0 where
-  pub reading : Reading
-  pub is : IsReading source reading
-  pub answers : IsByReading log reading a
 
 -- ---- the log
 
 abbrev pub IsByLog : (source : List ℕ) → Result LogView LogFault → Answer → Type 0
-IsByLog source (Ok log) a = Reads source log a
+IsByLog source (Ok log) a = IsOfSource (Walks log) source a
 IsByLog source (Err (LogSyntax line)) a = a ≡ answer.LogRefused 23 line
 IsByLog source (Err (LogLimit line)) a = a ≡ answer.LogRefused 24 line
 IsByLog source (Err OutOfMemory) a = ⊥
@@ -76,7 +67,8 @@ abbrev pub IsAnswer : Files → Option Asked → Answer → Type 0
 IsAnswer files None a = a ≡ answer.Usage
 IsAnswer files (Some (Replay source log)) a =
     IsOfFile 1048576 part.Source (files source) (λ text. IsOfFile 536870912 part.Log (files log) (λ entries. Replays text entries a) a) a
-IsAnswer files (Some (Races source)) a = IsOfFile 1048576 part.Source (files source) (λ text. Lists text a) a
+IsAnswer files (Some (Races source)) a = IsOfFile 1048576 part.Source (files source) (λ text. IsOfSource ListsRaces text a) a
+IsAnswer files (Some (Weaken source)) a = IsOfFile 1048576 part.Source (files source) (λ text. IsOfSource ListsWeakLocks text a) a
 
 -- files and words have one answer
 abbrev pub OneAnswer : Type 0

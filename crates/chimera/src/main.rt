@@ -1,5 +1,6 @@
 //! The program: it replays a C source by a log of its order of synchronisation, and lists the accesses of a source that may
-//! race. It stands on all crates below. It promises that what it writes is the answer that its words and files have, and names the cause of each other end.
+//! race, and its weak locks. It stands on all crates below. It promises that what it writes is the answer that its words and
+//! files have, and names the cause of each other end.
 #![tactic(auto)]
 
 #[cfg(test)]
@@ -9,6 +10,11 @@ mod replay;
 #[cfg(test)]
 mod tests;
 mod top;
+mod weak_locks;
+#[cfg(test)]
+mod weak_tests;
+#[cfg(test)]
+mod whole_tests;
 
 use answers::{FileShelf, InSource, OutSink};
 use std::env;

@@ -5,7 +5,7 @@ use std::process::Abort;
 use std::test::Fail;
 
 // A counter without a lock.
-const COUNTER: &str = "#include <pthread.h>
+pub const COUNTER: &str = "#include <pthread.h>
 #include <stdio.h>
 int x;
 void *inc(void *p) {
@@ -23,7 +23,7 @@ return 0; }
 ";
 
 // Two threads and `main` load; nothing is stored after the start.
-const READERS: &str = "#include <pthread.h>
+pub const READERS: &str = "#include <pthread.h>
 #include <stdio.h>
 int v[2] = {4, 5};
 void *inc(void *p) {
@@ -39,7 +39,7 @@ return 0; }
 ";
 
 // The lock is held by the caller of `h`; `f` stores without it.
-const HELD_BY_CALLER: &str = "#include <pthread.h>
+pub const HELD_BY_CALLER: &str = "#include <pthread.h>
 pthread_mutex_t m;
 int x;
 void h(void) { x = 2; }
@@ -61,7 +61,7 @@ pthread_join(a, NULL); pthread_join(b, NULL);
 return 0; }
 ";
 
-const ONE_LINE: &str = "#include <pthread.h>
+pub const ONE_LINE: &str = "#include <pthread.h>
 #include <stdio.h>
 int x;
 void *inc(void *p) {
@@ -98,7 +98,25 @@ void *c(void *p) { k(&m); x = 1; u(&m); y = 2; return NULL; }
 int main(void) { pthread_t a; pthread_create(&a, NULL, c, NULL); return 0; }
 ";
 
-const ROWS: [(&str, &str, u8); 10] = [
+// A formal is known by its name on the other side of a call, and of a choice, in the same arguments.
+const BEHIND_A_CALL: &str = "pthread_mutex_t m; int x;
+int f(void) { return 1; }
+void k(pthread_mutex_t *q, int n) { pthread_mutex_lock(q); }
+void c(pthread_mutex_t *q) { k(q, f()); x = x + 1; pthread_mutex_unlock(q); }
+void *r(void *p) { c(&m); return NULL; }
+int main(void) { pthread_t a; pthread_t b; pthread_create(&a, NULL, r, NULL);
+pthread_create(&b, NULL, r, NULL); return 0; }
+";
+
+const BEHIND_A_CHOICE: &str = "pthread_mutex_t m; int x; int n;
+void k(pthread_mutex_t *q, int n) { pthread_mutex_lock(q); }
+void c(pthread_mutex_t *q) { k(q, n ? 1 : 2); x = x + 1; pthread_mutex_unlock(q); }
+void *r(void *p) { c(&m); return NULL; }
+int main(void) { pthread_t a; pthread_t b; pthread_create(&a, NULL, r, NULL);
+pthread_create(&b, NULL, r, NULL); return 0; }
+";
+
+const ROWS: [(&str, &str, u8); 12] = [
     (BANK, "races 0\n", 0),
     (
         COUNTER,
@@ -126,6 +144,8 @@ const ROWS: [(&str, &str, u8); 10] = [
         "race y+0 store 6:43 store 6:43\nraces 1\n",
         0,
     ),
+    (BEHIND_A_CALL, "races 0\n", 0),
+    (BEHIND_A_CHOICE, "races 0\n", 0),
     ("int main(void){return y;}\n", "source refused 9 1 23\n", 2),
     (
         "int main(void){switch(0){}}\n",

@@ -1,13 +1,16 @@
 // The race listing of a source.
 
 ghost use Rattle.std.specs.Prelude.{◌≡◌, ◌≤◌, ◌^◌, Option, Some, None, length, IfOk, IfSome, MatchResult};
+ghost use Rattle.facts.specs.declared.profile.Profile.TheVariants as profile;
 ghost use Rattle.rr_base.specs.Faults.{ShelfFaults};
 ghost use Rattle.answers.specs.Jobs.Asked.{Races as AskedRaces};
-ghost use Rattle.chimera.specs.Races as spec;
+ghost use Rattle.chimera.specs.Listings.{ListsRaces};
 ghost use Rattle.chimera.specs.Replays.{IsAnswer};
+ghost use Rattle.chimera.specs.Sources.{IsOfSource};
 
 use crate::replay::{SOURCE_BYTES, refusal_of};
 use answers::{Answer, Part, get_within};
+use facts::Profile;
 use front::{CompileFault, compile};
 use listing::races_text;
 use lock_sound::Weakened;
@@ -15,7 +18,8 @@ use rr_base::{Shelf, ShelfEnd};
 use std::alloc::{AllocError, Global};
 
 fn listed(alloc: Global, weakened: &Weakened) -> Result<Answer, AllocError>
-    ensures { IfOk result (spec.ListsRaces weakened.now.plain) }
+    requires { weakened.now.profile ≡ profile.All }
+    ensures { IfOk result (ListsRaces weakened.now.plain) }
 {
     let code = weakened.plain();
     let text = races_text(alloc, code, weakened.pairs().as_slice())?;
@@ -23,12 +27,12 @@ fn listed(alloc: Global, weakened: &Weakened) -> Result<Answer, AllocError>
 }
 
 /// The answer of a source's bytes.
-#[tactic(auto, using(crate::proofs::Told::listed, crate::proofs::Told::unlisted))]
+#[tactic(auto, using(crate::proofs::Told::races_listed, crate::proofs::Told::races_refused))]
 pub fn listed_races(alloc: Global, source: &[u8]) -> Result<Answer, AllocError>
     requires { length source.now ≤ 2 ^ 20 }
-    ensures { IfOk result (spec.Lists source.now) }
+    ensures { IfOk result (IsOfSource ListsRaces source.now) }
 {
-    match compile(alloc, source) {
+    match compile(alloc, source, &Profile::All) {
         Ok(weakened) => listed(alloc, &weakened),
         Err(CompileFault::Source(fault)) => Ok(refusal_of(fault)),
         Err(CompileFault::OutOfMemory) => Err(AllocError),

@@ -2,7 +2,6 @@
 
 ghost use Rattle.std.specs.Prelude.{◌≡◌, ◌≤◌, ◌^◌, Option, Some, None, Ok, length, IfOk, IfSome, MatchResult};
 ghost use Rattle.rr_base.specs.Faults.{ShelfFaults};
-ghost use Rattle.flow_code.specs.Settle.{IsRunnable};
 ghost use Rattle.answers.specs.Jobs.{Asked};
 ghost use Rattle.answers.specs.Jobs.Asked.{Replay as AskedReplay};
 ghost use Rattle.answers.specs.declared.answer.Answer.TheVariants as answer;
@@ -10,8 +9,8 @@ ghost use Rattle.chimera.specs.Replays as spec;
 
 use answers::{Answer, Part, get_within};
 use core_run::{Formula, Walk, walk};
-use flow_code::Code;
-use front::{CompileFault, SourceFault, plain};
+use front::{CompileFault, SourceFault, compile};
+use lock_sound::Weakened;
 use order_log::{Log, LogFault, read_log};
 use rr_base::{Shelf, ShelfEnd};
 use std::alloc::{AllocError, Global};
@@ -43,9 +42,11 @@ fn answer_of(walk: Walk) -> Answer
     }
 }
 
-fn by_walk(alloc: Global, code: &Code, log: &Log) -> Result<Answer, AllocError>
-    requires { IsRunnable code.now }
-    ensures { IfOk result (spec.Walks log.now code.now) }
+// The walk of the log on the weakened code.
+#[tactic(auto, using(crate::proofs::Told::walked))]
+fn by_walk(alloc: Global, weakened: &Weakened, log: &Log) -> Result<Answer, AllocError>
+    requires { weakened.now.profile ≡ log.now.profile }
+    ensures { IfOk result (spec.Walks log.now weakened.now.plain) }
 {
     let no_reads = Formula {
         loads: false,
@@ -55,6 +56,7 @@ fn by_walk(alloc: Global, code: &Code, log: &Log) -> Result<Answer, AllocError>
         high: 0,
         value: None,
     };
+    let code = weakened.code();
     let walk = walk(alloc, code, log.setup(), log.entries(), &no_reads)?;
     Ok(answer_of(walk))
 }
@@ -70,13 +72,13 @@ pub fn refusal_of(fault: SourceFault) -> Answer
     }
 }
 
-#[tactic(auto, using(crate::proofs::Told::walked, crate::proofs::Told::refused_for))]
+#[tactic(auto, using(crate::proofs::Told::log_walked, crate::proofs::Told::log_refused))]
 fn by_log(alloc: Global, source: &[u8], log: &Log) -> Result<Answer, AllocError>
     requires { length source.now ≤ 2 ^ 20 }
     ensures { IfOk result (spec.IsByLog source.now (Ok log.now)) }
 {
-    match plain(alloc, source) {
-        Ok(code) => by_walk(alloc, &code, log),
+    match compile(alloc, source, log.profile()) {
+        Ok(weakened) => by_walk(alloc, &weakened, log),
         Err(CompileFault::Source(fault)) => Ok(refusal_of(fault)),
         Err(CompileFault::OutOfMemory) => Err(AllocError),
     }

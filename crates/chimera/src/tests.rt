@@ -28,13 +28,13 @@ pthread_mutex_unlock(&m);
 return 0; }
 ";
 
-const FIRST: &str = "chimera log 1\n";
+pub const FIRST: &str = "chimera log 1\n";
 
 const SLOTS_1: &str = "slots 1\ncells 16384\nlimit 16777216\nprofile all\ninput 0\n\n";
 
 const SLOTS_2: &str = "slots 2\ncells 16384\nlimit 16777216\nprofile all\ninput 0\n\n";
 
-const SLOTS_8: &str = "slots 8\ncells 16384\nlimit 16777216\nprofile all\ninput 0\n\n";
+pub const SLOTS_8: &str = "slots 8\ncells 16384\nlimit 16777216\nprofile all\ninput 0\n\n";
 
 // The bank's entries at positions 0 to 3, 4, 5, 6, 7 to 23, and 24.
 const STARTS: &str = "0 1 draw T\n0 4 start s1\n0 5 draw T\n0 8 start s2\n";
@@ -72,7 +72,7 @@ return 0; }
 const SUM: &str =
     "#include <stdio.h>\nint x;\nint main(void) { x = 1 + 2; printf(\"%d\\n\", x); return 0; }\n";
 
-const SLOTS_3: &str = "slots 3\ncells 16384\nlimit 16777216\nprofile all\ninput 0\n\n";
+pub const SLOTS_3: &str = "slots 3\ncells 16384\nlimit 16777216\nprofile all\ninput 0\n\n";
 
 // One thread reads these two bytes.
 const INPUT_HI: &str = "slots 1\ncells 16384\nlimit 16777216\nprofile all\ninput 2\n6869\n";
@@ -259,7 +259,7 @@ static RUNS: [(&str, &[&str], &str, u8); 28] = [
         &[
             FIRST,
             SLOTS_2,
-            "0 1 lock m4\n0 2 draw T\n0 5 start s1\n1 0 begin s1\n1 4 trap H\n0 7 stop H\n",
+            "0 1 lock m4\n0 2 draw T\n0 5 start s1\n1 0 begin s1\n1 3 take w0.0\n1 4 trap H\n0 7 stop H\n",
         ],
         "trap 2 thread 1 line 5\n",
         3,

@@ -8,6 +8,7 @@ ghost use Rattle.chimera.specs.Replays.{IsAnswer, OneAnswer};
 
 use crate::races::races;
 use crate::replay::replay;
+use crate::weak_locks::weak_locks;
 use answers::{Answer, Job, job_of, tell, tell_answer};
 use rr_base::{Shelf, ShelfEnd, Sink, Source};
 use std::alloc::Global;
@@ -21,12 +22,13 @@ fn answered<S: Shelf>(alloc: Global, words: &[String], shelf: &mut S) -> Result<
     match job_of(words) {
         Some(Job::Replay { source, log }) => replay(alloc, source, log, shelf),
         Some(Job::Races { source }) => races(alloc, source, shelf),
+        Some(Job::Weaken { source }) => weak_locks(alloc, source, shelf),
         None => Ok(Answer::Usage),
     }
 }
 
-/// Does what the words behind the program's name ask for, and answers the exit status: 0 where the run ended or the races
-/// were listed, 1 where the words are no job, 2 where the source is refused, 3 where a thread trapped, 4 where the log is refused, 5 where
+/// Does what the words behind the program's name ask for, and answers the exit status: 0 where the run ended or the listing
+/// was written, 1 where the words are no job, 2 where the source is refused, 3 where a thread trapped, 4 where the log is refused, 5 where
 /// it isn't one of this program, 8 where the sink failed, 9 where the shelf did, 11 where a file has too many bytes,
 /// 12 without memory. No job touches `input`.
 pub fn chimera<I: Source, O: Sink, S: Shelf>(

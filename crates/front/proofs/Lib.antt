@@ -1,4 +1,7 @@
+pub mod Few
 pub mod Members
 pub mod One
+pub mod OneWeakened
 pub mod Sources
 pub mod Together
+pub mod Unlocked

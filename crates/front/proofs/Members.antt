@@ -6,8 +6,8 @@ use Rattle.c_lexer.specs.declared.token.Word.TheVariants as word
 use Rattle.c_tree.specs.declared.name.Name.{Name}
 use Rattle.c_tree.specs.Kinds.{p, w}
 use Rattle.c_tree.specs.Tree.{Fields, fields, Outer, structure, function, objects}
-use Rattle.c_parser.specs.Marks.{Mark, Beginning, other, ◌>>◌, never}
-use Rattle.c_parser.specs.Grammar.{OfName, OfSpecifier, OfFields, OfMoreFields, OfAllFields, OfOuter, OfProgram}
+use Rattle.c_grammar.specs.Marks.{Mark, Beginning, other, ◌>>◌, never}
+use Rattle.c_grammar.specs.Grammar.{OfName, OfSpecifier, OfFields, OfMoreFields, OfAllFields, OfOuter, OfProgram}
 use Rattle.source_sound.specs.Members.{HaveMembers, StructsHaveMembers}
 
 -- the second and the first of two that stand one behind the other

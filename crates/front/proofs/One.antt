@@ -5,9 +5,9 @@ use Rattle.c_lexer.specs.declared.fault.LexFault.{LexFault}
 use Rattle.c_lexer.specs.declared.token.Token.{Token}
 use Rattle.c_lexer.specs.Tokens.{tokens_of}
 use Rattle.c_tree.specs.Tree.{Outer}
-use Rattle.c_parser.specs.Exact.{parsed}
-use Rattle.c_parser.specs.Gives.{limit, lexemes}
-use Rattle.c_parser.specs.Parse.{Outcome, Got, Stuck, Spent}
+use Rattle.c_grammar.specs.Exact.{parsed}
+use Rattle.c_parse_rules.specs.Gives.{limit, lexemes}
+use Rattle.c_grammar.specs.Parse.{Outcome, Got, Stuck, Spent}
 use Rattle.front.specs.Readings.{Reading, IsByTree, IsByTokens, IsReading, OneReading}
 
 one_by_tree : (tokens : List Token) (o : Outcome (List Outer)) (r s : Reading) → IsByTree tokens o r → IsByTree tokens o s → r ≡ s

@@ -2,19 +2,17 @@
 use Rattle.std.proofs.Common.{◌≡◌, ℕ, ◌^◌, ◌≤◌, true, List, [], map, length, Option, Some, None, Result, Ok, Err, refl, sym, ap, ◌∙◌, subst, arith}
 use Rattle.std.specs.Prelude.{IfOk}
 use Rattle.std.specs.Option.{option_map}
-use Rattle.std.proofs.lemmas.List.{length-map}
 use Rattle.c_lexer.specs.Bytes.{Text}
 use Rattle.c_lexer.specs.declared.fault.LexFault.{LexFault}
 use Rattle.c_lexer.specs.declared.token.Token.{Token}
 use Rattle.c_lexer.specs.Tokens.{tokens_of}
 use Rattle.c_tree.specs.Tree.{Outer}
-use Rattle.c_parser.specs.Exact.{parsed, IsExact}
-use Rattle.c_parser.specs.Gives.{limit, lexemes}
-use Rattle.c_parser.specs.Parse.{Outcome, Got, Stuck, Spent}
-use Rattle.c_parser.proofs.Exactly.{parsed_exactly}
+use Rattle.c_grammar.specs.Exact.{parsed, IsExact}
+use Rattle.c_parse_rules.specs.Gives.{limit, lexemes}
+use Rattle.c_grammar.specs.Parse.{Outcome, Got, Stuck, Spent}
+use Rattle.c_grammar.proofs.Exactly.{parsed_exactly}
 use Rattle.c_types.specs.declared.fault.Found.{Found}
-use Rattle.c_types.specs.Whole.{first_fault}
-use Rattle.c_core.specs.Core.{Program}
+use Rattle.c_sites.specs.Whole.{first_fault}
 use Rattle.c_core.specs.Meaning.{run_of}
 use Rattle.c_elaborate.specs.Whole.{core_of_source}
 use Rattle.flow_code.specs.declared.code.Code.{Code}
@@ -22,7 +20,7 @@ use Rattle.flow_code.specs.Settle.{IsRunnable}
 use Rattle.flow_code.specs.Threads.{Thread}
 use Rattle.flow_code.specs.Valid.{is_valid}
 use Rattle.flow_code.proofs.Runnable.{valid_runnable}
-use Rattle.flow_lower.specs.Lowered.{function_code, lowered}
+use Rattle.flow_lower.specs.Lowered.{lowered}
 use Rattle.flow_lower.specs.Sound.{IsSound}
 use Rattle.flow_lower.specs.Follows.{Follows, IsAtStart}
 use Rattle.flow_lower.proofs.Valid.{valid}
@@ -40,7 +38,7 @@ use Rattle.front.proofs.Members.{program_members}
 abbrev IsGood : List Outer → Type 0
 IsGood os = StructsHaveMembers os × (first_fault os ≡ None)
 
-same_tree : (os ps : List Outer) → sound os ≡ sound ps → os ≡ ps
+pub same_tree : (os ps : List Outer) → sound os ≡ sound ps → os ≡ ps
 same_tree os ps e = cc e
 
 by_fault : (os ps : List Outer) (f : Option Found) → first_fault ps ≡ f → StructsHaveMembers ps → sound os ≡ by_first_fault ps f → IsGood os
@@ -52,7 +50,7 @@ by_tree tokens os (Got ps rest) exact e = let says = exact.says in by_fault os p
 by_tree tokens os (Stuck fault rest) exact e = absurd (cc e)
 by_tree tokens os Spent exact e = absurd e
 
-by_refusal : (os : List Outer) (o : Option SourceFault) → option_map refused o ≡ Some (sound os) → ⊥
+pub by_refusal : (os : List Outer) (o : Option SourceFault) → option_map refused o ≡ Some (sound os) → ⊥
 by_refusal os None e = absurd (cc e)
 by_refusal os (Some fault) e = absurd (cc e)
 
@@ -63,25 +61,20 @@ by_tokens os (Err fault) h = absurd (by_refusal os (refusal_of fault) h)
 pub source_sound : (text : Text) (os : List Outer) → IsReading text (sound os) → length (core_of_source os).functions ≤ 2 ^ 20 → IsSound (core_of_source os)
 source_sound text os h few = let good = by_tokens os (tokens_of text) h in law_sound os good.0 good.1 few
 
-as_lowered : (os : List Outer) → plain_code os ≡ lowered (core_of_source os)
+pub as_lowered : (os : List Outer) → plain_code os ≡ lowered (core_of_source os)
 unfolding plain_code
 as_lowered os = refl
 
-few_lowered : (p : Program) (code : Code) → code ≡ lowered p → length code.functions ≤ 2 ^ 20 → length p.functions ≤ 2 ^ 20
-few_lowered p code e few = let many : length code.functions ≡ length p.functions = ap (λ (c : Code). length c.functions) e ∙ length-map p.functions function_code in omega (arith, few, many)
-
-pub valid_code : (text : Text) (os : List Outer) (code : Code) → IsReading text (sound os) → code ≡ plain_code os → length code.functions ≤ 2 ^ 20 → is_valid code ≡ true
-valid_code text os code h e few =
-    let is : code ≡ lowered (core_of_source os) = e ∙ as_lowered os in
-    subst (λ c. is_valid c ≡ true) (sym is) (valid (core_of_source os) (source_sound text os h (few_lowered (core_of_source os) code is few)))
+pub valid_code : (text : Text) (os : List Outer) (code : Code) → IsReading text (sound os) → code ≡ plain_code os → length (core_of_source os).functions ≤ 2 ^ 20 → is_valid code ≡ true
+valid_code text os code h e few = subst (λ c. is_valid c ≡ true) (sym (e ∙ as_lowered os)) (valid (core_of_source os) (source_sound text os h few))
 
 pub source_events : (text : Text) (os : List Outer) (s : SetupView) (t : ℕ) (m : Thread) → IsReading text (sound os) → length (core_of_source os).functions ≤ 2 ^ 20 → 1 ≤ s.limit → IsAtStart (core_of_source os) s t m → Follows (plain_code os) s t (run_of (core_of_source os) s t) m
 source_events text os s t m h few limit start =
     subst (λ c. Follows c s t (run_of (core_of_source os) s t) m) (sym (as_lowered os)) (follows (core_of_source os) s t m (sound_within (core_of_source os) (source_sound text os h few)) limit start)
 
-pub runnable_code : (text : Text) (os : List Outer) (code : Code) → IsReading text (sound os) → code ≡ plain_code os → length code.functions ≤ 2 ^ 20 → IsRunnable code
+pub runnable_code : (text : Text) (os : List Outer) (code : Code) → IsReading text (sound os) → code ≡ plain_code os → length (core_of_source os).functions ≤ 2 ^ 20 → IsRunnable code
 runnable_code text os code h e few = valid_runnable code (valid_code text os code h e few)
 
-pub ok_both : {A E : Type 0} (r : Result A E) (P Q R : A → Type 0) → ((a : A) → P a → Q a → R a) → IfOk r P → IfOk r Q → IfOk r R
-ok_both (Ok a) P Q R f h k = f a h k
-ok_both (Err e) P Q R f h k = h
+pub ok_as : {A E : Type 0} (r : Result A E) (P Q : A → Type 0) → ((a : A) → P a → Q a) → IfOk r P → IfOk r Q
+ok_as (Ok a) P Q f h = f a h
+ok_as (Err e) P Q f h = h

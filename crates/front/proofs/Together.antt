@@ -1,17 +1,42 @@
 -- The answers of the analyses fit each other.
-use Rattle.std.proofs.Common.{◌≡◌, List, true}
+use Rattle.std.proofs.Common.{◌≡◌, List, true, subst}
 use Rattle.facts.specs.declared.locks.Summary.{Summary}
 use Rattle.facts.specs.declared.pair.Pair.{Pair}
-use Rattle.facts.specs.Pairs.{ArePairs}
-use Rattle.facts.specs.PointsTo.{Tables, IsPointsTo}
+use Rattle.facts.specs.declared.profile.Profile.{Profile}
+use Rattle.facts.specs.Pairs.{pairs_ascend, ArePairs}
+use Rattle.facts.specs.PointsTo.{Tables, HasRegisters, IsPointsTo}
 use Rattle.facts.specs.Summaries.{AreSummaries}
 use Rattle.flow_code.specs.declared.code.Code.{Code}
 use Rattle.flow_code.specs.Valid.{is_valid}
-use Rattle.lock_sound.specs.Weakened.{Analysed, IsAnalysed}
-use Rattle.race_pairs.specs.Touches.{HasRegisters}
+use Rattle.weak_facts.specs.declared.grain.Grains.{Grains}
+use Rattle.weak_facts.specs.declared.range.Range.{Range}
+use Rattle.weak_facts.specs.Grains.{AreGrains}
+use Rattle.weak_facts.specs.Ranges as ranges
+use Rattle.weak_facts.specs.Ranges.{ranges_of}
+use Rattle.weak_code.specs.Stripped.{is_plain}
+use Rattle.weak_code.specs.Weakened.{weakened}
+use Rattle.weaken.specs.Registers as registers
+use Rattle.lock_sound.specs.Weakened.{IsAnalysed}
 
 pub has_registers : (code : Code) (t : Tables) → IsPointsTo code t → HasRegisters code t
 has_registers code t h = record { functions = h.functions; registers = h.registers }
 
-pub analysed : (code : Code) (t : Tables) (ss : List Summary) (vs : List Pair) → is_valid code ≡ true → IsPointsTo code t → AreSummaries code ss → ArePairs code t ss vs → IsAnalysed (record { plain = code; points = t; summaries = ss; pairs = vs })
-analysed code t ss vs valid points sums pairs = record { valid = valid; points = points; summaries = sums; pairs = pairs }
+pub has_registers_of_ranges : (code : Code) (t : Tables) → IsPointsTo code t → ranges.HasRegisters code t
+has_registers_of_ranges code t h = record { functions = h.functions; registers = h.registers }
+
+pub has_registers_of_accesses : (code : Code) (t : Tables) → IsPointsTo code t → registers.HasRegisters code t
+has_registers_of_accesses code t h = record { functions = h.functions; registers = h.registers }
+
+pub ascending : (code : Code) (t : Tables) (ss : List Summary) (vs : List Pair) → ArePairs code t ss vs → pairs_ascend vs ≡ true
+ascending code t ss vs h = h.ascending
+
+pub analysed : (code : Code) (t : Tables) (ss : List Summary) (vs : List Pair) (profile : Profile) (rs : List Range) (grains : Grains) (weak : Code) → is_valid code ≡ true → is_plain code ≡ true → IsPointsTo code t → AreSummaries code ss → ArePairs code t ss vs → rs ≡ ranges_of code t → AreGrains code vs rs profile grains.rows → weak ≡ weakened code t vs rs grains.rows → IsAnalysed (record { plain = code; points = t; summaries = ss; pairs = vs; profile = profile; grains = grains; weak = weak })
+analysed code t ss vs profile rs grains weak valid plain points sums pairs r g w = record {
+  valid = valid;
+  without_locks = plain;
+  points = points;
+  summaries = sums;
+  pairs = pairs;
+  grains = subst (λ (xs : List Range). AreGrains code vs xs profile grains.rows) r g;
+  weak = subst (λ (xs : List Range). weak ≡ weakened code t vs xs grains.rows) r w;
+}

@@ -7,17 +7,19 @@ use Rattle.c_lexer.specs.declared.fault.LexFault.{LexFault}
 use Rattle.c_lexer.specs.declared.fault.LexFault.TheVariants as lex
 use Rattle.c_lexer.specs.declared.token.Token.{Token}
 use Rattle.c_lexer.specs.Tokens.{tokens_of}
-use Rattle.c_tree.specs.Tree.{Place, place_at, Outer}
+use Rattle.c_tree.specs.Tree.{Outer}
+use Rattle.rr_base.specs.declared.position.Position.{Position}
+use Rattle.rr_base.specs.Positions.{position_at}
 use Rattle.c_parser.specs.declared.fault.ParseFault.{ParseFault}
 use Rattle.c_parser.specs.declared.fault.ParseFault.TheVariants as grammar
 use Rattle.c_parser.specs.Answers.{begins_refused, stands_at}
-use Rattle.c_parser.specs.Exact.{parsed}
-use Rattle.c_parser.specs.Gives.{limit, lexemes}
-use Rattle.c_parser.specs.Marks.{Lexeme}
-use Rattle.c_parser.specs.Parse.{Fault, Syntax, Nesting, Outcome, Got, Stuck, Spent}
+use Rattle.c_grammar.specs.Exact.{parsed}
+use Rattle.c_parse_rules.specs.Gives.{limit, lexemes}
+use Rattle.c_grammar.specs.Marks.{Lexeme}
+use Rattle.c_grammar.specs.Parse.{Fault, Syntax, Nesting, Outcome, Got, Stuck, Spent}
 use Rattle.c_types.specs.declared.fault.Found.{Found}
 use Rattle.c_types.specs.Found.{number_of}
-use Rattle.c_types.specs.Whole.{first_fault}
+use Rattle.c_sites.specs.Whole.{first_fault}
 use Rattle.front.specs.declared.reading.CompileFault.{CompileFault}
 use Rattle.front.specs.declared.reading.CompileFault.TheVariants as faults
 use Rattle.front.specs.declared.reading.SourceFault.{SourceFault}
@@ -27,14 +29,14 @@ pub data Reading : Type 0 where
   sound : List Outer → Reading
   refused : SourceFault → Reading
 
-abbrev pub refused_at : ℕ → Place → Reading
+abbrev pub refused_at : ℕ → Position → Reading
 refused_at number place = refused (record { number = number; line = place.line; column = place.column })
 
 -- ---- types
 
 abbrev pub by_first_fault : List Outer → Option Found → Reading
 by_first_fault os None = sound os
-by_first_fault os (Some x) = refused_at (number_of x.fault) (place_at x.line x.column)
+by_first_fault os (Some x) = refused_at (number_of x.fault) (position_at x.line x.column)
 
 -- ---- the grammar
 

@@ -1,7 +1,7 @@
 ghost use Rattle.std.specs.Prelude.{◌≤◌, ◌^◌, length};
 
 use crate::typed;
-use c_types::FunctionInfo;
+use c_sites::FunctionInfo;
 use rr_base::{Bytes, CellKind, Site};
 use std::alloc::Global;
 use std::fmt::Write;

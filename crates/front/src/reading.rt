@@ -2,13 +2,13 @@
 ghost use Rattle.std.specs.Prelude.{◌≡◌, ◌≤◌, ◌^◌, length, All, Ok, IfOk, IfErr};
 ghost use Rattle.c_lexer.specs.Spans.{IsPlaced};
 ghost use Rattle.c_tree.specs.View.{program_of};
-ghost use Rattle.c_types.specs.Whole.{first_fault};
+ghost use Rattle.c_sites.specs.Whole.{first_fault};
 ghost use Rattle.front.specs.Readings as spec;
 
 use c_lexer::{LexFault, Token, tokens};
 use c_parser::{ParseFault, parse};
+use c_sites::{TypeFault, Typed, check};
 use c_tree::Program;
-use c_types::{TypeFault, Typed, check};
 use rr_base::List;
 use std::alloc::Global;
 

@@ -1,0 +1,221 @@
+use crate::race_tests::{COUNTER, HELD_BY_CALLER, ONE_LINE, READERS};
+use crate::tests::{BANK, FIRST, SLOTS_3, check, joined, shelf_of};
+use rr_base::List;
+use std::alloc::Global;
+use std::process::Abort;
+use std::test::Fail;
+
+// Two threads store the two halves of an array.
+const HALVES: &str = "#include <pthread.h>
+int v[8];
+void *low(void *p) {
+for (int i = 0; i < 4; i++)
+v[i] = i;
+return NULL; }
+void *high(void *p) {
+for (int i = 4; i < 8; i++)
+v[i] = i;
+return NULL; }
+int main(void) {
+pthread_t a; pthread_t b;
+pthread_create(&a, NULL, low, NULL);
+pthread_create(&b, NULL, high, NULL);
+pthread_join(a, NULL); pthread_join(b, NULL);
+return 0; }
+";
+
+// A source, and the listing of its weak locks.
+static LISTINGS: [(&str, &str, u8); 8] = [
+    (BANK, "", 0),
+    (
+        COUNTER,
+        "lock w0 x+0 stripes 1\naccess 5:9 load instruction 5:9\naccess 7:3 store instruction 7:3\naccess 14:16 load instruction 14:16\n",
+        0,
+    ),
+    (READERS, "", 0),
+    (
+        ONE_LINE,
+        "lock w0 x+0 stripes 1\naccess 5:3 store block 5:5\naccess 5:5 load block 5:5\naccess 12:16 load instruction 12:16\n",
+        0,
+    ),
+    (
+        HELD_BY_CALLER,
+        "lock w0 x+0 stripes 1\naccess 4:18 store instruction 4:18\naccess 6:3 store instruction 6:3\n",
+        0,
+    ),
+    (
+        HALVES,
+        "lock w0 v+0 stripes 8\naccess 5:6 store loop 4:1\naccess 9:6 store loop 8:1\n",
+        0,
+    ),
+    (
+        "int main(void){switch(0){}}\n",
+        "source refused 20 1 16\n",
+        2,
+    ),
+    ("", "source refused 15 1 1\n", 2),
+];
+
+// The entries of `main` up to the begin of both threads, in sources that start two of them and join them.
+const STARTS: &str = "0 1 draw T\n0 4 start s1\n0 5 draw T\n0 8 start s2\n1 0 begin s1\n";
+
+const BEGIN: &str = "2 0 begin s2\n";
+
+// Each thread of the counter loads it, and then stores it.
+const LOAD_1: &str = "1 3 take w0.0\n1 4 give w0.0\n";
+
+const STORE_1: &str = "1 4 take w0.0\n1 5 give w0.0\n";
+
+const LOAD_2: &str = "2 3 take w0.0\n2 4 give w0.0\n";
+
+const STORE_2: &str = "2 4 take w0.0\n2 5 give w0.0\n";
+
+const JOIN_1: &str = "1 6 end s1\n0 10 join s1\n1 7 leave T\n";
+
+const END_2: &str = "2 6 end s2\n0 12 join s2\n";
+
+const PRINT: &str = "0 13 take w0.0\n0 14 give w0.0\n0 14 print O\n0 15 halt H\n2 7 leave T\n";
+
+// No two functions are at work at once.
+const NO_PAIRS: &str = "slots 3\ncells 16384\nlimit 16777216\nprofile 0\ninput 0\n\n";
+
+const ONE_PAIR: &str = "slots 3\ncells 16384\nlimit 16777216\nprofile 1\npair f h\ninput 0\n\n";
+
+// The lock is revoked while the first thread holds it; the second stores, and the first takes it again.
+const REVOKED: &str =
+    "1 3 take w0.0\n1 4 revoke w0.0\n2 0 begin s2\n2 3 lock m6\n2 5 take w0.0\n2 6 give w0.0\n2 6 unlock m6\n1 4 lock m6\n1 5 unlock m6\n1 6 retake w0.0\n1 6 give w0.0\n1 7 end s1\n0 10 join s1\n1 8 leave T\n2 8 end s2\n0 12 join s2\n0 13 halt H\n2 9 leave T\n";
+
+// A source, a log of it, and what is told.
+static RUNS: [(&str, &[&str], &str, u8); 9] = [
+    (
+        COUNTER,
+        &[
+            FIRST, SLOTS_3, STARTS, LOAD_1, BEGIN, LOAD_2, STORE_1, JOIN_1, STORE_2, END_2, PRINT,
+        ],
+        "1\n",
+        0,
+    ),
+    (
+        COUNTER,
+        &[
+            FIRST, SLOTS_3, STARTS, LOAD_1, STORE_1, BEGIN, LOAD_2, STORE_2, JOIN_1, END_2, PRINT,
+        ],
+        "2\n",
+        0,
+    ),
+    // The stripe is still held.
+    (
+        COUNTER,
+        &[
+            FIRST,
+            SLOTS_3,
+            STARTS,
+            "1 3 take w0.0\n",
+            BEGIN,
+            LOAD_2,
+            "1 4 give w0.0\n",
+            STORE_1,
+            JOIN_1,
+            STORE_2,
+            END_2,
+            PRINT,
+        ],
+        "wrong entry 7\n",
+        5,
+    ),
+    // A log of the code without weak locks.
+    (
+        COUNTER,
+        &[
+            FIRST,
+            SLOTS_3,
+            STARTS,
+            BEGIN,
+            JOIN_1,
+            END_2,
+            "0 14 print O\n0 15 halt H\n2 7 leave T\n",
+        ],
+        "wrong entry 6\n",
+        5,
+    ),
+    (
+        ONE_LINE,
+        &[
+            FIRST,
+            SLOTS_3,
+            STARTS,
+            "1 3 take w0.0\n1 5 give w0.0\n1 6 end s1\n2 0 begin s2\n2 3 take w0.0\n2 5 give w0.0\n2 6 end s2\n0 10 join s1\n0 12 join s2\n0 13 take w0.0\n0 14 give w0.0\n0 14 print O\n0 15 halt H\n1 7 leave T\n2 7 leave T\n",
+        ],
+        "2\n",
+        0,
+    ),
+    (HELD_BY_CALLER, &[FIRST, NO_PAIRS, STARTS, REVOKED], "", 0),
+    // There each access is guarded alone, so what is revoked is taken again at once.
+    (
+        HELD_BY_CALLER,
+        &[FIRST, SLOTS_3, STARTS, REVOKED],
+        "wrong entry 12\n",
+        5,
+    ),
+    (
+        HELD_BY_CALLER,
+        &[FIRST, ONE_PAIR, STARTS, REVOKED],
+        "wrong entry 12\n",
+        5,
+    ),
+    // Each half of the array has stripes of its own.
+    (
+        HALVES,
+        &[
+            FIRST,
+            SLOTS_3,
+            STARTS,
+            "1 3 take w0.0\n1 3 take w0.1\n1 3 take w0.2\n1 3 take w0.3\n2 0 begin s2\n2 3 take w0.4\n2 3 take w0.5\n2 3 take w0.6\n2 3 take w0.7\n1 12 give w0.0\n1 12 give w0.1\n1 12 give w0.2\n1 12 give w0.3\n1 13 end s1\n0 10 join s1\n1 14 leave T\n2 12 give w0.4\n2 12 give w0.5\n2 12 give w0.6\n2 12 give w0.7\n2 13 end s2\n0 12 join s2\n0 13 halt H\n2 14 leave T\n",
+        ],
+        "",
+        0,
+    ),
+];
+
+static WEAKEN: [&str; 2] = ["weaken", "a"];
+
+fn check_listings(rt: &impl Abort, alloc: Global) -> Result<(), Fail> {
+    for (source, text, status) in LISTINGS {
+        let mut shelf = shelf_of(alloc, joined(alloc, &[source])?, List::new(alloc))?;
+        check(rt, alloc, &WEAKEN, &[], &mut shelf, (text, status))?;
+    }
+    Ok(())
+}
+
+static REPLAY: [&str; 3] = ["replay", "a", "b"];
+
+fn check_runs(rt: &impl Abort, alloc: Global) -> Result<(), Fail> {
+    for (source, log, text, status) in RUNS {
+        let mut shelf = shelf_of(alloc, joined(alloc, &[source])?, joined(alloc, log)?)?;
+        check(rt, alloc, &REPLAY, &[], &mut shelf, (text, status))?;
+    }
+    Ok(())
+}
+
+// No file of that name, a source of one byte more than it may have, and a sink that fails after four bytes.
+fn check_outside(rt: &impl Abort, alloc: Global) -> Result<(), Fail> {
+    let large = List::from_vec(vec![in alloc; b' '; 1_048_577]?);
+    let mut shelf = shelf_of(alloc, large, List::new(alloc))?;
+    let missing = ["weaken", "c"];
+    let large = ("too large source\n", 11);
+    check(rt, alloc, &missing, &[], &mut shelf, ("shelf fault\n", 9))?;
+    check(rt, alloc, &WEAKEN, &[], &mut shelf, large)?;
+    let mut shelf = shelf_of(alloc, joined(alloc, &[COUNTER])?, List::new(alloc))?;
+    check(rt, alloc, &WEAKEN, &[4], &mut shelf, ("lock", 8))
+}
+
+#[test]
+fn walks_the_weak_locks(rt: HostRuntime) -> Result<(), Fail> {
+    check_runs(&rt, rt.alloc())
+}
+
+#[test]
+fn lists_the_weak_locks(rt: HostRuntime) -> Result<(), Fail> {
+    check_listings(&rt, rt.alloc())?;
+    check_outside(&rt, rt.alloc())
+}
