@@ -1,0 +1,2 @@
+int *p;
+int main(void) { p = 5; return 0; }

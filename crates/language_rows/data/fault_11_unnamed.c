@@ -1,0 +1,2 @@
+int x;
+int f(int) { return 0; }

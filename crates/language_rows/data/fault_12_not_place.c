@@ -1,0 +1,2 @@
+int x;
+int main(void) { 3 = x; return 0; }

@@ -1,0 +1,2 @@
+int main(void) {
+printf("%d %d\n", 1); return 0; }

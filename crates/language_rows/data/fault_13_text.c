@@ -1,0 +1,2 @@
+int main(void) {
+putchar("a"); return 0; }

@@ -1,0 +1,2 @@
+int small[65535];
+int large[65536];

@@ -1,0 +1,2 @@
+int main(void) {
+printf("%s\n", 0); return 0; }

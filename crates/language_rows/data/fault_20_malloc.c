@@ -1,0 +1,2 @@
+int x;
+int main(void) { malloc(1); return 0; }

@@ -1,0 +1,2 @@
+int main(void) {
+puts("no end); return 0; }

@@ -1,0 +1,2 @@
+int main(void) {
+puts("bell\a"); return 0; }

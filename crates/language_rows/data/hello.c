@@ -1,0 +1,2 @@
+int main(void) {
+puts("hello"); return 0; }

@@ -1,0 +1,1 @@
+int main(int argc, void **argv) { return argc; }

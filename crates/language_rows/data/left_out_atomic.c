@@ -1,0 +1,1 @@
+atomic_int n;

@@ -1,0 +1,1 @@
+int main(void) { pthread_cancel(0); return 0; }

@@ -1,0 +1,1 @@
+int main(void) { int *p = (int *){0}; return 0; }

@@ -1,0 +1,1 @@
+int main(void) { pthread_detach(0); return 0; }

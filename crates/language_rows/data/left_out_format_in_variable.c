@@ -1,0 +1,1 @@
+int main(void) { int *f; printf(f); return 0; }

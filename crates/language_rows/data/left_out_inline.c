@@ -1,0 +1,1 @@
+static inline int f(void) { return 0; }

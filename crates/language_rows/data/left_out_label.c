@@ -1,0 +1,1 @@
+int main(void) { end: return 0; }

@@ -1,0 +1,1 @@
+main(void) { return 0; }

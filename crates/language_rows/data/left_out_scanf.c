@@ -1,0 +1,1 @@
+int main(void) { scanf("%d", 0); return 0; }

@@ -1,0 +1,1 @@
+int main(void) { sem_wait(0); return 0; }

@@ -1,0 +1,1 @@
+int main(void) { static int x; return x; }

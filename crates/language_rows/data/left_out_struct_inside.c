@@ -1,0 +1,1 @@
+int main(void) { struct s { int a; }; return 0; }

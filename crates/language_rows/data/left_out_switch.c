@@ -1,0 +1,1 @@
+int main(void) { switch (0) { } return 0; }

@@ -1,0 +1,1 @@
+int main(void) { pthread_getspecific(0); return 0; }

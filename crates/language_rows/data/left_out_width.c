@@ -1,0 +1,1 @@
+int main(void) { printf("%5d\n", 1); return 0; }

@@ -1,0 +1,2 @@
+int main(void) {
+pthread_join(1, NULL); return 0; }

@@ -1,0 +1,2 @@
+int x; int y;
+int main(void) { return &x < &y; }

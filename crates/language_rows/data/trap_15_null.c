@@ -1,0 +1,2 @@
+int x;
+int main(void) { int *p = NULL; return p < &x; }

@@ -1,0 +1,2 @@
+int main(void) {
+int *p = malloc(0); return 0; }

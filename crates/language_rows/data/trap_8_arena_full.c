@@ -1,0 +1,2 @@
+int main(void) { for (;;) {
+int *p = malloc(1000); } }

@@ -1,0 +1,72 @@
+// The table of the rows. A line is `reads SOURCE ANSWER`, `races SOURCE ANSWER`, `weakens SOURCE ANSWER` or `replays SOURCE LOG
+// ANSWER`, where the lines of an answer stand behind each other with `; ` between.
+
+use crate::answered::{content, list_races, list_weak_locks, read_source, replay_log};
+use rr_base::{Bytes, Shelf, ShelfEnd};
+use std::alloc::{AllocError, Global};
+
+/// What going over the table comes to.
+#[derive(Drop)]
+pub enum Checked {
+    AllHold,
+    /// The lines of the rows that don't hold, each with the answer that was found.
+    Differ(String),
+}
+
+fn text_in(bytes: &Bytes) -> &str {
+    str::from_utf8(bytes.as_slice()).unwrap_or("no text")
+}
+
+// The lines of an answer on one.
+fn one_line(alloc: Global, text: &str) -> Result<String, AllocError> {
+    let mut line = String::new(alloc);
+    for (at, piece) in text.lines().enumerate() {
+        if at > 0 {
+            line.push_str("; ")?;
+        }
+        line.push_str(piece)?;
+    }
+    Ok(line)
+}
+
+fn first_word(text: &str) -> (&str, &str) {
+    text.split_once(' ').unwrap_or((text, ""))
+}
+
+// The line that a row should have.
+fn right_line<S: Shelf>(alloc: Global, shelf: &mut S, line: &str) -> Result<String, ShelfEnd> {
+    let (word, rest) = first_word(line);
+    let (name, rest) = first_word(rest);
+    let (log, _) = first_word(rest);
+    let answer = match word {
+        "reads" => read_source(alloc, shelf, name)?,
+        "races" => list_races(alloc, shelf, name)?,
+        "weakens" => list_weak_locks(alloc, shelf, name)?,
+        "replays" => replay_log(alloc, shelf, name, log)?,
+        _ => return Ok(format!(in alloc; "no such word: {word}")?),
+    };
+    let answer = one_line(alloc, text_in(&answer))?;
+    if word == "replays" {
+        Ok(format!(in alloc; "{word} {name} {log} {answer}")?)
+    } else {
+        Ok(format!(in alloc; "{word} {name} {answer}")?)
+    }
+}
+
+/// Goes over the table.
+pub fn check_table<S: Shelf>(alloc: Global, shelf: &mut S) -> Result<Checked, ShelfEnd> {
+    let table = content(alloc, shelf, "rows")?;
+    let mut differing = String::new(alloc);
+    for line in text_in(&table).lines() {
+        let right = right_line(alloc, shelf, line)?;
+        if right.as_str() != line {
+            differing.push_str(&right)?;
+            differing.push('\n')?;
+        }
+    }
+    if differing.is_empty() {
+        Ok(Checked::AllHold)
+    } else {
+        Ok(Checked::Differ(differing))
+    }
+}
