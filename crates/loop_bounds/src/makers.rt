@@ -9,7 +9,7 @@ use crate::spans::{has_one_maker, is_entered_at};
 use flow_code::{Act, Instr, LoopInfo};
 
 /// The last of the first instructions that assigns the register.
-fn last_maker(instrs: &[Instr], before: usize, register: u32) -> Option<usize>
+pub fn last_maker(instrs: &[Instr], before: usize, register: u32) -> Option<usize>
     requires { before ≤ length instrs.now }
     ensures maker { result ≡ spec.last_maker instrs.now before register }
     ensures within { IfSome result (λ q. q < before) }
@@ -68,7 +68,7 @@ pub fn maker_at(instrs: &[Instr], starts: &[bool], before: usize, register: u32)
     None
 }
 
-/// What it does.
+/// What the last instruction before the place in its block that assigns the register does.
 pub fn made_at<'a>(
     instrs: &'a [Instr],
     starts: &[bool],

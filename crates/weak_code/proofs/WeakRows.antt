@@ -20,6 +20,7 @@ use Rattle.weak_facts.specs.declared.range.Range.{Range}
 use Rattle.weak_code.specs.declared.stretch.Stretch.{Stretch}
 use Rattle.weak_code.specs.WeakLocks.{places_in, with_number, locks_of}
 use Rattle.weak_code.specs.Places.{before}
+use Rattle.weak_code.specs.Stretches.{element_base}
 use Rattle.weak_code.specs.Weakened.{weakened}
 
 -- ---- locks
@@ -133,6 +134,11 @@ whole_weakened = record (function (act.Take 0 ∷ address 1 ∷ address 3 ∷ ac
 whole_row : weakened (code_of raised) tables (access 2 x ∷ []) [] (record (grained 2) { grain = grain.Function } ∷ record (grained 4) { grain = grain.Function } ∷ []) ≡ record (code_of whole_weakened) { locks = record { site = 1; class = 0; stripes = 1 } ∷ [] }
 unfolding weakened raised whole_weakened function code_of tables address grained access at x
 whole_row = refl
+
+-- the pointer that was moved isn't the one that the text assigned last: another block may have assigned it
+branched_row : element_base (act.Branch 0 1 3 ∷ address 3 ∷ act.Jump 4 ∷ address 3 ∷ act.Compute 4 (work.Move 3 0 1 false) ∷ act.StoreCell 4 0 ∷ []) 5 4 ≡ base.Register 3
+unfolding address
+branched_row = refl
 
 -- `for (int i = 0; i < 4; i++) x[i] = i;`
 counted : Function

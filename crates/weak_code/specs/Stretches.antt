@@ -27,6 +27,7 @@ use Rattle.weak_facts.specs.declared.grain.Grain.{Grain}
 use Rattle.weak_facts.specs.declared.grain.Grain.TheVariants as grain
 use Rattle.weak_facts.specs.declared.grain.Grained.{Grained}
 use Rattle.weak_facts.specs.declared.range.Range.{Range}
+use Rattle.weak_facts.specs.Ranges.{last_maker, made_at}
 use Rattle.weak_code.specs.declared.stretch.RacyAccess.{RacyAccess}
 use Rattle.weak_code.specs.declared.stretch.Stretch.{Stretch}
 use Rattle.weak_code.specs.WeakLocks.{with_number, locks_of}
@@ -93,11 +94,6 @@ function_stretch fn (a ∷ more) = record { first = length (objects_of fn.instrs
 
 -- ---- the region of a counted loop: from its Mark on to its jump back
 
--- what the last instruction before the k-th that assigns a register does
-abbrev pub maker_before : List Instr → (k r : ℕ) → Option Act
-maker_before is zero r = None
-maker_before is (suc k) r = if assigns r (act_in (slice_get is k)) then act_in (slice_get is k) else maker_before is k r
-
 -- the register from which a moved pointer was made
 abbrev pub moved_from : Option Act → Option ℕ
 moved_from (Some (act.Compute into (work.Move pointer by element back))) = Some pointer
@@ -108,13 +104,19 @@ abbrev pub origin_of : ℕ → Option Act → Base
 origin_of r (Some (act.Compute into (work.Address w))) = base.Site (site_of w)
 origin_of r _ = base.Register r
 
-abbrev pub origin_behind : List Instr → (k through : ℕ) → Option ℕ → Base
-origin_behind is k through None = base.Register through
-origin_behind is k through (Some pointer) = origin_of pointer (maker_before is k pointer)
+-- what the q-th instruction moves: the pointer in a register, or none
+abbrev pub origin_behind : List Instr → (q through : ℕ) → Option ℕ → Base
+origin_behind is q through None = base.Register through
+origin_behind is q through (Some pointer) = origin_of pointer (made_at is q pointer)
 
--- the base B of an access B[i + shift] at the k-th instruction
+abbrev pub base_behind : List Instr → (through : ℕ) → Option ℕ → Base
+base_behind is through None = base.Register through
+base_behind is through (Some q) = origin_behind is q through (moved_from (act_in (slice_get is q)))
+
+-- the base B of an access B[i + shift] at the k-th instruction, as its range has it: that of the pointer that was moved, as
+-- it was in the block in which it was moved
 abbrev pub element_base : List Instr → (k through : ℕ) → Base
-element_base is k through = origin_behind is k through (moved_from (maker_before is k through))
+element_base is k through = base_behind is through (last_maker is k through)
 
 abbrev pub span_with : List Instr → RacyAccess → ℤ → Span
 span_with is a shift = record { base = element_base is a.instr a.through; shift = shift; locks = a.locks }

@@ -1,5 +1,5 @@
 -- The regions of a weakened function.
-use Rattle.std.proofs.Common.{◌≡◌, ℕ, zero, suc, ◌+◌, ◌-◌, ◌≤◌, ◌&&◌, Bool, true, false, ℤ, pos, List, [], ◌∷◌, ◌++◌, length, map, refl, sym, ap, ◌∙◌, subst, arith, eqb-true, leb-true, Option, Some, None, option_map}
+use Rattle.std.proofs.Common.{◌≡◌, ℕ, zero, suc, ◌+◌, ◌-◌, ◌≤◌, ◌&&◌, Bool, true, false, ℤ, pos, List, [], ◌∷◌, ◌++◌, length, map, refl, sym, ap, ◌∙◌, subst, arith, eqb-true, leb-true, Option, Some, None, option_map, option_and_then}
 use Rattle.std.specs.Prelude.{slice_get, if◌then◌else◌, nat_le, ◌==◌, int_lt}
 use Rattle.std.specs.List.{list_all, filter_map}
 use Rattle.std.proofs.lemmas.Bool.Decides.{nat_tests}
@@ -33,7 +33,8 @@ use Rattle.weak_facts.specs.declared.grain.Grain.TheVariants as grain
 use Rattle.weak_facts.specs.Loops.{nth, is_jump, adds_itself, last_part_at, condition_end, are_numbers, has_places, begins_so, tested, is_branch, raised, is_copy, is_any_copy, ends_so, has_form, keeps_numbers, is_entered_so, is_counted}
 use Rattle.weak_code.specs.declared.stretch.RacyAccess.{RacyAccess}
 use Rattle.weak_code.specs.declared.stretch.Stretch.{Stretch}
-use Rattle.weak_code.specs.Stretches.{same_grain, with_grain, all_locks, last_of, function_stretch, maker_before, moved_from, origin_of, origin_behind, element_base, span_with, span_of, spans_of, loop_stretch, loop_stretches, block_stretch, block_from, block_stretches, access_stretch, access_stretches, stretches_of}
+use Rattle.weak_facts.specs.Ranges.{last_maker, maker_at, made_at}
+use Rattle.weak_code.specs.Stretches.{same_grain, with_grain, all_locks, last_of, function_stretch, moved_from, origin_of, origin_behind, base_behind, element_base, span_with, span_of, spans_of, loop_stretch, loop_stretches, block_stretch, block_from, block_stretches, access_stretch, access_stretches, stretches_of}
 use Rattle.weak_sound.proofs.Tests.{both, two}
 use Rattle.weak_sound.proofs.OrderFits.{IsBehind, AreBehind}
 use Rattle.weak_sound.proofs.ActsFit.{function_with, code_with}
@@ -141,17 +142,20 @@ access_pointer code fn _ x h e = cc
 abbrev Does : List Instr → Act → Type 0
 Does is a = (j : ℕ) × (i : Instr) × (slice_get is j ≡ Some i) × (i.act ≡ a)
 
-maker_does : (is : List Instr) (k r : ℕ) (a : Act) → maker_before is k r ≡ Some a → Does is a × (assigns r (Some a) ≡ true)
-maker_does is zero r a h = cc
-maker_does is (suc k) r a h = go (assigns r (act_in (slice_get is k))) refl h (λ e. maker_does is k r a e)
+-- what stands at a place is what an instruction does
+does_at : (is : List Instr) (k : ℕ) (a : Act) → act_in (slice_get is k) ≡ Some a → Does is a
+does_at is k a h = by (slice_get is k) refl h
   where
-    here : (o : Option Instr) → slice_get is k ≡ o → act_in o ≡ Some a → Does is a
-    here None e h = cc
-    here (Some i) e h = (k, i, e, same_Some i.act a h)
+    by : (o : Option Instr) → slice_get is k ≡ o → act_in o ≡ Some a → Does is a
+    by None e h = cc
+    by (Some i) e h = (k, i, e, same_Some i.act a h)
 
-    go : (b : Bool) → assigns r (act_in (slice_get is k)) ≡ b → (if b then act_in (slice_get is k) else maker_before is k r) ≡ Some a → (maker_before is k r ≡ Some a → Does is a × (assigns r (Some a) ≡ true)) → Does is a × (assigns r (Some a) ≡ true)
-    go true e h rec = (here (slice_get is k) refl h, subst (λ o. assigns r o ≡ true) h e)
-    go false e h rec = rec h
+made_does : (is : List Instr) (k r : ℕ) (a : Act) → made_at is k r ≡ Some a → Does is a
+made_does is k r a h = by (maker_at is k r) h
+  where
+    by : (o : Option ℕ) → option_and_then (λ m. act_in (slice_get is m)) o ≡ Some a → Does is a
+    by None e = cc
+    by (Some m) e = does_at is m a e
 
 -- ---- the regions of one function
 
@@ -174,21 +178,24 @@ module _ (code : Code) (fns : List Function) (locks : List LockInfo) (have : Hav
       address (act.Compute into (work.Address w)) = Some w
       address _ = None
 
-  origin_fits : (r : ℕ) (o : Option Act) → has_pointer fn r ≡ true → ((a : Act) → o ≡ Some a → Does fn.instrs a × (assigns r (Some a) ≡ true)) → base_fits Weak New (origin_of r o) ≡ true
-  origin_fits r (Some (act.Compute into (work.Address w))) p d = addressed into w (d (act.Compute into (work.Address w)) refl).0
+  origin_fits : (r : ℕ) (o : Option Act) → has_pointer fn r ≡ true → ((a : Act) → o ≡ Some a → Does fn.instrs a) → base_fits Weak New (origin_of r o) ≡ true
+  origin_fits r (Some (act.Compute into (work.Address w))) p d = addressed into w (d (act.Compute into (work.Address w)) refl)
   origin_fits r _ p d = p
 
-  behind_fits : (k through : ℕ) (o : Option Act) → has_pointer fn through ≡ true → ((a : Act) → o ≡ Some a → Does fn.instrs a × (assigns through (Some a) ≡ true)) → base_fits Weak New (origin_behind fn.instrs k through (moved_from o)) ≡ true
-  behind_fits k through (Some (act.Compute into (work.Move pointer by element back))) p d =
-      let m = d (act.Compute into (work.Move pointer by element back)) refl in
-      let w = does_fit (act.Compute into (work.Move pointer by element back)) m.0 in
+  behind_fits : (q through : ℕ) (o : Option Act) → has_pointer fn through ≡ true → ((a : Act) → o ≡ Some a → Does fn.instrs a) → base_fits Weak New (origin_behind fn.instrs q through (moved_from o)) ≡ true
+  behind_fits q through (Some (act.Compute into (work.Move pointer by element back))) p d =
+      let w = does_fit (act.Compute into (work.Move pointer by element back)) (d (act.Compute into (work.Move pointer by element back)) refl) in
       let v = both (has_pointer fn into && has_pointer fn pointer && has_whole fn by) (nat_le 1 element) w in
       let u = both (has_pointer fn into && has_pointer fn pointer) (has_whole fn by) v.0 in
-      origin_fits pointer (maker_before fn.instrs k pointer) (both (has_pointer fn into) (has_pointer fn pointer) u.0).1 (λ a e. maker_does fn.instrs k pointer a e)
-  behind_fits k through _ p d = p
+      origin_fits pointer (made_at fn.instrs q pointer) (both (has_pointer fn into) (has_pointer fn pointer) u.0).1 (λ a e. made_does fn.instrs q pointer a e)
+  behind_fits q through _ p d = p
 
   element_fits : (k through : ℕ) → has_pointer fn through ≡ true → base_fits Weak New (element_base fn.instrs k through) ≡ true
-  element_fits k through p = behind_fits k through (maker_before fn.instrs k through) p (λ a e. maker_does fn.instrs k through a e)
+  element_fits k through p = by (last_maker fn.instrs k through)
+    where
+      by : (o : Option ℕ) → base_fits Weak New (base_behind fn.instrs through o) ≡ true
+      by None = p
+      by (Some q) = behind_fits q through (act_in (slice_get fn.instrs q)) p (λ a e. does_at fn.instrs q a e)
 
   fit_pointer : (a : RacyAccess) → IsFit fn (length locks) a → has_pointer fn a.through ≡ true
   fit_pointer a h = subst (λ z. has_pointer fn z ≡ true) h.through (access_pointer code fn h.instr.act h.access (acts a.instr h.instr h.at) h.is)

@@ -1,45 +1,18 @@
 // The elements that the accesses of loops touch.
 ghost use Rattle.std.specs.Prelude.{◌≡◌, ◌<◌, ◌≤◌, ℕ, [], length, Some, IfOk, OnOk, slice_index_or, All};
-ghost use Rattle.std.specs.Option.{option_copied, option_map};
-ghost use Rattle.facts.specs.Blocks as blocks;
+ghost use Rattle.std.specs.Option.{option_map};
+ghost use Rattle.facts.specs.Blocks.{AreStarts};
+ghost use Rattle.weak_facts.specs.Ranges.{made_at as made};
 ghost use Rattle.weak_code.specs.Stretches as spec;
 ghost use Rattle.weaken.specs.Tables.{with_span};
 
 use crate::grouping::{empty_groups, put};
 use flow_code::{Act, Base, Instr, Span, Work};
+use loop_bounds::{last_maker, made_at};
 use rr_base::List;
 use std::alloc::{AllocError, Global};
 use weak_code::RacyAccess;
 use weak_facts::Grain;
-
-/// Whether the instruction assigns the register.
-fn assigns(register: u32, act: &Act) -> bool
-    ensures { result ≡ blocks.assigns register (Some act.now) }
-{
-    match act {
-        Act::Compute { into, .. } | Act::Alloc { into, .. } | Act::LoadCell { into, .. } => {
-            *into == register
-        }
-        Act::Call { into, .. } | Act::Library { into, .. } => *into == Some(register),
-        _ => false,
-    }
-}
-
-/// What the last instruction before one that assigns the register does.
-fn maker_before(instrs: &[Instr], at: usize, register: u32) -> Option<&Act>
-    requires { at ≤ length instrs.now }
-    ensures { option_copied result ≡ spec.maker_before instrs.now at register }
-{
-    let mut place = at;
-    while place > 0 {
-        place -= 1;
-        let act = &instrs[place].act;
-        if assigns(register, act) {
-            return Some(act);
-        }
-    }
-    None
-}
 
 fn moved_from(act: &Act) -> Option<u32>
     ensures { result ≡ spec.moved_from (Some act.now) }
@@ -65,26 +38,31 @@ fn origin_of(register: u32, act: &Act) -> Base
     }
 }
 
-fn origin_before(instrs: &[Instr], at: usize, register: u32) -> Base
-    requires { at ≤ length instrs.now }
-    ensures { result ≡ spec.origin_of register (spec.maker_before instrs.now at register) }
+/// The base of a pointer where the instruction at the place moves it.
+fn origin_at(instrs: &[Instr], starts: &[bool], at: usize, register: u32) -> Base
+    requires starts { AreStarts instrs.now starts.now }
+    requires length { length starts.now ≡ length instrs.now }
+    requires at { at < length instrs.now }
+    ensures { result ≡ spec.origin_of register (made instrs.now at register) }
 {
-    match maker_before(instrs, at, register) {
+    match made_at(instrs, starts, at, register) {
         Some(act) => origin_of(register, act),
         None => Base::Register(register),
     }
 }
 
 /// The base of an element whose pointer is in a register.
-fn element_base(instrs: &[Instr], at: usize, through: u32) -> Base
-    requires { at ≤ length instrs.now }
+fn element_base(instrs: &[Instr], starts: &[bool], at: usize, through: u32) -> Base
+    requires starts { AreStarts instrs.now starts.now }
+    requires length { length starts.now ≡ length instrs.now }
+    requires at { at < length instrs.now }
     ensures { result ≡ spec.element_base instrs.now at through }
 {
-    let Some(act) = maker_before(instrs, at, through) else {
+    let Some(maker) = last_maker(instrs, at, through) else {
         return Base::Register(through);
     };
-    match moved_from(act) {
-        Some(pointer) => origin_before(instrs, at, pointer),
+    match moved_from(&instrs[maker].act) {
+        Some(pointer) => origin_at(instrs, starts, maker, pointer),
         None => Base::Register(through),
     }
 }
@@ -92,13 +70,16 @@ fn element_base(instrs: &[Instr], at: usize, through: u32) -> Base
 fn span_with(
     alloc: Global,
     instrs: &[Instr],
+    starts: &[bool],
     access: &RacyAccess,
     shift: i64,
 ) -> Result<Span, AllocError>
-    requires { access.now.instr < length instrs.now }
+    requires starts { AreStarts instrs.now starts.now }
+    requires length { length starts.now ≡ length instrs.now }
+    requires access { access.now.instr < length instrs.now }
     ensures { IfOk result (λ span. span ≡ spec.span_with instrs.now access.now shift) }
 {
-    let base = element_base(instrs, access.instr as usize, access.through);
+    let base = element_base(instrs, starts, access.instr as usize, access.through);
     Ok(Span {
         base,
         shift,
@@ -110,10 +91,13 @@ fn span_with(
 fn put_span(
     alloc: Global,
     instrs: &[Instr],
+    starts: &[bool],
     access: &RacyAccess,
     groups: &mut Vec<List<Span>>,
 ) -> Result<(), AllocError>
-    requires { access.now.instr < length instrs.now }
+    requires starts { AreStarts instrs.now starts.now }
+    requires length { length starts.now ≡ length instrs.now }
+    requires access { access.now.instr < length instrs.now }
     ensures len { length groups.new.items ≡ length groups.old.items }
     ensures each { OnOk result ((k : ℕ) → k < length groups.old.items → slice_index_or groups.new.items k [] ≡ with_span instrs.now k access.now (slice_index_or groups.old.items k [])) }
 {
@@ -122,7 +106,7 @@ fn put_span(
             put(
                 groups,
                 mark as usize,
-                span_with(alloc, instrs, access, shift)?,
+                span_with(alloc, instrs, starts, access, shift)?,
             )?;
         }
     }
@@ -133,16 +117,19 @@ fn put_span(
 pub(crate) fn spans_by_mark(
     alloc: Global,
     instrs: &[Instr],
+    starts: &[bool],
     accesses: &[RacyAccess],
     count: usize,
 ) -> Result<Vec<List<Span>>, AllocError>
-    requires { All (λ a. a.instr < length instrs.now) accesses.now }
+    requires starts { AreStarts instrs.now starts.now }
+    requires length { length starts.now ≡ length instrs.now }
+    requires accesses { All (λ a. a.instr < length instrs.now) accesses.now }
     ensures len { IfOk result (λ v. length v.items ≡ count) }
     ensures each { IfOk result (λ v. (k : ℕ) → k < count → slice_index_or v.items k [] ≡ spec.spans_of instrs.now k accesses.now) }
 {
     let mut groups = empty_groups(alloc, count)?;
     for access in accesses {
-        put_span(alloc, instrs, access, &mut groups)?;
+        put_span(alloc, instrs, starts, access, &mut groups)?;
     }
     Ok(groups)
 }

@@ -12,6 +12,7 @@ ghost use Rattle.weaken.specs.Tables.{grown, part_of};
 use crate::locks::put_all;
 use crate::plan::Part;
 use crate::spans::{copied_spans, spans_by_mark};
+use facts::block_starts;
 use flow_code::{Base, Function, LoopInfo, Region, Span, objects_len};
 use rr_base::List;
 use std::alloc::{AllocError, Global};
@@ -111,7 +112,8 @@ fn put_loops(
     ensures { OnOk result (stretches.new.items ≡ stretches.old.items ++ spec.loop_stretches function.now accesses.now) }
 {
     let instrs = function.instrs.as_slice();
-    let spans = spans_by_mark(alloc, instrs, accesses, instrs.len())?;
+    let starts = block_starts(alloc, instrs)?;
+    let spans = spans_by_mark(alloc, instrs, &starts, accesses, instrs.len())?;
     for counted in function.loops.as_slice() {
         put_loop(
             alloc,
