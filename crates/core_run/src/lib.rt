@@ -34,5 +34,7 @@ pub use flow::Flow;
 pub use flow_code::Phase;
 pub use laws::{law_converge, law_kept, law_machine, law_merges, law_written_merge};
 pub use outcome::{Ending, Walk};
+pub use parts::{has_object, place_of};
+pub use start::start_words;
 pub use sync_objects::{Entry, Noted, Setup};
 pub use walking::walk;

@@ -156,7 +156,7 @@ fn is_print(op: Op) -> bool
 }
 
 /// Whether the machine has the object.
-pub(crate) fn has_object(code: &Code, setup: &Setup, cells: u32, obj: ObjId) -> bool
+pub fn has_object(code: &Code, setup: &Setup, cells: u32, obj: ObjId) -> bool
     requires { cells ≡ cells_of code.now setup.now }
     ensures { result ≡ has_object_of code.now setup.now obj }
 {
@@ -168,8 +168,8 @@ pub(crate) fn has_object(code: &Code, setup: &Setup, cells: u32, obj: ObjId) -> 
     }
 }
 
-/// Where the object's word stands.
-pub(crate) fn place_of(cells: u32, obj: ObjId) -> usize
+/// Where the object's word stands among the words, of which so many are those of cells.
+pub fn place_of(cells: u32, obj: ObjId) -> usize
     ensures { result ≡ place_of_object cells obj }
 {
     let cells = cells as usize;
