@@ -7,6 +7,7 @@ use Rattle.facts.specs.Pairs.{pairs_ascend, ArePairs}
 use Rattle.facts.specs.PointsTo.{Tables, HasRegisters, IsPointsTo}
 use Rattle.facts.specs.Summaries.{AreSummaries}
 use Rattle.flow_code.specs.declared.code.Code.{Code}
+use Rattle.flow_code.specs.Constants.{constants_fit}
 use Rattle.flow_code.specs.Valid.{is_valid}
 use Rattle.weak_facts.specs.declared.grain.Grains.{Grains}
 use Rattle.weak_facts.specs.declared.range.Range.{Range}
@@ -15,6 +16,8 @@ use Rattle.weak_facts.specs.Ranges as ranges
 use Rattle.weak_facts.specs.Ranges.{ranges_of}
 use Rattle.weak_code.specs.Stripped.{is_plain}
 use Rattle.weak_code.specs.Weakened.{weakened}
+use Rattle.weak_sound.specs.Apart.{loops_are_apart}
+use Rattle.weak_ways.specs.LoopsClosed.{loops_are_closed}
 use Rattle.weaken.specs.Registers as registers
 use Rattle.lock_sound.specs.Weakened.{IsAnalysed}
 
@@ -30,10 +33,13 @@ has_registers_of_accesses code t h = record { functions = h.functions; registers
 pub ascending : (code : Code) (t : Tables) (ss : List Summary) (vs : List Pair) → ArePairs code t ss vs → pairs_ascend vs ≡ true
 ascending code t ss vs h = h.ascending
 
-pub analysed : (code : Code) (t : Tables) (ss : List Summary) (vs : List Pair) (profile : Profile) (rs : List Range) (grains : Grains) (weak : Code) → is_valid code ≡ true → is_plain code ≡ true → IsPointsTo code t → AreSummaries code ss → ArePairs code t ss vs → rs ≡ ranges_of code t → AreGrains code vs rs profile grains.rows → weak ≡ weakened code t vs rs grains.rows → IsAnalysed (record { plain = code; points = t; summaries = ss; pairs = vs; profile = profile; grains = grains; weak = weak })
-analysed code t ss vs profile rs grains weak valid plain points sums pairs r g w = record {
+pub analysed : (code : Code) (t : Tables) (ss : List Summary) (vs : List Pair) (profile : Profile) (rs : List Range) (grains : Grains) (weak : Code) → is_valid code ≡ true → is_plain code ≡ true → constants_fit code ≡ true → loops_are_apart code ≡ true → loops_are_closed code ≡ true → IsPointsTo code t → AreSummaries code ss → ArePairs code t ss vs → rs ≡ ranges_of code t → AreGrains code vs rs profile grains.rows → weak ≡ weakened code t vs rs grains.rows → IsAnalysed (record { plain = code; points = t; summaries = ss; pairs = vs; profile = profile; grains = grains; weak = weak })
+analysed code t ss vs profile rs grains weak valid plain constants apart closed points sums pairs r g w = record {
   valid = valid;
   without_locks = plain;
+  constants = constants;
+  apart = apart;
+  closed = closed;
   points = points;
   summaries = sums;
   pairs = pairs;

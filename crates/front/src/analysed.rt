@@ -2,13 +2,15 @@
 ghost use Rattle.std.specs.Prelude.{◌≡◌, ◌≤◌, ◌^◌, length, true, IfOk, IfErr};
 ghost use Rattle.flow_code.specs.Valid as validity;
 ghost use Rattle.weak_code.specs.Stripped.{is_plain};
+ghost use Rattle.weak_sound.specs.Apart.{loops_are_apart};
+ghost use Rattle.weak_ways.specs.LoopsClosed.{loops_are_closed};
 ghost use Rattle.front.specs.Plain.{IsCodeOf};
 ghost use Rattle.front.specs.Readings.{IsRefusedFor};
 
 use crate::code::plain;
 use crate::reading::CompileFault;
 use facts::Profile;
-use flow_code::Code;
+use flow_code::{Code, constants_fit};
 use grain_choice::choose;
 use lock_sound::{Weakened, copied_profile};
 use lockset_summary::summaries;
@@ -23,9 +25,12 @@ use weaken::weaken;
 fn analysed(alloc: Global, code: Code, profile: Profile) -> Result<Weakened, AllocError>
     requires valid { validity.is_valid code ≡ true }
     requires without_locks { is_plain code ≡ true }
+    requires apart { loops_are_apart code ≡ true }
+    requires closed { loops_are_closed code ≡ true }
     ensures code { IfOk result (λ w. w.plain ≡ code) }
     ensures profile { IfOk result (λ w. w.profile ≡ profile) }
 {
+    let _fit = constants_fit(&code);
     let points = solve(alloc, &code)?;
     let summaries = summaries(alloc, &code)?;
     let pairs = pairs(alloc, &code, &points, &summaries)?;
@@ -39,6 +44,8 @@ fn analysed(alloc: Global, code: Code, profile: Profile) -> Result<Weakened, All
 fn analysed_for(alloc: Global, code: Code, profile: &Profile) -> Result<Weakened, AllocError>
     requires valid { validity.is_valid code ≡ true }
     requires without_locks { is_plain code ≡ true }
+    requires apart { loops_are_apart code ≡ true }
+    requires closed { loops_are_closed code ≡ true }
     ensures code { IfOk result (λ w. w.plain ≡ code) }
     ensures profile { IfOk result (λ w. w.profile ≡ profile.now) }
 {

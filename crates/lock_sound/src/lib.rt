@@ -1,11 +1,11 @@
 //! A code with what the analyses find of it and with its weak locks, as one value which keeps that it is so. It stands on
-//! `facts`, `weak_facts` and `weak_code`.
+//! `facts`, `weak_facts`, `weak_code`, `weak_sound` and `weak_ways`.
 #![tactic(auto)]
 
 mod laws;
 mod profile;
 mod weakened;
 
-pub use laws::law_weakened_runs;
+pub use laws::{law_weakened_is_valid, law_weakened_runs};
 pub use profile::copied_profile;
 pub use weakened::Weakened;

@@ -132,7 +132,7 @@ library_pointer code fn call.Join (thread ∷ to ∷ []) into x h e =
     subst (λ z. has_pointer fn z ≡ true) t (both (has_pointer fn to) true (both (has_whole fn thread) (has_pointer fn to && true) b.1).1).0
 library_pointer code fn _ _ into x h e = cc
 
-access_pointer : (code : Code) (fn : Function) (a : Act) (x : Access) → act_fits code fn a ≡ true → access_of a ≡ Some x → has_pointer fn x.through ≡ true
+pub access_pointer : (code : Code) (fn : Function) (a : Act) (x : Access) → act_fits code fn a ≡ true → access_of a ≡ Some x → has_pointer fn x.through ≡ true
 access_pointer code fn (act.LoadCell into through) x h e = subst (λ (z : Access). has_pointer fn z.through ≡ true) (same_Some (record { store = false; through = through }) x e) (both (has_register fn into) (has_pointer fn through) h).1
 access_pointer code fn (act.StoreCell through from) x h e = subst (λ (z : Access). has_pointer fn z.through ≡ true) (same_Some (record { store = true; through = through }) x e) (both (has_pointer fn through) (has_register fn from) h).0
 access_pointer code fn (act.Library c arguments into) x h e = library_pointer code fn c arguments into x h e

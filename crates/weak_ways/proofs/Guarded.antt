@@ -75,7 +75,7 @@ in_filter {X} test x (y ∷ xs) (suc k, h) t = go (test y) (in_filter test x xs 
     go true r = (suc r.0, r.1)
     go false r = r
 
-in_filter_map : {X Y : Type 0} (f : X → Option Y) (x : X) (y : Y) (xs : List X) → In x xs → f x ≡ Some y → In y (filter_map f xs)
+pub in_filter_map : {X Y : Type 0} (f : X → Option Y) (x : X) (y : Y) (xs : List X) → In x xs → f x ≡ Some y → In y (filter_map f xs)
 in_filter_map f x y [] (k, h) e = cc
 in_filter_map {X} {Y} f x y (z ∷ xs) (zero, h) e = go (f z) (ap f (same_Some z x h) ∙ e)
   where
@@ -90,7 +90,7 @@ in_filter_map {X} {Y} f x y (z ∷ xs) (suc k, h) e = go (f z) (in_filter_map f 
 
 -- ---- the locks of some accesses
 
-number_in : (n : ℕ) (xs : List ℕ) → In n (with_number n xs)
+pub number_in : (n : ℕ) (xs : List ℕ) → In n (with_number n xs)
 number_in n [] = (0, refl)
 number_in n (x ∷ xs) = go (nat_lt x n) (x == n) refl (number_in n xs)
   where
@@ -99,7 +99,7 @@ number_in n (x ∷ xs) = go (nat_lt x n) (x == n) refl (number_in n xs)
     go false true e r = let q : x ≡ n = grind (arith, nat_tests, e) in (0, ap Some q)
     go false false e r = (0, refl)
 
-number_kept : (m n : ℕ) (xs : List ℕ) → In m xs → In m (with_number n xs)
+pub number_kept : (m n : ℕ) (xs : List ℕ) → In m xs → In m (with_number n xs)
 number_kept m n [] (k, h) = cc
 number_kept m n (x ∷ xs) h = go (nat_lt x n) (x == n) (λ k g. number_kept m n xs (k, g)) h
   where

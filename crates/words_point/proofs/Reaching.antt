@@ -31,7 +31,7 @@ kind_found : (o : Option CellKind) (want : CellKind) → is_kind o want ≡ true
 kind_found None want e = cc
 kind_found (Some k) want e = ap (λ (x : CellKind). Some x) (same_kinds k want e)
 
-of_kind_inv : (r : Result ℕ Trap) (b : Bool) (c : ℕ) → of_kind r b ≡ Ok c → (r ≡ Ok c) × (b ≡ true)
+pub of_kind_inv : (r : Result ℕ Trap) (b : Bool) (c : ℕ) → of_kind r b ≡ Ok c → (r ≡ Ok c) × (b ≡ true)
 of_kind_inv (Ok d) true c e = (e, refl)
 of_kind_inv (Ok d) false c e = cc
 of_kind_inv (Err t) b c e = cc
@@ -42,7 +42,7 @@ pub record HasCellAt (w c : ℕ) : Type 0 where
   pub within : offset_of w < length_of w
   pub is : c ≡ base_of w + offset_of w
 
-cell_inv : (w c : ℕ) → pointer.cell_of w ≡ Ok c → HasCellAt w c
+pub cell_inv : (w c : ℕ) → pointer.cell_of w ≡ Ok c → HasCellAt w c
 cell_inv w c h = at (site_of w == 0) refl h
   where
     inside : (site_of w ≡ 0 → ⊥) → (b : Bool) → nat_lt (offset_of w) (length_of w) ≡ b → (if b then Ok (base_of w + offset_of w) else Err OutOfObject) ≡ Ok c → HasCellAt w c
