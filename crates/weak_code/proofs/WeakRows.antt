@@ -136,8 +136,8 @@ unfolding weakened raised whole_weakened function code_of tables address grained
 whole_row = refl
 
 -- the pointer that was moved isn't the one that the text assigned last: another block may have assigned it
-branched_row : element_base (act.Branch 0 1 3 ∷ address 3 ∷ act.Jump 4 ∷ address 3 ∷ act.Compute 4 (work.Move 3 0 1 false) ∷ act.StoreCell 4 0 ∷ []) 5 4 ≡ base.Register 3
-unfolding address
+branched_row : element_base (map at (act.Branch 0 1 3 ∷ address 3 ∷ act.Jump 4 ∷ address 3 ∷ act.Compute 4 (work.Move 3 0 1 false) ∷ act.StoreCell 4 0 ∷ [])) 5 4 ≡ base.Register 3
+unfolding address at
 branched_row = refl
 
 -- `for (int i = 0; i < 4; i++) x[i] = i;`
