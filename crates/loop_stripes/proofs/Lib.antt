@@ -1,0 +1,11 @@
+pub mod Counting
+pub mod Elements
+pub mod Fitting
+pub mod Indexing
+pub mod Innermost
+pub mod Inward
+pub mod Ranged
+pub mod Regions
+pub mod Striped
+pub mod Walking
+pub mod Wanting
