@@ -1,0 +1,5 @@
+pub mod Alone
+pub mod Stripes
+pub mod Taken
+pub mod Walks
+pub mod Wants

@@ -1,0 +1,74 @@
+-- A way with registers is a way.
+use Rattle.std.proofs.Common.{◌≡◌, ℕ, zero, suc, ◌+◌, Bool, true, false, List, [], ◌∷◌, map, refl, sym, ap, subst, Option, Some, None}
+use Rattle.std.specs.Prelude.{slice_get, if◌then◌else◌, ◌==◌}
+use Rattle.std.specs.List.{Contains}
+use Rattle.flow_code.specs.declared.act.Act.{Act}
+use Rattle.flow_code.specs.declared.act.Act.TheVariants as act
+use Rattle.flow_code.specs.declared.act.Instr.{Instr}
+use Rattle.flow_code.specs.Next.{act_in}
+use Rattle.abstract_machine.specs.Registers.{register}
+use Rattle.loop_bounds.specs.Turns.{Setting, Goes}
+use Rattle.weak_ways.specs.Walked as walked
+use Rattle.weak_ways.specs.Walked.{Opening, closed_with, opened_with, Walked}
+use Rattle.weak_ways.specs.Ways as ways
+use Rattle.weak_ways.specs.Ways.{nexts, closed, opened_by, Way}
+use Rattle.weak_ways.proofs.Guarded.{In, in_contains}
+
+-- the numbers of open regions
+abbrev pub numbers : List Opening → List ℕ
+numbers xs = map (λ (x : Opening). x.0) xs
+
+closed_numbers : (r : ℕ) (xs : List Opening) → numbers (closed_with r xs) ≡ closed r (numbers xs)
+closed_numbers r [] = refl
+closed_numbers r (x ∷ xs) = go (x.0 == r) (closed_numbers r xs)
+  where
+    go : (b : Bool) → numbers (closed_with r xs) ≡ closed r (numbers xs) → numbers (if b then xs else x ∷ closed_with r xs) ≡ (if b then numbers xs else x.0 ∷ closed r (numbers xs))
+    go true h = refl
+    go false h = ap (λ ys. x.0 ∷ ys) h
+
+opened_numbers : (a : Act) (rs : List ℕ) (opened : List Opening) → numbers (opened_with (Some a) rs opened) ≡ opened_by a (numbers opened)
+opened_numbers (act.Take r) rs opened = refl
+opened_numbers (act.Give r) rs opened = closed_numbers r opened
+opened_numbers _ rs opened = refl
+
+one_next : (w v : ℕ) → v ≡ w → Contains (w ∷ []) v
+one_next w v e = in_contains v (w ∷ []) (0, ap Some (sym e))
+
+either_next : (b : Bool) (x y v : ℕ) → v ≡ (if b then y else x) → Contains (x ∷ y ∷ []) v
+either_next true x y v e = in_contains v (x ∷ y ∷ []) (1, ap Some (sym e))
+either_next false x y v e = in_contains v (x ∷ y ∷ []) (0, ap Some (sym e))
+
+-- where a frame goes control may be
+goes_next : (s : Setting) (a : Act) (w : ℕ) (rs : List ℕ) (v : ℕ) (qs : List ℕ) → Goes s (Some a) w rs v qs → Contains (nexts a w) v
+goes_next s (act.Return value) w rs v qs h = absurd h
+goes_next s (act.Jump to) w rs v qs h = one_next to v h.0
+goes_next s (act.Branch on x y) w rs v qs h = either_next (register rs on == 0) x y v h.0
+goes_next s _ w rs v qs h = one_next (w + 1) v h.0
+
+pub way : {s : Setting} {is : List Instr} {w : ℕ} {rs : List ℕ} {opened : List Opening} → Walked s is w rs opened → Way is w (numbers opened)
+way (walked.begins rs) = ways.begins
+way {s} {is} (walked.goes {w} {v} {rs} {qs} {opened} walk step) = by (slice_get is w) refl step (way walk)
+  where
+    by : (o : Option Instr) → slice_get is w ≡ o → Goes s (act_in o) w rs v qs → Way is w (numbers opened) → Way is v (numbers (opened_with (act_in o) rs opened))
+    by None e g h = absurd g
+    by (Some i) e g h = subst (λ os. Way is v os) (sym (opened_numbers i.act rs opened)) (ways.goes i v h e (goes_next s i.act w rs v qs g))
+
+-- ---- open regions
+
+pub in_numbers : (x : Opening) (xs : List Opening) → In x xs → In x.0 (numbers xs)
+in_numbers x [] (k, h) = cc
+in_numbers x (y ∷ xs) (zero, h) = (0, ap (λ (o : Option Opening). number_in o) h)
+  where
+    number_in : Option Opening → Option ℕ
+    number_in None = None
+    number_in (Some z) = Some z.0
+in_numbers x (y ∷ xs) (suc k, h) = let r = in_numbers x xs (k, h) in (suc r.0, r.1)
+
+pub of_closed : (x : Opening) (r : ℕ) (xs : List Opening) → In x (closed_with r xs) → In x xs
+of_closed x r [] (k, h) = cc
+of_closed x r (y ∷ xs) h = go (y.0 == r) h (λ i. of_closed x r xs i)
+  where
+    go : (b : Bool) → In x (if b then xs else y ∷ closed_with r xs) → (In x (closed_with r xs) → In x xs) → In x (y ∷ xs)
+    go true i rec = (suc i.0, i.1)
+    go false (zero, i) rec = (0, i)
+    go false (suc k, i) rec = let q = rec (k, i) in (suc q.0, q.1)

@@ -1,0 +1,7 @@
+//! The region of a function, of a block or of a single access takes the stripe of each cell that it guards. It stands on
+//! `weak_ways`.
+#![tactic(auto)]
+
+mod laws;
+
+pub use laws::law_whole_wants;
