@@ -47,14 +47,14 @@ module _ (w : Code) (s : SetupView) where
   starts_with : Thread → Phase → ℕ → Thread
   starts_with th p k = record th { phase = p; top = frame_with 0 k 0 (pos 0) []; entries = 0 }
 
-  same_start : (t : ℕ) → start_thread (strip w) s t ≡ bare w 0 (start_thread w s t)
+  pub same_start : (t : ℕ) → start_thread (strip w) s t ≡ bare w 0 (start_thread w s t)
   unfolding starts_with
   same_start zero =
       ap (λ n. starts_with (start_thread w s 0) (phase.Begun n) 0) (same_main w)
       ∙ ap (λ k. starts_with (start_thread w s 0) (phase.Begun (main_of w)) k) (sym (plain_zero (instrs_of w 0)))
   same_start (suc t) = ap (λ k. starts_with (start_thread w s (suc t)) phase.Fresh k) (sym (plain_zero (instrs_of w 0)))
 
-  starts_placed : (t : ℕ) → IsPlaced w (start_thread w s t)
+  pub starts_placed : (t : ℕ) → IsPlaced w (start_thread w s t)
   starts_placed t = record { fresh = λ e. (refl, refl); callers = λ k f e. cc }
 
 module _ (p : Program) (w plain : Code) (s : SetupView) (strips : strip w ≡ plain) (globals_are : plain.globals ≡ p.globals) (kinds_are : plain.global_kinds ≡ p.global_kinds) (each_kind : length p.global_kinds ≡ length p.globals) where
