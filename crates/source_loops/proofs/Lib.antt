@@ -1,1 +1,3 @@
+pub mod Closed
+pub mod Jumps
 pub mod Marks

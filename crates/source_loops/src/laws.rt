@@ -1,10 +1,17 @@
-//! The law of a source's loops.
+//! The laws of a source's loops.
 ghost use Rattle.std.specs.Prelude.{◌≡◌, true};
 ghost use Rattle.c_core.specs.Core.{Program};
 ghost use Rattle.flow_lower.specs.Lowered.{lowered};
 ghost use Rattle.weak_sound.specs.Apart.{loops_are_apart};
+ghost use Rattle.weak_ways.specs.LoopsClosed.{loops_are_closed};
 
 /// The Marks of the loops that a core tree's code lists ascend in each function.
 pub fn law_loops_are_apart()
     ensures { (p : Program) → loops_are_apart (lowered p) ≡ true }
+{}
+
+/// A jump from inside of a loop that a core tree's code lists goes to its inside or right behind it, and no later instruction
+/// jumps back to its Mark.
+pub fn law_loops_are_closed()
+    ensures { (p : Program) → loops_are_closed (lowered p) ≡ true }
 {}
