@@ -1,8 +1,9 @@
 -- What a range says of the pointer of its access in any turn.
-use Rattle.std.proofs.Common.{◌≡◌, ℕ, ◌≤◌, true, false, not, cond, ℤ, List, length, Some, None, refl, sym, ap, subst, ◌∙◌}
+use Rattle.std.proofs.Common.{◌≡◌, ℕ, ◌≤◌, true, false, not, cond, ℤ, List, length, Option, Some, None, refl, sym, ap, subst, ◌∙◌}
 use Rattle.std.specs.Prelude.{◌<ℤ◌}
 use Rattle.std.specs.Option.{option_and_then}
 use Rattle.flow_code.specs.declared.act.Act.{Act}
+use Rattle.flow_code.specs.declared.act.Instr.{Instr}
 use Rattle.flow_code.specs.declared.code.Code.{Code}
 use Rattle.flow_code.specs.declared.code.Function.{Function}
 use Rattle.flow_code.specs.declared.code.LoopInfo.{LoopInfo}
@@ -23,7 +24,7 @@ use Rattle.weak_code.specs.Stretches.{element_base}
 use Rattle.loop_bounds.specs.Forms.{IsBorneOut}
 use Rattle.loop_bounds.specs.Turns.{Setting, AreFit}
 use Rattle.loop_bounds.proofs.Steps.{both_true, not_true}
-use Rattle.loop_bounds.proofs.Borne.{cond_some, chained, kept_there, borne_out}
+use Rattle.loop_bounds.proofs.Borne.{cond_some, kept_there, borne_out}
 use Rattle.loop_bounds.proofs.Pointing.{IsTurn}
 use Rattle.weak_sound.proofs.RegionsFit.{counted_loop}
 use Rattle.loop_stripes.specs.Inside.{Inside}
@@ -89,27 +90,33 @@ range_parts f k l d r h =
     let e : r ≡ range f k l d = cc (h) in
     (ap (λ (z : Range). z.function) e, ap (λ (z : Range). z.instr) e, ap (λ (z : Range). z.loop_at) e, sym (ap (λ (z : Range). z.shift) e))
 
+range_made : (code : Code) (t : Tables) (f : ℕ) (is : List Instr) (k p : ℕ) (l : LoopInfo) (r : Range) → range_in code t f is k p l ≡ Some r → (m : ℕ) × (only_maker is l k p ≡ Some m) × (moved_shift is l m ≡ Some r.shift) × (r.function ≡ f) × (r.instr ≡ k) × (r.loop_at ≡ l.at)
+range_made code t f is k p l r h = maker (only_maker is l k p) refl h
+  where
+    single : (m : ℕ) (d : ℤ) → only_maker is l k p ≡ Some m → moved_shift is l m ≡ Some d → Some (range f k l d) ≡ Some r → (m : ℕ) × (only_maker is l k p ≡ Some m) × (moved_shift is l m ≡ Some r.shift) × (r.function ≡ f) × (r.instr ≡ k) × (r.loop_at ≡ l.at)
+    single m d e g h = let x = range_parts f k l d r h in (m, e, g ∙ ap (λ (z : ℤ). Some z) x.3, x.0, x.1, x.2)
+
+    moved : (m : ℕ) (o : Option ℤ) → only_maker is l k p ≡ Some m → moved_shift is l m ≡ o → option_and_then (λ d. cond (have_single_cells code (list_at t.registers f p)) (Some (range f k l d)) None) o ≡ Some r → (m : ℕ) × (only_maker is l k p ≡ Some m) × (moved_shift is l m ≡ Some r.shift) × (r.function ≡ f) × (r.instr ≡ k) × (r.loop_at ≡ l.at)
+    moved m None e g h = cc
+    moved m (Some d) e g h = single m d e g (cond_some (have_single_cells code (list_at t.registers f p)) (Some (range f k l d)) r h).1
+
+    maker : (o : Option ℕ) → only_maker is l k p ≡ o → option_and_then (λ n. option_and_then (λ d. cond (have_single_cells code (list_at t.registers f p)) (Some (range f k l d)) None) (moved_shift is l n)) o ≡ Some r → (m : ℕ) × (only_maker is l k p ≡ Some m) × (moved_shift is l m ≡ Some r.shift) × (r.function ≡ f) × (r.instr ≡ k) × (r.loop_at ≡ l.at)
+    maker None e h = cc
+    maker (Some m) e h = moved m (moved_shift is l m) e refl h
+
 pub range_of : (code : Code) (t : Tables) (f : ℕ) (fn : Function) (k : ℕ) (x : Act) (r : Range) → range_at code t f fn.instrs (counted_of fn) k x ≡ Some r → IsRangeOf f fn k x r
-range_of code t f fn k x r h =
-    let is = fn.instrs in
-    let a = chained (λ q. option_and_then (λ l. range_in code t f is k q l) (loop_round is k (counted_of fn))) (pointer_of x) r h in
-    let b = chained (λ l. range_in code t f is k a.0 l) (loop_round is k (counted_of fn)) r a.2 in
-    let q = chained (λ n. option_and_then (λ d. cond (have_single_cells code (list_at t.registers f a.0)) (Some (range f k b.0 d)) None) (moved_shift is b.0 n)) (only_maker is b.0 k a.0) r b.2 in
-    let d = chained (λ z. cond (have_single_cells code (list_at t.registers f a.0)) (Some (range f k b.0 z)) None) (moved_shift is b.0 q.0) r q.2 in
-    let y = cond_some (have_single_cells code (list_at t.registers f a.0)) (Some (range f k b.0 d.0)) r d.2 in
-    let same = range_parts f k b.0 d.0 r y.1 in
-    record {
-      through = a.0;
-      loop = b.0;
-      maker = q.0;
-      accesses = a.1;
-      round = b.1;
-      made = q.1;
-      shifts = d.1 ∙ ap (λ (z : ℤ). Some z) same.3;
-      function = same.0;
-      instr = same.1;
-      mark = same.2;
-    }
+range_of code t f fn k x r h = pointer (pointer_of x) refl h
+  where
+    found : (p : ℕ) (l : LoopInfo) → pointer_of x ≡ Some p → loop_round fn.instrs k (counted_of fn) ≡ Some l → range_in code t f fn.instrs k p l ≡ Some r → IsRangeOf f fn k x r
+    found p l e g h = let m = range_made code t f fn.instrs k p l r h in record { through = p; loop = l; maker = m.0; accesses = e; round = g; made = m.1; shifts = m.2; function = m.3; instr = m.4; mark = m.5 }
+
+    round : (p : ℕ) (o : Option LoopInfo) → pointer_of x ≡ Some p → loop_round fn.instrs k (counted_of fn) ≡ o → option_and_then (λ l. range_in code t f fn.instrs k p l) o ≡ Some r → IsRangeOf f fn k x r
+    round p None e g h = cc
+    round p (Some l) e g h = found p l e g h
+
+    pointer : (o : Option ℕ) → pointer_of x ≡ o → option_and_then (λ p. option_and_then (λ l. range_in code t f fn.instrs k p l) (loop_round fn.instrs k (counted_of fn))) o ≡ Some r → IsRangeOf f fn k x r
+    pointer None e h = cc
+    pointer (Some p) e h = round p (loop_round fn.instrs k (counted_of fn)) e refl h
 
 pub range_inside : (s : Setting) (f : ℕ) (fn : Function) (k : ℕ) (x : Act) (r : Range) (o : IsRangeOf f fn k x r) (start rs : List ℕ) → nth fn.instrs k ≡ Some x → s.pointers ≡ fn.pointers → AreFit fn.instrs (length start) → Inside s fn.instrs o.loop start k rs → IsInRange s fn.instrs start o.loop (element_base fn.instrs k o.through) r.shift (register rs o.through)
 range_inside s f fn k x r o start rs at pointers fit i =
