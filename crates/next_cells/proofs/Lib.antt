@@ -1,0 +1,11 @@
+pub mod Resting
+pub mod Joining
+pub mod Joined
+pub mod Wanting
+pub mod Naming
+pub mod Owing
+pub mod Stripes
+pub mod Found
+pub mod Allowed
+pub mod Meeting
+pub mod Settled
