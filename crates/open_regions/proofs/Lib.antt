@@ -1,0 +1,10 @@
+pub mod Walking
+pub mod Promises
+pub mod Taken
+pub mod Taking
+pub mod Giving
+pub mod Frames
+pub mod Steps
+pub mod Machines
+pub mod Wanted
+pub mod Ends
