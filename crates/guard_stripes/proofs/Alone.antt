@@ -1,10 +1,8 @@
 -- The region of a cell has one instruction.
-use Rattle.std.proofs.Common.{◌≡◌, ℕ, zero, suc, ◌+◌, Bool, true, false, if◌then◌else◌, List, [], ◌∷◌, ◌++◌, map, refl, ap, ◌∙◌, Some, None}
-use Rattle.std.specs.Prelude.{slice_get}
+use Rattle.std.proofs.Common.{◌≡◌, ℕ, ◌+◌, Bool, true, false, if◌then◌else◌, List, [], ◌∷◌, ◌++◌, map, refl, ap, ◌∙◌, Some, None}
 use Rattle.flow_code.specs.declared.code.Function.{Function}
 use Rattle.flow_code.specs.declared.code.LoopInfo.{LoopInfo}
 use Rattle.flow_code.specs.declared.region.Base.{Base}
-use Rattle.flow_code.specs.declared.region.Region.{Region}
 use Rattle.flow_code.specs.declared.region.Region.TheVariants as region
 use Rattle.flow_code.specs.declared.region.Span.{Span}
 use Rattle.weak_facts.specs.declared.grain.Grain.TheVariants as grain
@@ -45,9 +43,3 @@ all_short fn own =
     each_append IsShort (function_stretch fn (with_grain grain.Function own)) (loop_stretches fn own ++ (block_stretches own ++ access_stretches own)) (function_short fn (with_grain grain.Function own))
     (each_append IsShort (loop_stretches fn own) (block_stretches own ++ access_stretches own) loops
     (each_append IsShort (block_stretches own) (access_stretches own) blocks (accesses_short (with_grain grain.Instruction own))))
-
--- the region at a place among those of stretches
-pub region_at : (ts : List Stretch) (k : ℕ) (r : Region) → slice_get (map (λ (z : Stretch). z.region) ts) k ≡ Some r → (t : Stretch) × (slice_get ts k ≡ Some t) × (t.region ≡ r)
-region_at [] k r h = cc
-region_at (t ∷ ts) zero r h = (t, refl, same_Some t.region r h)
-region_at (t ∷ ts) (suc k) r h = region_at ts k r h

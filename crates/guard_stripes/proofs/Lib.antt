@@ -1,5 +1,4 @@
 pub mod Alone
 pub mod Stripes
 pub mod Taken
-pub mod Walks
 pub mod Wants

@@ -1,9 +1,8 @@
 -- The stripe that guards a cell is one of its lock's.
-use Rattle.std.proofs.Common.{◌≡◌, ℕ, zero, suc, ◌*◌, ◌/◌, ◌<◌, ◌&&◌, ◌||◌, Bool, true, false, if◌then◌else◌, List, [], ◌∷◌, refl, ap, arith, Option, Some, None, ◌⊎◌, inl, inr}
+use Rattle.std.proofs.Common.{◌≡◌, ℕ, zero, suc, ◌*◌, ◌/◌, ◌<◌, ◌&&◌, Bool, true, false, if◌then◌else◌, List, [], ◌∷◌, refl, arith, Option, Some, None, ◌⊎◌, inl, inr}
 use Rattle.std.specs.Prelude.{slice_get, nat_lt, ◌==◌, not}
 use Rattle.std.proofs.lemmas.Bool.{lt-ltb}
 use Rattle.std.proofs.lemmas.Bool.Decides.{nat_tests}
-use Rattle.std.proofs.lemmas.Option.{same_Some}
 use Rattle.std.proofs.Math.Nat.{div-lt_iff_lt-mul}
 use Rattle.rr_base.specs.Words.{site_of, length_of, offset_of}
 use Rattle.rr_base.specs.declared.layout.Place.{Place}
@@ -17,18 +16,10 @@ use Rattle.weak_facts.specs.declared.grain.Grained.{Grained}
 use Rattle.weak_code.specs.WeakLocks.{is_striped, locks_for}
 use Rattle.weak_sound.proofs.Tests.{both}
 use Rattle.weak_ways.proofs.Guarded.{In}
+use Rattle.weak_ways.proofs.Nested.{any_at}
 
 pub among_in : (n : ℕ) (locks : List ℕ) → In n locks → among locks n ≡ true
-among_in n [] (k, h) = cc
-among_in n (x ∷ xs) (zero, h) = let q = same_Some x n h in ap (λ b. b || among xs n) (same x q)
-  where
-    same : (x : ℕ) → x ≡ n → (x == n) ≡ true
-    same x q = grind (arith, nat_tests, q)
-among_in n (x ∷ xs) (suc k, h) = any (x == n) (among xs n) (among_in n xs (k, h))
-  where
-    any : (b c : Bool) → c ≡ true → (b || c) ≡ true
-    any true c h = refl
-    any false c h = h
+among_in n locks h = any_at (λ k. k == n) locks h.0 n h.1 (grind (arith, nat_tests))
 
 -- one or eight stripes
 abbrev HasStripes : Option LockInfo → Type 0

@@ -1,6 +1,6 @@
 -- A region of one access alone is taken with the registers that the access has.
-use Rattle.std.proofs.Common.{◌≡◌, ℕ, zero, suc, ◌+◌, ◌≤◌, Bool, true, false, not, List, [], ◌∷◌, length, refl, sym, ap, ◌∙◌, subst, arith, Option, Some, None}
-use Rattle.std.specs.Prelude.{slice_get, if◌then◌else◌, nat_le, ◌==◌}
+use Rattle.std.proofs.Common.{◌≡◌, ℕ, zero, suc, ◌+◌, ◌≤◌, Bool, true, false, not, List, [], length, refl, sym, ap, ◌∙◌, subst, arith, Option, Some, None}
+use Rattle.std.specs.Prelude.{slice_get, if◌then◌else◌, nat_le}
 use Rattle.std.proofs.lemmas.Bool.Decides.{nat_tests}
 use Rattle.std.proofs.lemmas.Option.{same_Some, slice_get_within}
 use Rattle.flow_code.specs.declared.act.Act.{Act}
@@ -21,50 +21,18 @@ use Rattle.weak_sound.proofs.Tests.{both}
 use Rattle.weak_ways.specs.Guards.{IsSeat}
 use Rattle.weak_ways.specs.Ways.{Way}
 use Rattle.weak_ways.specs.Walked as walked
-use Rattle.weak_ways.specs.Walked.{Opening, closed_with, opened_with, Walked}
+use Rattle.weak_ways.specs.Walked.{Opening, opened_with, Walked}
 use Rattle.weak_ways.proofs.Guarded.{In}
 use Rattle.weak_ways.proofs.Nested.{IsIn}
 use Rattle.weak_ways.proofs.Passing.{AreNested, Here, at_weak, at_plain, standing, along}
 use Rattle.weak_ways.proofs.Standing.{times, has_test, returns, stays}
-use Rattle.guard_stripes.proofs.Walks.{numbers, way, in_numbers, of_closed}
+use Rattle.weak_ways.proofs.Walks.{numbers, way, weak_goes, in_numbers, of_closed, in_times, plain_opened, plain_next}
 
 differ : (b : Bool) → b ≡ true → b ≡ false → ⊥
 differ true p q = cc
 differ false p q = cc
 
--- ---- places
-
-plain_zero : (is : List Instr) → plain_of is 0 ≡ 0
-plain_zero [] = refl
-plain_zero (i ∷ is) = refl
-
-plain_next : (is : List Instr) (w : ℕ) (i : Instr) → slice_get is w ≡ Some i → plain_of is (w + 1) ≡ (if is_weak i.act then plain_of is w else suc (plain_of is w))
-plain_next [] w i h = cc
-plain_next (x ∷ is) zero i h = ap (λ n. if is_weak x.act then n else suc n) (plain_zero is) ∙ ap (λ (y : Instr). if is_weak y.act then 0 else 1) (same_Some x i h)
-plain_next (x ∷ is) (suc w) i h =
-    let e : suc w + 1 ≡ suc (w + 1) = omega arith in
-    ap (plain_of (x ∷ is)) e ∙ ap (λ n. if is_weak x.act then n else suc n) (plain_next is w i h) ∙ go (is_weak x.act) (is_weak i.act)
-  where
-    go : (b c : Bool) → (if b then (if c then plain_of is w else suc (plain_of is w)) else suc (if c then plain_of is w else suc (plain_of is w))) ≡ (if c then (if b then plain_of is w else suc (plain_of is w)) else suc (if b then plain_of is w else suc (plain_of is w)))
-    go true true = refl
-    go true false = refl
-    go false true = refl
-    go false false = refl
-
 -- ---- steps
-
-in_times : (r : ℕ) (xs : List ℕ) → In r xs → 1 ≤ times r xs
-in_times r [] (k, h) = cc
-in_times r (x ∷ xs) (zero, h) = go (x == r) (let q = same_Some x r h in grind (arith, nat_tests, q))
-  where
-    go : (b : Bool) → b ≡ true → 1 ≤ (if b then suc (times r xs) else times r xs)
-    go true e = omega arith
-    go false e = cc
-in_times r (x ∷ xs) (suc k, h) = go (x == r) (in_times r xs (k, h))
-  where
-    go : (b : Bool) → 1 ≤ times r xs → 1 ≤ (if b then suc (times r xs) else times r xs)
-    go true l = omega arith
-    go false l = l
 
 some_times : (b : Bool) → 1 ≤ (if b then 1 else 0) → b ≡ true
 some_times true l = refl
@@ -73,21 +41,11 @@ some_times false l = absurd (omega (arith, l))
 covered_in : (k : ℕ) (t : Stretch) → covers k t ≡ true → IsIn t k
 covered_in k t h = let b = both (nat_le t.first k) (nat_le k t.last) h in (grind (arith, nat_tests, b.0), grind (arith, nat_tests, b.1))
 
-plain_opened : (a : Act) (rs : List ℕ) (opened : List Opening) → is_weak a ≡ false → opened_with (Some a) rs opened ≡ opened
-plain_opened (act.Take r) rs opened h = cc
-plain_opened (act.Give r) rs opened h = cc
-plain_opened _ rs opened h = refl
-
 access_goes : (s : Setting) (to : ℕ → ℕ) (a : Act) (x : Access) (w v : ℕ) (rs qs : List ℕ) → access_of a ≡ Some x → Goes s (Some (retarget to a)) w rs v qs → v ≡ w + 1
 access_goes s to (act.LoadCell into through) x w v rs qs h g = g.0
 access_goes s to (act.StoreCell through from) x w v rs qs h g = g.0
 access_goes s to (act.Library c arguments into) x w v rs qs h g = g.0
 access_goes s to _ x w v rs qs h g = cc
-
-weak_next : (s : Setting) (a : Act) (w v : ℕ) (rs qs : List ℕ) → is_weak a ≡ true → Goes s (Some a) w rs v qs → v ≡ w + 1
-weak_next s (act.Take r) w v rs qs t g = g.0
-weak_next s (act.Give r) w v rs qs t g = g.0
-weak_next s _ w v rs qs t g = cc
 
 -- ---- one function
 
@@ -153,7 +111,7 @@ module _ (fn : Function) (ss : List Stretch) (plain : ArePlain (length fn.instrs
         go : (b : Bool) → is_weak j.act ≡ b → y.1 ≡ qs
         go true t =
             let place : v ≡ w + 1 → plain_of Weak w ≡ k = λ n. sym (ap (plain_of Weak) n ∙ plain_next Weak w j e ∙ ap (λ b. if b then plain_of Weak w else suc (plain_of Weak w)) t) ∙ p in
-            let next : v ≡ w + 1 = weak_next s j.act w v rs qs t g in
+            let next : v ≡ w + 1 = (weak_goes s j.act w v rs qs t g).0 in
             weak_step j.act w v rs qs opened y t g (λ i. rec (place next) y i alone) c
         go false t =
             let q = plain_step j w v rs qs opened y e t path g (subst (In y) (plain_opened j.act rs opened t) c) alone in

@@ -1,11 +1,10 @@
 -- The region of a function, a block or a single access takes the stripe of the accessed cell.
-use Rattle.std.proofs.Common.{◌≡◌, ℕ, zero, suc, ◌+◌, true, false, List, [], ◌∷◌, length, sym, ap, ◌∙◌, subst, arith, Some}
+use Rattle.std.proofs.Common.{◌≡◌, ℕ, ◌+◌, true, false, List, length, sym, ap, ◌∙◌, subst, arith, Some}
 use Rattle.std.specs.Prelude.{slice_get, nat_lt}
 use Rattle.std.specs.List.{Contains}
 use Rattle.std.proofs.lemmas.Bool.{and_from}
 use Rattle.std.proofs.lemmas.Option.{same_Some}
 use Rattle.rr_base.specs.Words.{offset_of}
-use Rattle.rr_base.specs.declared.layout.Place.{Place}
 use Rattle.abstract_machine.specs.Pointers.{known}
 use Rattle.abstract_machine.specs.Registers.{register}
 use Rattle.flow_code.specs.declared.code.Code.{Code}
@@ -24,31 +23,24 @@ use Rattle.weak_facts.specs.Grains.{AreGrains}
 use Rattle.weak_facts.specs.Ranges.{ranges_of}
 use Rattle.loop_bounds.specs.Turns.{Setting}
 use Rattle.weak_code.specs.declared.stretch.RacyAccess.{RacyAccess}
+use Rattle.weak_code.specs.declared.stretch.Stretch.{Stretch}
 use Rattle.weak_code.specs.Stretches.{racy_accesses, stretches_of}
 use Rattle.weak_code.specs.WeakLocks.{places_in, locks_for}
-use Rattle.weak_code.specs.Weakened.{with_stretches, weakened_function, weakened_functions, weakened}
+use Rattle.weak_code.specs.Weakened.{with_stretches, weakened_function, weakened}
 use Rattle.weak_code.specs.Stripped.{is_plain}
 use Rattle.weak_sound.specs.Apart.{loops_are_apart}
 use Rattle.weak_sound.proofs.Accesses.{each_at, IsFit, accesses_fit}
 use Rattle.weak_sound.proofs.CountedLoops.{loops_are_counted}
+use Rattle.weak_sound.proofs.Tests.{got_map}
 use Rattle.weak_ways.specs.LoopsClosed.{loops_are_closed}
 use Rattle.weak_ways.specs.Guards.{IsSeat, Guards}
 use Rattle.weak_ways.specs.Walked.{Opening, Walked}
-use Rattle.weak_ways.proofs.Covered.{IsReady, plain_here, order_here, nested_here}
+use Rattle.weak_ways.proofs.Covered.{IsReady, plain_here, order_here, nested_here, weakened_at}
 use Rattle.weak_ways.proofs.Guarded.{contains_in}
 use Rattle.guard_stripes.specs.Ranged.{is_ranged}
-use Rattle.guard_stripes.proofs.Alone.{IsShort, all_short, region_at}
+use Rattle.guard_stripes.proofs.Alone.{IsShort, all_short}
 use Rattle.guard_stripes.proofs.Stripes.{among_in, stripe_is}
 use Rattle.guard_stripes.proofs.Taken.{taken_now}
-
-weakened_at : (code : Code) (t : Tables) (locked : List Place) (rs : List Range) (rows : List Grained) (n : ℕ) (fns : List Function) (k : ℕ) (fn g : Function) → slice_get fns k ≡ Some fn → slice_get (weakened_functions code t locked rs rows n fns) k ≡ Some g → weakened_function code t locked rs rows (n + k) fn ≡ g
-weakened_at code t locked rs rows n [] k fn g h i = cc
-weakened_at code t locked rs rows n (y ∷ fns) zero fn g h i =
-    let e : n + 0 ≡ n = omega arith in
-    ap (λ m. weakened_function code t locked rs rows m fn) e ∙ ap (weakened_function code t locked rs rows n) (sym (same_Some y fn h)) ∙ same_Some (weakened_function code t locked rs rows n y) g i
-weakened_at code t locked rs rows n (y ∷ fns) (suc k) fn g h i =
-    let e : n + suc k ≡ (n + 1) + k = omega arith in
-    ap (λ m. weakened_function code t locked rs rows m fn) e ∙ weakened_at code t locked rs rows (n + 1) fns k fn g h i
 
 module _ (code : Code) (t : Tables) (vs : List Pair) (rs : List Range) (profile : Profile) (rows : List Grained) (ready : IsReady code t vs rs profile rows) (f : ℕ) (fn : Function) (at : slice_get code.functions f ≡ Some fn) (a : RacyAccess) (own : Contains (racy_accesses code t (places_in vs) rs rows f) a) where
   abbrev Own : List RacyAccess
@@ -57,8 +49,8 @@ module _ (code : Code) (t : Tables) (vs : List Pair) (rs : List Range) (profile 
   -- the region of an access alone has the registers of the access
   same_registers : (w : ℕ) (s : Setting) (registers : List ℕ) (opened : List Opening) (x : Opening) (from : Base) (locks : List ℕ) → let weak = with_stretches fn (stretches_of fn Own) in IsSeat weak.instrs w a.instr → Walked s weak.instrs w registers opened → Contains opened x → slice_get weak.regions x.0 ≡ Some (region.Cell from locks) → x.1 ≡ registers
   same_registers w s registers opened x from locks seat walk c g =
-      let q = region_at (stretches_of fn Own) x.0 (region.Cell from locks) g in
-      let short : q.0.first ≡ q.0.last = each_at IsShort (stretches_of fn Own) x.0 q.0 (all_short fn Own) q.1 from locks q.2 in
+      let q = got_map (λ (z : Stretch). z.region) (stretches_of fn Own) x.0 (region.Cell from locks) g in
+      let short : q.0.first ≡ q.0.last = each_at IsShort (stretches_of fn Own) x.0 q.0 (all_short fn Own) q.1 from locks (sym q.2) in
       let h = contains_in a Own own in
       let fit = each_at (IsFit fn (length (places_in vs))) Own h.0 a (accesses_fit code t (places_in vs) rs rows (loops_are_counted code t vs rs profile rows ready.apart ready.ranges ready.grains) f fn at) h.1 in
       taken_now fn (stretches_of fn Own) (plain_here code t vs rs profile rows ready f fn at) (order_here code t vs rs profile rows ready f fn at) (nested_here code t vs rs profile rows ready f fn at) s a.instr fit.instr fit.access fit.at fit.is w registers opened x q.0 walk seat (contains_in x opened c) q.1 short
@@ -85,5 +77,7 @@ pub whole_wants : (code : Code) (t : Tables) (vs : List Pair) (rs : List Range) 
 unfolding weakened
 whole_wants code t vs rs profile rows v p apart closed ranges grains f fn weak a w s registers opened at g c seat walk =
     let z : 0 + f ≡ f = omega arith in
-    let e : weakened_function code t (places_in vs) rs rows f fn ≡ weak = ap (λ m. weakened_function code t (places_in vs) rs rows m fn) (sym z) ∙ weakened_at code t (places_in vs) rs rows 0 code.functions f fn weak at g in
+    let r = weakened_at code t (places_in vs) rs rows 0 code.functions f weak g in
+    let q : r.0 ≡ fn = same_Some r.0 fn (sym r.1 ∙ at) in
+    let e : weakened_function code t (places_in vs) rs rows f fn ≡ weak = sym (r.2 ∙ ap (λ m. weakened_function code t (places_in vs) rs rows m r.0) z ∙ ap (weakened_function code t (places_in vs) rs rows f) q) in
     wants_here code t vs rs profile rows (record { valid = v; plain = p; apart = apart; closed = closed; ranges = ranges; grains = grains }) f fn at a c weak w s registers opened (sym e) seat walk

@@ -37,7 +37,7 @@ use Rattle.loop_bounds.proofs.Making.{IsMade, made, IsConstant, constant_made, c
 
 -- ---- numbers
 
-fits_signed : (z : ℤ) → fits z ≡ true → FitsSigned w64 z
+pub fits_signed : (z : ℤ) → fits z ≡ true → FitsSigned w64 z
 fits_signed (pos n) h = record { sfits = ltb-true n (2 ^ 63) h }
 fits_signed (negsuc n) h = record { sfits = ltb-true n (2 ^ 63) h }
 
@@ -105,7 +105,7 @@ mark_target : (is : List Instr) (l : LoopInfo) → IsBorneOut is l → is_target
 mark_target is l b = targeted is (l.last + 1) l.at (act.Jump l.at) b.jumps_back (eq-eqb l.at l.at refl)
 
 -- a maker in a block of the loop stands behind the Mark
-behind_mark : (is : List Instr) (l : LoopInfo) → IsBorneOut is l → (k r m : ℕ) → IsMade is k r m → l.at < k → l.at < m
+pub behind_mark : (is : List Instr) (l : LoopInfo) → IsBorneOut is l → (k r m : ℕ) → IsMade is k r m → l.at < k → l.at < m
 behind_mark is l b k r m x lt =
     let le : l.at ≤ m = behind_target is k r m l.at x (mark_target is l b) (omega arith) in
     ⊎_elim (λ h. h) (λ o. let e : m ≡ l.at = omega arith in let a : assigns r (nth is l.at) ≡ true = subst (λ n. assigns r (nth is n) ≡ true) e x.makes in let n : assigns r (nth is l.at) ≡ false = ap (λ z. assigns r z) b.marks in cc) (cases_lt l.at m)
@@ -145,7 +145,7 @@ shift_made s is l start t m u d (Some (act.Compute into (work.Binary op.Subtract
 shift_made s is l start t m u d _ lt le a e h j ps qs c g = cc
 
 -- the index is the counter and the shift
-index_word : (s : Setting) (is : List Instr) (l : LoopInfo) (start : List ℕ) → IsTurn s is l start → (k u : ℕ) (d : ℤ) → l.at < k → k ≤ l.last - 1 → shift_at is l.counter k u ≡ Some d → (rs : List ℕ) → Comes s is l.at start k rs → IsShifted start l d (register rs u)
+pub index_word : (s : Setting) (is : List Instr) (l : LoopInfo) (start : List ℕ) → IsTurn s is l start → (k u : ℕ) (d : ℤ) → l.at < k → k ≤ l.last - 1 → shift_at is l.counter k u ≡ Some d → (rs : List ℕ) → Comes s is l.at start k rs → IsShifted start l d (register rs u)
 index_word s is l start t k u d lt le h rs c = by (u == l.counter) refl h
   where
     by : (b : Bool) → (u == l.counter) ≡ b → cond b (Some (pos 0)) (made_shift is l.counter k u) ≡ Some d → IsShifted start l d (register rs u)
@@ -162,7 +162,7 @@ index_word s is l start t k u d lt le h rs c = by (u == l.counter) refl h
 
 -- ---- the base
 
-address_word : (s : Setting) (ps : List ℕ) (w v : ℕ) → Gives s ps (work.Address w) v → v ≡ based s.slots w
+pub address_word : (s : Setting) (ps : List ℕ) (w v : ℕ) → Gives s ps (work.Address w) v → v ≡ based s.slots w
 address_word s ps w v x = cc (x.gives)
 
 base_word : (s : Setting) (is : List Instr) (l : LoopInfo) (start : List ℕ) → IsTurn s is l start → (k r : ℕ) (b : Base) → l.at < k → k ≤ l.last - 1 → base_at is l k r ≡ Some b → (rs : List ℕ) → Comes s is l.at start k rs → IsBaseWord s start b (register rs r)
@@ -188,7 +188,7 @@ base_word s is l start t k r b lt le h rs c = at_it (made_at is k r) refl h
 
 -- ---- the pointer
 
-moved_act : (a : Option Act) (m : ℕ × ℕ) → moved_of a ≡ Some m → (into : ℕ) × (a ≡ Some (act.Compute into (work.Move m.0 m.1 1 false)))
+pub moved_act : (a : Option Act) (m : ℕ × ℕ) → moved_of a ≡ Some m → (into : ℕ) × (a ≡ Some (act.Compute into (work.Move m.0 m.1 1 false)))
 moved_act (Some (act.Compute into (work.Move pointer by element false))) m h =
     let x = cond_some (element == 1) (Some (pointer, by)) m h in
     let e : element ≡ 1 = eqb-true element 1 x.0 in
@@ -203,7 +203,7 @@ moved_act (Some (act.Compute into (work.Move pointer by element false))) m h =
     pair_second p q w = let v : p ≡ q = cc (w) in ap (λ z. z.1) v
 moved_act _ m h = cc
 
-single : (z : ℤ) → directed false z *ℤ pos 1 ≡ z
+pub single : (z : ℤ) → directed false z *ℤ pos 1 ≡ z
 unfolding lib.IntN.one
 single z = *ℤ-one z
 
@@ -218,7 +218,7 @@ moved_word s is l start t q p d m b lt le a mv bs sh j ps qs c g =
       moves = ap (λ z. moved_by s.sites (register ps m.0) z) (sym (single (number (register ps m.1)) ∙ index)) ∙ w.gives;
     }
 
-accesses : (a : Option Act) (p : ℕ) → option_and_then pointer_of a ≡ Some p → (s : Setting) (k j : ℕ) (rs qs : List ℕ) → Goes s a k rs j qs → j ≡ k + 1
+pub accesses : (a : Option Act) (p : ℕ) → option_and_then pointer_of a ≡ Some p → (s : Setting) (k j : ℕ) (rs qs : List ℕ) → Goes s a k rs j qs → j ≡ k + 1
 accesses (Some (act.LoadCell into through)) p h s k j rs qs g = g.0
 accesses (Some (act.StoreCell through from)) p h s k j rs qs g = g.0
 accesses _ p h s k j rs qs g = cc

@@ -66,14 +66,14 @@ mark_below is k (suc m) n h = go (begins_round is k m) h (λ e. mark_below is k 
     go true h rec = omega (arith, same_Some m n h)
     go false h rec = omega (arith, rec h)
 
-innermost_in : (is : List Instr) (k : ℕ) (l : LoopInfo) → is_innermost is k l ≡ true → (l.at < k) × (k ≤ l.last)
+pub innermost_in : (is : List Instr) (k : ℕ) (l : LoopInfo) → is_innermost is k l ≡ true → (l.at < k) × (k ≤ l.last)
 innermost_in is k l h = let b = both (nat_le k l.last) (is_number l.at (mark_before is k k)) h in (number (mark_before is k k) refl b.1, grind (arith, nat_tests, b.0))
   where
     number : (o : Option ℕ) → mark_before is k k ≡ o → is_number l.at o ≡ true → l.at < k
     number None e h = cc
     number (Some m) e h = let q : m ≡ l.at = grind (arith, nat_tests, h) in omega (arith, mark_below is k k m e, q)
 
-round_listed : (is : List Instr) (k : ℕ) (ls : List LoopInfo) (l : LoopInfo) → loop_round is k ls ≡ Some l → (j : ℕ) × (slice_get ls j ≡ Some l) × (is_innermost is k l ≡ true)
+pub round_listed : (is : List Instr) (k : ℕ) (ls : List LoopInfo) (l : LoopInfo) → loop_round is k ls ≡ Some l → (j : ℕ) × (slice_get ls j ≡ Some l) × (is_innermost is k l ≡ true)
 round_listed is k [] l h = cc
 round_listed is k (x ∷ ls) l h = go (is_innermost is k x && calls_nothing (loop_code is x)) refl h (λ e. round_listed is k ls l e)
   where

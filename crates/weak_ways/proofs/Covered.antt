@@ -62,7 +62,7 @@ one_open r (x ∷ xs) h = go (x == r) refl h (λ e. one_open r xs e)
     go true e h rec = let q : x ≡ r = grind (arith, nat_tests, e) in (0, ap Some q)
     go false e h rec = let q = rec h in (suc q.0, q.1)
 
-not_open : (r : ℕ) (xs : List ℕ) → times r xs ≡ 0 → In r xs → ⊥
+pub not_open : (r : ℕ) (xs : List ℕ) → times r xs ≡ 0 → In r xs → ⊥
 not_open r [] z (k, h) = cc
 not_open r (x ∷ xs) z (zero, h) = bad (x == r) (let q = same_Some x r h in grind (arith, nat_tests, q)) z
   where
@@ -163,7 +163,7 @@ module _ (fn : Function) (ss : List Stretch) (plain : ArePlain (length fn.instrs
 
 -- ---- the code
 
-weakened_at : (code : Code) (t : Tables) (locked : List Place) (rs : List Range) (rows : List Grained) (n : ℕ) (fns : List Function) (k : ℕ) (g : Function) → slice_get (weakened_functions code t locked rs rows n fns) k ≡ Some g → (fn : Function) × (slice_get fns k ≡ Some fn) × (g ≡ weakened_function code t locked rs rows (n + k) fn)
+pub weakened_at : (code : Code) (t : Tables) (locked : List Place) (rs : List Range) (rows : List Grained) (n : ℕ) (fns : List Function) (k : ℕ) (g : Function) → slice_get (weakened_functions code t locked rs rows n fns) k ≡ Some g → (fn : Function) × (slice_get fns k ≡ Some fn) × (g ≡ weakened_function code t locked rs rows (n + k) fn)
 weakened_at code t locked rs rows n [] k g h = cc
 weakened_at code t locked rs rows n (fn ∷ fns) zero g h = let e : n ≡ n + 0 = omega arith in (fn, refl, sym (same_Some (weakened_function code t locked rs rows n fn) g h) ∙ ap (λ m. weakened_function code t locked rs rows m fn) e)
 weakened_at code t locked rs rows n (fn ∷ fns) (suc k) g h = let r = weakened_at code t locked rs rows (n + 1) fns k g h in let e : (n + 1) + k ≡ n + suc k = omega arith in (r.0, r.1, r.2 ∙ ap (λ m. weakened_function code t locked rs rows m r.0) e)

@@ -30,7 +30,7 @@ last_some p n m (x ∷ xs) h = go (p x) h (λ k e. last_some p (n + 1) k xs e)
     go true h rec = rec n h
     go false h rec = rec m h
 
-last_none : {X : Type 0} (p : X → Bool) (n : ℕ) (o : Option ℕ) (xs : List X) → last_place p n o xs ≡ None → many p xs ≡ 0
+pub last_none : {X : Type 0} (p : X → Bool) (n : ℕ) (o : Option ℕ) (xs : List X) → last_place p n o xs ≡ None → many p xs ≡ 0
 last_none p n o [] h = refl
 last_none p n o (x ∷ xs) h = go (p x) refl h (λ e. last_none p (n + 1) o xs e)
   where

@@ -82,7 +82,7 @@ none_many : {X : Type 0} (p : X → Bool) (xs : List X) → ((x : X) → In x xs
 none_many p [] h = refl
 none_many p (x ∷ xs) h = ap (λ b. if b then suc (many p xs) else many p xs) (h x (0, refl)) ∙ none_many p xs (λ y i. h y (suc i.0, i.1))
 
-some_many : {X : Type 0} (p : X → Bool) (xs : List X) (x : X) → In x xs → p x ≡ true → 1 ≤ many p xs
+pub some_many : {X : Type 0} (p : X → Bool) (xs : List X) (x : X) → In x xs → p x ≡ true → 1 ≤ many p xs
 some_many p [] x (k, h) t = cc
 some_many p (y ∷ xs) x (zero, h) t = let e : p y ≡ true = ap p (same_Some y x h) ∙ t in omega (arith, ap (λ b. if b then suc (many p xs) else many p xs) e)
 some_many p (y ∷ xs) x (suc k, h) t = go (p y) (some_many p xs x (k, h) t)

@@ -11,3 +11,4 @@ pub mod Spread
 pub mod Standing
 pub mod Takings
 pub mod Threads
+pub mod Walks

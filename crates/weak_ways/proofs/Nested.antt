@@ -406,7 +406,7 @@ jump_target (act.Branch on then_at else_at) j (inr e) = let t : (else_at == j) �
     any false = refl
 jump_target _ j e = absurd e
 
-any_at : {X : Type 0} (p : X → Bool) (xs : List X) (k : ℕ) (x : X) → slice_get xs k ≡ Some x → p x ≡ true → list_any p xs ≡ true
+pub any_at : {X : Type 0} (p : X → Bool) (xs : List X) (k : ℕ) (x : X) → slice_get xs k ≡ Some x → p x ≡ true → list_any p xs ≡ true
 any_at p [] k x h e = cc
 any_at p (y ∷ ys) zero x h e = let t : p y ≡ true = ap p (same_Some y x h) ∙ e in ap (λ b. b || list_any p ys) t
 any_at p (y ∷ ys) (suc k) x h e = ap (λ b. p y || b) (any_at p ys k x h e) ∙ any (p y)

@@ -28,7 +28,7 @@ fresh_of th xs = record { frame = length th.below; instr = th.top.instr; stripes
 last_index : {X : Type 0} (xs : List X) (x : X) → length (xs ++ x ∷ []) - 1 ≡ length xs
 last_index xs x = omega (arith, length_more xs x)
 
-last_item : {X : Type 0} (xs : List X) (x : X) → slice_get (xs ++ x ∷ []) (length (xs ++ x ∷ []) - 1) ≡ Some x
+pub last_item : {X : Type 0} (xs : List X) (x : X) → slice_get (xs ++ x ∷ []) (length (xs ++ x ∷ []) - 1) ≡ Some x
 last_item xs x = ap (slice_get (xs ++ x ∷ [])) (last_index xs x) ∙ at_end xs x
 
 module _ (code : Code) where
