@@ -29,7 +29,7 @@ use Rattle.loop_bounds.proofs.Regions.{IsEntered, comes_in, holds_in}
 use Rattle.loop_bounds.proofs.Turning.{far, way_in, stays}
 use Rattle.loop_bounds.proofs.Pointing.{IsTurn, given}
 
-pub branched : (w m n : ℕ) → ((branch_to w m n ≡ m) ⊎ (branch_to w m n ≡ n))
+branched : (w m n : ℕ) → ((branch_to w m n ≡ m) ⊎ (branch_to w m n ≡ n))
 branched w m n = go (w == 0)
   where
     go : (b : Bool) → ((cond b n m ≡ m) ⊎ (cond b n m ≡ n))

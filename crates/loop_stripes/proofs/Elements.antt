@@ -1,9 +1,8 @@
 -- What the pointer of a range is in a turn: that of the base that its span has, moved by the counter and the shift.
-use Rattle.std.proofs.Common.{◌≡◌, ℕ, ◌+◌, ◌-◌, ◌<◌, ◌≤◌, true, false, cond, ◌&&◌, ℤ, pos, ◌+ℤ◌, ◌*ℤ◌, List, Option, Some, None, Ok, refl, sym, ap, subst, ◌∙◌, arith, ⊎_elim, eqb-true, ltb-true}
-use Rattle.std.specs.Prelude.{◌==◌, nat_lt}
+use Rattle.std.proofs.Common.{◌≡◌, ℕ, ◌+◌, ◌-◌, ◌<◌, ◌≤◌, true, false, cond, ◌&&◌, ℤ, ◌+ℤ◌, List, Option, Some, None, Ok, refl, sym, ap, subst, ◌∙◌, arith, ⊎_elim, ltb-true}
+use Rattle.std.specs.Prelude.{nat_lt}
 use Rattle.std.specs.Option.{option_and_then}
 use Rattle.std.proofs.lemmas.Bool.{cases_lt}
-use Rattle.std.proofs.Math.IntN.{*ℤ-one}
 use Rattle.rr_base.specs.Words.{site_of}
 use Rattle.flow_code.specs.declared.act.Act.{Act}
 use Rattle.flow_code.specs.declared.act.Act.TheVariants as act
@@ -12,8 +11,7 @@ use Rattle.flow_code.specs.declared.code.LoopInfo.{LoopInfo}
 use Rattle.flow_code.specs.declared.region.Base.{Base}
 use Rattle.flow_code.specs.declared.region.Base.TheVariants as base
 use Rattle.flow_code.specs.declared.work.Work.TheVariants as work
-use Rattle.abstract_machine.specs.Operators.{based}
-use Rattle.abstract_machine.specs.Pointers.{directed, moved_by}
+use Rattle.abstract_machine.specs.Pointers.{moved_by}
 use Rattle.abstract_machine.specs.Registers.{register}
 use Rattle.abstract_machine.specs.Values.{number}
 use Rattle.facts.specs.Blocks.{assigns}
@@ -26,9 +24,8 @@ use Rattle.loop_bounds.proofs.Regions.{comes_in, holds_in}
 use Rattle.loop_bounds.proofs.Borne.{cond_some, chained, kept_there}
 use Rattle.loop_bounds.proofs.Turning.{stays}
 use Rattle.loop_bounds.proofs.Making.{made, IsLastMaker, last_made, made_value}
-use Rattle.loop_bounds.proofs.Pointing.{IsTurn, Gives, given}
+use Rattle.loop_bounds.proofs.Pointing.{IsTurn, given, behind_mark, index_word, address_word, moved_act, single, accesses}
 use Rattle.loop_stripes.specs.InRange.{HasBase}
-use Rattle.loop_stripes.proofs.Indexing.{behind_mark, index_word}
 
 -- a register that is a base is one that the loop keeps
 abbrev pub KeepsBase : List Instr → LoopInfo → Base → Type 0
@@ -56,38 +53,11 @@ base_kept is l r o b h = at_it o h
     at_it (Some (act.Compute into (work.Address w))) g = let same : base.Site (site_of w) ≡ b = cc (g) in (same, subst (KeepsBase is l) same tt)
     at_it _ g = held g
 
-moved_act : (a : Option Act) (m : ℕ × ℕ) → moved_of a ≡ Some m → (into : ℕ) × (a ≡ Some (act.Compute into (work.Move m.0 m.1 1 false)))
-moved_act (Some (act.Compute into (work.Move pointer by element false))) m h =
-    let x = cond_some (element == 1) (Some (pointer, by)) m h in
-    let e : element ≡ 1 = eqb-true element 1 x.0 in
-    let f : pointer ≡ m.0 = pair_first (pointer, by) m x.1 in
-    let g : by ≡ m.1 = pair_second (pointer, by) m x.1 in
-    (into, cc (e, f, g))
-  where
-    pair_first : (p q : ℕ × ℕ) → Some p ≡ Some q → p.0 ≡ q.0
-    pair_first p q w = let v : p ≡ q = cc (w) in ap (λ z. z.0) v
-
-    pair_second : (p q : ℕ × ℕ) → Some p ≡ Some q → p.1 ≡ q.1
-    pair_second p q w = let v : p ≡ q = cc (w) in ap (λ z. z.1) v
-moved_act _ m h = cc
-
 -- the base of the span is that of the pointer that is moved
 base_is : (is : List Instr) (k p q : ℕ) (m : ℕ × ℕ) → last_maker is k p ≡ Some q → moved_of (nth is q) ≡ Some m → element_base is k p ≡ origin_of m.0 (made_at is q m.0)
 base_is is k p q m e mv =
     let x = moved_act (nth is q) m mv in
     ap (base_behind is p) e ∙ ap (λ a. origin_behind is q p (moved_from a)) x.1
-
-single : (z : ℤ) → directed false z *ℤ pos 1 ≡ z
-unfolding lib.IntN.one
-single z = *ℤ-one z
-
-accesses : (a : Option Act) (p : ℕ) → option_and_then pointer_of a ≡ Some p → (s : Setting) (k j : ℕ) (rs qs : List ℕ) → Goes s a k rs j qs → j ≡ k + 1
-accesses (Some (act.LoadCell into through)) p h s k j rs qs g = g.0
-accesses (Some (act.StoreCell through from)) p h s k j rs qs g = g.0
-accesses _ p h s k j rs qs g = cc
-
-address_word : (s : Setting) (ps : List ℕ) (w v : ℕ) → Gives s ps (work.Address w) v → v ≡ based s.slots w
-address_word s ps w v x = cc (x.gives)
 
 module _ (s : Setting) (is : List Instr) (l : LoopInfo) (start : List ℕ) (t : IsTurn s is l start) where
   base_word : (k r : ℕ) (b : Base) → l.at < k → k ≤ l.last - 1 → base_at is l k r ≡ Some b → (rs : List ℕ) → Comes s is l.at start k rs → HasBase s is start b (register rs r)

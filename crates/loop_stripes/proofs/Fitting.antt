@@ -1,7 +1,6 @@
 -- What a valid code's instructions fit: registers, constants and addresses.
-use Rattle.std.proofs.Common.{◌≡◌, ℕ, ◌+◌, ◌^◌, ◌<◌, ◌≤◌, ◌&&◌, ◌||◌, Bool, true, false, not, ℤ, pos, negsuc, List, length, Option, Some, None, refl, sym, ◌∙◌, subst, arith, ltb-true, eqb-true}
-use Rattle.std.specs.Prelude.{slice_get, nat_le, ◌==◌, FitsSigned}
-use mir.Syntax.{w64}
+use Rattle.std.proofs.Common.{◌≡◌, ℕ, ◌+◌, ◌^◌, ◌<◌, ◌≤◌, ◌&&◌, ◌||◌, Bool, true, false, not, List, length, Option, Some, None, refl, sym, ◌∙◌, subst, arith, eqb-true}
+use Rattle.std.specs.Prelude.{slice_get, nat_le, ◌==◌}
 use Rattle.std.proofs.lemmas.Bool.Decides.{nat_tests}
 use Rattle.rr_base.specs.Words.{site_of, base_of, length_of, offset_of}
 use Rattle.flow_code.specs.declared.act.Act.{Act}
@@ -23,10 +22,10 @@ use Rattle.abstract_machine.specs.declared.library_call.LibraryCall.TheVariants 
 use Rattle.abstract_machine.specs.Cells.{size_of}
 use Rattle.abstract_machine.specs.Operators.{based}
 use Rattle.abstract_machine.specs.Pointers.{pointer_at}
-use Rattle.abstract_machine.specs.Values.{fits}
 use Rattle.facts.specs.Blocks.{is_register, assigns}
 use Rattle.weak_facts.specs.Loops.{nth}
 use Rattle.loop_bounds.specs.Turns.{AreFit}
+use Rattle.loop_bounds.proofs.Pointing.{fits_signed}
 use Rattle.weak_sound.proofs.Tests.{both, all_at}
 use Rattle.weak_sound.proofs.Valid.{parts}
 
@@ -110,10 +109,6 @@ act_into code f (act.Take region) r h e = cc
 act_into code f (act.Give region) r h e = cc
 
 -- ---- constants
-
-fits_signed : (z : ℤ) → fits z ≡ true → FitsSigned w64 z
-fits_signed (pos n) h = record { sfits = ltb-true n (2 ^ 63) h }
-fits_signed (negsuc n) h = record { sfits = ltb-true n (2 ^ 63) h }
 
 found : (is : List Instr) (k : ℕ) (a : Act) → nth is k ≡ Some a → (i : Instr) × (slice_get is k ≡ Some i) × (i.act ≡ a)
 found is k a h = go (slice_get is k) refl h

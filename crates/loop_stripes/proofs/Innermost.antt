@@ -1,5 +1,5 @@
 -- The innermost loop round an instruction.
-use Rattle.std.proofs.Common.{◌≡◌, ◌≢◌, ℕ, zero, suc, ◌+◌, ◌-◌, ◌<◌, ◌≤◌, Bool, true, false, ◌&&◌, List, [], ◌∷◌, Option, Some, None, refl, ap, ◌∙◌, sym, subst, arith, ⊎_elim, eq-eqb, drop}
+use Rattle.std.proofs.Common.{◌≡◌, ◌≢◌, ℕ, zero, suc, ◌+◌, ◌-◌, ◌<◌, ◌≤◌, Bool, true, false, List, Option, Some, None, refl, ap, ◌∙◌, sym, arith, ⊎_elim, eq-eqb, drop}
 use Rattle.std.specs.Prelude.{slice_get, if◌then◌else◌, nat_le}
 use Rattle.std.specs.Option.{option_and_then}
 use Rattle.std.proofs.lemmas.Bool.{cases_eq, cases_lt}
@@ -12,22 +12,15 @@ use Rattle.flow_code.specs.declared.code.LoopInfo.{LoopInfo}
 use Rattle.flow_code.specs.Next.{act_in}
 use Rattle.flow_code.specs.Order.{is_mark}
 use Rattle.facts.specs.Blocks.{assigns, is_target}
-use Rattle.weak_facts.specs.Loops.{nth, is_counted, counted_of, loop_code}
-use Rattle.weak_facts.specs.Ranges.{begins_round, mark_before, is_number, is_innermost, calls_nothing, loop_round, pointer_of}
+use Rattle.weak_facts.specs.Loops.{nth, is_counted, counted_of}
+use Rattle.weak_facts.specs.Ranges.{begins_round, mark_before, is_number, loop_round, pointer_of}
 use Rattle.loop_bounds.specs.Forms.{IsBorneOut}
 use Rattle.loop_bounds.proofs.Steps.{drop_got}
 use Rattle.loop_bounds.proofs.Making.{targeted}
 use Rattle.loop_bounds.proofs.Turning.{far}
 use Rattle.weak_sound.proofs.Accesses.{filtered}
+use Rattle.weak_sound.proofs.CountedLoops.{round_listed, innermost_in}
 use Rattle.weak_sound.proofs.Tests.{both, two}
-
-round_listed : (is : List Instr) (k : ℕ) (ls : List LoopInfo) (l : LoopInfo) → loop_round is k ls ≡ Some l → (j : ℕ) × (slice_get ls j ≡ Some l) × (is_innermost is k l ≡ true)
-round_listed is k [] l h = cc
-round_listed is k (x ∷ ls) l h = go (is_innermost is k x && calls_nothing (loop_code is x)) refl h (λ e. round_listed is k ls l e)
-  where
-    go : (b : Bool) → is_innermost is k x && calls_nothing (loop_code is x) ≡ b → (if b then Some x else loop_round is k ls) ≡ Some l → (loop_round is k ls ≡ Some l → (j : ℕ) × (slice_get ls j ≡ Some l) × (is_innermost is k l ≡ true)) → (j : ℕ) × (slice_get (x ∷ ls) j ≡ Some l) × (is_innermost is k l ≡ true)
-    go true e h rec = (0, h, subst (λ z. is_innermost is k z ≡ true) (same_Some x l h) (both (is_innermost is k x) (calls_nothing (loop_code is x)) e).0)
-    go false e h rec = let r = rec h in (suc r.0, r.1, r.2)
 
 -- of the Marks before m with which a loop round the k-th instruction begins the last is found
 mark_last : (is : List Instr) (k m n j : ℕ) → mark_before is k m ≡ Some n → j < m → begins_round is k j ≡ true → j ≤ n
@@ -37,14 +30,6 @@ mark_last is k (suc m) n j h lt b = go (begins_round is k m) refl h (λ w l. mar
     go : (c : Bool) → begins_round is k m ≡ c → (if c then Some m else mark_before is k m) ≡ Some n → (mark_before is k m ≡ Some n → j < m → j ≤ n) → j ≤ n
     go true e w rec = omega (arith, lt, same_Some m n w)
     go false e w rec = ⊎_elim (λ (l : j < m). rec w l) (λ ge. let s : j ≡ m = omega (arith, ge, lt) in let x : begins_round is k j ≡ false = ap (begins_round is k) s ∙ e in cc) (cases_lt j m)
-
-mark_below : (is : List Instr) (k m n : ℕ) → mark_before is k m ≡ Some n → n < m
-mark_below is k zero n h = cc
-mark_below is k (suc m) n h = go (begins_round is k m) h (λ e. mark_below is k m n e)
-  where
-    go : (b : Bool) → (if b then Some m else mark_before is k m) ≡ Some n → (mark_before is k m ≡ Some n → n < m) → n < suc m
-    go true h rec = omega (arith, same_Some m n h)
-    go false h rec = omega (arith, rec h)
 
 -- the loop that is found round an instruction
 pub record IsRoundIt (fn : Function) (k : ℕ) (l : LoopInfo) : Type 0 where
@@ -60,15 +45,12 @@ round_it fn k l h =
     let r = round_listed fn.instrs k (counted_of fn) l h in
     let q = filtered (is_counted fn) fn.loops r.0 l r.1 in
     let b = both (nat_le k l.last) (is_number l.at (mark_before fn.instrs k k)) r.2 in
-    record { j = q.0; listed = q.1; counted = q.2; above = above (mark_before fn.instrs k k) refl b.1; within = grind (arith, nat_tests, b.0); inner = λ m lt e. number (mark_before fn.instrs k k) refl b.1 m lt e }
+    let i = innermost_in fn.instrs k l r.2 in
+    record { j = q.0; listed = q.1; counted = q.2; above = i.0; within = i.1; inner = λ m lt e. number (mark_before fn.instrs k k) refl b.1 m lt e }
   where
     number : (o : Option ℕ) → mark_before fn.instrs k k ≡ o → is_number l.at o ≡ true → (m : ℕ) → m < k → begins_round fn.instrs k m ≡ true → m ≤ l.at
     number None e w m lt b = cc
     number (Some n) e w m lt b = let s : n ≡ l.at = grind (arith, nat_tests, w) in omega (arith, s, mark_last fn.instrs k k n m e lt b)
-
-    above : (o : Option ℕ) → mark_before fn.instrs k k ≡ o → is_number l.at o ≡ true → l.at < k
-    above None e w = cc
-    above (Some n) e w = let s : n ≡ l.at = grind (arith, nat_tests, w) in omega (arith, s, mark_below fn.instrs k k n e)
 
 -- ---- a loop round another
 

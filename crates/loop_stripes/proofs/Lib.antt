@@ -1,7 +1,6 @@
 pub mod Counting
 pub mod Elements
 pub mod Fitting
-pub mod Indexing
 pub mod Innermost
 pub mod Inward
 pub mod Ranged

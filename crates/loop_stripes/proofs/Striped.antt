@@ -1,10 +1,8 @@
 -- A span takes the stripe of each cell from its counter to before its bound.
-use Rattle.std.proofs.Common.{◌≡◌, ℕ, zero, suc, ◌+◌, ◌-◌, ◌%◌, ◌^◌, ◌<◌, ◌≤◌, ◌&&◌, ◌||◌, Bool, true, false, not, ℤ, pos, negsuc, ◌+ℤ◌, List, [], ◌∷◌, length, Option, Some, None, Ok, Err, refl, sym, ap, ◌∙◌, subst, arith}
+use Rattle.std.proofs.Common.{◌≡◌, ℕ, zero, suc, ◌+◌, ◌-◌, ◌%◌, ◌^◌, ◌<◌, ◌≤◌, ◌&&◌, ◌||◌, Bool, true, false, not, ℤ, pos, negsuc, ◌+ℤ◌, List, length, Option, Some, None, Ok, Err, refl, sym, ap, ◌∙◌, subst, arith}
 use Rattle.std.specs.Prelude.{slice_get, if◌then◌else◌, nat_le, nat_lt, ◌==◌, ◌≤ℤ◌, ◌<ℤ◌}
-use Rattle.std.specs.List.{list_any}
 use Rattle.std.proofs.lemmas.Bool.Decides.{nat_tests}
 use Rattle.std.proofs.lemmas.Int.{ints}
-use Rattle.std.proofs.lemmas.Option.{same_Some}
 use Rattle.rr_base.specs.Words as pointer
 use Rattle.rr_base.specs.Words.{site_of, base_of, length_of, offset_of, pack, moved_to}
 use Rattle.rr_base.specs.declared.layout.Site.{Site}
@@ -16,17 +14,7 @@ use Rattle.flow_code.specs.Stripes.{stripe_at, class_in, lock_guards, guards, po
 use Rattle.abstract_machine.specs.Pointers.{site_at, known, moved, moved_by}
 use Rattle.abstract_machine.specs.Values.{fits}
 use Rattle.weak_sound.proofs.Tests.{both, two}
-use Rattle.weak_ways.proofs.Guarded.{In}
 use Rattle.loop_stripes.proofs.Fitting.{IsAlike}
-
-pub any_in : {X : Type 0} (p : X → Bool) (x : X) (xs : List X) → In x xs → p x ≡ true → list_any p xs ≡ true
-any_in p x [] (k, h) e = cc
-any_in p x (y ∷ ys) (zero, h) e = let t : p y ≡ true = ap p (same_Some y x h) ∙ e in ap (λ b. b || list_any p ys) t
-any_in p x (y ∷ ys) (suc k, h) e = ap (λ b. p y || b) (any_in p x ys (k, h) e) ∙ any (p y)
-  where
-    any : (b : Bool) → (b || true) ≡ true
-    any true = refl
-    any false = refl
 
 any_from_has : (p : ℕ → Bool) (m k n : ℕ) → k ≤ n → n < k + m → p n ≡ true → any_from p m k ≡ true
 any_from_has p zero k n le lt h = absurd (omega (arith, le, lt))

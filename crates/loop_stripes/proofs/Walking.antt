@@ -1,14 +1,13 @@
 -- A frame of weakened code, while a loop's region is open, goes through the loop as one of the plain code does.
 use Rattle.std.proofs.Common.{◌≡◌, ℕ, zero, suc, ◌+◌, ◌<◌, ◌≤◌, ◌&&◌, Bool, true, false, not, List, [], ◌∷◌, length, map, refl, sym, ap, ◌∙◌, subst, arith, Option, Some, None, ⊎_elim, reverse}
 use Rattle.std.specs.Prelude.{slice_get, if◌then◌else◌, nat_le, ◌==◌}
-use Rattle.std.specs.List.{Contains}
 use Rattle.std.proofs.lemmas.Bool.Decides.{nat_tests}
 use Rattle.std.proofs.lemmas.Option.{same_Some, slice_get_within}
 use Rattle.flow_code.specs.declared.act.Act.{Act}
 use Rattle.flow_code.specs.declared.act.Act.TheVariants as act
 use Rattle.flow_code.specs.declared.act.Instr.{Instr}
 use Rattle.flow_code.specs.declared.code.LoopInfo.{LoopInfo}
-use Rattle.flow_code.specs.Next.{act_in, branch_to}
+use Rattle.flow_code.specs.Next.{act_in}
 use Rattle.flow_code.specs.Order.{order_fits}
 use Rattle.abstract_machine.specs.Registers.{register}
 use Rattle.loop_bounds.specs.Turns.{Setting, Goes}
@@ -20,67 +19,21 @@ use Rattle.weak_code.proofs.Stripping.{IsPlain, ArePlain, plain_place, plain_sea
 use Rattle.weak_sound.proofs.Tests.{both, got_map}
 use Rattle.weak_sound.proofs.OrderFits.{plain_at, weak_at}
 use Rattle.weak_ways.specs.Guards.{IsSeat}
-use Rattle.weak_ways.specs.Walked.{Opening, closed_with, opened_with, Walked}
+use Rattle.weak_ways.specs.Walked.{Opening, opened_with, Walked}
 use Rattle.weak_ways.specs.Walked as walked
-use Rattle.weak_ways.specs.Ways.{nexts, closed, opened_by, Way}
-use Rattle.weak_ways.specs.Ways as ways
 use Rattle.weak_ways.proofs.Guarded.{In}
 use Rattle.weak_ways.proofs.Nested.{IsIn}
 use Rattle.weak_ways.proofs.Opened.{of_append}
 use Rattle.weak_ways.proofs.Passing.{AreNested, Here, at_weak, at_plain, standing, along}
+use Rattle.weak_ways.proofs.Covered.{not_open}
+use Rattle.weak_ways.proofs.Walks.{numbers, way, weak_goes, in_numbers, of_closed, plain_opened, plain_next}
 use Rattle.weak_ways.proofs.Standing.{times, has_test, returns, stays}
 use Rattle.loop_stripes.specs.Inside.{Inside, enters, goes}
-use Rattle.loop_stripes.proofs.Counting.{branched}
 
--- ---- a way without its registers
+-- ---- steps and lists
 
 abbrev entry : ℕ → List ℕ → Opening
 entry r rs = (r, rs)
-
-abbrev pub names : List Opening → List ℕ
-names opened = map (λ (x : Opening). x.0) opened
-
-names_closed : (r : ℕ) (xs : List Opening) → names (closed_with r xs) ≡ closed r (names xs)
-names_closed r [] = refl
-names_closed r (x ∷ xs) = go (x.0 == r) (names_closed r xs)
-  where
-    go : (b : Bool) → names (closed_with r xs) ≡ closed r (names xs) → names (if b then xs else x ∷ closed_with r xs) ≡ (if b then names xs else x.0 ∷ closed r (names xs))
-    go true h = refl
-    go false h = ap (λ zs. x.0 ∷ zs) h
-
-names_opened : (a : Act) (rs : List ℕ) (opened : List Opening) → names (opened_with (Some a) rs opened) ≡ opened_by a (names opened)
-names_opened (act.Take r) rs opened = refl
-names_opened (act.Give r) rs opened = names_closed r opened
-names_opened (act.Compute into w) rs opened = refl
-names_opened (act.Alloc into site size) rs opened = refl
-names_opened (act.LoadCell into through) rs opened = refl
-names_opened (act.StoreCell through from) rs opened = refl
-names_opened act.Mark rs opened = refl
-names_opened (act.Call g arguments into) rs opened = refl
-names_opened (act.Library c arguments into) rs opened = refl
-names_opened (act.Jump to) rs opened = refl
-names_opened (act.Branch on then_at else_at) rs opened = refl
-names_opened (act.Return value) rs opened = refl
-
-one_next : (w v : ℕ) → v ≡ w + 1 → Contains ((w + 1) ∷ []) v
-one_next w v e = (0, omega arith, sym e)
-
-goes_next : (s : Setting) (a : Act) (w v : ℕ) (rs qs : List ℕ) → Goes s (Some a) w rs v qs → Contains (nexts a w) v
-goes_next s (act.Return value) w v rs qs g = absurd g
-goes_next s (act.Jump to) w v rs qs g = (0, omega arith, sym g.0)
-goes_next s (act.Branch on then_at else_at) w v rs qs g = ⊎_elim
-    (λ (e : branch_to (register rs on) then_at else_at ≡ then_at). (0, omega arith, sym (g.0 ∙ e)))
-    (λ (e : branch_to (register rs on) then_at else_at ≡ else_at). (1, omega arith, sym (g.0 ∙ e)))
-    (branched (register rs on) then_at else_at)
-goes_next s (act.Compute into x) w v rs qs g = one_next w v g.0
-goes_next s (act.Alloc into site size) w v rs qs g = one_next w v g.0
-goes_next s (act.LoadCell into through) w v rs qs g = one_next w v g.0
-goes_next s (act.StoreCell through from) w v rs qs g = one_next w v g.0
-goes_next s act.Mark w v rs qs g = one_next w v g.0
-goes_next s (act.Call f arguments into) w v rs qs g = one_next w v g.0
-goes_next s (act.Library c arguments into) w v rs qs g = one_next w v g.0
-goes_next s (act.Take r) w v rs qs g = one_next w v g.0
-goes_next s (act.Give r) w v rs qs g = one_next w v g.0
 
 -- the instruction that a step is of
 stepped_at : (s : Setting) (is : List Instr) (w v : ℕ) (rs qs : List ℕ) → Goes s (act_in (slice_get is w)) w rs v qs → (i : Instr) × (slice_get is w ≡ Some i) × Goes s (Some i.act) w rs v qs
@@ -89,42 +42,6 @@ stepped_at s is w v rs qs g = at_it (slice_get is w) refl g
     at_it : (o : Option Instr) → slice_get is w ≡ o → Goes s (act_in o) w rs v qs → (i : Instr) × (slice_get is w ≡ Some i) × Goes s (Some i.act) w rs v qs
     at_it None e g = absurd g
     at_it (Some i) e g = (i, e, g)
-
-pub way_of : {s : Setting} {is : List Instr} {w : ℕ} {rs : List ℕ} {opened : List Opening} → Walked s is w rs opened → Way is w (names opened)
-way_of (walked.begins rs) = ways.begins
-way_of {s} {is} (walked.goes {w = w} {v = v} {rs = rs} {qs = qs} {opened = opened} x g) =
-    let i = stepped_at s is w v rs qs g in
-    let e : opened_by i.0.act (names opened) ≡ names (opened_with (act_in (slice_get is w)) rs opened) = sym (ap (λ o. names (opened_with (act_in o) rs opened)) i.1 ∙ names_opened i.0.act rs opened) in
-    subst (Way is v) e (ways.goes i.0 v (way_of x) i.1 (goes_next s i.0.act w v rs qs i.2))
-
--- ---- lists
-
-in_names : (r : ℕ) (start : List ℕ) (xs : List Opening) → In (r, start) xs → In r (names xs)
-in_names r start [] (k, h) = cc
-in_names r start (x ∷ xs) (zero, h) = (0, ap (λ (o : Opening). Some o.0) (same_Some x (r, start) h))
-in_names r start (x ∷ xs) (suc k, h) = let q = in_names r start xs (k, h) in (suc q.0, q.1)
-
-of_closed : (q : ℕ) (x : Opening) (xs : List Opening) → In x (closed_with q xs) → In x xs
-of_closed q x [] (k, h) = cc
-of_closed q x (y ∷ ys) h = go (y.0 == q) h (λ i. of_closed q x ys i)
-  where
-    go : (b : Bool) → In x (if b then ys else y ∷ closed_with q ys) → (In x (closed_with q ys) → In x ys) → In x (y ∷ ys)
-    go true (k, e) rec = (suc k, e)
-    go false (zero, e) rec = (0, e)
-    go false (suc k, e) rec = let r = rec (k, e) in (suc r.0, r.1)
-
-none_of : (r : ℕ) (xs : List ℕ) → times r xs ≡ 0 → In r xs → ⊥
-none_of r [] z (k, h) = cc
-none_of r (x ∷ xs) z (zero, h) = bad (x == r) (let q = same_Some x r h in grind (arith, nat_tests, q)) z
-  where
-    bad : (b : Bool) → b ≡ true → (if b then suc (times r xs) else times r xs) ≡ 0 → ⊥
-    bad true e h = omega (arith, h)
-    bad false e h = cc
-none_of r (x ∷ xs) z (suc k, h) = none_of r xs (rest (x == r) z) (k, h)
-  where
-    rest : (b : Bool) → (if b then suc (times r xs) else times r xs) ≡ 0 → times r xs ≡ 0
-    rest true h = absurd (omega (arith, h))
-    rest false h = h
 
 -- the numbers of the items that pass a test
 passes : (m n : ℕ) (test : Stretch → Bool) (ss : List Stretch) → In m (numbers_from n test ss) → (d : ℕ) × (m ≡ n + d) × (has_test test (slice_get ss d) ≡ true)
@@ -161,42 +78,7 @@ take_begins ss k a q h = ⊎_elim front (λ i. absurd (no_give q (reverse (left 
     front : In (act.Take q) (turned ss k) → has_test (begins_at k) (slice_get ss q) ≡ true
     front i = ⊎_elim (λ j. absurd (no_give q (reverse (ending ss k)) j)) (λ j. begun (taken_from q (beginning ss k) j)) (of_append (gives (ending ss k)) (takes (beginning ss k)) (act.Take q) i)
 
--- ---- places
-
--- behind an instruction
-plain_behind : (xs : List Instr) (w : ℕ) (i : Instr) → slice_get xs w ≡ Some i → plain_of xs (w + 1) ≡ (if is_weak i.act then plain_of xs w else suc (plain_of xs w))
-plain_behind xs w i h = let e : w + 1 ≡ suc w = omega arith in ap (plain_of xs) e ∙ next xs w i h
-  where
-    zero_of : (xs : List Instr) → plain_of xs 0 ≡ 0
-    zero_of [] = refl
-    zero_of (x ∷ xs) = refl
-
-    same_step : (a b : Bool) (m : ℕ) → (if a then (if b then m else suc m) else suc (if b then m else suc m)) ≡ (if b then (if a then m else suc m) else suc (if a then m else suc m))
-    same_step true true m = refl
-    same_step true false m = refl
-    same_step false true m = refl
-    same_step false false m = refl
-
-    next : (xs : List Instr) (w : ℕ) (i : Instr) → slice_get xs w ≡ Some i → plain_of xs (suc w) ≡ (if is_weak i.act then plain_of xs w else suc (plain_of xs w))
-    next [] w i h = cc
-    next (x ∷ xs) zero i h = ap (λ n. if is_weak x.act then n else suc n) (zero_of xs) ∙ ap (λ (y : Instr). if is_weak y.act then 0 else 1) (same_Some x i h)
-    next (x ∷ xs) (suc w) i h = ap (λ n. if is_weak x.act then n else suc n) (next xs w i h) ∙ same_step (is_weak x.act) (is_weak i.act) (plain_of xs w)
-
 -- ---- steps
-
-opened_same : (n : ℕ) (to : ℕ → ℕ) (a : Act) (rs : List ℕ) (opened : List Opening) → IsPlain n a → opened_with (Some (retarget to a)) rs opened ≡ opened
-opened_same n to (act.Compute into w) rs opened p = refl
-opened_same n to (act.Alloc into site size) rs opened p = refl
-opened_same n to (act.LoadCell into through) rs opened p = refl
-opened_same n to (act.StoreCell through from) rs opened p = refl
-opened_same n to act.Mark rs opened p = refl
-opened_same n to (act.Call g arguments into) rs opened p = refl
-opened_same n to (act.Library c arguments into) rs opened p = refl
-opened_same n to (act.Jump k) rs opened p = refl
-opened_same n to (act.Branch on then_at else_at) rs opened p = refl
-opened_same n to (act.Return value) rs opened p = refl
-opened_same n to (act.Take r) rs opened p = absurd p
-opened_same n to (act.Give r) rs opened p = absurd p
 
 -- a step of an instruction with other targets is one of the instruction, if the places are mapped back
 plain_goes : (s : Setting) (n : ℕ) (to back : ℕ → ℕ) (a : Act) (w v k : ℕ) (rs qs : List ℕ) → IsPlain n a → ((j : ℕ) → j < n → back (to j) ≡ j) → back (w + 1) ≡ k + 1 → Goes s (Some (retarget to a)) w rs v qs → Goes s (Some a) k rs (back v) qs
@@ -217,11 +99,6 @@ plain_goes s n to back (act.Return value) w v k rs qs p e h g = absurd g
 plain_goes s n to back (act.Take r) w v k rs qs p e h g = absurd p
 plain_goes s n to back (act.Give r) w v k rs qs p e h g = absurd p
 
-weak_goes : (s : Setting) (b : Act) (w v : ℕ) (rs qs : List ℕ) → is_weak b ≡ true → Goes s (Some b) w rs v qs → (v ≡ w + 1) × (qs ≡ rs)
-weak_goes s (act.Take r) w v rs qs h g = g
-weak_goes s (act.Give r) w v rs qs h g = g
-weak_goes s _ w v rs qs h g = cc
-
 differ : (b : Bool) → b ≡ true → b ≡ false → ⊥
 differ true p q = cc
 differ false p q = cc
@@ -239,15 +116,15 @@ module _ (s : Setting) (ss : List Stretch) (is : List Instr) (plain : ArePlain (
   abbrev Since : ℕ → List ℕ → List Opening → Type 0
   Since w rs opened = (start : List ℕ) → In (r, start) opened → IsIn st (Plain w) → Inside s is l start (Plain w) rs
 
-  covered_at : (k : ℕ) (a : Act) (opened : List Opening) (start : List ℕ) → In (r, start) opened → times r (names opened) ≡ (if stays (slice_get ss r) k a then 1 else 0) → IsIn st k
+  covered_at : (k : ℕ) (a : Act) (opened : List Opening) (start : List ℕ) → In (r, start) opened → times r (numbers opened) ≡ (if stays (slice_get ss r) k a then 1 else 0) → IsIn st k
   covered_at k a opened start i h = go (stays (slice_get ss r) k a) refl h
     where
       inside : (covers k st && not (returns a)) ≡ true → IsIn st k
       inside e = let c = both (nat_le st.first k) (nat_le k st.last) (both (covers k st) (not (returns a)) e).0 in let x : st.first ≤ k = grind (arith, nat_tests, c.0) in let y : k ≤ st.last = grind (arith, nat_tests, c.1) in (x, y)
 
-      go : (b : Bool) → stays (slice_get ss r) k a ≡ b → times r (names opened) ≡ (if b then 1 else 0) → IsIn st k
+      go : (b : Bool) → stays (slice_get ss r) k a ≡ b → times r (numbers opened) ≡ (if b then 1 else 0) → IsIn st k
       go true e h = inside (ap (λ o. stays o k a) (sym one) ∙ e)
-      go false e h = absurd (none_of r (names opened) h (in_names r start opened i))
+      go false e h = absurd (not_open r (numbers opened) h (in_numbers (r, start) opened i))
 
   -- past a weak instruction
   weak_step : (k : ℕ) (x : Instr) (b : Act) (w v : ℕ) (rs qs : List ℕ) (opened : List Opening) → In b (before ss k x.act) → is_weak b ≡ true → Plain w ≡ k → Plain v ≡ k → qs ≡ rs → Since w rs opened → Since v qs (opened_with (Some b) rs opened)
@@ -267,19 +144,19 @@ module _ (s : Setting) (ss : List Stretch) (is : List Instr) (plain : ArePlain (
           subst (λ n. Inside s is l start n qs) f (subst (λ zs. Inside s is l start l.at zs) (sym (same ∙ z)) enters)
 
       by_act : (b : Act) → In b (before ss k x.act) → is_weak b ≡ true → In (r, start) (opened_with (Some b) rs opened) → Inside s is l start (Plain v) qs
-      by_act (act.Give q) i u c = stay (of_closed q (r, start) opened c)
+      by_act (act.Give q) i u c = stay (of_closed (r, start) q opened c)
       by_act (act.Take q) i u (zero, e) = taken q (take_begins ss k x.act q i) (same_Some (entry q rs) (entry r start) e)
       by_act (act.Take q) i u (suc n, e) = stay (n, e)
       by_act _ i u c = cc
 
   -- past an instruction of its own
-  own_step : (k : ℕ) (x : Instr) (w v : ℕ) (rs qs : List ℕ) (opened : List Opening) → slice_get is k ≡ Some x → Plain w ≡ k → times r (names opened) ≡ (if stays (slice_get ss r) k x.act then 1 else 0) → Goes s (Some x.act) k rs (Plain v) qs → Since w rs opened → Since v qs opened
+  own_step : (k : ℕ) (x : Instr) (w v : ℕ) (rs qs : List ℕ) (opened : List Opening) → slice_get is k ≡ Some x → Plain w ≡ k → times r (numbers opened) ≡ (if stays (slice_get ss r) k x.act then 1 else 0) → Goes s (Some x.act) k rs (Plain v) qs → Since w rs opened → Since v qs opened
   own_step k x w v rs qs opened at pw open_so g h start c within =
       let now = covered_at k x.act opened start c open_so in
       let was = subst (λ n. Inside s is l start n rs) pw (h start c (subst (IsIn st) (sym pw) now)) in
       goes was (subst (λ (o : Option Instr). Goes s (act_in o) k rs (Plain v) qs) (sym at) g) (omega (arith, within.0, first)) (omega (arith, within.1, last))
 
-  step : (w v : ℕ) (rs qs : List ℕ) (opened : List Opening) (i : Instr) → slice_get Weak w ≡ Some i → Here ss is plain order nested w (names opened) i → Goes s (Some i.act) w rs v qs → Since w rs opened → Since v qs (opened_with (Some i.act) rs opened)
+  step : (w v : ℕ) (rs qs : List ℕ) (opened : List Opening) (i : Instr) → slice_get Weak w ≡ Some i → Here ss is plain order nested w (numbers opened) i → Goes s (Some i.act) w rs v qs → Since w rs opened → Since v qs (opened_with (Some i.act) rs opened)
   step w v rs qs opened i found (at_weak k x j b at q p e stands) g h =
       let weak = weak_at (before ss k x.act) j b (weak_before ss k x.act) q in
       let is_b : i.act ≡ b = ap (λ (y : Instr). y.act) e in
@@ -287,16 +164,16 @@ module _ (s : Setting) (ss : List Stretch) (is : List Instr) (plain : ArePlain (
       let lt : j ≤ length (before ss (0 + k) x.act) = subst (λ m. j ≤ length (before ss m x.act)) z (let y = slice_get_within (before ss k x.act) j b q in omega (arith, y)) in
       let pw : Plain w ≡ k = ap (plain_of Weak) p ∙ plain_place ss is (length is) 0 k j is x plain at lt in
       let go = weak_goes s b w v rs qs weak (subst (λ a. Goes s (Some a) w rs v qs) is_b g) in
-      let pv : Plain v ≡ k = ap (plain_of Weak) go.0 ∙ plain_behind Weak w i found ∙ ap (λ c. if c then plain_of Weak w else suc (plain_of Weak w)) (ap is_weak is_b ∙ weak) ∙ pw in
+      let pv : Plain v ≡ k = ap (plain_of Weak) go.0 ∙ plain_next Weak w i found ∙ ap (λ c. if c then plain_of Weak w else suc (plain_of Weak w)) (ap is_weak is_b ∙ weak) ∙ pw in
       subst (λ a. Since v qs (opened_with (Some a) rs opened)) (sym is_b) (weak_step k x b w v rs qs opened (j, q) weak pw pv go.1 h)
   step w v rs qs opened i found (at_plain k x at p e stands) g h =
       let is_a : i.act ≡ retarget (enter ss is k) x.act = ap (λ (y : Instr). y.act) e in
       let own = plain_at (length is) is k x plain at in
       let pw : Plain w ≡ k = ap (plain_of Weak) p ∙ plain_seat ss (length is) k is plain (slice_get_within is k x at) in
       let n : k + 1 ≡ suc k = omega arith in
-      let behind : Plain (w + 1) ≡ k + 1 = plain_behind Weak w i found ∙ ap (λ c. if c then plain_of Weak w else suc (plain_of Weak w)) (ap is_weak is_a ∙ not_weak (enter ss is k) (length is) x.act own) ∙ ap suc pw ∙ sym n in
+      let behind : Plain (w + 1) ≡ k + 1 = plain_next Weak w i found ∙ ap (λ c. if c then plain_of Weak w else suc (plain_of Weak w)) (ap is_weak is_a ∙ not_weak (enter ss is k) (length is) x.act own) ∙ ap suc pw ∙ sym n in
       let go = plain_goes s (length is) (enter ss is k) (plain_of Weak) x.act w v k rs qs own (λ j lt. plain_enter ss (length is) k j is plain lt) behind (subst (λ a. Goes s (Some a) w rs v qs) is_a g) in
-      let same : opened_with (Some i.act) rs opened ≡ opened = ap (λ a. opened_with (Some a) rs opened) is_a ∙ opened_same (length is) (enter ss is k) x.act rs opened own in
+      let same : opened_with (Some i.act) rs opened ≡ opened = plain_opened i.act rs opened (ap is_weak is_a ∙ not_weak (enter ss is k) (length is) x.act own) in
       subst (λ os. Since v qs os) (sym same) (own_step k x w v rs qs opened at pw (stands r) go h)
 
   since : {w : ℕ} {rs : List ℕ} {opened : List Opening} → Walked s Weak w rs opened → Since w rs opened
@@ -306,17 +183,17 @@ module _ (s : Setting) (ss : List Stretch) (is : List Instr) (plain : ArePlain (
       nothing start (k, h) = cc
   since (walked.goes {w = w} {v = v} {rs = rs} {qs = qs} {opened = opened} x g) =
       let i = stepped_at s Weak w v rs qs g in
-      let here = standing ss is plain order nested w (names opened) i.0 (along ss is plain order nested (way_of x)) i.1 in
+      let here = standing ss is plain order nested w (numbers opened) i.0 (along ss is plain order nested (way x)) i.1 in
       subst (λ (o : Option Instr). Since v qs (opened_with (act_in o) rs opened)) (sym i.1) (step w v rs qs opened i.0 i.1 here i.2 (since x))
 
   -- at an instruction that isn't weak
   pub inside_at : (w k : ℕ) (rs : List ℕ) (opened : List Opening) (start : List ℕ) → Walked s Weak w rs opened → IsSeat Weak w k → In (r, start) opened → IsIn st k × Inside s is l start k rs
-  inside_at w k rs opened start x seat i = go (standing ss is plain order nested w (names opened) seat.instr (along ss is plain order nested (way_of x)) seat.at)
+  inside_at w k rs opened start x seat i = go (standing ss is plain order nested w (numbers opened) seat.instr (along ss is plain order nested (way x)) seat.at)
     where
       at_it : IsIn st k → IsIn st k × Inside s is l start k rs
       at_it c = (c, subst (λ n. Inside s is l start n rs) seat.plain (since x start i (subst (IsIn st) (sym seat.plain) c)))
 
-      go : Here ss is plain order nested w (names opened) seat.instr → IsIn st k × Inside s is l start k rs
+      go : Here ss is plain order nested w (numbers opened) seat.instr → IsIn st k × Inside s is l start k rs
       go (at_weak m y j b at q p e h) = absurd (differ (is_weak b) (weak_at (before ss m y.act) j b (weak_before ss m y.act) q) (ap (λ (u : Instr). is_weak u.act) (sym e) ∙ seat.own))
       go (at_plain m y at p e h) =
           let same : m ≡ k = sym (plain_seat ss (length is) m is plain (slice_get_within is m y at)) ∙ ap (plain_of Weak) (sym p) ∙ seat.plain in

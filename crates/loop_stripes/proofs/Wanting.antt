@@ -1,12 +1,11 @@
 -- A loop's region wants the stripe of each cell that its accesses touch.
-use Rattle.std.proofs.Common.{◌≡◌, ℕ, ◌+◌, ◌≤◌, true, ℤ, ◌+ℤ◌, List, [], ◌∷◌, length, map, refl, sym, ap, ◌∙◌, subst, arith, Some, Ok}
-use Rattle.std.specs.Prelude.{slice_get, if◌then◌else◌, nat_le, ◌==◌, ◌%◌, ◌^◌, ◌≤ℤ◌, ◌<ℤ◌, option_map, zero, suc}
+use Rattle.std.proofs.Common.{◌≡◌, ℕ, ◌+◌, ◌≤◌, true, ℤ, ◌+ℤ◌, List, length, map, refl, sym, ap, ◌∙◌, subst, arith, Some, Ok}
+use Rattle.std.specs.Prelude.{slice_get, if◌then◌else◌, nat_le, ◌==◌, ◌%◌, ◌^◌, ◌≤ℤ◌, ◌<ℤ◌, option_map}
 use Rattle.std.specs.List.{Contains}
 use Rattle.std.specs.Option.{option_and_then}
 use Rattle.std.proofs.lemmas.Bool.Decides.{nat_tests}
 use Rattle.std.proofs.lemmas.Option.{same_Some}
 use Rattle.rr_base.specs.Words.{site_of, length_of, offset_of}
-use Rattle.rr_base.specs.declared.layout.Place.{Place}
 use Rattle.rr_base.specs.declared.layout.Site.{Site}
 use Rattle.flow_code.specs.declared.act.Act.{Act}
 use Rattle.flow_code.specs.declared.code.Code.{Code}
@@ -41,7 +40,7 @@ use Rattle.weak_code.specs.declared.stretch.Stretch.{Stretch}
 use Rattle.weak_code.specs.Stretches.{racy_accesses, stretches_of, span_with, element_base}
 use Rattle.weak_code.specs.Stripped.{is_plain}
 use Rattle.weak_code.specs.WeakLocks.{places_in}
-use Rattle.weak_code.specs.Weakened.{weakened_instrs, weakened_function, weakened_functions, weakened}
+use Rattle.weak_code.specs.Weakened.{weakened_instrs, weakened_function, weakened}
 use Rattle.loop_bounds.specs.Turns.{Setting}
 use Rattle.loop_bounds.proofs.Borne.{borne_out}
 use Rattle.weak_sound.specs.Apart.{loops_ascend, loops_are_apart}
@@ -52,8 +51,9 @@ use Rattle.weak_ways.specs.Guards.{IsLoopOf, Guards, IsSeat}
 use Rattle.weak_ways.specs.LoopsClosed.{loops_are_closed}
 use Rattle.weak_ways.specs.Walked.{Opening, Walked}
 use Rattle.weak_ways.proofs.Closed.{row_grain}
-use Rattle.weak_ways.proofs.Covered.{IsReady, plain_here, order_here, nested_here}
+use Rattle.weak_ways.proofs.Covered.{IsReady, plain_here, order_here, nested_here, weakened_at}
 use Rattle.weak_ways.proofs.Guarded.{In, contains_in}
+use Rattle.weak_ways.proofs.Nested.{any_at}
 use Rattle.weak_ways.proofs.Spread.{HasRow, have_rows}
 use Rattle.loop_stripes.specs.InRange.{HasBase, IsInRange}
 use Rattle.loop_stripes.specs.Inside.{Inside}
@@ -63,7 +63,7 @@ use Rattle.loop_stripes.proofs.Innermost.{round_it, same_mark}
 use Rattle.loop_stripes.proofs.Inward.{inside_long}
 use Rattle.loop_stripes.proofs.Ranged.{IsRangeOf, range_of, range_inside}
 use Rattle.loop_stripes.proofs.Regions.{of_some, IsFound, all_found, same_through}
-use Rattle.loop_stripes.proofs.Striped.{any_in, IsMovedTo, moved_is, known_same, range_has}
+use Rattle.loop_stripes.proofs.Striped.{IsMovedTo, moved_is, known_same, range_has}
 use Rattle.loop_stripes.proofs.Walking.{inside_at}
 
 known_is : (sites : List Site) (u : ℕ) → site_of u ≤ length sites → known sites u ≡ u
@@ -164,14 +164,20 @@ module _ (code : Code) (t : Tables) (vs : List Pair) (rs : List Range) (profile 
 
     wants_here : (new : Code) → new.sites ≡ code.sites → (a : RacyAccess) (start : List ℕ) (counter : ℕ) (until : Bound) (spans : List Span) (g : IsLoopOf fn a counter until spans) → IsInRange s fn.instrs start g.loop (element_base fn.instrs a.instr a.through) g.shift (register registers a.through) → (lock stripe v : ℕ) → Contains a.locks lock → v ≡ known code.sites (register registers a.through) → points_to_cell v ≡ true → guards new v (offset_of v) lock stripe ≡ true → wants new start (region.Ranged counter until spans) lock stripe ≡ true
     wants_here new sites a start counter until spans g y lock stripe v c e cell guarded =
-        any_in (span_wants new start (number (register start counter)) (bound_of start until) lock stripe) (span_with fn.instrs a g.shift) spans (contains_in (span_with fn.instrs a g.shift) spans g.span)
+        any_at (span_wants new start (number (register start counter)) (bound_of start until) lock stripe) spans spanned.0 (span_with fn.instrs a g.shift) spanned.1
         (two (among a.locks lock) (range_wants new (base_word new.sites start (element_base fn.instrs a.instr a.through)) (number (register start counter)) (bound_of start until) g.shift lock stripe)
-        (any_in (λ l. l == lock) lock a.locks (contains_in lock a.locks c) (grind (arith, nat_tests)))
+        (any_at (λ l. l == lock) a.locks has.0 lock has.1 (grind (arith, nat_tests)))
         (range_has new (base_word new.sites start (element_base fn.instrs a.instr a.through)) (known code.sites y.base_word) v (number (register start counter)) (bound_of start until) y.count g.shift lock stripe like moves
         (subst (λ n. number (register start n) ≤ℤ y.count) (sym g.counter) y.from)
         (subst (λ n. y.count <ℤ bound_of start n) (sym g.bound) y.before)
         cell guarded))
       where
+        spanned : In (span_with fn.instrs a g.shift) spans
+        spanned = contains_in (span_with fn.instrs a g.shift) spans g.span
+
+        has : In lock a.locks
+        has = contains_in lock a.locks c
+
         like : IsAlike (base_word new.sites start (element_base fn.instrs a.instr a.through)) (known code.sites y.base_word)
         like = subst (λ z. IsAlike (base_word z start (element_base fn.instrs a.instr a.through)) (known code.sites y.base_word)) (sym sites) (base_alike code ready.valid f fn at s of.few start (element_base fn.instrs a.instr a.through) y.base_word y.is_base)
 
@@ -190,11 +196,6 @@ module _ (code : Code) (t : Tables) (vs : List Pair) (rs : List Range) (profile 
         lock stripe v c e cell guarded
 
 -- ---- the law
-
-weakened_at : (code : Code) (t : Tables) (locked : List Place) (rs : List Range) (rows : List Grained) (n : ℕ) (fns : List Function) (k : ℕ) (g : Function) → slice_get (weakened_functions code t locked rs rows n fns) k ≡ Some g → (fn : Function) × (slice_get fns k ≡ Some fn) × (g ≡ weakened_function code t locked rs rows (n + k) fn)
-weakened_at code t locked rs rows n [] k g h = cc
-weakened_at code t locked rs rows n (fn ∷ fns) zero g h = let e : n ≡ n + 0 = omega arith in (fn, refl, sym (same_Some (weakened_function code t locked rs rows n fn) g h) ∙ ap (λ m. weakened_function code t locked rs rows m fn) e)
-weakened_at code t locked rs rows n (fn ∷ fns) (suc k) g h = let r = weakened_at code t locked rs rows (n + 1) fns k g h in let e : (n + 1) + k ≡ n + suc k = omega arith in (r.0, r.1, r.2 ∙ ap (λ m. weakened_function code t locked rs rows m r.0) e)
 
 pub loop_wants : (code : Code) (t : Tables) (vs : List Pair) (rs : List Range) (profile : Profile) (rows : List Grained) → is_valid code ≡ true → is_plain code ≡ true → loops_are_apart code ≡ true → loops_are_closed code ≡ true → rs ≡ ranges_of code t → AreGrains code vs rs profile rows → constants_fit code ≡ true
     → (f : ℕ) (fn weak : Function) (a : RacyAccess) (w : ℕ) (s : Setting) (registers : List ℕ) (opened : List Opening) → slice_get code.functions f ≡ Some fn → slice_get (weakened code t vs rs rows).functions f ≡ Some weak → Contains (racy_accesses code t (places_in vs) rs rows f) a → IsSeat weak.instrs w a.instr → IsSettingOf code fn s → fn.registers ≤ length registers → Walked s weak.instrs w registers opened
