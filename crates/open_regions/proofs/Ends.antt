@@ -40,7 +40,7 @@ use Rattle.weak_ways.specs.Walked.{Opening}
 use Rattle.weak_ways.specs.Ways.{Way}
 use Rattle.weak_ways.proofs.Covered.{returns_give_all, opened_once}
 use Rattle.weak_ways.proofs.Guarded.{In, in_contains, contains_in}
-use Rattle.weak_ways.proofs.Holdings.{GiveAll}
+use Rattle.weak_ways.proofs.Holdings.{GiveAll, some_many}
 use Rattle.weak_ways.proofs.Opened.{nesting_many}
 use Rattle.core_run.specs.Histories.{IsReachable}
 use Rattle.core_run.specs.Machine.{Told}
@@ -50,7 +50,7 @@ use Rattle.held_locks.specs.ThreadStripes.{IsOfMemory}
 use Rattle.held_locks.proofs.Accesses.{access_holds}
 use Rattle.open_regions.specs.OpenStripes.{is_exit, HoldsItsOpen}
 use Rattle.open_regions.proofs.Walking.{OpenOnce, times_in}
-use Rattle.open_regions.proofs.Promises.{promised, promised_library, some_many, HoldsBy}
+use Rattle.open_regions.proofs.Promises.{promised, promised_library, HoldsBy}
 use Rattle.open_regions.proofs.Steps.{reached_held}
 use Rattle.open_regions.proofs.Machines.{all_reached, settled_reached}
 use Rattle.open_regions.proofs.Wanted.{wanted_has}

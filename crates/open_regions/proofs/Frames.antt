@@ -16,10 +16,10 @@ use Rattle.weak_ways.specs.Walked.{Opening, begins as walk_begins}
 use Rattle.weak_ways.specs.Ways.{begins}
 use Rattle.weak_ways.proofs.Guarded.{In}
 use Rattle.weak_ways.proofs.Opened.{many}
-use Rattle.weak_ways.proofs.Holdings.{is_of, Kept, is_call, functions_of, at_left, at_end, length_more, length_map, way_on}
+use Rattle.weak_ways.proofs.Holdings.{is_of, Kept, is_call, functions_of, at_left, at_end, length_more, length_map, way_on, some_many}
 use Rattle.open_regions.specs.OpenStripes.{is_exit}
 use Rattle.open_regions.proofs.Walking.{OpenOnce, ActAt, Walks, walk_on}
-use Rattle.open_regions.proofs.Promises.{promised, in_promised, exit_promised, some_many, both_true, Stands, Holds, HoldsBy, arrives}
+use Rattle.open_regions.proofs.Promises.{promised, in_promised, exit_promised, both_true, Stands, Holds, HoldsBy, arrives}
 
 empty : {X : Type 0} (x : X) → In x [] → ⊥
 empty x (k, h) = cc

@@ -18,11 +18,11 @@ use Rattle.weak_ways.specs.Ways.{closed}
 use Rattle.weak_ways.proofs.Guarded.{In}
 use Rattle.weak_ways.proofs.Standing.{times, times_closed, times_other}
 use Rattle.weak_ways.proofs.Opened.{many, in_filtered, of_filtered, set_other, set_here, has_some}
-use Rattle.weak_ways.proofs.Holdings.{is_of, Kept, apart, way_on, takes_is, none_here}
-use Rattle.weak_ways.proofs.Givings.{Giving}
+use Rattle.weak_ways.proofs.Holdings.{is_of, Kept, apart, way_on, takes_is, none_here, some_many}
+use Rattle.weak_ways.proofs.Givings.{Giving, last_none}
 use Rattle.open_regions.specs.OpenStripes.{is_exit}
 use Rattle.open_regions.proofs.Walking.{closed_other, OpenOnce, ActAt, walk_on, open_once}
-use Rattle.open_regions.proofs.Promises.{promised, in_promised, some_many, both_true, Has, Stands, Holds, HoldsBy, Keeps, has_kept, others_kept, arrives}
+use Rattle.open_regions.proofs.Promises.{promised, in_promised, both_true, Has, Stands, Holds, HoldsBy, Keeps, has_kept, others_kept, arrives}
 
 -- ---- lists
 
@@ -42,23 +42,9 @@ two_many p (z ∷ xs) (suc i) (suc j) x y e f ne a b = by (p z) (two_many p xs i
     by true le = omega (arith, le)
     by false le = le
 
-place_some : {X : Type 0} (p : X → Bool) (n m : ℕ) (xs : List X) → last_place p n (Some m) xs ≡ None → ⊥
-place_some p n m [] h = cc
-place_some p n m (x ∷ xs) h = by (p x) h (λ k e. place_some p (n + 1) k xs e)
-  where
-    by : (b : Bool) → last_place p (n + 1) (if b then Some n else Some m) xs ≡ None → ((k : ℕ) → last_place p (n + 1) (Some k) xs ≡ None → ⊥) → ⊥
-    by true h rec = rec n h
-    by false h rec = rec m h
-
 -- where there is no last place, no item passes
 no_place : {X : Type 0} (p : X → Bool) (n : ℕ) (xs : List X) (x : X) → last_place p n None xs ≡ None → In x xs → p x ≡ true → ⊥
-no_place p n [] x h (k, e) t = cc
-no_place {X} p n (y ∷ xs) x h i t = by (p y) refl h i (λ k j. no_place p (n + 1) xs x k j t)
-  where
-    by : (b : Bool) → p y ≡ b → last_place p (n + 1) (if b then Some n else None) xs ≡ None → In x (y ∷ xs) → (last_place p (n + 1) None xs ≡ None → In x xs → ⊥) → ⊥
-    by true e h i rec = place_some p (n + 1) n xs h
-    by false e h (zero, g) rec = let z : false ≡ true = sym e ∙ ap p (same_Some y x g) ∙ t in cc
-    by false e h (suc k, g) rec = rec h (k, g)
+no_place p n xs x h i t = omega (arith, last_none p n None xs h, some_many p xs x i t)
 
 -- a Take is that of one region
 one_taken : (o : Option Instr) (r q : ℕ) → takes o r ≡ true → takes o q ≡ true → r ≡ q

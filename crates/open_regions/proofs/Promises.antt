@@ -1,8 +1,7 @@
 -- What a thread keeps of the regions that are open on the ways of its frames.
-use Rattle.std.proofs.Common.{◌≡◌, ℕ, zero, suc, ◌-◌, ◌*◌, ◌<◌, ◌≤◌, ◌&&◌, Bool, true, false, List, [], ◌∷◌, length, refl, sym, ap, ◌∙◌, subst, arith, Option, Some, None}
+use Rattle.std.proofs.Common.{◌≡◌, ℕ, ◌-◌, ◌*◌, ◌<◌, ◌≤◌, ◌&&◌, Bool, true, false, List, [], length, refl, sym, ap, ◌∙◌, subst, arith, Option, Some, None}
 use Rattle.std.specs.Prelude.{slice_get, if◌then◌else◌, ◌==◌}
 use Rattle.std.proofs.lemmas.Bool.Decides.{nat_tests}
-use Rattle.std.proofs.lemmas.Option.{same_Some}
 use Rattle.sync_objects.specs.Setup.{SetupView}
 use Rattle.abstract_machine.specs.declared.library_call.LibraryCall.{LibraryCall}
 use Rattle.abstract_machine.specs.declared.library_call.LibraryCall.TheVariants as call
@@ -21,10 +20,10 @@ use Rattle.weak_ways.specs.Walked.{Opening, closed_with, opened_with}
 use Rattle.weak_ways.specs.Ways.{opened_by, Way}
 use Rattle.weak_ways.proofs.Guarded.{In}
 use Rattle.weak_ways.proofs.Standing.{times}
-use Rattle.weak_ways.proofs.Opened.{many}
-use Rattle.weak_ways.proofs.Holdings.{is_of, last_here, Kept, is_still, not_taking, none_here, takes_is, way_on}
+use Rattle.weak_ways.proofs.Holdings.{is_of, last_here, Kept, is_still, not_taking, none_here, takes_is, way_on, some_many}
+use Rattle.weak_ways.proofs.Walks.{goes_next, of_closed}
 use Rattle.open_regions.specs.OpenStripes.{is_exit, setting_of}
-use Rattle.open_regions.proofs.Walking.{closed_in, goes_next, OpenOnce, Is, ActAt, Walks, walk_on}
+use Rattle.open_regions.proofs.Walking.{OpenOnce, Is, ActAt, Walks, walk_on}
 
 -- the open regions that are kept at an instruction: at a Give not the one that is given, and none where the thread exits
 abbrev pub promised : Option Act → List Opening → List Opening
@@ -62,7 +61,7 @@ exit_promised (Some (act.Library call.Exit arguments into)) os e = refl
 exit_promised _ os e = cc
 
 act_promises : (a : Act) (x : Opening) (os : List Opening) (b : Bool) → is_exit (Some a) ≡ b → In x (promised (Some a) os) → In x os
-act_promises (act.Give r) x os b e i = closed_in r x os i
+act_promises (act.Give r) x os b e i = of_closed x r os i
 act_promises (act.Library c arguments into) x os true e i = absurd (none (subst (λ z. In x z) (exit_promised (Some (act.Library c arguments into)) os e) i))
   where
     none : In x [] → ⊥
@@ -85,15 +84,6 @@ still_openings (act.Give r) rs os h = cc
 still_openings _ rs os h = refl
 
 -- ---- open regions
-
-pub some_many : {X : Type 0} (p : X → Bool) (xs : List X) (x : X) → In x xs → p x ≡ true → 1 ≤ many p xs
-some_many p [] x (k, h) t = cc
-some_many p (y ∷ xs) x (zero, h) t = let e : p y ≡ true = ap p (same_Some y x h) ∙ t in omega (arith, ap (λ b. if b then suc (many p xs) else many p xs) e)
-some_many p (y ∷ xs) x (suc k, h) t = by (p y) (some_many p xs x (k, h) t)
-  where
-    by : (b : Bool) → 1 ≤ many p xs → 1 ≤ (if b then suc (many p xs) else many p xs)
-    by true le = omega (arith, le)
-    by false le = le
 
 pub both_true : (a b : Bool) → (a && b) ≡ true → (a ≡ true) × (b ≡ true)
 both_true true b h = (refl, h)

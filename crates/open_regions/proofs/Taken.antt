@@ -10,14 +10,12 @@ use Rattle.flow_code.specs.Threads.{Thread, OpenRegion}
 use Rattle.weak_sound.proofs.Accesses.{Each}
 use Rattle.weak_ways.proofs.Guarded.{In}
 use Rattle.weak_ways.proofs.Opened.{in_filtered, of_filtered, set_other, set_here, of_set, length_set, of_append, in_first, in_second, has_some, number_back}
-use Rattle.weak_ways.proofs.Holdings.{last_here, at_end, length_more}
+use Rattle.weak_ways.proofs.Holdings.{last_here}
+use Rattle.weak_ways.proofs.Takings.{last_item}
 use Rattle.open_regions.proofs.Promises.{taken_at, both_true, two_true}
 
 abbrev fresh_of : Thread → List (ℕ × ℕ) → OpenRegion
 fresh_of th xs = record { frame = length th.below; instr = th.top.instr; stripes = xs }
-
-last_item : {X : Type 0} (xs : List X) (x : X) → slice_get (xs ++ x ∷ []) (length (xs ++ x ∷ []) - 1) ≡ Some x
-last_item xs x = let e : length (xs ++ x ∷ []) - 1 ≡ length xs = omega (arith, length_more xs x) in ap (slice_get (xs ++ x ∷ [])) e ∙ at_end xs x
 
 -- ---- the latest open region
 

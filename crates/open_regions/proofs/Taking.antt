@@ -16,10 +16,10 @@ use Rattle.weak_ways.specs.Walked.{Opening}
 use Rattle.weak_ways.proofs.Guarded.{In}
 use Rattle.weak_ways.proofs.Standing.{times, one_if}
 use Rattle.weak_ways.proofs.Opened.{has_append, from_has, first_found}
-use Rattle.weak_ways.proofs.Holdings.{is_of, last_here, Kept, takes_is, way_on}
+use Rattle.weak_ways.proofs.Holdings.{is_of, last_here, Kept, takes_is, way_on, some_many}
 use Rattle.open_regions.specs.OpenStripes.{is_exit}
 use Rattle.open_regions.proofs.Walking.{OpenOnce, ActAt, walk_on}
-use Rattle.open_regions.proofs.Promises.{taken_at, taken_same, promised, in_promised, some_many, two_true, both_true, takes_at, Has, Stands, Partly, Holds, HoldsBy, Keeps, is_same, has_kept, others_kept, arrives}
+use Rattle.open_regions.proofs.Promises.{taken_at, taken_same, promised, in_promised, two_true, both_true, takes_at, Has, Stands, Partly, Holds, HoldsBy, Keeps, is_same, has_kept, others_kept, arrives}
 use Rattle.open_regions.proofs.Taken.{opened_keeps, opened_new, opened_from, opened_taken, behind_append, behind_from, of_from}
 
 or_right : (b : Bool) → (b || true) ≡ true
