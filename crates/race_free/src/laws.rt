@@ -1,0 +1,69 @@
+//! The laws of weakened code's runs.
+ghost use Rattle.std.specs.Prelude.{◌≡◌, ℕ, List, Some};
+ghost use Rattle.sync_objects.specs.Setup.{SetupView, IsWithinLimits};
+ghost use Rattle.sync_objects.specs.declared.entry.Noted.{Noted};
+ghost use Rattle.core_run.specs.Histories.{run_of, HasNoRace, HaveEnded, list_of, lists_of, entries_in};
+ghost use Rattle.core_run.specs.Machine.{Told, machine, start_state};
+ghost use Rattle.core_run.specs.Walks.{walk_of};
+ghost use Rattle.lock_sound.specs.Weakened.{Analysed, IsAnalysed};
+ghost use Rattle.runs.specs.Labels.{Label};
+ghost use Rattle.runs.specs.Merge.{IsMerge, written_merge};
+ghost use Rattle.runs.specs.Paths.{AreComparable, BeginsLike, StopsBefore, path};
+ghost use Rattle.runs.specs.Steps.{State};
+
+/// No state that weakened code reaches is a race: in none of them do two threads have conflicting accesses next, over every
+/// list of labels, with revokes, stops and closes.
+pub fn law_no_race()
+    ensures { (a : Analysed) (setup : SetupView) →
+        IsAnalysed a →
+        IsWithinLimits setup →
+        HasNoRace a.weak setup }
+{}
+
+/// Two runs of weakened code whose threads have equal lists of entries, and all of whose threads have ended, end in one state:
+/// each thread has made the same accesses and printed the same bytes.
+pub fn law_converge()
+    ensures { (a : Analysed) (setup : SetupView) (labels other : List Label) (end other_end : State Told) →
+        IsAnalysed a →
+        IsWithinLimits setup →
+        run_of a.weak setup labels ≡ Some end →
+        run_of a.weak setup other ≡ Some other_end →
+        HaveEnded a.weak setup end →
+        HaveEnded a.weak setup other_end →
+        ((t : ℕ) → list_of end t ≡ list_of other_end t) →
+        end ≡ other_end }
+{}
+
+/// Every merge of the lists of a run of weakened code in which all threads have ended walks to the end of that run.
+pub fn law_merges()
+    ensures { (a : Analysed) (setup : SetupView) (labels : List Label) (end : State Told) (merged : List Noted) →
+        IsAnalysed a →
+        IsWithinLimits setup →
+        run_of a.weak setup labels ≡ Some end →
+        HaveEnded a.weak setup end →
+        IsMerge (list_of end) merged →
+        walk_of a.weak setup (entries_in merged) (start_state a.weak setup) ≡ Some end }
+{}
+
+/// So does the one that is written as its log.
+pub fn law_log()
+    ensures { (a : Analysed) (setup : SetupView) (labels : List Label) (end : State Told) →
+        IsAnalysed a →
+        IsWithinLimits setup →
+        run_of a.weak setup labels ≡ Some end →
+        HaveEnded a.weak setup end →
+        walk_of a.weak setup (entries_in (written_merge (lists_of end))) (start_state a.weak setup) ≡ Some end }
+{}
+
+/// Where each thread's list in one run of weakened code is a prefix of its list in another, and no thread has gone past the
+/// count of its next entry there, the states of each thread in one of the two runs are a prefix of those in the other.
+pub fn law_prefixes()
+    ensures { (a : Analysed) (setup : SetupView) (labels other : List Label) (end other_end : State Told) (t : ℕ) →
+        IsAnalysed a →
+        IsWithinLimits setup →
+        run_of a.weak setup labels ≡ Some end →
+        run_of a.weak setup other ≡ Some other_end →
+        BeginsLike (machine a.weak setup) labels other (start_state a.weak setup) →
+        StopsBefore (machine a.weak setup) labels other (start_state a.weak setup) end →
+        AreComparable (path (machine a.weak setup) t labels (start_state a.weak setup)) (path (machine a.weak setup) t other (start_state a.weak setup)) }
+{}
