@@ -1,6 +1,6 @@
-//! Runs of a text: what the machine of its code does is a run of the source, and so is what that of its weakened code does. It
-//! joins `front`, which reads a text, with `source_runs` and `erasure`, whose laws are of core trees. It has no program, and
-//! promises its four laws.
+//! Runs of a text: what the machine of its code does is a run of the source, and so is what that of its weakened code does, whose
+//! logs walk to what they were written of. It joins `front`, which reads a text, with `source_runs`, `erasure` and `race_free`,
+//! whose laws are of core trees and codes. It has no program, and promises its laws.
 #![tactic(auto)]
 
 ghost use Rattle.std.specs.Prelude.{◌≡◌, ◌≤◌, ◌^◌, List, length, Some};
@@ -15,12 +15,14 @@ ghost use Rattle.weak_facts.specs.declared.grain.Grained.{Grained};
 ghost use Rattle.weak_facts.specs.declared.range.Range.{Range};
 ghost use Rattle.weak_code.specs.Weakened.{weakened};
 ghost use Rattle.erasure.specs.Erased.{erased_events, erased_walk, IsAnywhere};
-ghost use Rattle.core_run.specs.Histories.{run_of};
+ghost use Rattle.core_run.specs.Histories.{run_of, HaveEnded, lists_of, entries_in};
 ghost use Rattle.core_run.specs.Machine.{Told, start_state};
 ghost use Rattle.core_run.specs.Walks.{walk_of};
 ghost use Rattle.front.specs.Plain.{plain_code};
 ghost use Rattle.front.specs.Readings.{sound, IsReading};
+ghost use Rattle.lock_sound.specs.Weakened.{Analysed, IsAnalysed};
 ghost use Rattle.runs.specs.Labels.{Label};
+ghost use Rattle.runs.specs.Merge.{written_merge};
 ghost use Rattle.runs.specs.Steps.{State};
 ghost use Rattle.source_runs.specs.RunEvents.{events_of_run};
 ghost use Rattle.source_runs.specs.SourceRuns.{IsSourceRun, IsBeforeEntry};
@@ -67,4 +69,20 @@ pub fn law_text_erased_walk()
         IsWithinLimits setup →
         walk_of (weakened (plain_code os) t vs rs rows) setup entries (start_state (weakened (plain_code os) t vs rs rows) setup) ≡ Some end →
         IsSourceRun (core_of_source os) setup IsAnywhere (erased_walk (weakened (plain_code os) t vs rs rows) setup entries) }
+{}
+
+/// The log of a run of such a text's weakened code in which all threads have ended, whatever the interleaving was, and with any
+/// revokes, stops and closes, walks to that run's own end: with the same bytes printed, the same accesses in each thread, and
+/// each thread ended as it did. And that walk is a run of the source, once the operations on stripes are left out.
+pub fn law_text_log()
+    ensures { (text : Text) (os : List Outer) (a : Analysed) (setup : SetupView) (labels : List Label) (end : State Told) →
+        length text ≤ 2 ^ 20 →
+        IsReading text (sound os) →
+        IsAnalysed a →
+        a.plain ≡ plain_code os →
+        IsWithinLimits setup →
+        run_of a.weak setup labels ≡ Some end →
+        HaveEnded a.weak setup end →
+        (walk_of a.weak setup (entries_in (written_merge (lists_of end))) (start_state a.weak setup) ≡ Some end)
+        × IsSourceRun (core_of_source os) setup IsAnywhere (erased_walk a.weak setup (entries_in (written_merge (lists_of end)))) }
 {}
