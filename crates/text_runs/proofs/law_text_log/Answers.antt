@@ -23,7 +23,9 @@ returns c = λ text os a setup labels end short reads h is within runs ended.
     let log = entries_in (written_merge (lists_of end)) in
     let rs = ranges_of a.plain a.points in
     let walks : walk_of a.weak setup log (start_state a.weak setup) ≡ Some end = log_walks a setup labels end h within runs ended in
-    let weak : a.weak ≡ weakened (plain_code os) a.points a.pairs rs a.grains.rows = h.weak ∙ ap (λ (p : Code). weakened p a.points a.pairs rs a.grains.rows) is in
-    (walks, subst (λ (w : Code). IsSourceRun (core_of_source os) setup IsAnywhere (erased_walk w setup log)) (sym weak)
-      (weakened_walk (core_of_source os) a.points a.pairs rs a.grains.rows (source_sound text os reads (few_enough text os reads short)) setup log end within
-        (subst (λ (w : Code). walk_of w setup log (start_state w setup) ≡ Some end) weak walks)))
+    let weak : a.weak ≡ weakened (plain_code os) a.points a.pairs rs a.grains.rows = h.weak ∙ ap (λ (p : Code). weakened p a.points a.pairs rs a.grains.rows) is in (
+      walks,
+      subst (λ (w : Code). IsSourceRun (core_of_source os) setup IsAnywhere (erased_walk w setup log)) (sym weak)
+          (weakened_walk (core_of_source os) a.points a.pairs rs a.grains.rows (source_sound text os reads (few_enough text os reads short)) setup log end within
+          (subst (λ (w : Code). walk_of w setup log (start_state w setup) ≡ Some end) weak walks)),
+    )
