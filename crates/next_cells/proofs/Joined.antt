@@ -70,7 +70,7 @@ module _ (code : Code) (s : SetupView) (t : ℕ) (th : Thread) where
   due_joins (due.Operate o obj) answer e n = operates o obj answer e
   due_joins (due.Trap kind) answer e n = none refl
 
-  step_joins : (answer : ℤ) → (due_of code s t th ≡ due.Nothing → ⊥) → Joins code th (thread_stepped code s t th answer) (due_of code s t th) answer
+  pub step_joins : (answer : ℤ) → (due_of code s t th ≡ due.Nothing → ⊥) → Joins code th (thread_stepped code s t th answer) (due_of code s t th) answer
   step_joins answer n = subst (λ q. Joins code th q (due_of code s t th) answer) (sym (stepped_is code s t th (due_of code s t th) answer refl)) (due_joins (due_of code s t th) answer refl n)
 
   -- by a quiet step no join comes about

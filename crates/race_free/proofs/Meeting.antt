@@ -123,7 +123,7 @@ module _ (code : Code) (t : Tables) (ss : List Summary) (vs : List Pair) (rs : L
       into = points_to code setup valid made (at_rest code setup bare) well (Rattle.facts.specs.declared.constraint.Node.TheVariants.Register pt.top.function m.access.through) (register pt.top.registers m.access.through) cell m.kind m.resolves
           (good_word code setup valid made (at_rest code setup bare) well k (resting code setup k x) m.access.through (resting_at code setup bare k x there) m.runs (through_pointer code pt.top instruction.0 instruction.1 m.access valid instruction.2 does))
 
-      holds_stripe_of : (o : Object) → IsObject code setup made o → (offset : ℕ) → offset < o.cells → cell ≡ o.base + offset → (n : ℕ)
+      pub holds_stripe_of : (o : Object) → IsObject code setup made o → (offset : ℕ) → offset < o.cells → cell ≡ o.base + offset → (n : ℕ)
           → slice_get (places_in vs) n ≡ Some (place o.site (class_of (element_of code.sites o.site) offset))
           → HasLock code t vs rs rows (here pt.top) m.access n
           → holds_stripe n (stripe_for code t rows (place o.site (class_of (element_of code.sites o.site) offset)) offset o.cells) k state ≡ true

@@ -44,11 +44,11 @@ use Rattle.core_run.specs.Words.{cells_of, has_object}
 use Rattle.core_run.proofs.Places.{place_behind}
 use Rattle.core_run.proofs.Reached.{kept}
 use Rattle.runs.specs.Labels.{Label, label_thread}
-use Rattle.runs.specs.Ordered.{event_of}
+use Rattle.runs.specs.Ordered.{Did, event_of}
 use Rattle.runs.specs.Steps.{State, stepped}
 use Rattle.held_locks.specs.Holders.{word_of_object}
 use Rattle.held_locks.proofs.ObjectSteps.{made_fits, row_here}
-use Rattle.held_locks.proofs.Stepping.{place, ComesTo, Makes, by_itself, by_revoke, by_stop, by_close, IsOperationStep, StepKind, HasStepped}
+use Rattle.held_locks.proofs.Stepping.{place, ComesTo, Makes, by_itself, by_revoke, by_stop, by_close, IsNoOperation, IsAccessStep, IsOperationStep, StepKind, HasStepped}
 use Rattle.facts.specs.declared.constraint.Node.TheVariants.{Register, Ended}
 use Rattle.words_point.specs.Creations.{Creation, creation, slot_state, HandsOver}
 use Rattle.words_point.specs.Objects.{Object}
@@ -63,7 +63,7 @@ use Rattle.words_point.proofs.Fitting.{stands_fit}
 use Rattle.words_point.proofs.Frames.{same_thread}
 use Rattle.words_point.proofs.Handing.{CreatedBy, before, drawn_now, creation_step, thread_within, comes_creates, was_creating}
 use Rattle.words_point.proofs.Layouts.{set_got, AreLaid}
-use Rattle.words_point.proofs.Settling.{Sets, Grows, Settling, Settled, Further, knows, settling_further, settling_more, arrives_now, settled_good, object_high, stored_laid, stored_results, same_laid, same_results}
+use Rattle.words_point.proofs.Settling.{Sets, Grows, Settling, Settled, Further, knows, settling_further, arrives_now, settled_good, object_high, stored_laid, stored_results, same_laid, same_results}
 use Rattle.words_point.proofs.Storing.{Writes, to_cell, to_argument, to_result, act_writes}
 use Rattle.words_point.proofs.ThreadSteps.{Arrives, DueAnswers, stepped_good}
 
@@ -189,7 +189,7 @@ module _ (code : Code) (s : SetupView) (x : Sets code s) (st st1 : State Told) (
   run : IsRunnable code
   run = valid_runnable code x.valid
 
-  lt : t < s.slots
+  pub lt : t < s.slots
   lt = thread_within code s run x.limits st st1 l reached h
 
   mark_is : slice_get marks_now t ≡ Some th.arena
@@ -215,7 +215,7 @@ module _ (code : Code) (s : SetupView) (x : Sets code s) (st st1 : State Told) (
   abbrev IsSettled : Type 0
   IsSettled = Settled code s x t lt made marks_now st.words th z
 
-  zs : IsSettled
+  pub zs : IsSettled
   zs = settled_good code s x t lt made marks_now st.words th mark_is now_laid g.results (g.threads t h.before h.stands) (arrives_of th.phase refl)
 
   -- the thread after the step, and all that lies in cells
@@ -228,6 +228,7 @@ module _ (code : Code) (s : SetupView) (x : Sets code s) (st st1 : State Told) (
     pub argument : (j v : ℕ) → j < s.slots → slice_get st1.words (argument_cell j) ≡ Some v → (slice_get st.words (argument_cell j) ≡ Some v) ⊎ ((f : ℕ) × (creation code th ≡ Some (record { slot = j; function = f; handed = false })))
     pub own : (y : Creation) (v : ℕ) → creation code q ≡ Some y → y.handed ≡ true → slice_get st1.words (argument_cell y.slot) ≡ Some v → IsGood code s after (Register y.function 0) v
     pub begun : (f : ℕ) → q.phase ≡ phase.Begun f → (th.phase ≡ phase.Begun f) ⊎ (slot_state code s st t ≡ Started f)
+    pub later : IsAccessStep code s st.words st1.words (event_of (machine code s) st l) l th q → Grows code s zs.settling.after after
 
   -- ---- creations
 
@@ -275,7 +276,8 @@ module _ (code : Code) (s : SetupView) (x : Sets code s) (st st1 : State Told) (
       let marks_z = slice_set marks_now t z.arena in
       let within : (j mark : ℕ) → slice_get marks_z j ≡ Some mark → j < s.slots = λ j mark at. ⊎_elim (λ o. marks_within j mark o.1) (λ o. subst (λ n. n < s.slots) (sym o.0) lt) (set_got marks_now t j z.arena mark at) in
       let laid = same_laid code s t lt zs.settling.after st.words marks_z zs.settling.laid st1.words same within in
-      let moved = settling_more code s x t lt made marks_now st1.words th z q th.arena mark_is (record { after = zs.settling.after; grows = zs.settling.grows; laid = laid; good = zs.settling.good }) leaves in
+      let further = settling_further code s x t lt made marks_now st1.words th z q th.arena mark_is (record { after = zs.settling.after; grows = zs.settling.grows; laid = laid; good = zs.settling.good }) leaves in
+      let moved = further.settling in
       let back : (j v : ℕ) → j < s.slots → slice_get st1.words (argument_cell j) ≡ Some v → slice_get st.words (argument_cell j) ≡ Some v = λ j v few at. sym (same (argument_cell j) (omega arith)) ∙ at in
       record {
         after = moved.after;
@@ -286,6 +288,7 @@ module _ (code : Code) (s : SetupView) (x : Sets code s) (st st1 : State Told) (
         argument = λ j v few at. inl (back j v few at);
         own = λ y v i handed at. moved.grows (Register y.function 0) v (own_unchanged (due_of code s t z) answer y v (comes_creates code s run x.limits st st1 l reached h a answer c ne) ns i handed (back y.slot v (slot_few y i) at));
         begun = λ f p. ⊎_elim (λ i. inl i) (λ b. inr (begins f b)) (begins_or a answer f c p);
+        later = λ b. further.later;
       }
     where
       slot_few : (y : Creation) → creation code q ≡ Some y → y.slot < s.slots
@@ -407,6 +410,7 @@ module _ (code : Code) (s : SetupView) (x : Sets code s) (st st1 : State Told) (
           (got j v at);
       own = λ y v i handed at. further.later (Register y.function 0) v (own_stored y v i handed (created_few y i (creation_step code s run x.limits st st1 l reached h y i)) at (comes_creates code s run x.limits st st1 l reached h (action.Store c w) (pos 0) come (λ n. cc)));
       begun = stored_begun;
+      later = λ b. further.later;
     }
 
   -- ---- operations
@@ -457,6 +461,9 @@ module _ (code : Code) (s : SetupView) (x : Sets code s) (st st1 : State Told) (
         answers kn (due.Operate p b) i = let same = same_op p o.op b o.obj i in op_answers code st.words p b o.answer (λ is. begin_started (sym same.0 ∙ is))
         answers kn (due.Trap kind) i = tt
 
+    no_access : IsAccessStep code s st.words st1.words (event_of (machine code s) st l) l th q → ⊥
+    no_access b = subst IsNoOperation (same_Some b.what (Did t o.noted o.answer) (sym b.happens ∙ o.happens)) b.no_operation
+
     -- what others make of the thread
     beside : q.arena ≡ th.arena → GoodThread code s made q → ((y : Creation) → creation code q ≡ Some y → creation code th ≡ Some y) → ((f : ℕ) → q.phase ≡ phase.Begun f → th.phase ≡ phase.Begun f) → HasMoved
     beside arena good creations begun =
@@ -472,6 +479,7 @@ module _ (code : Code) (s : SetupView) (x : Sets code s) (st st1 : State Told) (
               let few = (k.creating t h.before y h.stands (creations y i)).within in
               g.handed t v h.before y h.stands (creations y i) handed (sym (cells_same (argument_cell y.slot) (omega arith)) ∙ at);
           begun = λ f p. inl (begun f p);
+          later = λ b. absurd (no_access b);
         }
 
     good_now : GoodThread code s made th

@@ -20,9 +20,10 @@ use Rattle.core_run.specs.Histories.{IsReachable}
 use Rattle.core_run.specs.Machine.{Told, machine, start_state}
 use Rattle.core_run.proofs.Reached.{kept}
 use Rattle.runs.specs.Labels.{Label, label_thread}
+use Rattle.runs.specs.Ordered.{event_of}
 use Rattle.runs.specs.Steps.{State, stepped}
 use Rattle.runs.proofs.Kept.{kept_along, reaches_step}
-use Rattle.held_locks.proofs.Stepping.{HasStepped, has_stepped}
+use Rattle.held_locks.proofs.Stepping.{IsAccessStep, HasStepped, has_stepped}
 use Rattle.facts.specs.declared.constraint.Node.TheVariants.{Register}
 use Rattle.words_point.specs.Creations.{Creation, creation_at, creation_in, creation, was_started, slot_state, HandsOver}
 use Rattle.words_point.specs.Objects.{Object, AreLaidOut}
@@ -32,8 +33,8 @@ use Rattle.words_point.proofs.Frames.{phase_stays}
 use Rattle.words_point.proofs.HandedOver.{hands_over}
 use Rattle.words_point.proofs.Handing.{SlotStep, slot_step, thread_within}
 use Rattle.words_point.proofs.Layouts.{set_got}
-use Rattle.words_point.proofs.Moved.{map_set, HasMoved, has_moved}
-use Rattle.words_point.proofs.Settling.{Sets}
+use Rattle.words_point.proofs.Moved.{map_set, zs, HasMoved, has_moved}
+use Rattle.words_point.proofs.Settling.{Sets, Grows}
 
 -- ---- who creates a thread stands at the call that starts it
 
@@ -166,6 +167,16 @@ module _ (code : Code) (s : SetupView) (x : Sets code s) (st st1 : State Told) (
 
   pub points_step : (after : List Object) × PointsWell code s after st1
   points_step = (m.after, points_after)
+
+  -- and what was good stays so, with what was good as an access came, after its thread's quiet steps
+  pub record PointsOn : Type 0 where
+    pub after : List Object
+    pub points : PointsWell code s after st1
+    pub grows : Grows code s made after
+    pub later : IsAccessStep code s st.words st1.words (event_of (machine code s) st l) l th h.after.thread → Grows code s (zs code s x st st1 l reached h e k made g).settling.after after
+
+  pub points_on : PointsOn
+  points_on = record { after = m.after; points = points_after; grows = m.grows; later = m.later }
 
 -- ---- all states
 
