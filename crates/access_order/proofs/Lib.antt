@@ -1,0 +1,11 @@
+pub mod Fits
+pub mod Acting
+pub mod Lasting
+pub mod Held
+pub mod Racing
+pub mod Sides
+pub mod Objects
+pub mod Creators
+pub mod Joiners
+pub mod HandOffs
+pub mod Ordering
