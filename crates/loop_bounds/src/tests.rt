@@ -204,7 +204,8 @@ fn push_steps(alloc: Global, steps: &[Step], instrs: &mut List<Instr>) -> Result
 }
 
 fn body_at(bound: Bound) -> u32
-    ensures { result ≤ 7 }
+    ensures some { 1 ≤ result }
+    ensures few { result ≤ 7 }
 {
     match bound {
         Bound::Number(_) => BODY,
