@@ -1,0 +1,5 @@
+pub mod Moves
+pub mod States
+pub mod Starts
+pub mod Ends
+pub mod LookUps
