@@ -1,5 +1,4 @@
-use Rattle.std.proofs.Common.{◌≡◌, List, Some, ap, sym, subst, ◌∙◌}
-use Rattle.sync_objects.specs.declared.entry.Entry.{Entry}
+use Rattle.std.proofs.Common.{◌≡◌, Some, ap, sym, subst, ◌∙◌}
 use Rattle.c_elaborate.specs.Whole.{core_of_source}
 use Rattle.core_run.specs.Histories.{lists_of, entries_in}
 use Rattle.core_run.specs.Machine.{start_state}
