@@ -1,5 +1,5 @@
 -- What a source and a log come to.
-use Rattle.std.proofs.Common.{◌≡◌, List, ℕ, sym, subst}
+use Rattle.std.proofs.Common.{◌≡◌, List, ℕ, subst}
 use Rattle.answers.specs.declared.answer.Answer.{Answer}
 use Rattle.answers.specs.declared.answer.Answer.TheVariants as answer
 use Rattle.core_run.specs.declared.outcome.Walk.{Walk}
