@@ -9,9 +9,11 @@ use Rattle.rr_base.specs.declared.layout.Site.{Site}
 use Rattle.rr_base.specs.declared.trap.Trap.TheVariants as trap
 use Rattle.abstract_machine.specs.declared.operator.BinaryOp.TheVariants as binary_op
 use Rattle.abstract_machine.specs.declared.event.Action.TheVariants as action
+use Rattle.abstract_machine.specs.declared.library_call.LibraryCall.TheVariants as library_call
+use Rattle.abstract_machine.specs.declared.library_call.Piece.TheVariants as piece
 use Rattle.rr_base.specs.declared.position.Position.{Position}
 use Rattle.c_core.specs.declared.value.Change.TheVariants as change
-use Rattle.c_core.specs.Core.{Exp, number, register, object, global, load, binary, copy, both, store, set_register, change_register, change_cell, call, no_exp, and_exp, Statement, block, compute, gives, branch, while_loop, do_loop, for_loop, continue_at, no_statement, and_statement, arrives, Function, Program}
+use Rattle.c_core.specs.Core.{Exp, number, register, object, global, load, binary, copy, both, store, set_register, change_register, change_cell, call, library, no_exp, and_exp, Statement, block, compute, gives, branch, while_loop, do_loop, for_loop, continue_at, no_statement, and_statement, arrives, Function, Program}
 use Rattle.c_core.specs.Runs.{events, done, trapped}
 use Rattle.c_core.specs.Meaning.{run_of}
 
@@ -40,12 +42,12 @@ first_program = program_of (block (and_statement (compute (store g (binary binar
 
 -- `main` is entered, the sum is stored behind the two hand-off cells of the one slot, and the program ends
 pub first_events_are : events (run_of first_program (setup 10) 0) (pos 0 ∷ pos 0 ∷ pos 3 ∷ pos 0 ∷ pos 0 ∷ []) ≡
-    done action.Mark (pos 0) ∷ done (action.Store 2 3) (pos 0) ∷ done (action.Load 2) (pos 3) ∷ done (action.Operate op.HaltAll object_id.Halt) (pos 0) ∷ []
+    done action.Mark [] (pos 0) ∷ done (action.Store 2 3) [] (pos 0) ∷ done (action.Load 2) [] (pos 3) ∷ done (action.Operate op.HaltAll object_id.Halt) [] (pos 0) ∷ []
 first_events_are = refl
 
 -- at a count of 2 the thread may make no event more
 pub limit_is_kept : events (run_of first_program (setup 2) 0) (pos 0 ∷ pos 0 ∷ pos 3 ∷ []) ≡
-    done action.Mark (pos 0) ∷ done (action.Store 2 3) (pos 0) ∷ trapped trap.Limit 4 ∷ []
+    done action.Mark [] (pos 0) ∷ done (action.Store 2 3) [] (pos 0) ∷ trapped trap.Limit 4 ∷ []
 limit_is_kept = refl
 
 -- int main(void) { int n; while (n) g = 1; return 0; } at first n is 0, so one turn is begun
@@ -53,7 +55,7 @@ abbrev second_program : Program
 second_program = program_of (block (and_statement (while_loop (register 0 false (at 3)) (compute (store g (number (pos 1) (at 3)) (at 3))) (at 3)) no_statement))
 
 pub second_events_are : events (run_of second_program (setup 10) 0) (pos 0 ∷ pos 0 ∷ pos 0 ∷ pos 0 ∷ []) ≡
-    done action.Mark (pos 0) ∷ done action.Mark (pos 0) ∷ done (action.Operate op.HaltAll object_id.Halt) (pos 0) ∷ []
+    done action.Mark [] (pos 0) ∷ done action.Mark [] (pos 0) ∷ done (action.Operate op.HaltAll object_id.Halt) [] (pos 0) ∷ []
 second_events_are = refl
 
 abbrev n : Exp
@@ -73,7 +75,7 @@ for_program = program_of (
 
 -- three turns are begun, and the second goes on past the store
 pub for_events_are : events (run_of for_program (setup 10) 0) (answers 6) ≡
-    done action.Mark (pos 0) ∷ done action.Mark (pos 0) ∷ done (action.Store 2 7) (pos 0) ∷ done action.Mark (pos 0) ∷ done action.Mark (pos 0) ∷ done (action.Operate op.HaltAll object_id.Halt) (pos 0) ∷ []
+    done action.Mark [] (pos 0) ∷ done action.Mark [] (pos 0) ∷ done (action.Store 2 7) [] (pos 0) ∷ done action.Mark [] (pos 0) ∷ done action.Mark [] (pos 0) ∷ done (action.Operate op.HaltAll object_id.Halt) [] (pos 0) ∷ []
 for_events_are = refl
 
 -- int main(void) { do g += 5; while (0); return 0; } where g holds 4
@@ -81,21 +83,21 @@ abbrev do_program : Program
 do_program = program_of (do_loop (compute (change_cell g (at 3) (change.Compute binary_op.Add) (z 5) false (at 4))) (z 0) (at 3))
 
 pub do_events_are : events (run_of do_program (setup 10) 0) (pos 0 ∷ pos 0 ∷ pos 4 ∷ pos 0 ∷ pos 0 ∷ []) ≡
-    done action.Mark (pos 0) ∷ done action.Mark (pos 0) ∷ done (action.Load 2) (pos 4) ∷ done (action.Store 2 9) (pos 0) ∷ done (action.Operate op.HaltAll object_id.Halt) (pos 0) ∷ []
+    done action.Mark [] (pos 0) ∷ done action.Mark [] (pos 0) ∷ done (action.Load 2) [] (pos 4) ∷ done (action.Store 2 9) [] (pos 0) ∷ done (action.Operate op.HaltAll object_id.Halt) [] (pos 0) ∷ []
 do_events_are = refl
 
 -- what can't be computed is a trap, at the line of its operator
 abbrev trap_program : Program
 trap_program = program_of (compute (binary binary_op.Divide (z 1) n (at 9)))
 
-pub trap_events_are : events (run_of trap_program (setup 10) 0) (answers 2) ≡ done action.Mark (pos 0) ∷ trapped trap.DivideByZero 9 ∷ []
+pub trap_events_are : events (run_of trap_program (setup 10) 0) (answers 2) ≡ done action.Mark [] (pos 0) ∷ trapped trap.DivideByZero 9 ∷ []
 trap_events_are = refl
 
 -- one of two operands
 abbrev short_program : Program
 short_program = program_of (compute (store g (both (z 0) (binary binary_op.Divide (z 1) (z 0) (at 9)) (at 3)) (at 3)))
 
-pub short_events_are : events (run_of short_program (setup 10) 0) (answers 3) ≡ done action.Mark (pos 0) ∷ done (action.Store 2 0) (pos 0) ∷ done (action.Operate op.HaltAll object_id.Halt) (pos 0) ∷ []
+pub short_events_are : events (run_of short_program (setup 10) 0) (answers 3) ≡ done action.Mark [] (pos 0) ∷ done (action.Store 2 0) [] (pos 0) ∷ done (action.Operate op.HaltAll object_id.Halt) [] (pos 0) ∷ []
 short_events_are = refl
 
 -- int main(void) { g = +(g += 5); return 0; } where g holds 4
@@ -104,7 +106,7 @@ copy_program = program_of (compute (store g (copy (change_cell g (at 3) (change.
 
 -- a copy has no event of its own
 pub copy_events_are : events (run_of copy_program (setup 10) 0) (pos 0 ∷ pos 4 ∷ answers 3) ≡
-    done action.Mark (pos 0) ∷ done (action.Load 2) (pos 4) ∷ done (action.Store 2 9) (pos 0) ∷ done (action.Store 2 9) (pos 0) ∷ done (action.Operate op.HaltAll object_id.Halt) (pos 0) ∷ []
+    done action.Mark [] (pos 0) ∷ done (action.Load 2) [] (pos 4) ∷ done (action.Store 2 9) [] (pos 0) ∷ done (action.Store 2 9) [] (pos 0) ∷ done (action.Operate op.HaltAll object_id.Halt) [] (pos 0) ∷ []
 copy_events_are = refl
 
 -- int f(int n) { return *&n + 1; } where the formal is kept in cells
@@ -131,11 +133,23 @@ call_program = record {
 
 -- the formal has the first cell of the thread's arena
 pub call_events_are : events (run_of call_program (setup 10) 0) (pos 0 ∷ pos 0 ∷ pos 0 ∷ pos 6 ∷ pos 0 ∷ pos 0 ∷ []) ≡
-    done action.Mark (pos 0) ∷ done action.Mark (pos 0) ∷ done (action.Store 3 6) (pos 0) ∷ done (action.Load 3) (pos 6) ∷ done (action.Store 2 7) (pos 0) ∷ done (action.Operate op.HaltAll object_id.Halt) (pos 0) ∷ []
+    done action.Mark [] (pos 0) ∷ done action.Mark [] (pos 0) ∷ done (action.Store 3 6) [] (pos 0) ∷ done (action.Load 3) [] (pos 6) ∷ done (action.Store 2 7) [] (pos 0) ∷ done (action.Operate op.HaltAll object_id.Halt) [] (pos 0) ∷ []
 call_events_are = refl
 
 -- a thread that is started with `f`, and its argument 6: the value is handed over behind its end
 pub started_events_are : events (run_of call_program (record { slots = 2; cells = 1024; limit = 10; input = [] }) 1) (pos 0 ∷ pos 6 ∷ pos 0 ∷ pos 0 ∷ pos 6 ∷ answers 3) ≡
-    done (action.Operate op.Begin (object_id.Slot 1)) (pos 0) ∷ done (action.Load 2) (pos 6) ∷ done action.Mark (pos 0) ∷ done (action.Store 1029 6) (pos 0) ∷ done (action.Load 1029) (pos 6)
-    ∷ done (action.Store 3 7) (pos 0) ∷ done (action.Operate op.End (object_id.Slot 1)) (pos 0) ∷ done (action.Operate op.Leave object_id.Threads) (pos 0) ∷ []
+    done (action.Operate op.Begin (object_id.Slot 1)) [] (pos 0) ∷ done (action.Load 2) [] (pos 6) ∷ done action.Mark [] (pos 0) ∷ done (action.Store 1029 6) [] (pos 0) ∷ done (action.Load 1029) [] (pos 6)
+    ∷ done (action.Store 3 7) [] (pos 0) ∷ done (action.Operate op.End (object_id.Slot 1)) [] (pos 0) ∷ done (action.Operate op.Leave object_id.Threads) [] (pos 0) ∷ []
 started_events_are = refl
+
+-- int main(void) { printf("%c<%c", 65, 66); putchar(10); return 0; }
+abbrev print_program : Program
+print_program = program_of (block (and_statement
+    (compute (library (library_call.Print (piece.Letter ∷ piece.Byte 60 ∷ piece.Letter ∷ [])) (and_exp (z 65) (and_exp (z 66) no_exp)) (at 3)))
+    (and_statement (compute (library library_call.PutChar (and_exp (z 10) no_exp) (at 4))) no_statement)))
+
+-- each print prints its own bytes, in the order of its arguments
+pub print_events_are : events (run_of print_program (setup 10) 0) (answers 4) ≡
+    done action.Mark [] (pos 0) ∷ done (action.Operate op.Print object_id.Output) (codes "A<B") (pos 0) ∷ done (action.Operate op.Print object_id.Output) (codes "\n") (pos 0)
+    ∷ done (action.Operate op.HaltAll object_id.Halt) [] (pos 0) ∷ []
+print_events_are = refl

@@ -27,7 +27,7 @@ use Rattle.c_core.specs.declared.value.Change.{Change}
 use Rattle.c_core.specs.declared.value.Change.TheVariants as change
 use Rattle.c_core.specs.Core as core
 use Rattle.c_core.specs.Core.{Exp, null, register, object, global, load, unary, binary, move, advance, member, between, to_pointer, to_number, copy, both, either, conditional, comma, set_register, store, change_register, change_cell, call, library, allocate, Exps, no_exp, and_exp, Statement, block, compute, branch, while_loop, do_loop, for_loop, break_at, continue_at, gives, Statements, no_statement, and_statement, Arrival, arrives, Function, Program}
-use Rattle.c_core.specs.Runs.{Run, does, traps, ends, State, M, ◌>>=◌, ◌>>◌, pure, trap_at, result_at, event, read_register, write_register, read_object, choose}
+use Rattle.c_core.specs.Runs.{Run, does, traps, ends, State, M, ◌>>=◌, ◌>>◌, pure, trap_at, result_at, printing, event, read_register, write_register, read_object, choose}
 
 -- ---- kinds
 
@@ -179,14 +179,15 @@ module _ (p : Program) (s : SetupView) (t : ℕ) where
   abbrev pub caller : State → Caller
   caller σ = record { sites = p.sites; setup = s; thread = t; printed = σ.printed }
 
-  abbrev pub by_due : ℕ → Due → M ℤ
-  by_due line due.Nothing = λ σ k. ends
-  by_due line due.Quiet = pure (pos 0)
-  by_due line (due.Load c) = event s.limit line (action.Load c)
-  by_due line (due.Store c w) = event s.limit line (action.Store c w)
-  by_due line due.Mark = event s.limit line action.Mark
-  by_due line (due.Operate o obj) = event s.limit line (action.Operate o obj)
-  by_due line (due.Trap kind) = trap_at line kind
+  -- what is due in a call; an operation of one that prints a piece prints it
+  abbrev pub by_due : ℕ → List ℕ → Due → M ℤ
+  by_due line piece due.Nothing = λ σ k. ends
+  by_due line piece due.Quiet = pure (pos 0)
+  by_due line piece (due.Load c) = event s.limit line (action.Load c)
+  by_due line piece (due.Store c w) = event s.limit line (action.Store c w)
+  by_due line piece due.Mark = event s.limit line action.Mark
+  by_due line piece (due.Operate o obj) = printing s.limit line (action.Operate o obj) piece
+  by_due line piece (due.Trap kind) = trap_at line kind
 
   abbrev pub printed_more : ℕ → M (Unit {0})
   printed_more bytes = λ σ k. k tt (record σ { printed = σ.printed + bytes })
@@ -201,7 +202,7 @@ module _ (p : Program) (s : SetupView) (t : ℕ) where
   abbrev pub library_from : ℕ → ℕ → LibraryCall → List ℕ → ℕ → ℤ → M ℕ
   library_from zero line c ws made kept = λ σ k. ends
   library_from (suc n) line c ws made kept = λ σ.
-      (by_due line (library_due (caller σ) c ws made kept) >>= λ answer.
+      (by_due line (piece_of c ws) (library_due (caller σ) c ws made kept) >>= λ answer.
       printed_more (length (piece_of c ws)) >>
       onwards (library_from n line c ws (made + 1)) (library_onward (caller σ) c ws made kept answer)) σ
 
@@ -332,7 +333,7 @@ module _ (p : Program) (s : SetupView) (t : ℕ) where
 
   abbrev pub enter_made : Function → List ℕ → ℕ → Option (List ℕ × ℕ) → M (Unit {0})
   enter_made f ws line None = trap_at line trap.ArenaFull
-  enter_made f ws line (Some made) = λ σ k. does action.Mark (λ answer. k tt (entered σ ws made.0 made.1))
+  enter_made f ws line (Some made) = λ σ k. does action.Mark [] (λ answer. k tt (entered σ ws made.0 made.1))
 
   -- the Mark with which a function is entered, or the first trap that stands in its place
   abbrev pub enter : Function → List ℕ → ℕ → M (Unit {0})

@@ -7,8 +7,8 @@ use Rattle.abstract_machine.specs.declared.event.Action.TheVariants as action
 use Rattle.abstract_machine.specs.Limits.{is_free_of_limit}
 
 pub data Run : Type 0 where
-  -- an event, and what follows on its answer
-  does : Action → (ℤ → Run) → Run
+  -- an event, the bytes that it prints, and what follows on its answer
+  does : Action → List ℕ → (ℤ → Run) → Run
   -- a trap of this kind at this line
   traps : Trap → ℕ → Run
   ends : Run
@@ -54,9 +54,13 @@ abbrev pub is_free : Action → Bool
 is_free (action.Operate o obj) = is_free_of_limit o
 is_free _ = false
 
--- any other event comes at a count below the limit
+-- any other event comes at a count below the limit; it prints these bytes
+abbrev pub printing : ℕ → ℕ → Action → List ℕ → M ℤ
+printing limit line a out = λ s k. if nat_le limit s.count && not (is_free a) then traps trap.Limit line else does a out (λ answer. k answer (counted s))
+
+-- an event that prints nothing
 abbrev pub event : ℕ → ℕ → Action → M ℤ
-event limit line a = λ s k. if nat_le limit s.count && not (is_free a) then traps trap.Limit line else does a (λ answer. k answer (counted s))
+event limit line a = printing limit line a []
 
 abbrev pub with_value : (ℕ → ℕ) → ℕ → ℕ → ℕ → ℕ
 with_value values n w m = if nat_eq m n then w else values m
@@ -76,14 +80,19 @@ choose w yes' no' = if nat_eq w 0 then no' else yes'
 
 -- ---- the events on a list of answers
 
--- an event, or the trap that ends the thread, with its line
+-- an event with the bytes that it printed and its answer, or the trap that ends the thread, with its line
 pub data Event : Type 0 where
-  done : Action → ℤ → Event
+  done : Action → List ℕ → ℤ → Event
   trapped : Trap → ℕ → Event
+
+-- the bytes that an event printed
+abbrev pub printed_in : Event → List ℕ
+printed_in (done a out answer) = out
+printed_in (trapped kind line) = []
 
 -- where the answers run out, the events so far
 abbrev pub events : Run → List ℤ → List Event
-events (does a more) [] = []
-events (does a more) (w ∷ ws) = done a w ∷ events (more w) ws
+events (does a out more) [] = []
+events (does a out more) (w ∷ ws) = done a out w ∷ events (more w) ws
 events (traps t line) ws = trapped t line ∷ []
 events ends ws = []

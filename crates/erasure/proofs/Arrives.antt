@@ -1,6 +1,6 @@
 -- A thread of a code with weak locks comes to the next event of the run that it makes without them, or to an operation on a
 -- stripe before it.
-use Rattle.std.proofs.Common.{◌≡◌, ℕ, ◌<◌, ◌⊎◌, inl, inr, Bool, true, false, ℤ, refl, sym, ap, subst, ◌∙◌, nat_le, arith}
+use Rattle.std.proofs.Common.{◌≡◌, ℕ, ◌<◌, ◌⊎◌, inl, inr, Bool, true, false, List, ℤ, refl, sym, ap, subst, ◌∙◌, nat_le, arith}
 use Rattle.std.proofs.lemmas.Bool.{true≢false}
 use Rattle.sync_objects.specs.Setup.{SetupView, IsWithinLimits}
 use Rattle.rr_base.specs.declared.trap.Trap.{Trap}
@@ -16,7 +16,7 @@ use Rattle.flow_code.proofs.Counts.{ended_due}
 use Rattle.flow_code.proofs.Settle.{action_is, settled_keeps, settled_quiet}
 use Rattle.weak_code.specs.Stripped.{strip}
 use Rattle.c_core.specs.Runs.{Run, does, traps, ends}
-use Rattle.flow_lower.specs.Follows.{Comes, IsFull, Follows}
+use Rattle.flow_lower.specs.Follows.{Comes, IsFull, Prints, Follows}
 use Rattle.source_runs.proofs.Makings.{IsAt, event, stripe, full, IsMaking}
 use Rattle.source_runs.proofs.Phases.{event_begins}
 use Rattle.source_runs.proofs.Proper.{IsEvent, HasEvents}
@@ -25,6 +25,7 @@ use Rattle.erasure.proofs.ActDues.{steps_aside}
 use Rattle.erasure.proofs.Bare.{bare, HasObjects}
 use Rattle.erasure.proofs.Limits.{Compares, same, no_room, again}
 use Rattle.erasure.proofs.Makes.{comes_stays, event_no_trap, Makes, takes_again, arrives_aside, quiet_makes}
+use Rattle.erasure.proofs.Printing.{prints_same}
 use Rattle.erasure.proofs.Steps.{limited_due, compares_dues, same_step, trap_line}
 
 module _ (w : Code) (objects : HasObjects w) (s : SetupView) (limits : IsWithinLimits s) where
@@ -74,11 +75,11 @@ module _ (w : Code) (objects : HasObjects w) (s : SetupView) (limits : IsWithinL
             follows = subst (Follows (strip w) s t (more z)) step.is_bare f;
           }
 
-      at_does : (a : Action) (more : ℤ → Run) → HasEvents (does a more) → (n : Thread) → n ≡ plain → IsFull (strip w) s t n a ⊎ ((action_at (strip w) s t n ≡ a) × ((z : ℤ) → Follows (strip w) s t (more z) (stepped (strip w) s t n z))) → Arrived t (does a more) th
-      at_does a more has n e (inl f) = full tt (x ∙ sym y ∙ sym (ap (due_of (strip w) s t) e) ∙ f.traps)
-      at_does a more has n e (inr f) =
+      at_does : (a : Action) (out : List ℕ) (more : ℤ → Run) → HasEvents (does a out more) → (n : Thread) → n ≡ plain → IsFull (strip w) s t n a ⊎ ((action_at (strip w) s t n ≡ a) × Prints (strip w) n a out × ((z : ℤ) → Follows (strip w) s t (more z) (stepped (strip w) s t n z))) → Arrived t (does a out more) th
+      at_does a out more has n e (inl f) = full tt (x ∙ sym y ∙ sym (ap (due_of (strip w) s t) e) ∙ f.traps)
+      at_does a out more has n e (inr f) =
           let at : action_at w s t th ≡ a = action_is w s t th ∙ ap action_of (x ∙ sym y) ∙ sym (action_is (strip w) s t plain) ∙ sym (ap (action_at (strip w) s t) e) ∙ f.0 in
-          event (has.0, at, λ z. goes_on a more z has.0 (has.1 z) at (subst (λ k. Follows (strip w) s t (more z) (stepped (strip w) s t k z)) e (f.1 z)))
+          event (has.0, at, prints_same w m.entries th here a out (subst (λ k. Prints (strip w) k a out) e f.1), λ z. goes_on a more z has.0 (has.1 z) at (subst (λ k. Follows (strip w) s t (more z) (stepped (strip w) s t k z)) e (f.2 z)))
 
       at_traps : (kind : Trap) (line : ℕ) (n : Thread) → n ≡ plain → due_of (strip w) s t n ≡ due.Trap kind → line_of (strip w) n.phase n.top ≡ line → Arrived t (traps kind line) th
       at_traps kind line n e is at =
@@ -86,7 +87,7 @@ module _ (w : Code) (objects : HasObjects w) (s : SetupView) (limits : IsWithinL
           event (x ∙ traps_there, sym (trap_line w objects s t m.entries th m.few m.placed here kind below_limit traps_there) ∙ sym (ap (λ (z : Thread). line_of (strip w) z.phase z.top) e) ∙ at)
 
       at_event : (q : Run) → HasEvents q → Follows (strip w) s t q plain → Arrived t q th
-      at_event (does a more) has f = at_does a more has f.0 (stays f.0 f.1) f.2
+      at_event (does a out more) has f = at_does a out more has f.0 (stays f.0 f.1) f.2
       at_event (traps kind line) has f = at_traps kind line f.0 (stays f.0 f.1) f.2 f.3
       at_event ends has f = event (x ∙ sym y ∙ sym (ap (due_of (strip w) s t) (stays f.0 f.1)) ∙ f.2)
 

@@ -1,5 +1,5 @@
 -- Worked rows: what is left of a run, and of a thread, without weak locks.
-use Rattle.std.proofs.Common.{◌≡◌, ℕ, false, [], ◌∷◌, map, None, refl, pos}
+use Rattle.std.proofs.Common.{◌≡◌, ℕ, false, List, [], ◌∷◌, map, None, refl, pos, codes}
 use Rattle.sync_objects.specs.declared.object.ObjId.TheVariants as object
 use Rattle.sync_objects.specs.declared.operation.Op.{Op}
 use Rattle.sync_objects.specs.declared.operation.Op.TheVariants as op
@@ -12,13 +12,13 @@ use Rattle.flow_code.specs.declared.code.Code.{Code}
 use Rattle.flow_code.specs.Threads.{Frame}
 use Rattle.c_core.specs.Runs.{done}
 use Rattle.source_runs.specs.RunEvents.{without_stripes}
-use Rattle.source_runs.specs.SourceRuns.{ThreadDeed, own, stops}
+use Rattle.source_runs.specs.SourceRuns.{ThreadDeed, own, stops, bytes_of}
 use Rattle.erasure.proofs.Bare.{frame_with, bare_frame}
 
 -- ---- deeds
 
 deed : ℕ → Action → ThreadDeed
-deed t a = record { thread = t; deed = own (done a (pos 0)) }
+deed t a = record { thread = t; deed = own (done a [] (pos 0)) }
 
 on_stripe : Op → Action
 on_stripe o = action.Operate o (object.Weak 0 3)
@@ -32,6 +32,14 @@ deeds_row :
     ≡ deed 0 (action.Store 7 1) ∷ stop ∷ []
 unfolding deed on_stripe stop
 deeds_row = refl
+
+print : ℕ → List ℕ → ThreadDeed
+print t out = record { thread = t; deed = own (done (action.Operate op.Print object.Output) out (pos 0)) }
+
+-- what is printed comes in the order of the deeds, whatever threads print
+bytes_row : bytes_of (print 1 (codes "ab") ∷ deed 0 (on_stripe op.Take) ∷ stop ∷ print 0 (codes "c") ∷ []) ≡ codes "abc"
+unfolding print deed on_stripe stop
+bytes_row = refl
 
 -- ---- frames
 

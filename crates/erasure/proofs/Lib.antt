@@ -9,6 +9,7 @@ pub mod Limits
 pub mod LowerFronts
 pub mod Makes
 pub mod Placed
+pub mod Printing
 pub mod Seats
 pub mod Starts
 pub mod Steps

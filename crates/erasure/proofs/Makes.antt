@@ -21,7 +21,7 @@ use Rattle.flow_code.proofs.Dues.{quiet_by_code, quiet_due}
 use Rattle.flow_code.proofs.Settle.{action_is, quiet_action_at}
 use Rattle.weak_code.specs.Stripped.{strip}
 use Rattle.c_core.specs.Runs.{Run, does, traps, ends}
-use Rattle.flow_lower.specs.Follows.{Comes, here, quietly, IsFull, Follows}
+use Rattle.flow_lower.specs.Follows.{Comes, here, quietly, IsFull, Prints, Follows}
 use Rattle.source_runs.proofs.Makings.{IsAt, IsAtStripe, stripe, full}
 use Rattle.source_runs.proofs.Proper.{IsEvent, HasEvents}
 use Rattle.erasure.specs.Erased.{IsAnywhere}
@@ -48,9 +48,9 @@ module _ (code : Code) (s : SetupView) (t : ℕ) where
 
   -- a quiet step goes on in the same run
   follows_on : (r : Run) (n : Thread) → HasEvents r → due_of code s t n ≡ due.Quiet → Follows code s t r n → Follows code s t r (stepped code s t n (pos 0))
-  follows_on (does a more) n has q f = (f.0, comes_on n f.0 f.1 q (by f.2), f.2)
+  follows_on (does a out more) n has q f = (f.0, comes_on n f.0 f.1 q (by f.2), f.2)
     where
-      by : IsFull code s t f.0 a ⊎ ((action_at code s t f.0 ≡ a) × ((z : ℤ) → Follows code s t (more z) (stepped code s t f.0 z))) → due_of code s t f.0 ≡ due.Quiet → ⊥
+      by : IsFull code s t f.0 a ⊎ ((action_at code s t f.0 ≡ a) × Prints code f.0 a out × ((z : ℤ) → Follows code s t (more z) (stepped code s t f.0 z))) → due_of code s t f.0 ≡ due.Quiet → ⊥
       by (inl x) e = let no_trap : due.Quiet ≡ due.Trap trap.LogFull = sym e ∙ x.traps in cc
       by (inr x) e = no_quiet_event f.0 a has.0 x.0 e
   follows_on (traps kind line) n has q f = (f.0, comes_on n f.0 f.1 q (λ e. let no_trap : due.Quiet ≡ due.Trap kind = sym e ∙ f.2 in cc), f.2, f.3)

@@ -23,16 +23,17 @@ use Rattle.flow_lower.proofs.SoundWithin.{sound_within}
 use Rattle.flow_lower.proofs.Valid.{valid}
 use Rattle.core_run.specs.Histories.{run_of}
 use Rattle.core_run.specs.Machine.{Told, start_thread, start_state}
-use Rattle.core_run.specs.Walks.{walk_of}
+use Rattle.core_run.specs.Walks.{walk_of, out_of}
 use Rattle.runs.specs.Labels.{Label}
 use Rattle.runs.specs.Steps.{State}
-use Rattle.source_runs.specs.SourceRuns.{IsSourceRun}
+use Rattle.source_runs.specs.SourceRuns.{IsSourceRun, bytes_of}
 use Rattle.source_runs.proofs.Proper.{HasEvents, run_proper}
 use Rattle.source_runs.proofs.Starts.{starts_run}
 use Rattle.erasure.specs.Erased.{erased_events, erased_walk, IsAnywhere}
 use Rattle.erasure.proofs.Bare.{HasObjects}
 use Rattle.erasure.proofs.Fronts.{weakened_objects}
 use Rattle.erasure.proofs.LowerFronts.{loops_are_behind, lowered_plain}
+use Rattle.erasure.proofs.Printing.{erased_prints}
 use Rattle.erasure.proofs.Starts.{erased_run, erased_walk_run}
 use Rattle.erasure.proofs.ValidFronts.{valid_objects}
 use Rattle.erasure.proofs.WeakRuns.{weakened_runnable}
@@ -47,13 +48,13 @@ module _ (p : Program) (w plain : Code) (s : SetupView) (limits : IsWithinLimits
   pub followed_run : (labels : List Label) (end : State Told) → run_of w s labels ≡ Some end → IsSourceRun p s IsAnywhere (erased_events w s labels)
   followed_run labels end h = erased_run p w plain s strips globals_are kinds_are each_kind (valid_objects w fine) (valid_runnable w fine) limits (λ t. (run_proper p s t, follows t)) labels end h
 
-  pub followed_walk : (es : List Entry) (end : State Told) → walk_of w s es (start_state w s) ≡ Some end → IsSourceRun p s IsAnywhere (erased_walk w s es)
-  followed_walk es end h = erased_walk_run p w plain s strips globals_are kinds_are each_kind (valid_objects w fine) (valid_runnable w fine) limits (λ t. (run_proper p s t, follows t)) es end h
+  pub followed_walk : (es : List Entry) (end : State Told) → walk_of w s es (start_state w s) ≡ Some end → IsSourceRun p s IsAnywhere (erased_walk w s es) × (out_of w s es (start_state w s) ≡ bytes_of (erased_walk w s es))
+  followed_walk es end h = (erased_walk_run p w plain s strips globals_are kinds_are each_kind (valid_objects w fine) (valid_runnable w fine) limits (λ t. (run_proper p s t, follows t)) es end h, erased_prints w s (valid_runnable w fine) es end h)
 
 pub stripped_run : (p : Program) (w : Code) (s : SetupView) (labels : List Label) (end : State Told) → IsSound p → IsWithinLimits s → is_valid w ≡ true → strip w ≡ lowered p → run_of w s labels ≡ Some end → IsSourceRun p s IsAnywhere (erased_events w s labels)
 stripped_run p w s labels end sound limits fine strips h = followed_run p w (lowered p) s limits fine strips refl refl sound.cell_kinds (λ t. (lowered_starts p s sound limits t).1) labels end h
 
-pub stripped_walk : (p : Program) (w : Code) (s : SetupView) (es : List Entry) (end : State Told) → IsSound p → IsWithinLimits s → is_valid w ≡ true → strip w ≡ lowered p → walk_of w s es (start_state w s) ≡ Some end → IsSourceRun p s IsAnywhere (erased_walk w s es)
+pub stripped_walk : (p : Program) (w : Code) (s : SetupView) (es : List Entry) (end : State Told) → IsSound p → IsWithinLimits s → is_valid w ≡ true → strip w ≡ lowered p → walk_of w s es (start_state w s) ≡ Some end → IsSourceRun p s IsAnywhere (erased_walk w s es) × (out_of w s es (start_state w s) ≡ bytes_of (erased_walk w s es))
 stripped_walk p w s es end sound limits fine strips h = followed_walk p w (lowered p) s limits fine strips refl refl sound.cell_kinds (λ t. (lowered_starts p s sound limits t).1) es end h
 
 -- ---- weakened code
@@ -71,5 +72,6 @@ module _ (p : Program) (t : Tables) (vs : List Pair) (rs : List Range) (rows : L
   pub weakened_run : (s : SetupView) (labels : List Label) (end : State Told) → IsWithinLimits s → run_of (weakened (lowered p) t vs rs rows) s labels ≡ Some end → IsSourceRun p s IsAnywhere (erased_events (weakened (lowered p) t vs rs rows) s labels)
   weakened_run s labels end limits h = erased_run p (weakened (lowered p) t vs rs rows) (lowered p) s strips refl refl sound.cell_kinds objects runnable limits (lowered_starts p s sound limits) labels end h
 
-  pub weakened_walk : (s : SetupView) (es : List Entry) (end : State Told) → IsWithinLimits s → walk_of (weakened (lowered p) t vs rs rows) s es (start_state (weakened (lowered p) t vs rs rows) s) ≡ Some end → IsSourceRun p s IsAnywhere (erased_walk (weakened (lowered p) t vs rs rows) s es)
-  weakened_walk s es end limits h = erased_walk_run p (weakened (lowered p) t vs rs rows) (lowered p) s strips refl refl sound.cell_kinds objects runnable limits (lowered_starts p s sound limits) es end h
+  pub weakened_walk : (s : SetupView) (es : List Entry) (end : State Told) → IsWithinLimits s → walk_of (weakened (lowered p) t vs rs rows) s es (start_state (weakened (lowered p) t vs rs rows) s) ≡ Some end →
+      IsSourceRun p s IsAnywhere (erased_walk (weakened (lowered p) t vs rs rows) s es) × (out_of (weakened (lowered p) t vs rs rows) s es (start_state (weakened (lowered p) t vs rs rows) s) ≡ bytes_of (erased_walk (weakened (lowered p) t vs rs rows) s es))
+  weakened_walk s es end limits h = (erased_walk_run p (weakened (lowered p) t vs rs rows) (lowered p) s strips refl refl sound.cell_kinds objects runnable limits (lowered_starts p s sound limits) es end h, erased_prints (weakened (lowered p) t vs rs rows) s runnable es end h)

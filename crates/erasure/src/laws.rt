@@ -17,10 +17,10 @@ ghost use Rattle.flow_lower.specs.Lowered.{lowered};
 ghost use Rattle.flow_lower.specs.Sound.{IsSound};
 ghost use Rattle.core_run.specs.Histories.{run_of};
 ghost use Rattle.core_run.specs.Machine.{Told, start_thread, start_state};
-ghost use Rattle.core_run.specs.Walks.{walk_of};
+ghost use Rattle.core_run.specs.Walks.{walk_of, out_of};
 ghost use Rattle.runs.specs.Labels.{Label};
 ghost use Rattle.runs.specs.Steps.{State};
-ghost use Rattle.source_runs.specs.SourceRuns.{ThreadDeed, IsSourceRun};
+ghost use Rattle.source_runs.specs.SourceRuns.{ThreadDeed, IsSourceRun, bytes_of};
 ghost use Rattle.source_runs.specs.ThreadEvents.{own_events, IsPartOf};
 ghost use Rattle.erasure.specs.Erased.{erased_events, erased_walk, IsAnywhere};
 
@@ -35,13 +35,15 @@ pub fn law_erased_run()
         IsSourceRun p setup IsAnywhere (erased_events (weakened (lowered p) t vs rs rows) setup labels) }
 {}
 
-/// So is each walk of it, by whatever list of entries.
+/// So is each walk of it, by whatever list of entries, and the bytes that the walk tells are those that this run of the source
+/// prints.
 pub fn law_erased_walk()
     ensures { (p : Program) (t : Tables) (vs : List Pair) (rs : List Range) (rows : List Grained) (setup : SetupView) (entries : List Entry) (end : State Told) →
         IsSound p →
         IsWithinLimits setup →
         walk_of (weakened (lowered p) t vs rs rows) setup entries (start_state (weakened (lowered p) t vs rs rows) setup) ≡ Some end →
-        IsSourceRun p setup IsAnywhere (erased_walk (weakened (lowered p) t vs rs rows) setup entries) }
+        IsSourceRun p setup IsAnywhere (erased_walk (weakened (lowered p) t vs rs rows) setup entries)
+        × (out_of (weakened (lowered p) t vs rs rows) setup entries (start_state (weakened (lowered p) t vs rs rows) setup) ≡ bytes_of (erased_walk (weakened (lowered p) t vs rs rows) setup entries)) }
 {}
 
 /// In such a run of the source each thread's own events are the first ones of its run, on the answers that they got; behind
@@ -87,5 +89,6 @@ pub fn law_stripped_walk()
         is_valid code ≡ true →
         strip code ≡ lowered p →
         walk_of code setup entries (start_state code setup) ≡ Some end →
-        IsSourceRun p setup IsAnywhere (erased_walk code setup entries) }
+        IsSourceRun p setup IsAnywhere (erased_walk code setup entries)
+        × (out_of code setup entries (start_state code setup) ≡ bytes_of (erased_walk code setup entries)) }
 {}

@@ -21,7 +21,7 @@ use Rattle.c_core.specs.Core.{Function, Program}
 use Rattle.c_core.specs.Runs.{Run, does, traps, ends, State, is_free}
 use Rattle.c_core.specs.Meaning as meaning
 use Rattle.flow_lower.specs.Lowered.{lowered}
-use Rattle.flow_lower.specs.Follows.{Follows, here}
+use Rattle.flow_lower.specs.Follows.{Prints, Follows, here}
 use Rattle.flow_lower.proofs.Machine.{Shows, act_of, line_at}
 use Rattle.flow_lower.proofs.Events.{plain_by, action_is}
 use Rattle.flow_lower.proofs.Loops.{ReturnsHere}
@@ -76,11 +76,11 @@ module _ (p : Program) (s : SetupView) (t : ℕ) (i : ℕ) (f : Function) (is : 
   ending_passes e obj free ending true false = ap (λ x. cond x (due.Operate e obj) (due.Trap trap.LogFull)) ending
   ending_passes e obj free ending false false = refl
 
-  ends_by : (n : Thread) (c : ℕ) (e : Op) (obj : ObjId) (more : ℤ → Run) → is_free_of_limit e ≡ true → due_of (lowered p) s t n ≡ due.Operate e obj → ((answer : ℤ) → Follows (lowered p) s t (more answer) (stepped (lowered p) s t n answer))
-      → Follows (lowered p) s t (cond (nat_le s.limit c && not (is_free (action.Operate e obj))) (traps trap.Limit line) (does (action.Operate e obj) more)) n
-  ends_by n c e obj more free is_due next' =
+  ends_by : (n : Thread) (c : ℕ) (e : Op) (obj : ObjId) (more : ℤ → Run) → is_free_of_limit e ≡ true → due_of (lowered p) s t n ≡ due.Operate e obj → Prints (lowered p) n (action.Operate e obj) [] → ((answer : ℤ) → Follows (lowered p) s t (more answer) (stepped (lowered p) s t n answer))
+      → Follows (lowered p) s t (cond (nat_le s.limit c && not (is_free (action.Operate e obj))) (traps trap.Limit line) (does (action.Operate e obj) [] more)) n
+  ends_by n c e obj more free is_due none next' =
       let same : (nat_le s.limit c && not (is_free_of_limit e)) ≡ false = ap (λ b. nat_le s.limit c && not b) free ∙ and_false (nat_le s.limit c) in
-      subst (λ b. Follows (lowered p) s t (cond b (traps trap.Limit line) (does (action.Operate e obj) more)) n) (sym same) (n, here, inr (action_is p s t i f is [] budget n (due.Operate e obj) is_due, next'))
+      subst (λ b. Follows (lowered p) s t (cond b (traps trap.Limit line) (does (action.Operate e obj) [] more)) n) (sym same) (n, here, inr (action_is p s t i f is [] budget n (due.Operate e obj) is_due, none, next'))
     where
       and_false : (b : Bool) → (b && false) ≡ false
       and_false true = refl
@@ -126,7 +126,7 @@ module _ (p : Program) (s : SetupView) (t : ℕ) (i : ℕ) (f : Function) (is : 
   main_ends : meaning.is_main f ≡ true → Follows (lowered p) s t (meaning.finish p s t true line w σ (λ u σ'. ends)) o
   main_ends is_main' =
       let is_due = due_there o 0 begins ∙ ap (λ b. listed (nat_le most_entries o.entries) (owing None (limited (nat_le s.limit o.count) (end_due b t 0 w)))) is_main' ∙ ending_passes op.HaltAll object_id.Halt refl refl (nat_le most_entries o.entries) (nat_le s.limit o.count) in
-      ends_by o σ.count op.HaltAll object_id.Halt _ refl is_due (λ answer.
+      ends_by o σ.count op.HaltAll object_id.Halt _ refl is_due refl (λ answer.
       let halted = one_more (end_onward true o 0) in
       subst (λ x. Follows (lowered p) s t ends x) (sym (step_halt o 0 object_id.Halt answer begins is_due ∙ ap (λ b. one_more (end_onward b o 0)) is_main')) (halted, here, nothing_due halted shown.stripes refl))
 
@@ -160,20 +160,20 @@ module _ (p : Program) (s : SetupView) (t : ℕ) (i : ℕ) (f : Function) (is : 
       due_by : (n : Thread) (made : ℕ) → AtReturn n made → due_of (lowered p) s t n ≡ listed (nat_le most_entries n.entries) (owing None (limited (nat_le s.limit n.count) (end_due false t made w)))
       due_by n made h = due_there n made h ∙ ap (λ b. listed (nat_le most_entries n.entries) (owing None (limited (nat_le s.limit n.count) (end_due b t made w)))) not_main
 
-      leaves : (c : ℕ) → Follows (lowered p) s t (cond (nat_le s.limit c && not (is_free (action.Operate op.Leave object_id.Threads))) (traps trap.Limit line) (does (action.Operate op.Leave object_id.Threads) (λ answer. ends))) o2
+      leaves : (c : ℕ) → Follows (lowered p) s t (cond (nat_le s.limit c && not (is_free (action.Operate op.Leave object_id.Threads))) (traps trap.Limit line) (does (action.Operate op.Leave object_id.Threads) [] (λ answer. ends))) o2
       leaves c =
           let is_due = due_by o2 2 h2 ∙ ending_passes op.Leave object_id.Threads refl refl (nat_le most_entries o2.entries) (nat_le s.limit o2.count) in
-          ends_by o2 c op.Leave object_id.Threads (λ answer. ends) refl is_due (λ answer.
+          ends_by o2 c op.Leave object_id.Threads (λ answer. ends) refl is_due refl (λ answer.
           subst (λ x. Follows (lowered p) s t ends x) (sym (step_leave o2 2 object_id.Threads answer h2 is_due ∙ ap (λ b. one_more (end_onward b o2 2)) not_main)) (o3, here, nothing_due o3 h2.stripes refl))
 
       rest : Run
-      rest = cond (nat_le s.limit (σ.count + 1) && not (is_free (action.Operate op.End (object_id.Slot t)))) (traps trap.Limit line) (does (action.Operate op.End (object_id.Slot t)) (λ answer. cond (nat_le s.limit (σ.count + 1 + 1) && not (is_free (action.Operate op.Leave object_id.Threads))) (traps trap.Limit line) (does (action.Operate op.Leave object_id.Threads) (λ answer'. ends))))
+      rest = cond (nat_le s.limit (σ.count + 1) && not (is_free (action.Operate op.End (object_id.Slot t)))) (traps trap.Limit line) (does (action.Operate op.End (object_id.Slot t)) [] (λ answer. cond (nat_le s.limit (σ.count + 1 + 1) && not (is_free (action.Operate op.Leave object_id.Threads))) (traps trap.Limit line) (does (action.Operate op.Leave object_id.Threads) [] (λ answer'. ends))))
 
       ended : Follows (lowered p) s t rest o1
       ended =
           let is_due = due_by o1 1 h1 ∙ ending_passes op.End (object_id.Slot t) refl refl (nat_le most_entries o1.entries) (nat_le s.limit o1.count) in
-          ends_by o1 (σ.count + 1) op.End (object_id.Slot t) _ refl is_due (λ answer.
-          subst (λ x. Follows (lowered p) s t (cond (nat_le s.limit (σ.count + 1 + 1) && not (is_free (action.Operate op.Leave object_id.Threads))) (traps trap.Limit line) (does (action.Operate op.Leave object_id.Threads) (λ answer'. ends))) x)
+          ends_by o1 (σ.count + 1) op.End (object_id.Slot t) _ refl is_due refl (λ answer.
+          subst (λ x. Follows (lowered p) s t (cond (nat_le s.limit (σ.count + 1 + 1) && not (is_free (action.Operate op.Leave object_id.Threads))) (traps trap.Limit line) (does (action.Operate op.Leave object_id.Threads) [] (λ answer'. ends))) x)
           (sym (step_end o1 1 (object_id.Slot t) answer h1 is_due ∙ ap (λ b. one_more (end_onward b o1 1)) not_main)) (leaves (σ.count + 1 + 1)))
 
       store_passes : (l b : Bool) → listed l (owing None (limited b (due.Store (result_cell t) w))) ≡ cond b (due.Trap trap.Limit) (due.Store (result_cell t) w)
@@ -186,8 +186,8 @@ module _ (p : Program) (s : SetupView) (t : ℕ) (i : ℕ) (f : Function) (is : 
       handed =
           let is_due = due_by o 0 begins ∙ store_passes (nat_le most_entries o.entries) (nat_le s.limit o.count) in
           let same : (nat_le s.limit σ.count && not false) ≡ nat_le s.limit o.count = and_true (nat_le s.limit σ.count) ∙ ap (nat_le s.limit) (sym shown.count) in
-          subst (λ b. Follows (lowered p) s t (cond b (traps trap.Limit line) (does (action.Store (result_cell t) w) (λ answer. rest))) o) (sym same)
-          (plain_by p s t i f is [] budget o line (due.Store (result_cell t) w) (λ answer. rest) (nat_le s.limit o.count) is_line is_due (λ low answer.
+          subst (λ b. Follows (lowered p) s t (cond b (traps trap.Limit line) (does (action.Store (result_cell t) w) [] (λ answer. rest))) o) (sym same)
+          (plain_by p s t i f is [] budget o line (due.Store (result_cell t) w) (λ answer. rest) (nat_le s.limit o.count) is_line is_due refl (λ low answer.
           subst (λ x. Follows (lowered p) s t rest x) (sym (step_store o 0 (result_cell t) w answer begins (is_due ∙ ap (λ b. cond b (due.Trap trap.Limit) (due.Store (result_cell t) w)) low) ∙ ap (λ b. one_more (end_onward b o 0)) not_main)) ended))
         where
           and_true : (b : Bool) → (b && true) ≡ b

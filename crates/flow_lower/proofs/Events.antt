@@ -1,5 +1,5 @@
 -- Events and results at the instructions of a function.
-use Rattle.std.proofs.Common.{◌≡◌, ℕ, ◌<◌, ◌≢◌, inr, Bool, true, false, not, cond, nat_le, nat_eq, ◌&&◌, ℤ, pos, List, Some, None, slice_get, Result, Ok, Err, refl, sym, ◌∙◌, ap, subst, arith}
+use Rattle.std.proofs.Common.{◌≡◌, ℕ, ◌<◌, ◌≢◌, inr, Bool, true, false, not, cond, nat_le, nat_eq, ◌&&◌, ℤ, pos, List, [], Some, None, slice_get, Result, Ok, Err, refl, sym, ◌∙◌, ap, subst, arith}
 use Rattle.std.proofs.lemmas.Bool.Decides.{nat_tests}
 use Rattle.sync_objects.specs.Setup.{SetupView}
 use Rattle.rr_base.specs.declared.trap.Trap.{Trap}
@@ -24,7 +24,7 @@ use Rattle.c_core.specs.Core.{Function, Program}
 use Rattle.c_core.specs.Runs.{Run, does, traps, State, M, result_at, event, counted, choose, is_free}
 use Rattle.c_core.specs.Meaning.{load_in, load_at, store_in, store_at}
 use Rattle.flow_lower.specs.Lowered.{instr, lowered, function_kinds, body_code}
-use Rattle.flow_lower.specs.Follows.{here, Follows}
+use Rattle.flow_lower.specs.Follows.{here, Prints, Follows}
 use Rattle.flow_lower.proofs.Machine.{Shows, act_of, kinds_of, due_at, by_quiet, by_trap, line_at}
 
 -- the thread behind an instruction that gave a register a value
@@ -77,21 +77,21 @@ module _ (p : Program) (s : SetupView) (t : ℕ) (i : ℕ) (f : Function) (is : 
   below b m le e = grind (arith, nat_tests)
 
   pub plain_by : (m : Thread) (line : ℕ) (d : Due) (more : ℤ → Run) (b : Bool) → line_of (lowered p) m.phase m.top ≡ line
-      → due_of (lowered p) s t m ≡ cond b (due.Trap trap.Limit) d → (b ≡ false → (answer : ℤ) → Follows (lowered p) s t (more answer) (stepped (lowered p) s t m answer))
-      → Follows (lowered p) s t (cond b (traps trap.Limit line) (does (action_of d) more)) m
-  plain_by m line d more true at e go = (m, here, e, at)
-  plain_by m line d more false at e go = (m, here, inr (action_is m d e, go refl))
+      → due_of (lowered p) s t m ≡ cond b (due.Trap trap.Limit) d → Prints (lowered p) m (action_of d) [] → (b ≡ false → (answer : ℤ) → Follows (lowered p) s t (more answer) (stepped (lowered p) s t m answer))
+      → Follows (lowered p) s t (cond b (traps trap.Limit line) (does (action_of d) [] more)) m
+  plain_by m line d more true at e none go = (m, here, e, at)
+  plain_by m line d more false at e none go = (m, here, inr (action_is m d e, none, go refl))
 
   -- a load, a store or a Mark
   by_plain : (m : Thread) (σ : State) (at : Position) (a : Act) (d : Due) (more : ℤ → Run) → Shows p s t i f is callers budget m σ → slice_get (body_code f) m.top.instr ≡ Some (instr at a)
-      → act_due (lowered p) s t m (Some a) ≡ d → ((l b : Bool) → listed l (limited b d) ≡ cond b (due.Trap trap.Limit) d) → is_free (action_of d) ≡ false
+      → act_due (lowered p) s t m (Some a) ≡ d → ((l b : Bool) → listed l (limited b d) ≡ cond b (due.Trap trap.Limit) d) → is_free (action_of d) ≡ false → Prints (lowered p) m (action_of d) []
       → (m.count < s.limit → due_of (lowered p) s t m ≡ d → (answer : ℤ) → Follows (lowered p) s t (more answer) (stepped (lowered p) s t m answer))
-      → Follows (lowered p) s t (cond (nat_le s.limit σ.count && not (is_free (action_of d))) (traps trap.Limit at.line) (does (action_of d) more)) m
-  by_plain m σ at a d more h e q passes free go =
+      → Follows (lowered p) s t (cond (nat_le s.limit σ.count && not (is_free (action_of d))) (traps trap.Limit at.line) (does (action_of d) [] more)) m
+  by_plain m σ at a d more h e q passes free none go =
       let due' = at_limit m σ at a d h e q ∙ passes (nat_le most_entries m.entries) (nat_le s.limit m.count) in
       let same : (nat_le s.limit σ.count && not (is_free (action_of d))) ≡ nat_le s.limit m.count = ap (λ b. nat_le s.limit σ.count && not b) free ∙ and_true (nat_le s.limit σ.count) ∙ ap (nat_le s.limit) (sym h.count) in
-      subst (λ b. Follows (lowered p) s t (cond b (traps trap.Limit at.line) (does (action_of d) more)) m) (sym same)
-      (plain_by m at.line d more (nat_le s.limit m.count) (line_at p s t i f is callers budget m σ at a h e) due'
+      subst (λ b. Follows (lowered p) s t (cond b (traps trap.Limit at.line) (does (action_of d) [] more)) m) (sym same)
+      (plain_by m at.line d more (nat_le s.limit m.count) (line_at p s t i f is callers budget m σ at a h e) due' none
       (λ low. go (below (nat_le s.limit m.count) m refl low) (due' ∙ ap (λ b. cond b (due.Trap trap.Limit) d) low)))
     where
       and_true : (b : Bool) → (b && true) ≡ b
@@ -152,7 +152,7 @@ module _ (p : Program) (s : SetupView) (t : ℕ) (i : ℕ) (f : Function) (is : 
 
       by : (c : Result ℕ Trap) → resolved p.sites w kind ≡ c → Follows (lowered p) s t (load_in p s t at.line c σ k) m
       by (Ok c) is_c =
-          by_plain m σ at (act.LoadCell r through) (due.Load c) (λ answer. k (word answer) (counted σ)) h e (is_due ∙ ap load_due is_c) (load_passes c) refl
+          by_plain m σ at (act.LoadCell r through) (due.Load c) (λ answer. k (word answer) (counted σ)) h e (is_due ∙ ap load_due is_c) (load_passes c) refl refl
           (λ low d answer. subst (λ n. Follows (lowered p) s t (k (word answer) (counted σ)) n) (sym (after_load m σ at (act.LoadCell r through) c answer h e d)) (go low (word answer)))
       by (Err kind') is_c = by_trap p s t i f is callers budget m σ at (act.LoadCell r through) kind' h e (is_due ∙ ap load_due is_c)
 
@@ -173,7 +173,7 @@ module _ (p : Program) (s : SetupView) (t : ℕ) (i : ℕ) (f : Function) (is : 
 
       by : (c : Result ℕ Trap) → resolved p.sites pointer kind ≡ c → Follows (lowered p) s t (store_in p s t at.line c w σ k) m
       by (Ok c) is_c =
-          by_plain m σ at (act.StoreCell through from) (due.Store c w) (λ answer. k tt (counted σ)) h e (is_due ∙ ap (λ x. store_due x w) is_c) (store_passes c w) refl
+          by_plain m σ at (act.StoreCell through from) (due.Store c w) (λ answer. k tt (counted σ)) h e (is_due ∙ ap (λ x. store_due x w) is_c) (store_passes c w) refl refl
           (λ low d answer. subst (λ n. Follows (lowered p) s t (k tt (counted σ)) n) (sym (after_store m σ at (act.StoreCell through from) c w answer h e d)) (go low))
       by (Err kind') is_c = by_trap p s t i f is callers budget m σ at (act.StoreCell through from) kind' h e (is_due ∙ ap (λ x. store_due x w) is_c)
 
@@ -183,7 +183,7 @@ module _ (p : Program) (s : SetupView) (t : ℕ) (i : ℕ) (f : Function) (is : 
       → (m.count < s.limit → (answer : ℤ) → Follows (lowered p) s t (k answer (counted σ)) (one_more (in_frame m (past m.top))))
       → Follows (lowered p) s t (event s.limit at.line action.Mark σ k) m
   by_mark m σ at k h e go =
-      by_plain m σ at act.Mark due.Mark (λ answer. k answer (counted σ)) h e refl mark_passes refl
+      by_plain m σ at act.Mark due.Mark (λ answer. k answer (counted σ)) h e refl mark_passes refl refl
       (λ low d answer. subst (λ n. Follows (lowered p) s t (k answer (counted σ)) n) (sym (after_mark m σ at act.Mark answer h e d)) (go low answer))
 
   -- a branch

@@ -178,7 +178,7 @@ module _ (p : Program) (s : SetupView) (t : ℕ) where
           ∙ ap (λ o. listed (nat_le most_entries m.entries) (owing None (limited (nat_le s.limit m.count) (mark_if o)))) (fits ∙ ap (option_map (λ (m : List ℕ × ℕ). m.1)) is_o)
           ∙ ap (λ b. listed (nat_le most_entries m.entries) (owing None (limited b due.Mark))) is_b
           ∙ mark_passes (nat_le most_entries m.entries) in
-          (m, here, inr (is_mark m marks, λ answer. go made is_o (grind (arith, nat_tests)) marks answer))
+          (m, here, inr (is_mark m marks, refl, λ answer. go made is_o (grind (arith, nat_tests)) marks answer))
 
   -- what is due at an instruction of a thread that runs and owes nothing
   due_running : (m : Thread) (a : Act) → m.phase ≡ phase.Running → m.stripes ≡ [] → act_at (lowered p) m.top ≡ Some a

@@ -21,7 +21,7 @@ use Rattle.abstract_machine.specs.declared.event.Action.TheVariants as action
 use Rattle.abstract_machine.specs.declared.event.Onward.{Onward}
 use Rattle.abstract_machine.specs.declared.event.Onward.TheVariants as onward
 use Rattle.abstract_machine.specs.Registers.{register}
-use Rattle.abstract_machine.specs.Library.{argument, library_due, library_onward, piece_of}
+use Rattle.abstract_machine.specs.Library.{Caller, argument, printed_piece, most_printed, library_due, library_onward, piece_of}
 use Rattle.flow_code.specs.Threads.{Frame, Thread, line_of, line_in, instr_at}
 use Rattle.abstract_machine.specs.Cells.{result_cell}
 use Rattle.flow_code.specs.declared.thread.Stripe.{Stripe}
@@ -34,7 +34,7 @@ use Rattle.c_core.specs.Core.{Function, Program}
 use Rattle.c_core.specs.Runs.{Run, does, traps, ends, State, is_free}
 use Rattle.c_core.specs.Meaning as meaning
 use Rattle.flow_lower.specs.Lowered.{instr, library_size, library_code, lowered, function_kinds, body_code}
-use Rattle.flow_lower.specs.Follows.{Follows, here}
+use Rattle.flow_lower.specs.Follows.{Prints, Follows, here}
 use Rattle.flow_lower.proofs.Machine.{Shows, instr_of, same_register, other_register, goes_quietly, by_quiet, quiet_passes, trap_passes}
 use Rattle.flow_lower.proofs.Places.{HasAt}
 use Rattle.flow_lower.proofs.Events as events
@@ -93,6 +93,28 @@ parting_empty : (c : LibraryCall) (made : ℕ) (xs : List Stripe) → xs ≡ [] 
 parting_empty call.Exit zero xs e = e
 parting_empty call.Exit (suc n) xs e = refl
 parting_empty _ made xs e = refl
+
+-- a print is an operation of a call that prints a piece, and any other operation of one that prints none
+abbrev HasPiece : Op → List ℕ → Type 0
+HasPiece op.Print piece = Unit {0}
+HasPiece o piece = piece ≡ []
+
+print_has : (b : Bool) (piece : List ℕ) (o : Op) (obj : ObjId) → cond b (due.Operate op.Print object_id.Output) (due.Trap trap.Limit) ≡ due.Operate o obj → HasPiece o piece
+print_has true piece o obj e = let same : op.Print ≡ o = cc in subst (λ x. HasPiece x piece) same tt
+print_has false piece o obj e = cc
+
+none_has : (o : Op) → HasPiece o []
+none_has op.Print = tt
+none_has o = refl
+
+operates_piece : (w : Caller) (c : LibraryCall) (ws : List ℕ) (made : ℕ) (kept : ℤ) (o : Op) (obj : ObjId) → library_due w c ws made kept ≡ due.Operate o obj → HasPiece o (piece_of c ws)
+operates_piece w (call.Print format) ws made kept o obj e = print_has (nat_le (w.printed + length (printed_piece format ws)) most_printed) (printed_piece format ws) o obj e
+operates_piece w call.PutChar ws made kept o obj e = print_has (nat_le (w.printed + 1) most_printed) (piece_of call.PutChar ws) o obj e
+operates_piece w c ws made kept o obj e = none_has o
+
+prints_piece : (code : Code) (n : Thread) (c : LibraryCall) (args : List ℕ) (into : Option ℕ) (ws : List ℕ) (o : Op) (obj : ObjId) → n.phase ≡ phase.Running → act_at code n.top ≡ Some (act.Library c args into) → words_of n.top.registers args ≡ ws → HasPiece o (piece_of c ws) → Prints code n (action.Operate o obj) (piece_of c ws)
+prints_piece code n c args into ws op.Print obj runs stands are h = (runs, c, args, into, stands, ap (piece_of c) (sym are))
+prints_piece code n c args into ws o obj runs stands are h = h
 
 -- an operation with which a thread ends
 abbrev IsEndOrLeave : Op → Type 0
@@ -246,14 +268,14 @@ module _ (p : Program) (s : SetupView) (t : ℕ) (i : ℕ) (f : Function) (is : 
     -- ---- what is due
 
     -- a load, a store or a Mark
-    plain_event : (n : Thread) (σ : State) (made : ℕ) (kept : ℤ) (d : Due) (more : ℤ → Run) → InCall m n σ made kept → due_now σ made kept ≡ d → ((l b : Bool) → listed l (limited b d) ≡ cond b (due.Trap trap.Limit) d) → is_free (action_of d) ≡ false
+    plain_event : (n : Thread) (σ : State) (made : ℕ) (kept : ℤ) (d : Due) (more : ℤ → Run) → InCall m n σ made kept → due_now σ made kept ≡ d → ((l b : Bool) → listed l (limited b d) ≡ cond b (due.Trap trap.Limit) d) → is_free (action_of d) ≡ false → Prints (lowered p) n (action_of d) []
         → (n.count < s.limit → due_of (lowered p) s t n ≡ d → (answer : ℤ) → Follows (lowered p) s t (more answer) (stepped (lowered p) s t n answer))
-        → Follows (lowered p) s t (cond (nat_le s.limit σ.count && not (is_free (action_of d))) (traps trap.Limit at.line) (does (action_of d) more)) n
-    plain_event n σ made kept d more h is_d passes free next =
+        → Follows (lowered p) s t (cond (nat_le s.limit σ.count && not (is_free (action_of d))) (traps trap.Limit at.line) (does (action_of d) [] more)) n
+    plain_event n σ made kept d more h is_d passes free none next =
         let all = all_due n σ made kept h ∙ ap (λ x. listed (nat_le most_entries n.entries) (owing None (limited (nat_le s.limit n.count) x))) is_d ∙ passes (nat_le most_entries n.entries) (nat_le s.limit n.count) in
         let same : (nat_le s.limit σ.count && not (is_free (action_of d))) ≡ nat_le s.limit n.count = ap (λ b. nat_le s.limit σ.count && not b) free ∙ and_true (nat_le s.limit σ.count) ∙ ap (nat_le s.limit) (sym h.count) in
-        subst (λ b. Follows (lowered p) s t (cond b (traps trap.Limit at.line) (does (action_of d) more)) n) (sym same)
-        (plain_by p s t i f is callers budget n at.line d more (nat_le s.limit n.count) (here_line n σ made kept h) all
+        subst (λ b. Follows (lowered p) s t (cond b (traps trap.Limit at.line) (does (action_of d) [] more)) n) (sym same)
+        (plain_by p s t i f is callers budget n at.line d more (nat_le s.limit n.count) (here_line n σ made kept h) all none
         (λ low. next (events.below p s t i f is callers budget (nat_le s.limit n.count) n refl low) (all ∙ ap (λ b. cond b (due.Trap trap.Limit) d) low)))
       where
         and_true : (b : Bool) → (b && true) ≡ b
@@ -261,26 +283,30 @@ module _ (p : Program) (s : SetupView) (t : ℕ) (i : ℕ) (f : Function) (is : 
         and_true false = refl
 
     operate_by : (n : Thread) (line : ℕ) (o : Op) (obj : ObjId) (more : ℤ → Run) (l b : Bool) → line_of (lowered p) n.phase n.top ≡ line → nat_le most_entries n.entries ≡ l → is_free_of_limit o ≡ false
-        → due_of (lowered p) s t n ≡ listed l (limited b (due.Operate o obj)) → (b ≡ false → due_of (lowered p) s t n ≡ due.Operate o obj → (answer : ℤ) → Follows (lowered p) s t (more answer) (stepped (lowered p) s t n answer))
-        → Follows (lowered p) s t (cond b (traps trap.Limit line) (does (action.Operate o obj) more)) n
-    operate_by n line o obj more l true at' full free e next = (n, here, e ∙ ap (λ x. listed l (cond x (due.Operate o obj) (due.Trap trap.Limit))) free ∙ trap_listed l, at')
+        → due_of (lowered p) s t n ≡ listed l (limited b (due.Operate o obj)) → Prints (lowered p) n (action.Operate o obj) (piece_of c ws) → (b ≡ false → due_of (lowered p) s t n ≡ due.Operate o obj → (answer : ℤ) → Follows (lowered p) s t (more answer) (stepped (lowered p) s t n answer))
+        → Follows (lowered p) s t (cond b (traps trap.Limit line) (does (action.Operate o obj) (piece_of c ws) more)) n
+    operate_by n line o obj more l true at' full free e prints next = (n, here, e ∙ ap (λ x. listed l (cond x (due.Operate o obj) (due.Trap trap.Limit))) free ∙ trap_listed l, at')
       where
         trap_listed : (l : Bool) → listed l (due.Trap trap.Limit) ≡ due.Trap trap.Limit
         trap_listed true = refl
         trap_listed false = refl
-    operate_by n line o obj more true false at' full free e next =
+    operate_by n line o obj more true false at' full free e prints next =
         let not_ending = or_left (is_ending (name_of o)) (is_weak (name_of o)) free in
         (n, here, inl (record { entry = ap not not_ending; full = full; traps = e ∙ ap (λ x. cond x (due.Operate o obj) (due.Trap trap.LogFull)) not_ending }))
-    operate_by n line o obj more false false at' full free e next = (n, here, inr (action_is p s t i f is callers budget n (due.Operate o obj) e, next refl e))
+    operate_by n line o obj more false false at' full free e prints next = (n, here, inr (action_is p s t i f is callers budget n (due.Operate o obj) e, prints, next refl e))
+
+    -- what the call's operation prints: its piece, if it is a print, and else nothing
+    call_prints : (n : Thread) (σ : State) (made : ℕ) (kept : ℤ) (o : Op) (obj : ObjId) → InCall m n σ made kept → due_now σ made kept ≡ due.Operate o obj → Prints (lowered p) n (action.Operate o obj) (piece_of c ws)
+    call_prints n σ made kept o obj h is_d = prints_piece (lowered p) n c args into ws o obj h.phase (here_act n σ made kept h) (ap (λ x. words_of x.registers args) h.frame ∙ are) (operates_piece (meaning.caller p s t σ) c ws made kept o obj is_d)
 
     operate_event : (n : Thread) (σ : State) (made : ℕ) (kept : ℤ) (o : Op) (obj : ObjId) (more : ℤ → Run) → InCall m n σ made kept → due_now σ made kept ≡ due.Operate o obj → is_free_of_limit o ≡ false
         → (n.count < s.limit → due_of (lowered p) s t n ≡ due.Operate o obj → (answer : ℤ) → Follows (lowered p) s t (more answer) (stepped (lowered p) s t n answer))
-        → Follows (lowered p) s t (cond (nat_le s.limit σ.count && not (is_free (action.Operate o obj))) (traps trap.Limit at.line) (does (action.Operate o obj) more)) n
+        → Follows (lowered p) s t (cond (nat_le s.limit σ.count && not (is_free (action.Operate o obj))) (traps trap.Limit at.line) (does (action.Operate o obj) (piece_of c ws) more)) n
     operate_event n σ made kept o obj more h is_d free next =
         let all = all_due n σ made kept h ∙ ap (λ x. listed (nat_le most_entries n.entries) (owing None (limited (nat_le s.limit n.count) x))) is_d in
         let same : (nat_le s.limit σ.count && not (is_free_of_limit o)) ≡ nat_le s.limit n.count = ap (λ b. nat_le s.limit σ.count && not b) free ∙ and_true (nat_le s.limit σ.count) ∙ ap (nat_le s.limit) (sym h.count) in
-        subst (λ b. Follows (lowered p) s t (cond b (traps trap.Limit at.line) (does (action.Operate o obj) more)) n) (sym same)
-        (operate_by n at.line o obj more (nat_le most_entries n.entries) (nat_le s.limit n.count) (here_line n σ made kept h) refl free all
+        subst (λ b. Follows (lowered p) s t (cond b (traps trap.Limit at.line) (does (action.Operate o obj) (piece_of c ws) more)) n) (sym same)
+        (operate_by n at.line o obj more (nat_le most_entries n.entries) (nat_le s.limit n.count) (here_line n σ made kept h) refl free all (call_prints n σ made kept o obj h is_d)
         (λ low e. next (events.below p s t i f is callers budget (nat_le s.limit n.count) n refl low) e))
       where
         and_true : (b : Bool) → (b && true) ≡ b
@@ -379,19 +405,19 @@ module _ (p : Program) (s : SetupView) (t : ℕ) (i : ℕ) (f : Function) (is : 
       rest fuel σ made kept answer = meaning.onwards p s t (meaning.library_from p s t fuel at.line c ws (made + 1)) (library_onward (meaning.caller p s t σ) c ws made kept answer) (state_after σ (σ.count + 1)) k
 
       by_what_is_due : (fuel : ℕ) → Whole fuel → (n : Thread) (σ : State) (made : ℕ) (kept : ℤ) (d : Due) → due_now σ made kept ≡ d → IsPlain d → InCall m n σ made kept → n.count ≤ s.limit → suc fuel + made ≡ 5 → made ≤ 3 → IsNotExit c
-          → Follows (lowered p) s t (meaning.by_due p s t at.line d σ (λ answer σ1. meaning.onwards p s t (meaning.library_from p s t fuel at.line c ws (made + 1)) (library_onward (meaning.caller p s t σ) c ws made kept answer) (record σ1 { printed = σ1.printed + bytes }) k)) n
+          → Follows (lowered p) s t (meaning.by_due p s t at.line (piece_of c ws) d σ (λ answer σ1. meaning.onwards p s t (meaning.library_from p s t fuel at.line c ws (made + 1)) (library_onward (meaning.caller p s t σ) c ws made kept answer) (record σ1 { printed = σ1.printed + bytes }) k)) n
       by_what_is_due fuel whole n σ made kept due.Nothing is_d plain h small left few not_exit = absurd plain
       by_what_is_due fuel whole n σ made kept due.Quiet is_d plain h small left few not_exit =
           let quiet = all_due n σ made kept h ∙ ap (λ x. listed (nat_le most_entries n.entries) (owing None (limited (nat_le s.limit n.count) x))) is_d ∙ quiet_passes (nat_le most_entries n.entries) (nat_le s.limit n.count) in
           goes_quietly (lowered p) s t _ n _ quiet (step_quiet n σ made kept h quiet) (behind_quiet fuel whole n σ made kept h small left few not_exit (λ tr. subst IsTrap is_d tr))
       by_what_is_due fuel whole n σ made kept (due.Load cell) is_d plain h small left few not_exit =
-          plain_event n σ made kept (due.Load cell) _ h is_d (load_passes p s t i f is callers budget cell) refl (λ low e answer.
+          plain_event n σ made kept (due.Load cell) _ h is_d (load_passes p s t i f is callers budget cell) refl refl (λ low e answer.
           subst (λ x. Follows (lowered p) s t (rest fuel σ made kept answer) x) (sym (step_load n σ made kept cell answer h e)) (behind_event fuel whole n σ made kept answer n.entries h left few not_exit (λ tr. subst IsTrap is_d tr) low))
       by_what_is_due fuel whole n σ made kept (due.Store cell w) is_d plain h small left few not_exit =
-          plain_event n σ made kept (due.Store cell w) _ h is_d (store_passes p s t i f is callers budget cell w) refl (λ low e answer.
+          plain_event n σ made kept (due.Store cell w) _ h is_d (store_passes p s t i f is callers budget cell w) refl refl (λ low e answer.
           subst (λ x. Follows (lowered p) s t (rest fuel σ made kept answer) x) (sym (step_store n σ made kept cell w answer h e)) (behind_event fuel whole n σ made kept answer n.entries h left few not_exit (λ tr. subst IsTrap is_d tr) low))
       by_what_is_due fuel whole n σ made kept due.Mark is_d plain h small left few not_exit =
-          plain_event n σ made kept due.Mark _ h is_d (mark_passes p s t i f is callers budget) refl (λ low e answer.
+          plain_event n σ made kept due.Mark _ h is_d (mark_passes p s t i f is callers budget) refl refl (λ low e answer.
           subst (λ x. Follows (lowered p) s t (rest fuel σ made kept answer) x) (sym (step_mark n σ made kept answer h e)) (behind_event fuel whole n σ made kept answer n.entries h left few not_exit (λ tr. subst IsTrap is_d tr) low))
       by_what_is_due fuel whole n σ made kept (due.Operate o obj) is_d plain h small left few not_exit =
           operate_event n σ made kept o obj _ h is_d plain (λ low e answer.
@@ -412,12 +438,12 @@ module _ (p : Program) (s : SetupView) (t : ℕ) (i : ℕ) (f : Function) (is : 
 
     ends_event : (n : Thread) (σ : State) (made : ℕ) (kept : ℤ) (o : Op) (obj : ObjId) (more : ℤ → Run) → InCall m n σ made kept → due_now σ made kept ≡ due.Operate o obj → is_free_of_limit o ≡ true → is_ending (name_of o) ≡ true
         → (due_of (lowered p) s t n ≡ due.Operate o obj → (answer : ℤ) → Follows (lowered p) s t (more answer) (stepped (lowered p) s t n answer))
-        → Follows (lowered p) s t (cond (nat_le s.limit σ.count && not (is_free (action.Operate o obj))) (traps trap.Limit at.line) (does (action.Operate o obj) more)) n
+        → Follows (lowered p) s t (cond (nat_le s.limit σ.count && not (is_free (action.Operate o obj))) (traps trap.Limit at.line) (does (action.Operate o obj) (piece_of c ws) more)) n
     ends_event n σ made kept o obj more h is_d free ending next =
         let all = all_due n σ made kept h ∙ ap (λ x. listed (nat_le most_entries n.entries) (owing None (limited (nat_le s.limit n.count) x))) is_d ∙ passes (nat_le most_entries n.entries) (nat_le s.limit n.count) in
         let same : (nat_le s.limit σ.count && not (is_free_of_limit o)) ≡ false = ap (λ b. nat_le s.limit σ.count && not b) free ∙ and_false (nat_le s.limit σ.count) in
-        subst (λ b. Follows (lowered p) s t (cond b (traps trap.Limit at.line) (does (action.Operate o obj) more)) n) (sym same)
-        (n, here, inr (action_is p s t i f is callers budget n (due.Operate o obj) all, next all))
+        subst (λ b. Follows (lowered p) s t (cond b (traps trap.Limit at.line) (does (action.Operate o obj) (piece_of c ws) more)) n) (sym same)
+        (n, here, inr (action_is p s t i f is callers budget n (due.Operate o obj) all, call_prints n σ made kept o obj h is_d, next all))
       where
         and_false : (b : Bool) → (b && false) ≡ false
         and_false true = refl
@@ -483,7 +509,7 @@ module _ (p : Program) (s : SetupView) (t : ℕ) (i : ℕ) (f : Function) (is : 
 
       handed : Follows (lowered p) s t (meaning.library_call p s t at.line call.Exit ws σ k) m
       handed =
-          plain_event m at call.Exit args None ws stands are m σ 0 (pos 0) (due.Store (result_cell t) (argument ws 0)) _ first_stands refl (store_passes p s t i f is callers budget (result_cell t) (argument ws 0)) refl (λ low e answer.
+          plain_event m at call.Exit args None ws stands are m σ 0 (pos 0) (due.Store (result_cell t) (argument ws 0)) _ first_stands refl (store_passes p s t i f is callers budget (result_cell t) (argument ws 0)) refl refl (λ low e answer.
           subst (λ x. Follows (lowered p) s t (meaning.library_from p s t 4 at.line call.Exit ws 1 (pos 0) (state_after m at call.Exit args None ws stands are σ (σ.count + 1)) k) x)
           (sym (step_store m at call.Exit args None ws stands are m σ 0 (pos 0) (result_cell t) (argument ws 0) answer first_stands e))
           (subst (λ x. Follows (lowered p) s t (meaning.library_from p s t 4 at.line call.Exit ws 1 (pos 0) (state_after m at call.Exit args None ws stands are σ x) k) m1) (ap (λ x. x + 1) h.count) ended))

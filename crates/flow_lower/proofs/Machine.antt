@@ -47,7 +47,7 @@ module _ (code : Code) (s : SetupView) (t : ℕ) where
 
   -- a quiet step, and the run from there on
   pub goes_quietly : (r : Run) (m n : Thread) → due_of code s t m ≡ due.Quiet → stepped code s t m (pos 0) ≡ n → Follows code s t r n → Follows code s t r m
-  goes_quietly (does a more) m n e is f = (f.0, quietly e (subst (λ n. Comes code s t n f.0) (sym is) f.1), f.2)
+  goes_quietly (does a out more) m n e is f = (f.0, quietly e (subst (λ n. Comes code s t n f.0) (sym is) f.1), f.2)
   goes_quietly (traps kind line) m n e is f = (f.0, quietly e (subst (λ n. Comes code s t n f.0) (sym is) f.1), f.2, f.3)
   goes_quietly ends m n e is f = (f.0, quietly e (subst (λ n. Comes code s t n f.0) (sym is) f.1), f.2)
 

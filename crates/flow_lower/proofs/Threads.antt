@@ -27,7 +27,7 @@ use Rattle.c_core.specs.Meaning as meaning
 use Rattle.c_core.specs.Meaning.{word_given, line_given, made_objects, main_of}
 use Rattle.flow_lower.specs.Lowered.{lowered, function_code}
 use Rattle.flow_lower.specs.Within.{IsWithin}
-use Rattle.flow_lower.specs.Follows.{Follows, here, IsAtStart}
+use Rattle.flow_lower.specs.Follows.{Prints, Follows, here, IsAtStart}
 use Rattle.flow_lower.proofs.Functions.{in_code, objects_here, fits_here, shows_entered, enter_follows, body_follows, served}
 use Rattle.flow_lower.proofs.Objects.{count_of_objects}
 use Rattle.flow_lower.proofs.Ends.{finishes}
@@ -72,34 +72,34 @@ module _ (p : Program) (s : SetupView) (t : ℕ) (fine : IsWithin p) where
 
   -- a load or a Mark
   plain : (m : Thread) (c line : ℕ) (d : Due) (more : ℤ → Run) → m.count ≡ c → line_of (lowered p) m.phase m.top ≡ line → due_of (lowered p) s t m ≡ listed (nat_le most_entries m.entries) (owing None (limited (nat_le s.limit m.count) d))
-      → ((l b : Bool) → listed l (owing None (limited b d)) ≡ cond b (due.Trap trap.Limit) d) → (m.count < s.limit → due_of (lowered p) s t m ≡ d → (answer : ℤ) → Follows (lowered p) s t (more answer) (stepped (lowered p) s t m answer))
-      → Follows (lowered p) s t (cond (nat_le s.limit c && true) (traps trap.Limit line) (does (action_of d) more)) m
-  plain m c line d more count is_line is_due passes go =
-      subst (λ b. Follows (lowered p) s t (cond b (traps trap.Limit line) (does (action_of d) more)) m) (sym (and_true (nat_le s.limit c) ∙ ap (nat_le s.limit) (sym count)))
+      → ((l b : Bool) → listed l (owing None (limited b d)) ≡ cond b (due.Trap trap.Limit) d) → Prints (lowered p) m (action_of d) [] → (m.count < s.limit → due_of (lowered p) s t m ≡ d → (answer : ℤ) → Follows (lowered p) s t (more answer) (stepped (lowered p) s t m answer))
+      → Follows (lowered p) s t (cond (nat_le s.limit c && true) (traps trap.Limit line) (does (action_of d) [] more)) m
+  plain m c line d more count is_line is_due passes none go =
+      subst (λ b. Follows (lowered p) s t (cond b (traps trap.Limit line) (does (action_of d) [] more)) m) (sym (and_true (nat_le s.limit c) ∙ ap (nat_le s.limit) (sym count)))
       (by (nat_le s.limit m.count) (is_due ∙ passes (nat_le most_entries m.entries) (nat_le s.limit m.count)) refl)
     where
       and_true : (b : Bool) → (b && true) ≡ b
       and_true true = refl
       and_true false = refl
 
-      by : (b : Bool) → due_of (lowered p) s t m ≡ cond b (due.Trap trap.Limit) d → nat_le s.limit m.count ≡ b → Follows (lowered p) s t (cond b (traps trap.Limit line) (does (action_of d) more)) m
+      by : (b : Bool) → due_of (lowered p) s t m ≡ cond b (due.Trap trap.Limit) d → nat_le s.limit m.count ≡ b → Follows (lowered p) s t (cond b (traps trap.Limit line) (does (action_of d) [] more)) m
       by true e is_b = (m, here, e, is_line)
-      by false e is_b = (m, here, inr (acts m d e, go (low_count m false is_b refl) e))
+      by false e is_b = (m, here, inr (acts m d e, none, go (low_count m false is_b refl) e))
 
   -- the thread begins
   begin_event : (m : Thread) (c : ℕ) (more : ℤ → Run) → m.count ≡ c → c < s.limit → due_of (lowered p) s t m ≡ listed (nat_le most_entries m.entries) (owing None (limited (nat_le s.limit m.count) (due.Operate op.Begin (object_id.Slot t))))
       → (due_of (lowered p) s t m ≡ due.Operate op.Begin (object_id.Slot t) → (answer : ℤ) → Follows (lowered p) s t (more answer) (stepped (lowered p) s t m answer))
-      → Follows (lowered p) s t (cond (nat_le s.limit c && true) (traps trap.Limit 0) (does (action.Operate op.Begin (object_id.Slot t)) more)) m
+      → Follows (lowered p) s t (cond (nat_le s.limit c && true) (traps trap.Limit 0) (does (action.Operate op.Begin (object_id.Slot t)) [] more)) m
   begin_event m c more count low is_due go =
-      subst (λ b. Follows (lowered p) s t (cond (b && true) (traps trap.Limit 0) (does (action.Operate op.Begin (object_id.Slot t)) more)) m) (sym (is_low c low))
+      subst (λ b. Follows (lowered p) s t (cond (b && true) (traps trap.Limit 0) (does (action.Operate op.Begin (object_id.Slot t)) [] more)) m) (sym (is_low c low))
       (by (nat_le most_entries m.entries) refl (is_due ∙ ap (λ b. listed (nat_le most_entries m.entries) (owing None (limited b (due.Operate op.Begin (object_id.Slot t))))) (is_low m.count (omega (arith, count, low)))))
     where
       is_low : (n : ℕ) → n < s.limit → nat_le s.limit n ≡ false
       is_low n lt = grind (arith, nat_tests)
 
-      by : (l : Bool) → nat_le most_entries m.entries ≡ l → due_of (lowered p) s t m ≡ listed l (due.Operate op.Begin (object_id.Slot t)) → Follows (lowered p) s t (does (action.Operate op.Begin (object_id.Slot t)) more) m
+      by : (l : Bool) → nat_le most_entries m.entries ≡ l → due_of (lowered p) s t m ≡ listed l (due.Operate op.Begin (object_id.Slot t)) → Follows (lowered p) s t (does (action.Operate op.Begin (object_id.Slot t)) [] more) m
       by true is_l e = (m, here, inl (record { entry = refl; full = is_l; traps = e }))
-      by false is_l e = (m, here, inr (acts m (due.Operate op.Begin (object_id.Slot t)) e, go e))
+      by false is_l e = (m, here, inr (acts m (due.Operate op.Begin (object_id.Slot t)) e, refl, go e))
 
   after_begin : (m : Thread) (answer : ℤ) → m.phase ≡ phase.Fresh → due_of (lowered p) s t m ≡ due.Operate op.Begin (object_id.Slot t) → stepped (lowered p) s t m answer ≡ counted op.Begin (record m { phase = phase.Begun (count_in answer) })
   unfolding stepped
@@ -127,7 +127,7 @@ module _ (p : Program) (s : SetupView) (t : ℕ) (fine : IsWithin p) where
   nowhere : (i w : ℕ) (m : Thread) (σ : State) → slice_get p.functions i ≡ None → m.phase ≡ phase.Loaded i w → m.stripes ≡ [] → m.count ≡ σ.count → Follows (lowered p) s t (meaning.first_function p s t None (w ∷ []) σ (λ u σ'. ends)) m
   nowhere i w m σ none in_phase nothing count =
       plain m σ.count 0 due.Mark (λ answer. ends) count (ap (λ x. line_of (lowered p) x m.top) in_phase ∙ ap line_of_function no_code)
-      (due_in m (phase.Loaded i w) in_phase nothing ∙ marks) mark_passes
+      (due_in m (phase.Loaded i w) in_phase nothing ∙ marks) mark_passes refl
       (λ low e answer. subst (λ x. Follows (lowered p) s t ends x) (sym (after_mark m (phase.Loaded i w) answer in_phase e)) (ended, here, ended_due))
     where
       no_code : slice_get (lowered p).functions i ≡ None
@@ -182,7 +182,7 @@ module _ (p : Program) (s : SetupView) (t : ℕ) (fine : IsWithin p) where
   begun k i m σ other in_phase nothing count arena printed depth =
       plain m σ.count (meaning.line_of_function (slice_get p.functions i)) (due.Load (argument_cell t)) (λ w. meaning.first_function p s t (slice_get p.functions i) (word w ∷ []) (runs.counted σ) (λ u σ''. ends)) count
       (ap (λ x. line_of (lowered p) x m.top) in_phase ∙ same_line i)
-      (due_in m (phase.Begun i) in_phase nothing ∙ ap (λ d. listed (nat_le most_entries m.entries) (owing None (limited (nat_le s.limit m.count) d))) (loads t other)) (load_passes (argument_cell t)) (λ low e answer.
+      (due_in m (phase.Begun i) in_phase nothing ∙ ap (λ d. listed (nat_le most_entries m.entries) (owing None (limited (nat_le s.limit m.count) d))) (loads t other)) (load_passes (argument_cell t)) refl (λ low e answer.
       subst (λ x. Follows (lowered p) s t (meaning.first_function p s t (slice_get p.functions i) (word answer ∷ []) (runs.counted σ) (λ u σ''. ends)) x) (sym (after_load m (phase.Begun i) (argument_cell t) answer in_phase e ∙ ap one_more (goes_on t other answer)))
       (loaded i (word answer) (one_more (record m { phase = phase.Loaded i (word answer) })) (runs.counted σ) refl nothing (ap (λ c. c + 1) count) arena printed depth))
     where

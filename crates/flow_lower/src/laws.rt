@@ -11,8 +11,8 @@ ghost use Rattle.flow_lower.specs.Follows.{Follows, IsAtStart};
 ghost use Rattle.flow_lower.specs.Sound.{IsSound};
 
 /// From its start on, each thread of a core tree's code makes the events of the tree's thread whatever is answered: loads,
-/// stores, marks and operations in their order, each trap with its kind and line, and the end. Only where its list of
-/// entries is full does it trap before its next entry.
+/// stores, marks and operations in their order, each with the bytes that it prints, each trap with its kind and line, and
+/// the end. Only where its list of entries is full does it trap before its next entry.
 pub fn law_events()
     ensures { (p : Program) (s : SetupView) (t : ℕ) (m : Thread) → IsWithin p → 1 ≤ s.limit → IsAtStart p s t m → Follows (lowered p) s t (run_of p s t) m }
 {}

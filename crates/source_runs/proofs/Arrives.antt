@@ -1,19 +1,33 @@
 -- A thread that follows a run comes to the run's next event by its quiet steps, where no code has stripes.
-use Rattle.std.proofs.Common.{◌≡◌, ℕ, ◌⊎◌, inl, inr, refl, sym, subst, ◌∙◌, ℤ, pos}
+use Rattle.std.proofs.Common.{◌≡◌, ℕ, ◌⊎◌, inl, inr, List, refl, sym, ap, subst, ◌∙◌, ℤ, pos, append-nil}
 use Rattle.sync_objects.specs.Setup.{SetupView}
+use Rattle.sync_objects.specs.declared.operation.Op.TheVariants as op
 use Rattle.rr_base.specs.declared.trap.Trap.TheVariants as trap
 use Rattle.flow_code.specs.declared.code.Code.{Code}
 use Rattle.abstract_machine.specs.declared.event.Due.TheVariants as due
 use Rattle.abstract_machine.specs.declared.event.Action.{Action}
+use Rattle.abstract_machine.specs.declared.event.Action.TheVariants as action
 use Rattle.flow_code.specs.Threads.{Thread}
-use Rattle.flow_code.specs.Next.{due_of, action_at, stepped}
+use Rattle.flow_code.specs.Next.{act_at, due_of, action_at, stepped}
 use Rattle.flow_code.specs.Settle.{settled, IsRunnable}
 use Rattle.flow_code.proofs.Settle.{settled_step, settled_none, quiet_action_at}
 use Rattle.c_core.specs.Runs.{Run, does, traps, ends}
-use Rattle.flow_lower.specs.Follows.{Comes, here, quietly, IsFull, Follows}
+use Rattle.flow_lower.specs.Follows.{Comes, here, quietly, IsFull, Prints, Follows}
+use Rattle.core_run.specs.Pieces.{piece_at}
+use Rattle.source_runs.specs.RunEvents.{printed_at}
 use Rattle.source_runs.specs.SourceRuns.{IsBeforeEntry}
 use Rattle.source_runs.proofs.Makings.{IsAt, event, full}
 use Rattle.source_runs.proofs.Proper.{IsEvent, HasEvents}
+
+-- what a thread's action prints by the code, it prints by the machine
+pub printed_so : (code : Code) (n : Thread) (a : Action) (out : List ℕ) → Prints code n a out → printed_at code n a ≡ out
+printed_so code n (action.Operate op.Print obj) out (runs, c, arguments, into, stands, is) = append-nil (piece_at (act_at code n.top) n.top.registers) ∙ ap (λ o. piece_at o n.top.registers) stands ∙ sym is
+printed_so code n (action.Operate o obj) out h = sym h
+printed_so code n (action.Load c) out h = sym h
+printed_so code n (action.Store c v) out h = sym h
+printed_so code n action.Mark out h = sym h
+printed_so code n action.Quiet out h = sym h
+printed_so code n action.Ended out h = sym h
 
 module _ (code : Code) (s : SetupView) (runnable : IsRunnable code) where
   -- the thread has this run before it
@@ -34,11 +48,11 @@ module _ (code : Code) (s : SetupView) (runnable : IsRunnable code) where
     no_quiet_event : (n : Thread) (a : Action) → IsEvent a → action_at code s t n ≡ a → due_of code s t n ≡ due.Quiet → ⊥
     no_quiet_event n a e at q = subst IsEvent (sym at ∙ quiet_action_at code s t n q) e
 
-    at_does : (a : Action) (more : ℤ → Run) (m n : Thread) → Comes code s t m n → HasEvents (does a more) → IsFull code s t n a ⊎ ((action_at code s t n ≡ a) × ((z : ℤ) → Follows code s t (more z) (stepped code s t n z))) → Arrived t (does a more) (settled code s t m)
-    at_does a more m n c h (inl fills) = subst (Arrived t (does a more)) (comes_to m n c (λ q. let both : due.Quiet ≡ due.Trap trap.LogFull = sym q ∙ fills.traps in cc)) (full fills.entry fills.traps)
-    at_does a more m n c h (inr goes) = subst (Arrived t (does a more)) (comes_to m n c (no_quiet_event n a h.0 goes.0)) (event (h.0, goes.0, λ z. (h.1 z, goes.1 z)))
+    at_does : (a : Action) (out : List ℕ) (more : ℤ → Run) (m n : Thread) → Comes code s t m n → HasEvents (does a out more) → IsFull code s t n a ⊎ ((action_at code s t n ≡ a) × Prints code n a out × ((z : ℤ) → Follows code s t (more z) (stepped code s t n z))) → Arrived t (does a out more) (settled code s t m)
+    at_does a out more m n c h (inl fills) = subst (Arrived t (does a out more)) (comes_to m n c (λ q. let both : due.Quiet ≡ due.Trap trap.LogFull = sym q ∙ fills.traps in cc)) (full fills.entry fills.traps)
+    at_does a out more m n c h (inr (at, prints, goes)) = subst (Arrived t (does a out more)) (comes_to m n c (no_quiet_event n a h.0 at)) (event (h.0, at, printed_so code n a out prints, λ z. (h.1 z, goes z)))
 
     pub arrives_at : (r : Run) (th : Thread) → MakesRun t r th → Arrived t r (settled code s t th)
-    arrives_at (does a more) m (h, f) = at_does a more m f.0 f.1 h f.2
+    arrives_at (does a out more) m (h, f) = at_does a out more m f.0 f.1 h f.2
     arrives_at (traps kind line) m (h, f) = subst (Arrived t (traps kind line)) (comes_to m f.0 f.1 (λ q. let both : due.Quiet ≡ due.Trap kind = sym q ∙ f.2 in cc)) (event (f.2, f.3))
     arrives_at ends m (h, f) = subst (Arrived t ends) (comes_to m f.0 f.1 (λ q. let both : due.Quiet ≡ due.Nothing = sym q ∙ f.2 in cc)) (event f.2)

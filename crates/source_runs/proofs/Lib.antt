@@ -6,6 +6,7 @@ pub mod Outcomes
 pub mod OwnSteps
 pub mod Parts
 pub mod Phases
+pub mod Printing
 pub mod Proper
 pub mod Simulates
 pub mod Sources

@@ -13,13 +13,14 @@ use Rattle.flow_code.specs.Settle.{settled}
 use Rattle.core_run.specs.Machine.{may_revoke}
 use Rattle.core_run.specs.Words.{has_object}
 use Rattle.c_core.specs.Runs.{Run, does, traps, ends}
+use Rattle.source_runs.specs.RunEvents.{printed_at}
 use Rattle.source_runs.specs.SourceRuns.{Standing, waits, goes, over}
 use Rattle.source_runs.proofs.Proper.{IsEvent}
 
 module _ (code : Code) (s : SetupView) (MayFill : Run → Type 0) (Makes : ℕ → Run → Thread → Type 0) where
-  -- the next event of the run comes next
+  -- the next event of the run comes next, and prints what that prints
   abbrev pub IsAtEvent : ℕ → Thread → Run → Type 0
-  IsAtEvent t n (does a more) = IsEvent a × (action_at code s t n ≡ a) × ((answer : ℤ) → Makes t (more answer) (stepped code s t n answer))
+  IsAtEvent t n (does a out more) = IsEvent a × (action_at code s t n ≡ a) × (printed_at code n a ≡ out) × ((answer : ℤ) → Makes t (more answer) (stepped code s t n answer))
   IsAtEvent t n (traps why line) = (due_of code s t n ≡ due.Trap why) × (line_of code n.phase n.top ≡ line)
   IsAtEvent t n ends = due_of code s t n ≡ due.Nothing
 

@@ -30,7 +30,7 @@ use Rattle.core_run.specs.Words.{cells_of, place_of}
 use Rattle.core_run.specs.Pieces.{piece_next}
 use Rattle.core_run.specs.Machine.{Told, accessed, access_of, marked, action_effect, machine}
 use Rattle.runs.specs.Steps.{Leaves, outcome}
-use Rattle.source_runs.specs.RunEvents.{answer_in, answer_of, event_of, is_stripe, is_of_stripe}
+use Rattle.source_runs.specs.RunEvents.{answer_in, answer_of, printed_at, event_of, is_stripe, is_of_stripe}
 use Rattle.source_runs.specs.SourceRuns.{Standing, goes, over, World, own, operated, acted, words_after, rest_after, is_last, cell_count, Allows, IsAllowed, Answers, ComesNext, IsFull}
 use Rattle.source_runs.proofs.Makings.{IsAtEvent, IsAtStripe, IsAt, event, stripe, full, IsStanding}
 use Rattle.source_runs.proofs.Outcomes.{Operated, operated_inv, loaded_inv, stored_inv, marked_inv}
@@ -89,13 +89,13 @@ module _ (p : Program) (s : SetupView) (code : Code) (same_cells : cells_of code
 
   -- ---- which event it is
 
-  event_is : (words : List ℕ) (n : Thread) (d : Due) (a : Action) → action_of d ≡ a → IsEvent a → event_of code s words t n d ≡ done a (answer_of code s words t a)
+  event_is : (words : List ℕ) (n : Thread) (d : Due) (a : Action) → action_of d ≡ a → IsEvent a → event_of code s words t n d ≡ done a (printed_at code n a) (answer_of code s words t a)
   event_is words n due.Nothing a e h = let same = sym e in absurd (subst IsEvent same h)
   event_is words n due.Quiet a e h = let same = sym e in absurd (subst IsEvent same h)
-  event_is words n (due.Load c) a e h = ap (λ z. done z (answer_of code s words t z)) e
-  event_is words n (due.Store c v) a e h = ap (λ z. done z (answer_of code s words t z)) e
-  event_is words n due.Mark a e h = ap (λ z. done z (answer_of code s words t z)) e
-  event_is words n (due.Operate o obj) a e h = ap (λ z. done z (answer_of code s words t z)) e
+  event_is words n (due.Load c) a e h = ap (λ z. done z (printed_at code n z) (answer_of code s words t z)) e
+  event_is words n (due.Store c v) a e h = ap (λ z. done z (printed_at code n z) (answer_of code s words t z)) e
+  event_is words n due.Mark a e h = ap (λ z. done z (printed_at code n z) (answer_of code s words t z)) e
+  event_is words n (due.Operate o obj) a e h = ap (λ z. done z (printed_at code n z) (answer_of code s words t z)) e
   event_is words n (due.Trap why) a e h = absurd (true≢false (subst IsEvent (sym e) h).0)
 
   stripe_event : (words : List ℕ) (n : Thread) (d : Due) (o : Op) (lock k : ℕ) → action_of d ≡ action.Operate o (object.Weak lock k) → is_of_stripe (own (event_of code s words t n d)) ≡ true
@@ -196,10 +196,10 @@ module _ (p : Program) (s : SetupView) (code : Code) (same_cells : cells_of code
     trap_event why is = sym (ap (event_of code s words t n) is)
 
     event_here : (r : Run) → has_ended n.phase ≡ false → IsAtEvent code s MayFill Makes t n r → Outcome (action_at code s t n) → IsStep r w after q.thread (event_of code s words t n (due_of code s t n))
-    event_here (does a more) lives (h, at, makes) out =
+    event_here (does a printed more) lives (h, at, prints, makes) out =
         let i = does_here a more h lives at makes (subst Outcome at out) in
-        subst (IsStep (does a more) w after q.thread) (sym (event_is words n (due_of code s t n) a (sym (action_is code s t n) ∙ at) h))
-        (record { of_source = i.of_source; next = inl (refl, i.answers); shows = i.shown; stands = i.stands })
+        subst (IsStep (does a printed more) w after q.thread) (sym (event_is words n (due_of code s t n) a (sym (action_is code s t n) ∙ at) h))
+        (record { of_source = i.of_source; next = inl (refl, prints, i.answers); shows = i.shown; stands = i.stands })
     event_here (traps why line) lives is out =
         let i = traps_here why is.0 out in
         subst (IsStep (traps why line) w after q.thread) (trap_event why is.0) (record { of_source = refl; next = inl (refl, is.1, i.allowed); shows = i.shown; stands = i.ended })
@@ -217,7 +217,7 @@ module _ (p : Program) (s : SetupView) (code : Code) (same_cells : cells_of code
         }
 
     ended_rest : (r : Run) (line : ℕ) → has_ended q.thread.phase ≡ true → Stands (rest_after r (trapped trap.LogFull line)) q.thread
-    ended_rest (does a more) line e = e
+    ended_rest (does a printed more) line e = e
     ended_rest (traps why l) line e = e
     ended_rest ends line e = e
 

@@ -17,29 +17,29 @@ IsPartAt (waits r) es = IsPartOf r es
 IsPartAt (goes r) es = IsPartOf r es
 IsPartAt over es = es ≡ []
 
-done_first : (a : Action) (z : ℤ) (more : ℤ → Run) (es : List Event) → IsPartOf (more z) es → IsPartOf (does a more) (done a z ∷ es)
-done_first a z more es part = record {
-  first = done a z ∷ part.first;
+done_first : (a : Action) (out : List ℕ) (z : ℤ) (more : ℤ → Run) (es : List Event) → IsPartOf (more z) es → IsPartOf (does a out more) (done a out z ∷ es)
+done_first a out z more es part = record {
+  first = done a out z ∷ part.first;
   rest = part.rest;
-  of_run = ap (λ x. done a z ∷ x) part.of_run;
+  of_run = ap (λ x. done a out z ∷ x) part.of_run;
   ends = by part.ends;
 }
   where
-    by : (es ≡ part.first) ⊎ ((line : ℕ) × (es ≡ part.first ++ trapped trap.LogFull line ∷ [])) → (done a z ∷ es ≡ done a z ∷ part.first) ⊎ ((line : ℕ) × (done a z ∷ es ≡ done a z ∷ (part.first ++ trapped trap.LogFull line ∷ [])))
-    by (inl e) = inl (ap (λ x. done a z ∷ x) e)
-    by (inr (line, e)) = inr (line, ap (λ x. done a z ∷ x) e)
+    by : (es ≡ part.first) ⊎ ((line : ℕ) × (es ≡ part.first ++ trapped trap.LogFull line ∷ [])) → (done a out z ∷ es ≡ done a out z ∷ part.first) ⊎ ((line : ℕ) × (done a out z ∷ es ≡ done a out z ∷ (part.first ++ trapped trap.LogFull line ∷ [])))
+    by (inl e) = inl (ap (λ x. done a out z ∷ x) e)
+    by (inr (line, e)) = inr (line, ap (λ x. done a out z ∷ x) e)
 
 -- nothing yet
 none_of : (r : Run) (es : List Event) → es ≡ [] → IsPartOf r es
 none_of r es e = record { first = []; rest = events r []; of_run = refl; ends = inl e }
 
 module _ (p : Program) (s : SetupView) (MayFill : Run → Type 0) where
-  done_then : (a : Action) (z : ℤ) (more : ℤ → Run) (es : List Event) (b : Bool) → IsPartAt (if b then over else goes (more z)) es → IsPartOf (does a more) (done a z ∷ es)
-  done_then a z more es true h = done_first a z more es (none_of (more z) es h)
-  done_then a z more es false h = done_first a z more es h
+  done_then : (a : Action) (out : List ℕ) (z : ℤ) (more : ℤ → Run) (es : List Event) (b : Bool) → IsPartAt (if b then over else goes (more z)) es → IsPartOf (does a out more) (done a out z ∷ es)
+  done_then a out z more es true h = done_first a out z more es (none_of (more z) es h)
+  done_then a out z more es false h = done_first a out z more es h
 
   over_then : (r : Run) (why : Trap) (line : ℕ) (es : List Event) → IsPartAt (rest_after r (trapped why line)) es → es ≡ []
-  over_then (does a more) why line es h = h
+  over_then (does a out more) why line es h = h
   over_then (traps k l) why line es h = h
   over_then ends why line es h = h
 
@@ -47,22 +47,22 @@ module _ (p : Program) (s : SetupView) (MayFill : Run → Type 0) where
   fills r why line es is e = record { first = []; rest = events r []; of_run = refl; ends = inr (line, ap (λ x. trapped x line ∷ es) is ∙ ap (λ x. trapped trap.LogFull line ∷ x) e) }
 
   next_then : (w : World) (t : ℕ) (r : Run) (e : Event) (es : List Event) → ComesNext p s w t r e → IsPartAt (rest_after r e) es → IsPartOf r (e ∷ es)
-  next_then w t (does a more) (done b z) es next h = subst (λ x. IsPartOf (does a more) (done x z ∷ es)) (sym next.0) (done_then a z more es (is_last b) h)
-  next_then w t (does a more) (trapped why line) es next h = absurd next
-  next_then w t (traps why line) (done b z) es next h = absurd next
+  next_then w t (does a out more) (done b out' z) es next h = subst (λ x. IsPartOf (does a out more) (done x out' z ∷ es)) (sym next.0) (subst (λ x. IsPartOf (does a out more) (done a x z ∷ es)) (sym next.1) (done_then a out z more es (is_last b) h))
+  next_then w t (does a out more) (trapped why line) es next h = absurd next
+  next_then w t (traps why line) (done b out z) es next h = absurd next
   next_then w t (traps why line) (trapped why' line') es next h = record {
     first = trapped why line ∷ [];
     rest = [];
     of_run = refl;
     ends = inl (ap (λ x. trapped why' line' ∷ x) h ∙ ap (λ x. trapped x line' ∷ []) next.0 ∙ ap (λ n. trapped why n ∷ []) next.1);
   }
-  next_then w t ends (done b z) es next h = absurd next
+  next_then w t ends (done b out z) es next h = absurd next
   next_then w t ends (trapped why line) es next h = absurd next
 
   event_then : (w : World) (t : ℕ) (r : Run) (e : Event) (es : List Event) → ComesNext p s w t r e ⊎ IsFull p s MayFill w t r e → IsPartAt (rest_after r e) es → IsPartOf r (e ∷ es)
   event_then w t r e es (inl next) h = next_then w t r e es next h
   event_then w t r (trapped why line) es (inr full) h = fills r why line es full.0 (over_then r why line es h)
-  event_then w t r (done a z) es (inr full) h = absurd full
+  event_then w t r (done a out z) es (inr full) h = absurd full
 
   deed_then : (w : World) (t : ℕ) (x : Standing) (d : Deed) (es : List Event) → MayDo p s MayFill w t x d → IsPartAt (standing_after x d) es → IsPartAt x (event_in d ++ es)
   deed_then w t (waits r) (own e) es may h = event_then w t r e es may h

@@ -20,7 +20,7 @@ use Rattle.abstract_machine.specs.declared.event.Onward.{Onward}
 use Rattle.abstract_machine.specs.declared.event.Onward.TheVariants as onward
 use Rattle.abstract_machine.specs.Values.{number, word}
 use Rattle.abstract_machine.specs.Pointers.{resolved, pointer_at}
-use Rattle.abstract_machine.specs.Library.{Caller, count_in, library_due, library_onward}
+use Rattle.abstract_machine.specs.Library.{Caller, count_in, piece_of, library_due, library_onward}
 use Rattle.abstract_machine.specs.Cells.{argument_cell, result_cell, size_of}
 use Rattle.abstract_machine.specs.Cells.{access_kind, is_size, cells_in}
 use Rattle.abstract_machine.specs.Limits.{most_frames}
@@ -28,7 +28,7 @@ use Rattle.flow_lower.proofs.Calls.{IsPlain, plain_due}
 use Rattle.abstract_machine.proofs.Calls.{CallOperates, goes as goes_on, ends_slot, leaves_all, CallGoes, call_goes}
 use Rattle.c_core.specs.Core as core
 use Rattle.c_core.specs.Core.{Exp, null, register, object, global, load, unary, binary, move, advance, member, between, to_pointer, to_number, copy, both, either, conditional, comma, set_register, store, change_register, change_cell, call, library, allocate, Exps, no_exp, and_exp, Statement, block, compute, branch, while_loop, do_loop, for_loop, break_at, continue_at, gives, Statements, no_statement, and_statement, Arrival, arrives, Function, Program}
-use Rattle.c_core.specs.Runs.{Run, does, traps, ends, State, M, counted, is_free, event, choose, result_at}
+use Rattle.c_core.specs.Runs.{Run, does, traps, ends, State, M, counted, is_free, printing, event, choose, result_at}
 use Rattle.c_core.specs.Meaning as meaning
 use Rattle.c_core.specs.Meaning.{Flow, goes, breaks, continues, returns, if_goes, if_turns, Calls, made_objects, arena_end, is_main, line_given, word_given, line_of_function, entered}
 
@@ -44,7 +44,7 @@ IsEvent (action.Operate o obj) = (is_trap o ≡ false) × (is_weak (name_of o) �
 IsEvent _ = ⊥
 
 abbrev pub HasEvents : Run → Type 0
-HasEvents (does a more) = IsEvent a × ((answer : ℤ) → HasEvents (more answer))
+HasEvents (does a out more) = IsEvent a × ((answer : ℤ) → HasEvents (more answer))
 HasEvents (traps kind line) = Unit {0}
 HasEvents ends = Unit {0}
 
@@ -64,11 +64,14 @@ either_proper : (b : Bool) (x y : Run) → Proper x → Proper y → Proper (if 
 either_proper true x y h g = h
 either_proper false x y h g = g
 
-does_proper : (a : Action) (more : ℤ → Run) → IsEvent a → ((z : ℤ) → Proper (more z)) → Proper (does a more)
-does_proper a more e h = record { has = (e, λ z. (h z).has) }
+does_proper : (a : Action) (out : List ℕ) (more : ℤ → Run) → IsEvent a → ((z : ℤ) → Proper (more z)) → Proper (does a out more)
+does_proper a out more e h = record { has = (e, λ z. (h z).has) }
+
+printing_proper : (limit line : ℕ) (a : Action) (out : List ℕ) (σ : State) (k : ℤ → State → Run) → IsEvent a → ((z : ℤ) (σ1 : State) → Proper (k z σ1)) → Proper (printing limit line a out σ k)
+printing_proper limit line a out σ k e h = either_proper (nat_le limit σ.count && not (is_free a)) (traps trap.Limit line) (does a out (λ z. k z (counted σ))) (trap_proper trap.Limit line) (does_proper a out (λ z. k z (counted σ)) e (λ z. h z (counted σ)))
 
 event_proper : (limit line : ℕ) (a : Action) (σ : State) (k : ℤ → State → Run) → IsEvent a → ((z : ℤ) (σ1 : State) → Proper (k z σ1)) → Proper (event limit line a σ k)
-event_proper limit line a σ k e h = either_proper (nat_le limit σ.count && not (is_free a)) (traps trap.Limit line) (does a (λ z. k z (counted σ))) (trap_proper trap.Limit line) (does_proper a (λ z. k z (counted σ)) e (λ z. h z (counted σ)))
+event_proper limit line a σ k e h = printing_proper limit line a [] σ k e h
 
 result_proper : (line : ℕ) (r : Result ℕ Trap) → Keeps (result_at line r)
 result_proper line (Ok w) σ k h = h w σ
@@ -128,14 +131,14 @@ event_due w c ws made kept answer (due.Operate o obj) h k = (operates_event w c 
 event_due w c ws made kept answer (due.Trap kind) h k = tt
 
 module _ (p : Program) (s : SetupView) (t : ℕ) where
-  by_due_proper : (line : ℕ) (d : Due) → IsEventDue d → Keeps (meaning.by_due p s t line d)
-  by_due_proper line due.Nothing e σ k h = end_proper
-  by_due_proper line due.Quiet e σ k h = h (pos 0) σ
-  by_due_proper line (due.Load c) e σ k h = event_proper s.limit line (action.Load c) σ k tt h
-  by_due_proper line (due.Store c w) e σ k h = event_proper s.limit line (action.Store c w) σ k tt h
-  by_due_proper line due.Mark e σ k h = event_proper s.limit line action.Mark σ k tt h
-  by_due_proper line (due.Operate o obj) e σ k h = event_proper s.limit line (action.Operate o obj) σ k e h
-  by_due_proper line (due.Trap kind) e σ k h = trap_proper kind line
+  by_due_proper : (line : ℕ) (piece : List ℕ) (d : Due) → IsEventDue d → Keeps (meaning.by_due p s t line piece d)
+  by_due_proper line piece due.Nothing e σ k h = end_proper
+  by_due_proper line piece due.Quiet e σ k h = h (pos 0) σ
+  by_due_proper line piece (due.Load c) e σ k h = event_proper s.limit line (action.Load c) σ k tt h
+  by_due_proper line piece (due.Store c w) e σ k h = event_proper s.limit line (action.Store c w) σ k tt h
+  by_due_proper line piece due.Mark e σ k h = event_proper s.limit line action.Mark σ k tt h
+  by_due_proper line piece (due.Operate o obj) e σ k h = printing_proper s.limit line (action.Operate o obj) piece σ k e h
+  by_due_proper line piece (due.Trap kind) e σ k h = trap_proper kind line
 
   onwards_proper : (next : ℤ → M ℕ) → ((z : ℤ) → Keeps (next z)) → (o : Onward) → Keeps (meaning.onwards p s t next o)
   onwards_proper next n (onward.Stays kept) σ k h = n kept σ k h
@@ -146,7 +149,7 @@ module _ (p : Program) (s : SetupView) (t : ℕ) where
   library_proper zero line c ws made kept σ k h = end_proper
   library_proper (suc n) line c ws made kept σ k h =
       let w = meaning.caller p s t σ in
-      by_due_proper line (library_due w c ws made kept) (event_due w c ws made kept (pos 0) (library_due w c ws made kept) (call_goes w c ws made kept (pos 0)) (call_strong w c ws made kept)) σ _ (λ answer σ1.
+      by_due_proper line (piece_of c ws) (library_due w c ws made kept) (event_due w c ws made kept (pos 0) (library_due w c ws made kept) (call_goes w c ws made kept (pos 0)) (call_strong w c ws made kept)) σ _ (λ answer σ1.
       onwards_proper (meaning.library_from p s t n line c ws (made + 1)) (λ z. library_proper n line c ws (made + 1) z) (library_onward w c ws made kept answer) _ k h)
 
   -- ---- cells
@@ -277,7 +280,7 @@ module _ (p : Program) (s : SetupView) (t : ℕ) where
 
   enter_made_proper : (f : Function) (ws : List ℕ) (line : ℕ) (made : Option (List ℕ × ℕ)) → Keeps (meaning.enter_made p s t f ws line made)
   enter_made_proper f ws line None σ k h = trap_proper trap.ArenaFull line
-  enter_made_proper f ws line (Some made) σ k h = does_proper action.Mark (λ z. k tt (entered σ ws made.0 made.1)) tt (λ z. h tt (entered σ ws made.0 made.1))
+  enter_made_proper f ws line (Some made) σ k h = does_proper action.Mark [] (λ z. k tt (entered σ ws made.0 made.1)) tt (λ z. h tt (entered σ ws made.0 made.1))
 
   enter_proper : (f : Function) (ws : List ℕ) (line : ℕ) → Keeps (meaning.enter p s t f ws line)
   enter_proper f ws line σ k h =

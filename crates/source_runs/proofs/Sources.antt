@@ -11,12 +11,13 @@ use Rattle.core_run.specs.Histories.{run_of}
 use Rattle.core_run.specs.Machine.{Told, start_state}
 use Rattle.runs.specs.Labels.{Label}
 use Rattle.runs.specs.Steps.{State}
-use Rattle.core_run.specs.Walks.{walk_of}
+use Rattle.core_run.specs.Walks.{walk_of, out_of}
 use Rattle.sync_objects.specs.declared.entry.Entry.{Entry}
 use Rattle.source_runs.specs.RunEvents.{events_of_run}
 use Rattle.source_runs.specs.WalkEvents.{labels_of_walk, events_of_walk}
+use Rattle.source_runs.proofs.Printing.{walk_prints}
 use Rattle.source_runs.proofs.WalkRuns.{walk_is_run}
-use Rattle.source_runs.specs.SourceRuns.{IsSourceRun, IsBeforeEntry}
+use Rattle.source_runs.specs.SourceRuns.{IsSourceRun, IsBeforeEntry, bytes_of}
 use Rattle.source_runs.proofs.Arrives.{MakesRun}
 use Rattle.source_runs.proofs.NoStripes.{all_kept}
 use Rattle.source_runs.proofs.Starts.{making, starts_run}
@@ -28,5 +29,5 @@ source_run p s labels end sound limits h =
     subst (IsSourceRun p s IsBeforeEntry) (all_kept (lowered p) s refl labels (start_state (lowered p) s) end h)
     (made_run p s (lowered p) refl refl sound.cell_kinds limits runnable IsBeforeEntry (MakesRun (lowered p) s runnable) (making p s runnable) (starts_run p s (sound_within p sound) runnable limits) labels end h)
 
-pub walk_events : (p : Program) (s : SetupView) (es : List Entry) (end : State Told) → IsSound p → IsWithinLimits s → walk_of (lowered p) s es (start_state (lowered p) s) ≡ Some end → IsSourceRun p s IsBeforeEntry (events_of_walk (lowered p) s es)
-walk_events p s es end sound limits h = source_run p s (labels_of_walk (lowered p) s es) end sound limits (walk_is_run (lowered p) s es end h)
+pub walk_events : (p : Program) (s : SetupView) (es : List Entry) (end : State Told) → IsSound p → IsWithinLimits s → walk_of (lowered p) s es (start_state (lowered p) s) ≡ Some end → IsSourceRun p s IsBeforeEntry (events_of_walk (lowered p) s es) × (out_of (lowered p) s es (start_state (lowered p) s) ≡ bytes_of (events_of_walk (lowered p) s es))
+walk_events p s es end sound limits h = (source_run p s (labels_of_walk (lowered p) s es) end sound limits (walk_is_run (lowered p) s es end h), walk_prints (lowered p) s es end h)

@@ -19,7 +19,7 @@ nothing_inv : {A : Type 0} (xs : List Noted) (o : Option A) (x : A) → if_nothi
 nothing_inv [] o x h = h
 nothing_inv (y ∷ ys) o x h = cc
 
-then_inv : {A B : Type 0} (f : A → Option B) (o : Option A) (y : B) → option_and_then f o ≡ Some y → (x : A) × (o ≡ Some x) × (f x ≡ Some y)
+pub then_inv : {A B : Type 0} (f : A → Option B) (o : Option A) (y : B) → option_and_then f o ≡ Some y → (x : A) × (o ≡ Some x) × (f x ≡ Some y)
 then_inv f None y h = cc
 then_inv f (Some x) y h = (x, refl, h)
 
@@ -39,7 +39,7 @@ module _ (code : Code) (s : SetupView) where
       let a = then_inv (alone (machine code s) n t) (stepped (machine code s) st (Go t)) st1 (nothing_inv (added (machine code s) st (Go t)) (option_and_then (alone (machine code s) n t) (stepped (machine code s) st (Go t))) st1 h) in
       ap (option_and_then (run (machine code s) (replicate n (Go t)))) a.1 ∙ alone_runs n t a.0 st1 a.2
 
-  part_runs : (e : Entry) (st st1 : State Told) → part (machine code s) e st ≡ Some st1 → run (machine code s) (part_labels code s e st) st ≡ Some st1
+  pub part_runs : (e : Entry) (st st1 : State Told) → part (machine code s) e st ≡ Some st1 → run (machine code s) (part_labels code s e st) st ≡ Some st1
   part_runs e st st1 h =
       let n = e.count - count_of (machine code s) st e.thread in
       let a = then_inv (made (machine code s) e) (alone (machine code s) n e.thread st) st1 h in

@@ -16,6 +16,8 @@ use Rattle.flow_code.specs.Settle.{settled}
 use Rattle.c_core.specs.Runs.{Event, done, trapped}
 use Rattle.core_run.specs.Words.{cells_of, place_of}
 use Rattle.core_run.specs.Machine.{Told, machine, start_state}
+use Rattle.core_run.specs.Pieces.{piece_next}
+use Rattle.core_run.specs.Walks.{joined}
 use Rattle.runs.specs.Labels.{Label, Go, Revoke, Stop, Close, label_thread}
 use Rattle.runs.specs.Steps.{State, stepped}
 use Rattle.source_runs.specs.SourceRuns.{Deed, own, stops, closes, ThreadDeed}
@@ -23,6 +25,11 @@ use Rattle.source_runs.specs.SourceRuns.{Deed, own, stops, closes, ThreadDeed}
 abbrev pub answer_in : Advance → ℤ
 answer_in NotAllowed = pos 0
 answer_in (Advances new answer) = answer
+
+-- the bytes that an action of the thread prints
+abbrev pub printed_at : Code → Thread → Action → List ℕ
+printed_at code th (action.Operate o obj) = joined (piece_next code th o)
+printed_at code th _ = []
 
 module _ (code : Code) (s : SetupView) where
   -- what these words answer to an action of thread t
@@ -34,12 +41,12 @@ module _ (code : Code) (s : SetupView) where
   -- the event of a thread in which this comes next
   abbrev pub event_of : List ℕ → ℕ → Thread → Due → Event
   event_of ws t th (due.Trap why) = trapped why (line_of code th.phase th.top)
-  event_of ws t th d = done (action_of d) (answer_of ws t (action_of d))
+  event_of ws t th d = done (action_of d) (printed_at code th (action_of d)) (answer_of ws t (action_of d))
 
   -- what a label does; a thread's own event comes after its quiet steps
   abbrev pub deed_of : List ℕ → Label → Thread → Deed
   deed_of ws (Go t) th = own (event_of ws t (settled code s t th) (due_of code s t (settled code s t th)))
-  deed_of ws (Revoke t lock stripe) th = own (done (action.Operate op.Revoke (object.Weak lock stripe)) (answer_of ws t (action.Operate op.Revoke (object.Weak lock stripe))))
+  deed_of ws (Revoke t lock stripe) th = own (done (action.Operate op.Revoke (object.Weak lock stripe)) [] (answer_of ws t (action.Operate op.Revoke (object.Weak lock stripe))))
   deed_of ws (Stop t) th = stops
   deed_of ws (Close t) th = closes
 
@@ -65,7 +72,7 @@ is_stripe (action.Operate o (object.Weak lock stripe)) = true
 is_stripe _ = false
 
 abbrev pub is_of_stripe : Deed → Bool
-is_of_stripe (own (done a answer)) = is_stripe a
+is_of_stripe (own (done a out answer)) = is_stripe a
 is_of_stripe _ = false
 
 abbrev pub without_stripes : List ThreadDeed → List ThreadDeed

@@ -2,6 +2,7 @@
 -- events of its own run. A cell keeps the value that was stored in it last (C99 6.2.4), and starts as its initialiser says or
 -- with 0 (C99 6.7.8). An operation of the library is allowed, answers and changes its object as POSIX threads have it.
 use Rattle.std.specs.Prelude.{◌≡◌, ℕ, zero, suc, ◌+◌, ◌-◌, ◌*◌, ◌<◌, nat_lt, nat_eq, Bool, true, false, if◌then◌else◌, ℤ, pos, List, [], ◌∷◌, length, ◌⊎◌, Option, Some, None, slice_get}
+use Rattle.std.specs.List.{flat_map}
 use Rattle.sync_objects.specs.Advance.{Advance, NotAllowed, Advances, advanced}
 use Rattle.sync_objects.specs.Setup.{SetupView}
 use Rattle.sync_objects.specs.Start.{start_word}
@@ -17,14 +18,14 @@ use Rattle.abstract_machine.specs.declared.event.Action.TheVariants as action
 use Rattle.abstract_machine.specs.Values.{number}
 use Rattle.abstract_machine.specs.Operators.{based}
 use Rattle.c_core.specs.Core.{Program}
-use Rattle.c_core.specs.Runs.{Run, does, traps, Event, done, trapped, with_value}
+use Rattle.c_core.specs.Runs.{Run, does, traps, Event, done, trapped, printed_in, with_value}
 use Rattle.c_core.specs.Meaning.{run_of}
 use Rattle.flow_lower.specs.Follows.{is_entry}
 use Rattle.runs.specs.Same.{same_object}
 
 -- what a thread does, or what is done to it
 pub data Deed : Type 0 where
-  -- an event of its own: an action with the answer to it, or a trap with its line
+  -- an event of its own: an action with what it printed and the answer to it, or a trap with its line
   own : Event → Deed
   -- it is stopped, since the program is over
   stops : Deed
@@ -34,6 +35,15 @@ pub data Deed : Type 0 where
 pub record ThreadDeed : Type 0 where
   pub thread : ℕ
   pub deed : Deed
+
+-- the bytes that a deed prints
+abbrev pub printed_by : Deed → List ℕ
+printed_by (own e) = printed_in e
+printed_by _ = []
+
+-- the bytes that a run prints, in the order of its deeds
+abbrev pub bytes_of : List ThreadDeed → List ℕ
+bytes_of ds = flat_map (λ d. printed_by d.deed) ds
 
 -- where a thread is: it waits for its begin with all of its run before it, it goes on with the rest of its run, or it has
 -- ended
@@ -71,7 +81,7 @@ acted w t (action.Operate o obj) = operated w t o obj
 acted w t _ = w
 
 abbrev pub words_after : World → ℕ → Deed → World
-words_after w t (own (done a answer)) = acted w t a
+words_after w t (own (done a out answer)) = acted w t a
 words_after w t (own (trapped why line)) = operated w t op.TrapHere object.Halt
 words_after w t stops = operated w t op.Stop object.Halt
 words_after w t closes = operated w t op.Close (object.Slot t)
@@ -83,7 +93,7 @@ is_last (action.Operate op.HaltAll obj) = true
 is_last _ = false
 
 abbrev pub rest_after : Run → Event → Standing
-rest_after (does a more) (done b answer) = if is_last b then over else goes (more answer)
+rest_after (does a out more) (done b out' answer) = if is_last b then over else goes (more answer)
 rest_after _ _ = over
 
 abbrev pub standing_after : Standing → Deed → Standing
@@ -146,9 +156,9 @@ module _ (p : Program) (s : SetupView) where
   Answers w t (action.Operate o obj) answer = Allows w t o obj answer
   Answers w t _ answer = ⊥
 
-  -- the event is the next one of the run
+  -- the event is the next one of the run, and has printed what that prints
   abbrev pub ComesNext : World → ℕ → Run → Event → Type 0
-  ComesNext w t (does a more) (done b answer) = (b ≡ a) × Answers w t a answer
+  ComesNext w t (does a out more) (done b out' answer) = (b ≡ a) × (out' ≡ out) × Answers w t a answer
   ComesNext w t (traps why line) (trapped why' line') = (why' ≡ why) × (line' ≡ line) × IsAllowed w t op.TrapHere object.Halt
   ComesNext w t _ _ = ⊥
 
@@ -157,7 +167,7 @@ module _ (p : Program) (s : SetupView) where
     -- the thread's list is full, and it traps in place of its next event
     abbrev pub IsFull : World → ℕ → Run → Event → Type 0
     IsFull w t r (trapped why line) = (why ≡ trap.LogFull) × MayFill r × IsAllowed w t op.TrapHere object.Halt
-    IsFull w t r (done a answer) = ⊥
+    IsFull w t r (done a out answer) = ⊥
 
     -- a thread is stopped only between its begin and its end, and closed only before its begin
     abbrev pub MayDo : World → ℕ → Standing → Deed → Type 0
@@ -178,5 +188,5 @@ module _ (p : Program) (s : SetupView) where
 
 -- a thread that takes no stripes lists its own operations alone, so its list is full before one of these
 abbrev pub IsBeforeEntry : Run → Type 0
-IsBeforeEntry (does a more) = is_entry a ≡ true
+IsBeforeEntry (does a out more) = is_entry a ≡ true
 IsBeforeEntry _ = ⊥

@@ -17,7 +17,7 @@ own_events t (d ∷ ds) = if nat_eq d.thread t then event_in d.deed ++ own_event
 -- the answers that they got
 abbrev pub answers_to : List Event → List ℤ
 answers_to [] = []
-answers_to (done a answer ∷ es) = answer ∷ answers_to es
+answers_to (done a out answer ∷ es) = answer ∷ answers_to es
 answers_to (trapped why line ∷ es) = answers_to es
 
 -- first events of the run on the answers to them, behind which the thread may have trapped since its list in the log was full

@@ -10,11 +10,11 @@ ghost use Rattle.flow_lower.specs.Follows.{IsAtStart};
 ghost use Rattle.flow_lower.specs.Sound.{IsSound};
 ghost use Rattle.core_run.specs.Histories.{run_of};
 ghost use Rattle.core_run.specs.Machine.{Told, start_state};
-ghost use Rattle.core_run.specs.Walks.{walk_of};
+ghost use Rattle.core_run.specs.Walks.{walk_of, out_of};
 ghost use Rattle.runs.specs.Labels.{Label};
 ghost use Rattle.runs.specs.Steps.{State};
 ghost use Rattle.source_runs.specs.RunEvents.{events_of_run};
-ghost use Rattle.source_runs.specs.SourceRuns.{ThreadDeed, IsSourceRun, IsBeforeEntry};
+ghost use Rattle.source_runs.specs.SourceRuns.{ThreadDeed, IsSourceRun, IsBeforeEntry, bytes_of};
 ghost use Rattle.source_runs.specs.ThreadEvents.{own_events, IsPartOf};
 ghost use Rattle.source_runs.specs.WalkEvents.{labels_of_walk, events_of_walk};
 
@@ -26,9 +26,9 @@ pub fn law_start()
 {}
 
 /// Each run of the code of a sound core tree, in any interleaving and with any stops and closes, is a run of the
-/// source: its events are those of the source's threads, each load answers what was stored last, and each operation is
-/// one that its object allows. No thread makes an operation on a stripe of a weak lock. Only before an operation that
-/// is listed in the log can a thread's list be full, and then it traps.
+/// source: its events are those of the source's threads, with the bytes that these print, each load answers what was
+/// stored last, and each operation is one that its object allows. No thread makes an operation on a stripe of a weak
+/// lock. Only before an operation that is listed in the log can a thread's list be full, and then it traps.
 pub fn law_source_run()
     ensures { (p : Program) (setup : SetupView) (labels : List Label) (end : State Told) →
         IsSound p →
@@ -52,11 +52,13 @@ pub fn law_walk_run()
         run_of code setup (labels_of_walk code setup entries) ≡ Some end }
 {}
 
-/// So the events of a walk by the code of a sound core tree are a run of the source, whatever list of entries it goes by.
+/// So the events of a walk by the code of a sound core tree are a run of the source, whatever list of entries it goes by, and
+/// the bytes that the walk tells are those that this run prints.
 pub fn law_walk_events()
     ensures { (p : Program) (setup : SetupView) (entries : List Entry) (end : State Told) →
         IsSound p →
         IsWithinLimits setup →
         walk_of (lowered p) setup entries (start_state (lowered p) setup) ≡ Some end →
-        IsSourceRun p setup IsBeforeEntry (events_of_walk (lowered p) setup entries) }
+        IsSourceRun p setup IsBeforeEntry (events_of_walk (lowered p) setup entries)
+        × (out_of (lowered p) setup entries (start_state (lowered p) setup) ≡ bytes_of (events_of_walk (lowered p) setup entries)) }
 {}

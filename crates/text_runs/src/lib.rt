@@ -17,7 +17,7 @@ ghost use Rattle.weak_code.specs.Weakened.{weakened};
 ghost use Rattle.erasure.specs.Erased.{erased_events, erased_walk, IsAnywhere};
 ghost use Rattle.core_run.specs.Histories.{run_of, HaveEnded, lists_of, entries_in};
 ghost use Rattle.core_run.specs.Machine.{Told, start_state};
-ghost use Rattle.core_run.specs.Walks.{walk_of};
+ghost use Rattle.core_run.specs.Walks.{walk_of, out_of};
 ghost use Rattle.front.specs.Plain.{plain_code};
 ghost use Rattle.front.specs.Readings.{sound, IsReading};
 ghost use Rattle.lock_sound.specs.Weakened.{Analysed, IsAnalysed};
@@ -25,7 +25,7 @@ ghost use Rattle.runs.specs.Labels.{Label};
 ghost use Rattle.runs.specs.Merge.{written_merge};
 ghost use Rattle.runs.specs.Steps.{State};
 ghost use Rattle.source_runs.specs.RunEvents.{events_of_run};
-ghost use Rattle.source_runs.specs.SourceRuns.{IsSourceRun, IsBeforeEntry};
+ghost use Rattle.source_runs.specs.SourceRuns.{IsSourceRun, IsBeforeEntry, bytes_of};
 ghost use Rattle.source_runs.specs.WalkEvents.{events_of_walk};
 
 /// Each run of the code of a text that is read as a source without a fault, in any interleaving, with any stops and closes, is
@@ -39,14 +39,16 @@ pub fn law_text_run()
         IsSourceRun (core_of_source os) setup IsBeforeEntry (events_of_run (plain_code os) setup labels) }
 {}
 
-/// So is each walk of its code, by whatever list of entries: that of a log that `replay` reads, for one.
+/// So is each walk of its code, by whatever list of entries: that of a log that `replay` reads, for one. The bytes that the walk
+/// tells are those that this run of the source prints.
 pub fn law_text_walk()
     ensures { (text : Text) (os : List Outer) (setup : SetupView) (entries : List Entry) (end : State Told) →
         length text ≤ 2 ^ 20 →
         IsReading text (sound os) →
         IsWithinLimits setup →
         walk_of (plain_code os) setup entries (start_state (plain_code os) setup) ≡ Some end →
-        IsSourceRun (core_of_source os) setup IsBeforeEntry (events_of_walk (plain_code os) setup entries) }
+        IsSourceRun (core_of_source os) setup IsBeforeEntry (events_of_walk (plain_code os) setup entries)
+        × (out_of (plain_code os) setup entries (start_state (plain_code os) setup) ≡ bytes_of (events_of_walk (plain_code os) setup entries)) }
 {}
 
 /// Each run of the weakened code of such a text, in any interleaving, with any revokes, stops and closes, is a run of the source
@@ -61,19 +63,22 @@ pub fn law_text_erasure()
         IsSourceRun (core_of_source os) setup IsAnywhere (erased_events (weakened (plain_code os) t vs rs rows) setup labels) }
 {}
 
-/// So is each walk of it, by whatever list of entries.
+/// So is each walk of it, by whatever list of entries, and the bytes that the walk tells are those that this run of the source
+/// prints.
 pub fn law_text_erased_walk()
     ensures { (text : Text) (os : List Outer) (t : Tables) (vs : List Pair) (rs : List Range) (rows : List Grained) (setup : SetupView) (entries : List Entry) (end : State Told) →
         length text ≤ 2 ^ 20 →
         IsReading text (sound os) →
         IsWithinLimits setup →
         walk_of (weakened (plain_code os) t vs rs rows) setup entries (start_state (weakened (plain_code os) t vs rs rows) setup) ≡ Some end →
-        IsSourceRun (core_of_source os) setup IsAnywhere (erased_walk (weakened (plain_code os) t vs rs rows) setup entries) }
+        IsSourceRun (core_of_source os) setup IsAnywhere (erased_walk (weakened (plain_code os) t vs rs rows) setup entries)
+        × (out_of (weakened (plain_code os) t vs rs rows) setup entries (start_state (weakened (plain_code os) t vs rs rows) setup) ≡ bytes_of (erased_walk (weakened (plain_code os) t vs rs rows) setup entries)) }
 {}
 
 /// The log of a run of such a text's weakened code in which all threads have ended, whatever the interleaving was, and with any
 /// revokes, stops and closes, walks to that run's own end: with the same bytes printed, the same accesses in each thread, and
-/// each thread ended as it did. And that walk is a run of the source, once the operations on stripes are left out.
+/// each thread ended as it did. And that walk is a run of the source, once the operations on stripes are left out, and tells the
+/// bytes that this run of the source prints.
 pub fn law_text_log()
     ensures { (text : Text) (os : List Outer) (a : Analysed) (setup : SetupView) (labels : List Label) (end : State Told) →
         length text ≤ 2 ^ 20 →
@@ -84,5 +89,6 @@ pub fn law_text_log()
         run_of a.weak setup labels ≡ Some end →
         HaveEnded a.weak setup end →
         (walk_of a.weak setup (entries_in (written_merge (lists_of end))) (start_state a.weak setup) ≡ Some end)
-        × IsSourceRun (core_of_source os) setup IsAnywhere (erased_walk a.weak setup (entries_in (written_merge (lists_of end)))) }
+        × IsSourceRun (core_of_source os) setup IsAnywhere (erased_walk a.weak setup (entries_in (written_merge (lists_of end))))
+        × (out_of a.weak setup (entries_in (written_merge (lists_of end))) (start_state a.weak setup) ≡ bytes_of (erased_walk a.weak setup (entries_in (written_merge (lists_of end))))) }
 {}
