@@ -1,1 +1,4 @@
+pub mod FirstWords
+pub mod JobLimits
+pub mod Numbers
 pub mod Written

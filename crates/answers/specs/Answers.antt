@@ -15,6 +15,7 @@ status_of (answer.SourceRefused number line column) = 2
 status_of (answer.Trapped out kind thread line) = 3
 status_of (answer.LogRefused number line) = 4
 status_of (answer.WrongEntry at) = 5
+status_of (answer.ProfileRefused number) = 6
 status_of (answer.TooLarge what) = 11
 
 -- `source refused 7 3 12`
@@ -33,9 +34,15 @@ trap_line kind thread line = codes "trap " ++ decimal (trap_number kind) ++ code
 abbrev pub wrong_entry : ℕ → List ℕ
 wrong_entry at = codes "wrong entry " ++ decimal at ++ codes "\n"
 
+-- `profile refused 21`
+abbrev pub profile_refused : ℕ → List ℕ
+profile_refused number = codes "profile refused " ++ decimal number ++ codes "\n"
+
 abbrev pub too_large : Part → List ℕ
 too_large part.Source = codes "too large source\n"
 too_large part.Log = codes "too large log\n"
+too_large part.Profile = codes "too large profile\n"
+too_large part.Input = codes "too large input\n"
 
 abbrev pub text_of : Answer → List ℕ
 text_of (answer.Done out) = out
@@ -44,8 +51,19 @@ text_of (answer.SourceRefused number line column) = source_refused number line c
 text_of (answer.Trapped out kind thread line) = out ++ trap_line kind thread line
 text_of (answer.LogRefused number line) = log_refused number line
 text_of (answer.WrongEntry at) = wrong_entry at
+text_of (answer.ProfileRefused number) = profile_refused number
 text_of (answer.TooLarge what) = too_large what
 
--- what is told where the shelf fails
+-- ---- what is told where the outside fails
+
+-- .. reading of the input
+abbrev pub read_fault : List ℕ
+read_fault = codes "read fault\n"
+
+-- .. the shelf
 abbrev pub shelf_fault : List ℕ
 shelf_fault = codes "shelf fault\n"
+
+-- .. the crew
+abbrev pub crew_fault : List ℕ
+crew_fault = codes "crew fault\n"

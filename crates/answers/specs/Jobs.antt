@@ -1,43 +1,145 @@
 -- What the words of a command line ask for.
-use Rattle.std.specs.Prelude.{ℕ, Bool, false, not, ◌==◌, ◌&&◌, if◌then◌else◌, List, [], ◌∷◌, Option, Some, None, codes}
-use Rattle.std.specs.Option.{option_or}
+use Rattle.std.specs.Prelude.{◌≡◌, ◌≤◌, refl, ℕ, Bool, false, ⊤, if◌then◌else◌, List, [], ◌∷◌, Option, Some, None, option_map, option_and_then, codes}
+use Rattle.std.specs.Fmt.{digits}
+use Rattle.std.specs.List.{list_any}
 use Rattle.std.specs.Str.{bytes_eq}
-use Rattle.answers.specs.declared.words.Job.{Job}
-use Rattle.answers.specs.declared.words.Job.TheVariants as job
+use Rattle.answers.specs.Arguments.{Argument, arguments, positional, value_of, are_fit, number_within, number_or}
+use Rattle.answers.specs.declared.command.Command.{Command}
+use Rattle.answers.specs.declared.command.Command.TheVariants as command
+use Rattle.answers.specs.declared.job.Job.{Job}
+use Rattle.answers.specs.declared.job.Job.TheVariants as job
+use Rattle.answers.specs.declared.job.RecordJob.{RecordJob}
 
--- a run by a log, by the name of the source and that of the log; or the race listing of a source; or the listing of its
--- weak locks
+-- a recording: the names of its files, and its numbers
+pub record RecordAsked : Type 0 where
+  pub source : List ℕ
+  pub log : List ℕ
+  pub profile : Option (List ℕ)
+  pub slots : ℕ
+  pub cells : ℕ
+  pub limit : ℕ
+  pub budget : ℕ
+  pub reads : Option (List ℕ)
+
+-- a job, with the names of its files
 pub data Asked : Type 0 where
-  Replay : (source log : List ℕ) → Asked
   Races : (source : List ℕ) → Asked
-  Weaken : (source : List ℕ) → Asked
+  Weaken : (source : List ℕ) → (profile : Option (List ℕ)) → Asked
+  Record : RecordAsked → Asked
+  Replay : (source log : List ℕ) → (reads : Option (List ℕ)) → Asked
+  Profile : (source log name : List ℕ) → Asked
+  Make : (count : ℕ) → (name : List ℕ) → Asked
 
--- a word that names something: it isn't empty and doesn't begin with `-`
-abbrev pub is_name : List ℕ → Bool
-is_name [] = false
-is_name (b ∷ bs) = not (b == 45)
+-- ---- the words
 
-abbrev pub replay_of : (command source log : List ℕ) → Option Asked
-replay_of command source log = if bytes_eq command (codes "replay") && is_name source && is_name log then Some (Replay source log) else None
+abbrev pub command_of : List ℕ → Option Command
+command_of word =
+    if bytes_eq word (codes "races") then Some command.Races else
+    (if bytes_eq word (codes "weaken") then Some command.Weaken else
+    (if bytes_eq word (codes "record") then Some command.Record else
+    (if bytes_eq word (codes "replay") then Some command.Replay else
+    (if bytes_eq word (codes "profile") then Some command.Profile else
+    (if bytes_eq word (codes "make") then Some command.Make else None)))))
 
-abbrev pub races_of : (command source : List ℕ) → Option Asked
-races_of command source = if bytes_eq command (codes "races") && is_name source then Some (Races source) else None
+-- the options that may be given with a command
+abbrev pub takes : Command → (option : List ℕ) → Bool
+takes command.Weaken option = bytes_eq option (codes "profile")
+takes command.Record option = list_any (bytes_eq option) (codes "profile" ∷ codes "slots" ∷ codes "cells" ∷ codes "limit" ∷ codes "budget" ∷ codes "reads" ∷ [])
+takes command.Replay option = bytes_eq option (codes "reads")
+takes _ option = false
 
-abbrev pub weaken_of : (command source : List ℕ) → Option Asked
-weaken_of command source = if bytes_eq command (codes "weaken") && is_name source then Some (Weaken source) else None
+infixl 10 ◌>>=◌
+abbrev ◌>>=◌ : {A B : Type 0} → Option A → (A → Option B) → Option B
+o >>= f = option_and_then f o
 
--- one of the two listings of a source
-abbrev pub listing_of : (command source : List ℕ) → Option Asked
-listing_of command source = option_or (races_of command source) (weaken_of command source)
+-- a recording, whose numbers have their limits and defaults
+abbrev pub record_of : (source log : List ℕ) → (given : List Argument) → Option Asked
+record_of source log given = do
+  slots ← number_or 1 16 8 (value_of (codes "slots") given)
+  cells ← number_or 1024 131072 16384 (value_of (codes "cells") given)
+  limit ← number_or 1 67108864 16777216 (value_of (codes "limit") given)
+  budget ← number_or 1 1048576 1000 (value_of (codes "budget") given)
+  Some (Record (record { source = source; log = log; profile = value_of (codes "profile") given; slots = slots; cells = cells; limit = limit; budget = budget; reads = value_of (codes "reads") given }))
 
--- what the words behind the program's name ask for; other words ask for nothing
+-- the job of a command, by its positional words and the options that are given
+abbrev pub asked_of : Command → (words : List (List ℕ)) → (given : List Argument) → Option Asked
+asked_of command.Races (source ∷ []) given = Some (Races source)
+asked_of command.Weaken (source ∷ []) given = Some (Weaken source (value_of (codes "profile") given))
+asked_of command.Record (source ∷ log ∷ []) given = record_of source log given
+asked_of command.Replay (source ∷ log ∷ []) given = Some (Replay source log (value_of (codes "reads") given))
+asked_of command.Profile (source ∷ log ∷ name ∷ []) given = Some (Profile source log name)
+asked_of command.Make (count ∷ name ∷ []) given = option_map (λ n. Make n name) (number_within 1 1000 count)
+asked_of _ _ _ = None
+
+-- the job of a command with such arguments, which have to be fit for it
+abbrev pub job_by : (given : List Argument) → Command → Option Asked
+job_by given command = if are_fit (takes command) given then asked_of command (positional given) given else None
+
+-- what the words behind the program's name ask for: a command, and its arguments. Other words ask for nothing
 abbrev pub job_of : List (List ℕ) → Option Asked
-job_of (command ∷ source ∷ []) = listing_of command source
-job_of (command ∷ source ∷ log ∷ []) = replay_of command source log
-job_of _ = None
+job_of [] = None
+job_of (word ∷ words) = option_and_then (job_by (arguments words)) (command_of word)
+
+-- ---- limits
+
+pub record HasRecordLimits (asked : RecordAsked) : Type 0 where
+  pub slots_low : 1 ≤ asked.slots
+  pub slots_high : asked.slots ≤ 16
+  pub cells_low : 1024 ≤ asked.cells
+  pub cells_high : asked.cells ≤ 131072
+  pub limit_low : 1 ≤ asked.limit
+  pub limit_high : asked.limit ≤ 67108864
+  pub budget_low : 1 ≤ asked.budget
+  pub budget_high : asked.budget ≤ 1048576
+
+-- the numbers of a job are within their limits
+abbrev pub HasLimits : Asked → Type 0
+HasLimits (Record asked) = HasRecordLimits asked
+HasLimits (Make count name) = (1 ≤ count) × (count ≤ 1000)
+HasLimits _ = ⊤
+
+-- ---- jobs in the code
+
+abbrev pub record_told : RecordJob → RecordAsked
+record_told r = record { source = r.source.now; log = r.log.now; profile = option_map (λ name. name.now) r.profile; slots = r.slots; cells = r.cells; limit = r.limit; budget = r.budget; reads = option_map (λ name. name.now) r.reads }
 
 -- what a job in the code is
 abbrev pub told : Job → Asked
-told (job.Replay source log) = Replay source.now log.now
 told (job.Races source) = Races source.now
-told (job.Weaken source) = Weaken source.now
+told (job.Weaken source profile) = Weaken source.now (option_map (λ name. name.now) profile)
+told (job.Record r) = Record (record_told r)
+told (job.Replay source log reads) = Replay source.now log.now (option_map (λ name. name.now) reads)
+told (job.Profile source log name) = Profile source.now log.now name.now
+told (job.Make count name) = Make count name.now
+
+-- ---- worked rows
+
+no_words : job_of [] ≡ None
+no_words = refl
+
+defaults : job_of (codes "record" ∷ codes "a" ∷ codes "b" ∷ []) ≡ Some (Record (record { source = codes "a"; log = codes "b"; profile = None; slots = 8; cells = 16384; limit = 16777216; budget = 1000; reads = None }))
+defaults = refl
+
+options_anywhere : job_of (codes "record" ∷ codes "--slots" ∷ codes "3" ∷ codes "a" ∷ codes "--reads=r" ∷ codes "b" ∷ []) ≡ Some (Record (record { source = codes "a"; log = codes "b"; profile = None; slots = 3; cells = 16384; limit = 16777216; budget = 1000; reads = Some (codes "r") }))
+unfolding digits
+options_anywhere = refl
+
+option_twice : job_of (codes "replay" ∷ codes "--reads=r" ∷ codes "a" ∷ codes "b" ∷ codes "--reads" ∷ codes "r" ∷ []) ≡ None
+option_twice = refl
+
+leading_zero : job_of (codes "record" ∷ codes "a" ∷ codes "b" ∷ codes "--slots" ∷ codes "08" ∷ []) ≡ None
+unfolding digits
+leading_zero = refl
+
+lone_dashes : job_of (codes "replay" ∷ codes "a" ∷ codes "b" ∷ codes "--" ∷ []) ≡ None
+lone_dashes = refl
+
+dashes_with_a_word : job_of (codes "races" ∷ codes "--" ∷ codes "b" ∷ codes "a" ∷ []) ≡ None
+dashes_with_a_word = refl
+
+one_word_short : job_of (codes "record" ∷ codes "a" ∷ []) ≡ None
+one_word_short = refl
+
+made : job_of (codes "make" ∷ codes "1000" ∷ codes "n.c" ∷ []) ≡ Some (Make 1000 (codes "n.c"))
+unfolding digits
+made = refl

@@ -1,3 +1,5 @@
+pub mod Arguments
+pub mod Reading
 pub mod Jobs
 pub mod Answers
 pub mod Endings

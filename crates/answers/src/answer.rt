@@ -12,6 +12,8 @@ use std::alloc::{AllocError, Global};
 pub enum Part {
     Source,
     Log,
+    Profile,
+    Input,
 }
 
 /// What the program answers, where neither the outside nor memory fails it.
@@ -45,6 +47,10 @@ pub enum Answer {
     WrongEntry {
         at: u32,
     },
+    /// The bytes are no profile, with the number of the fault.
+    ProfileRefused {
+        number: u8,
+    },
     /// A file has more bytes than it may.
     TooLarge(Part),
 }
@@ -61,6 +67,7 @@ impl Answer {
             Answer::Trapped { .. } => 3,
             Answer::LogRefused { .. } => 4,
             Answer::WrongEntry { .. } => 5,
+            Answer::ProfileRefused { .. } => 6,
             Answer::TooLarge(_) => 11,
         }
     }
@@ -113,12 +120,21 @@ fn push_wrong_entry(out: &mut Bytes, at: u32) -> Result<(), AllocError>
     out.extend_from_slice(b"\n")
 }
 
+fn push_profile_refused(out: &mut Bytes, number: u8) -> Result<(), AllocError>
+    ensures { OnOk result (out.new ≡ out.old ++ spec.profile_refused number) }
+{
+    push_numbered(out, b"profile refused ", u32::from(number))?;
+    out.extend_from_slice(b"\n")
+}
+
 fn too_large(what: Part) -> &'static [u8]
     ensures { result.now ≡ spec.too_large what }
 {
     match what {
         Part::Source => b"too large source\n",
         Part::Log => b"too large log\n",
+        Part::Profile => b"too large profile\n",
+        Part::Input => b"too large input\n",
     }
 }
 
@@ -146,6 +162,7 @@ pub fn text_of(alloc: Global, answer: Answer) -> Result<Bytes, AllocError>
         }
         Answer::LogRefused { number, line } => push_log_refused(&mut text, number, line)?,
         Answer::WrongEntry { at } => push_wrong_entry(&mut text, at)?,
+        Answer::ProfileRefused { number } => push_profile_refused(&mut text, number)?,
         Answer::TooLarge(what) => text.extend_from_slice(too_large(what))?,
     }
     Ok(text)

@@ -5,14 +5,19 @@
 
 mod adapters;
 mod answer;
+mod arguments;
+mod asking;
+mod command;
 mod files;
+mod job;
+mod number;
 mod telling;
 #[cfg(test)]
 mod tests;
-mod words;
 
 pub use adapters::{FileShelf, InSource, OutSink};
 pub use answer::{Answer, Part, text_of};
-pub use files::get_within;
+pub use asking::job_of;
+pub use files::{get_within, read_within};
+pub use job::{Job, RecordJob};
 pub use telling::{tell, tell_answer};
-pub use words::{Job, job_of};

@@ -1,4 +1,4 @@
-use crate::{Answer, Job, Part, job_of, text_of};
+use crate::{Answer, Job, Part, RecordJob, job_of, text_of};
 use rr_base::{Bytes, List, Trap};
 use std::alloc::{AllocError, Global};
 use std::test::Fail;
@@ -11,41 +11,208 @@ fn words_of(alloc: Global, line: &str) -> Result<Vec<String>, AllocError> {
     Ok(words)
 }
 
+fn told_record(alloc: Global, job: RecordJob<'_>) -> Result<String, AllocError> {
+    let profile = job.profile.unwrap_or("none");
+    let reads = job.reads.unwrap_or("none");
+    let RecordJob {
+        source,
+        log,
+        slots,
+        cells,
+        limit,
+        budget,
+        ..
+    } = job;
+    format!(in alloc; "record {source} {log} {profile} {slots} {cells} {limit} {budget} {reads}")
+}
+
+fn told(alloc: Global, job: Job<'_>) -> Result<String, AllocError> {
+    match job {
+        Job::Races { source } => format!(in alloc; "races {source}"),
+        Job::Weaken { source, profile } => {
+            let profile = profile.unwrap_or("none");
+            format!(in alloc; "weaken {source} {profile}")
+        }
+        Job::Record(job) => told_record(alloc, job),
+        Job::Replay { source, log, reads } => {
+            let reads = reads.unwrap_or("none");
+            format!(in alloc; "replay {source} {log} {reads}")
+        }
+        Job::Profile { source, log, name } => format!(in alloc; "profile {source} {log} {name}"),
+        Job::Make { count, name } => format!(in alloc; "make {count} {name}"),
+    }
+}
+
+// Each command, and each option in both spellings and in any place.
+const JOBS: [(&str, &str); 28] = [
+    ("races a", "races a"),
+    ("weaken a", "weaken a none"),
+    ("weaken a --profile p", "weaken a p"),
+    ("weaken --profile p a", "weaken a p"),
+    ("weaken --profile=p a", "weaken a p"),
+    ("weaken a --profile=p=-q", "weaken a p=-q"),
+    ("replay a b", "replay a b none"),
+    ("replay --reads r a b", "replay a b r"),
+    ("replay a --reads=r b", "replay a b r"),
+    ("profile a b c", "profile a b c"),
+    ("make 1 a", "make 1 a"),
+    ("make 1000 a", "make 1000 a"),
+    ("record a b", "record a b none 8 16384 16777216 1000 none"),
+    (
+        "record --profile p a b",
+        "record a b p 8 16384 16777216 1000 none",
+    ),
+    (
+        "record a --profile=p b",
+        "record a b p 8 16384 16777216 1000 none",
+    ),
+    (
+        "record a b --reads r",
+        "record a b none 8 16384 16777216 1000 r",
+    ),
+    (
+        "record a --reads=r b",
+        "record a b none 8 16384 16777216 1000 r",
+    ),
+    (
+        "record --slots 1 a b",
+        "record a b none 1 16384 16777216 1000 none",
+    ),
+    (
+        "record a b --slots=16",
+        "record a b none 16 16384 16777216 1000 none",
+    ),
+    (
+        "record a --cells 1024 b",
+        "record a b none 8 1024 16777216 1000 none",
+    ),
+    (
+        "record a b --cells=131072",
+        "record a b none 8 131072 16777216 1000 none",
+    ),
+    (
+        "record a b --limit 1",
+        "record a b none 8 16384 1 1000 none",
+    ),
+    (
+        "record --limit=67108864 a b",
+        "record a b none 8 16384 67108864 1000 none",
+    ),
+    (
+        "record a b --budget 1",
+        "record a b none 8 16384 16777216 1 none",
+    ),
+    (
+        "record a --budget=1048576 b",
+        "record a b none 8 16384 16777216 1048576 none",
+    ),
+    (
+        "record --slots 3 a --reads=r b --budget 2 --profile p",
+        "record a b p 3 16384 16777216 2 r",
+    ),
+    (
+        "record race a",
+        "record race a none 8 16384 16777216 1000 none",
+    ),
+    ("record a- b", "record a- b none 8 16384 16777216 1000 none"),
+];
+
+// Lists of words that are no job.
+const NO_JOBS: [&str; 52] = [
+    "",
+    "help",
+    "--help",
+    "race a",
+    "races",
+    "races a b",
+    "races -a",
+    "races  ",
+    "races --",
+    "races -- a",
+    "races a --",
+    "races a --profile p",
+    "weaken",
+    "weaken a b",
+    "weaken a --reads r",
+    "weaken a --profile",
+    "weaken a --profile=",
+    "weaken a --profile -p",
+    "weaken a --profile=-p",
+    "weaken a -profile p",
+    "weaken a --profile p --profile=p",
+    "weaken a --profile=p --profile q",
+    "weaken a --profile --profile=p",
+    "record a",
+    "record a b c",
+    "replay a",
+    "replay a b --",
+    "replay a b --slots 3",
+    "replay a b --reads r --reads r",
+    "replay a ",
+    "profile a b",
+    "profile a b c d",
+    "profile a b c --reads r",
+    "make",
+    "make a",
+    "make 0 a",
+    "make 1001 a",
+    "make 01 a",
+    "make a 1",
+    "make 1 a b",
+    "record a b --slots 0",
+    "record a b --slots 17",
+    "record a b --slots 08",
+    "record a b --slots +8",
+    "record a b --slots 8x",
+    "record a b --slots 4294967304",
+    "record a b --cells 1023",
+    "record a b --cells 131073",
+    "record a b --limit 67108865",
+    "record a b --budget 1048577",
+    "record a b --Slots 8",
+    "record a b --=8",
+];
+
 #[test]
 fn words_are_a_job(rt: HostRuntime) -> Result<(), Fail> {
-    let rows = [
-        (
-            "replay bank.c bank.log",
-            Some(("replay", "bank.c", Some("bank.log"))),
-        ),
-        ("replay a- b", Some(("replay", "a-", Some("b")))),
-        ("races bank.c", Some(("races", "bank.c", None))),
-        ("races -a", None),
-        ("weaken bank.c", Some(("weaken", "bank.c", None))),
-        ("weaken -a", None),
-        ("weaken a b", None),
-        ("weaken", None),
-        ("races a b", None),
-        ("races", None),
-        ("record bank.c", None),
-        ("replay bank.c", None),
-        ("replay bank.c bank.log more", None),
-        ("replay -a b", None),
-        ("replay a --", None),
-        ("replay  b", None),
-        ("record a b", None),
-        ("help", None),
-    ];
-    for (line, want) in rows {
+    for (line, want) in JOBS {
         let words = words_of(rt.alloc(), line)?;
-        let found = match job_of(words.as_slice()) {
-            Some(Job::Replay { source, log }) => Some(("replay", source, Some(log))),
-            Some(Job::Races { source }) => Some(("races", source, None)),
-            Some(Job::Weaken { source }) => Some(("weaken", source, None)),
-            None => None,
-        };
-        assert_eq!(rt; found, want, "{line}");
+        match job_of(words.as_slice()) {
+            Some(job) => assert_eq!(rt; told(rt.alloc(), job)?.as_str(), want),
+            None => assert!(rt; false, "{line}"),
+        }
     }
+    Ok(())
+}
+
+#[test]
+fn words_are_no_job(rt: HostRuntime) -> Result<(), Fail> {
+    for line in NO_JOBS {
+        let words = words_of(rt.alloc(), line)?;
+        assert!(rt; job_of(words.as_slice()).is_none(), "{line}");
+    }
+    assert!(rt; job_of(&[]).is_none());
+    Ok(())
+}
+
+// Eight of these are names: two of a file and a log 64 times each, one beside the profile 16 times, and one behind the
+// number 8 times.
+#[test]
+fn lists_of_three_words(rt: HostRuntime) -> Result<(), Fail> {
+    let line = "races weaken record replay profile make a 7 --profile=p --profile --slots=3 -- -x ";
+    let alloc = rt.alloc();
+    let mut jobs: u32 = 0;
+    for first in line.split(' ') {
+        for second in line.split(' ') {
+            for third in line.split(' ') {
+                let words = words_of(alloc, &format!(in alloc; "{first} {second} {third}")?)?;
+                if job_of(words.as_slice()).is_some() {
+                    jobs = jobs.saturating_add(1);
+                }
+            }
+        }
+    }
+    assert_eq!(rt; jobs, 64 + 64 + 16 + 8);
     Ok(())
 }
 
@@ -80,8 +247,15 @@ fn answers_are_told(rt: HostRuntime) -> Result<(), Fail> {
         (trapped, 3, "5trap 17 thread 15 line 120\n"),
         (unread, 4, "log refused 23 1\n"),
         (Answer::WrongEntry { at: 10 }, 5, "wrong entry 10\n"),
+        (
+            Answer::ProfileRefused { number: 22 },
+            6,
+            "profile refused 22\n",
+        ),
         (Answer::TooLarge(Part::Source), 11, "too large source\n"),
         (Answer::TooLarge(Part::Log), 11, "too large log\n"),
+        (Answer::TooLarge(Part::Profile), 11, "too large profile\n"),
+        (Answer::TooLarge(Part::Input), 11, "too large input\n"),
     ];
     for (answer, status, want) in rows {
         assert_eq!(rt; answer.status(), status, "{want}");

@@ -1,0 +1,135 @@
+// The words behind a command, read as positional words and as options with their values.
+
+ghost use Rattle.std.specs.Prelude.{◌≡◌, ◌≤◌, [], ◌∷◌, length, map, string_bytes, option_map, MatchOption};
+ghost use Rattle.answers.specs.Arguments as spec;
+ghost use Rattle.answers.specs.Jobs.{takes};
+ghost use Rattle.answers.specs.Reading.{read, IsPositional};
+
+use crate::command::Command;
+
+/// A positional word, an option with its value, or what is neither.
+#[derive(Clone, Copy)]
+enum Argument<'a> {
+    Positional(&'a str),
+    Setting { name: &'a str, value: &'a str },
+    Wrong,
+}
+
+/// The positional words of a command line, of which no command has more than three.
+#[derive(Clone, Copy)]
+pub enum Positional<'a> {
+    One(&'a str),
+    Two(&'a str, &'a str),
+    Three(&'a str, &'a str, &'a str),
+    Other,
+}
+
+fn is_name(word: &str) -> bool
+    ensures { result ≡ spec.is_name word.now }
+{
+    match word.as_bytes() {
+        [] => false,
+        [first, ..] => *first != b'-',
+    }
+}
+
+fn setting<'a>(name: &'a str, value: &'a str) -> Argument<'a>
+    ensures { read result ≡ spec.setting name.now value.now }
+{
+    if is_name(value) {
+        Argument::Setting { name, value }
+    } else {
+        Argument::Wrong
+    }
+}
+
+// The argument that a word begins, and the words behind that.
+fn first_argument<'a>(word: &'a str, rest: &'a [String]) -> (Argument<'a>, &'a [String])
+    ensures first { spec.arguments (word.now ∷ map string_bytes rest.now) ≡ read result.0 ∷ spec.arguments (map string_bytes result.1.now) }
+    ensures shorter { length result.1.now ≤ length rest.now }
+{
+    if is_name(word) {
+        return (Argument::Positional(word), rest);
+    }
+    match word.strip_prefix("--") {
+        Some(text) => option_argument(text, rest),
+        None => (Argument::Wrong, rest),
+    }
+}
+
+// The same of what stands behind the dashes of an option.
+fn option_argument<'a>(text: &'a str, rest: &'a [String]) -> (Argument<'a>, &'a [String])
+    ensures first { spec.arguments ((45 ∷ 45 ∷ text.now) ∷ map string_bytes rest.now) ≡ read result.0 ∷ spec.arguments (map string_bytes result.1.now) }
+    ensures shorter { length result.1.now ≤ length rest.now }
+{
+    match (text.split_once('='), rest) {
+        (Some((name, value)), _) => (setting(name, value), rest),
+        (None, [value, rest @ ..]) => (setting(text, value), rest),
+        (None, []) => (Argument::Wrong, rest),
+    }
+}
+
+/// The value of an option, where it is given.
+pub fn value_of<'a>(mut words: &'a [String], name: &str) -> Option<&'a str>
+    ensures { option_map (λ value. value.now) result ≡ spec.value_of name.now (spec.arguments (map string_bytes words.now)) }
+{
+    while let [word, rest @ ..] = words {
+        let (argument, rest) = first_argument(word, rest);
+        match argument {
+            Argument::Setting { name: given, value } if given == name => return Some(value),
+            _ => words = rest,
+        }
+    }
+    None
+}
+
+/// Whether no argument is wrong, and each option is one of the command's and comes once.
+pub fn are_fit(command: Command, mut words: &[String]) -> bool
+    ensures { result ≡ spec.are_fit (takes command) (spec.arguments (map string_bytes words.now)) }
+{
+    while let [word, rest @ ..] = words {
+        let (argument, rest) = first_argument(word, rest);
+        match argument {
+            Argument::Wrong => return false,
+            Argument::Setting { name, .. }
+                if !command.takes(name) || value_of(rest, name).is_some() => {
+                return false;
+            }
+            _ => words = rest,
+        }
+    }
+    true
+}
+
+// The first positional word, and the words behind it.
+fn next_positional(mut words: &[String]) -> Option<(&str, &[String])>
+    ensures { MatchOption result (spec.positional (spec.arguments (map string_bytes words.now)) ≡ []) (λ found. spec.positional (spec.arguments (map string_bytes words.now)) ≡ found.0.now ∷ spec.positional (spec.arguments (map string_bytes found.1.now))) }
+{
+    while let [word, rest @ ..] = words {
+        let (argument, rest) = first_argument(word, rest);
+        if let Argument::Positional(word) = argument {
+            return Some((word, rest));
+        }
+        words = rest;
+    }
+    None
+}
+
+/// The positional words.
+pub fn positional_words(words: &[String]) -> Positional<'_>
+    ensures { IsPositional (spec.positional (spec.arguments (map string_bytes words.now))) result }
+{
+    let Some((first, rest)) = next_positional(words) else {
+        return Positional::Other;
+    };
+    let Some((second, rest)) = next_positional(rest) else {
+        return Positional::One(first);
+    };
+    let Some((third, rest)) = next_positional(rest) else {
+        return Positional::Two(first, second);
+    };
+    match next_positional(rest) {
+        Some(_) => Positional::Other,
+        None => Positional::Three(first, second, third),
+    }
+}

@@ -1,0 +1,53 @@
+// The commands, and the options that each takes.
+
+ghost use Rattle.std.specs.Prelude.{◌≡◌};
+ghost use Rattle.answers.specs.Jobs as spec;
+
+/// What the first word says is to be done.
+#[derive(Clone, Copy, Debug)]
+pub enum Command {
+    Races,
+    Weaken,
+    Record,
+    Replay,
+    Profile,
+    Make,
+}
+
+impl Command {
+    /// The command that a word is.
+    pub fn of(word: &str) -> Option<Command>
+        ensures { result ≡ spec.command_of word.now }
+    {
+        match word {
+            "races" => Some(Command::Races),
+            "weaken" => Some(Command::Weaken),
+            "record" => Some(Command::Record),
+            "replay" => Some(Command::Replay),
+            "profile" => Some(Command::Profile),
+            "make" => Some(Command::Make),
+            _ => None,
+        }
+    }
+
+    /// Whether an option of this name may be given.
+    pub fn takes(self, option: &str) -> bool
+        ensures { result ≡ spec.takes self option.now }
+    {
+        match self {
+            Command::Weaken => option == "profile",
+            Command::Record => is_of_record(option),
+            Command::Replay => option == "reads",
+            Command::Races | Command::Profile | Command::Make => false,
+        }
+    }
+}
+
+fn is_of_record(option: &str) -> bool
+    ensures { result ≡ spec.takes Command.Record option.now }
+{
+    matches!(
+        option,
+        "profile" | "slots" | "cells" | "limit" | "budget" | "reads"
+    )
+}
