@@ -1,0 +1,9 @@
+//! The text of the accesses that are kept of a run. It stands on `rr_base`, `abstract_machine` and `core_run`. It promises
+//! the exact lines.
+#![tactic(auto)]
+
+#[cfg(test)]
+mod tests;
+mod text;
+
+pub use text::reads_text;
