@@ -1,8 +1,10 @@
 -- What the program tells by each of its answers: its exit status and its text. Each line ends with a newline, and
 -- numbers are in decimal.
-use Rattle.std.specs.Prelude.{ℕ, List, ◌++◌, codes, decimal}
+use Rattle.std.specs.Prelude.{◌≡◌, refl, ℕ, List, ◌++◌, codes, decimal}
+use Rattle.std.specs.Fmt.{digits}
 use Rattle.rr_base.specs.Traps.{trap_number}
 use Rattle.rr_base.specs.declared.trap.Trap.{Trap}
+use Rattle.rr_base.specs.declared.trap.Trap.TheVariants as trap
 use Rattle.answers.specs.declared.answer.Part.{Part}
 use Rattle.answers.specs.declared.answer.Part.TheVariants as part
 use Rattle.answers.specs.declared.answer.Answer.{Answer}
@@ -54,6 +56,16 @@ text_of (answer.WrongEntry at) = wrong_entry at
 text_of (answer.ProfileRefused number) = profile_refused number
 text_of (answer.TooLarge what) = too_large what
 
+-- ---- what is told of a made source
+
+-- `made 1 bytes 496 slots 8`
+abbrev pub made_line : (count bytes : ℕ) → List ℕ
+made_line count bytes = codes "made " ++ decimal count ++ codes " bytes " ++ decimal bytes ++ codes " slots 8\n"
+
+-- how many functions and bytes it has, what the recording printed, and what the replay did
+abbrev pub summary_of : (count bytes : ℕ) → (recorded replayed : List ℕ) → List ℕ
+summary_of count bytes recorded replayed = made_line count bytes ++ recorded ++ replayed
+
 -- ---- what is told where the outside fails
 
 -- .. reading of the input
@@ -67,3 +79,21 @@ shelf_fault = codes "shelf fault\n"
 -- .. the crew
 abbrev pub crew_fault : List ℕ
 crew_fault = codes "crew fault\n"
+
+-- ---- worked rows
+
+one_function : summary_of 1 496 (codes "112\n") (codes "112\n") ≡ codes "made 1 bytes 496 slots 8\n112\n112\n"
+unfolding digits
+one_function = refl
+
+refused_source : text_of (answer.SourceRefused 7 3 12) ≡ codes "source refused 7 3 12\n"
+unfolding digits
+refused_source = refl
+
+refused_profile : text_of (answer.ProfileRefused 21) ≡ codes "profile refused 21\n"
+unfolding digits
+refused_profile = refl
+
+without_newline : text_of (answer.Trapped (codes "5") trap.MutexMisuse 0 2) ≡ codes "5trap 9 thread 0 line 2\n"
+unfolding digits
+without_newline = refl

@@ -73,8 +73,8 @@ impl Answer {
     }
 }
 
-// A word, and a number behind it.
-fn push_numbered(out: &mut Bytes, word: &[u8], n: u32) -> Result<(), AllocError>
+/// A word, and a number behind it.
+pub(crate) fn push_numbered(out: &mut Bytes, word: &[u8], n: u32) -> Result<(), AllocError>
     ensures { OnOk result (out.new ≡ out.old ++ (word.now ++ decimal n)) }
 {
     let mut buffer = Buffer::new();

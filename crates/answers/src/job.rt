@@ -26,7 +26,7 @@ pub enum Job<'a> {
         log: &'a str,
         name: &'a str,
     },
-    /// A made source with so many threads' functions, recorded and replayed.
+    /// A made source with so many functions, recorded and replayed.
     Make {
         count: u32,
         name: &'a str,

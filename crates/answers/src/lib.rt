@@ -3,6 +3,8 @@
 //! the system is counted.
 #![tactic(auto)]
 
+#[cfg(test)]
+mod adapter_tests;
 mod adapters;
 mod answer;
 mod arguments;
@@ -11,6 +13,7 @@ mod command;
 mod files;
 mod job;
 mod number;
+mod summary;
 mod telling;
 #[cfg(test)]
 mod tests;
@@ -20,4 +23,5 @@ pub use answer::{Answer, Part, text_of};
 pub use asking::job_of;
 pub use files::{get_within, read_within};
 pub use job::{Job, RecordJob};
+pub use summary::summary_text;
 pub use telling::{tell, tell_answer};

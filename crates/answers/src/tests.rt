@@ -1,4 +1,4 @@
-use crate::{Answer, Job, Part, RecordJob, job_of, text_of};
+use crate::{Answer, Job, Part, RecordJob, job_of, summary_text, text_of};
 use rr_base::{Bytes, List, Trap};
 use std::alloc::{AllocError, Global};
 use std::test::Fail;
@@ -261,5 +261,13 @@ fn answers_are_told(rt: HostRuntime) -> Result<(), Fail> {
         assert_eq!(rt; answer.status(), status, "{want}");
         assert_eq!(rt; text_of(alloc, answer)?.as_slice(), want.as_bytes());
     }
+    Ok(())
+}
+
+#[test]
+fn a_made_source_is_told(rt: HostRuntime) -> Result<(), Fail> {
+    let text = summary_text(rt.alloc(), 1000, 103_069, b"16096000\n", b"16096000\n")?;
+    let want = b"made 1000 bytes 103069 slots 8\n16096000\n16096000\n";
+    assert_eq!(rt; text.as_slice(), want.as_slice());
     Ok(())
 }
