@@ -1,0 +1,9 @@
+pub mod ThreadSteps
+pub mod Keeping
+pub mod Moves
+pub mod Allowed
+pub mod Calls
+pub mod Attempts
+pub mod Dealt
+pub mod Joined
+pub mod Ended

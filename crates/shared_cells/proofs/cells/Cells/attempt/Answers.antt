@@ -1,0 +1,156 @@
+use Rattle.std.proofs.Common.{◌≡◌, ◌≢◌, ◌∙◌, inl, inr, ap, sym, subst, refl, arith, rules, to_z, of_z}
+use Rattle.std.proofs.lemmas.Int.{to_z-of_z}
+use mir.Syntax.{w64}
+use mathlib.Core.Option.{none}
+use Rattle.atomic_table.specs.Table.{step, Allows}
+use Rattle.sync_objects.specs.Advance.{advanced, Advances}
+use Rattle.core_run.specs.Words.{cells_of, place_of}
+use Rattle.shared_cells.specs.Rule.{Holds}
+use Rattle.shared_cells.specs.Views.{looked, missed}
+use Rattle.shared_cells.specs.Plays.{Looks, Makes}
+use Rattle.shared_cells.proofs.Keeping.{length-first_words}
+use Rattle.shared_cells.proofs.Calls.{called, place_is, object_is}
+use Rattle.shared_cells.proofs.Allowed.{look_allowed, object_place}
+use Rattle.shared_cells.proofs.Attempts.{looking, exchanges}
+use Rattle.shared_cells.proofs.cells.Cells.attempt.Goals as goal
+
+pub load-seen-requires : goal.load-seen-requires
+load-seen-requires c =
+    let shared = c.self.inside.table.shared in
+    let seat = c.args.seat.now in
+    let me = seat.seat.me in
+    let v = me.0 in
+    let p = c.place_of-place.result in
+    let k = called _ shared.key shared.table_id _ _ _ _ seat.seat.table_id me seat.thread c.self.view_is c.self.invariant c.requires.seat in
+    let words = k.words ∙ length-first_words v.code v.setup in
+    let place : place_of (cells_of v.code v.setup) c.args.obj ≡ p = place_is _ shared.key shared.table_id _ _ _ _ seat.seat.table_id me seat.thread c.self.view_is c.self.invariant c.requires.seat c.args.obj p c.place_of-place.ensures in
+    let spot = object_place v.code v.setup c.args.obj k.limits (object_is _ shared.key shared.table_id seat.seat.table_id me k c.args.obj c.requires.object) in
+    let inside = spot.1 in (
+      k.table_is,
+      omega (arith, place, words, inside),
+      subst (λ z. Allows (Holds z) shared.table_id.slots seat.seat.id me p (λ w. w) (λ found after. Looks (step shared.table_id.slots p 0 0 none) me found after)) k.known
+          (look_allowed v me.1 shared.table_id.slots seat.seat.id k.alone k.runnable k.limits p),
+    )
+
+pub advance-requires-clause-range : goal.advance-requires-clause-range
+advance-requires-clause-range c =
+    let shared = c.self.inside.table.shared in
+    let seat = c.args.seat.now in
+    let me = seat.seat.me in
+    let v = me.0 in
+    let p = c.place_of-place.result in
+    let w = c.load-seen.result in
+    let looks = c.load-seen.ensures.2 in
+    let look = looking _ shared.key shared.table_id _ _ _ _ seat.seat.table_id me seat.thread c.self.view_is c.self.invariant c.requires.seat seat.marks c.args.op c.args.obj c.requires.object c.requires.due p c.place_of-place.ensures shared.table_id.slots w c.load-seen.new.seat.me looks in
+    look.makeable.range
+
+pub advance-requires-clause-number : goal.advance-requires-clause-number
+advance-requires-clause-number c =
+    let shared = c.self.inside.table.shared in
+    let seat = c.args.seat.now in
+    let me = seat.seat.me in
+    let v = me.0 in
+    let p = c.place_of-place.result in
+    let w = c.load-seen.result in
+    let looks = c.load-seen.ensures.2 in
+    let look = looking _ shared.key shared.table_id _ _ _ _ seat.seat.table_id me seat.thread c.self.view_is c.self.invariant c.requires.seat seat.marks c.args.op c.args.obj c.requires.object c.requires.due p c.place_of-place.ensures shared.table_id.slots w c.load-seen.new.seat.me looks in
+    look.ask.number
+
+pub advance-requires-clause-sound : goal.advance-requires-clause-sound
+advance-requires-clause-sound c =
+    let shared = c.self.inside.table.shared in
+    let seat = c.args.seat.now in
+    let me = seat.seat.me in
+    let v = me.0 in
+    let p = c.place_of-place.result in
+    let w = c.load-seen.result in
+    let looks = c.load-seen.ensures.2 in
+    let look = looking _ shared.key shared.table_id _ _ _ _ seat.seat.table_id me seat.thread c.self.view_is c.self.invariant c.requires.seat seat.marks c.args.op c.args.obj c.requires.object c.requires.due p c.place_of-place.ensures shared.table_id.slots w c.load-seen.new.seat.me looks in
+    look.ask.sound
+
+pub returns-in_default-clause-is : goal.returns-in_default-clause-is
+returns-in_default-clause-is c =
+    let shared = c.self.inside.table.shared in
+    let seat = c.args.seat.now in
+    let me = seat.seat.me in
+    let v = me.0 in
+    let p = c.place_of-place.result in
+    let w = c.load-seen.result in
+    let looks = c.load-seen.ensures.2 in
+    let look = looking _ shared.key shared.table_id _ _ _ _ seat.seat.table_id me seat.thread c.self.view_is c.self.invariant c.requires.seat seat.marks c.args.op c.args.obj c.requires.object c.requires.due p c.place_of-place.ensures shared.table_id.slots w c.load-seen.new.seat.me looks in
+    inl record {
+      refused = ap (λ t. advanced c.args.op t w) c.requires.seat.thread_is ∙ c.in_default.ensures.table;
+      found = look.found;
+      later = look.later;
+      view = looks.view ∙ ap (λ z. looked v z w) (sym look.place_is);
+      marks = refl;
+    }
+
+pub compare_exchange_with-found-requires : goal.compare_exchange_with-found-requires
+compare_exchange_with-found-requires c =
+    let shared = c.self.inside.table.shared in
+    let seat = c.args.seat.now in
+    let me = seat.seat.me in
+    let v = me.0 in
+    let p = c.place_of-place.result in
+    let w = c.load-seen.result in
+    let looks = c.load-seen.ensures.2 in
+    let look = looking _ shared.key shared.table_id _ _ _ _ seat.seat.table_id me seat.thread c.self.view_is c.self.invariant c.requires.seat seat.marks c.args.op c.args.obj c.requires.object c.requires.due p c.place_of-place.ensures shared.table_id.slots w c.load-seen.new.seat.me looks in
+    let k = called _ shared.key shared.table_id _ _ _ _ seat.seat.table_id me seat.thread c.self.view_is c.self.invariant c.requires.seat in
+    let words = k.words ∙ length-first_words v.code v.setup in
+    let answer = to_z w64 (of_z w64 c.in-Some.answer) in
+    let same : answer ≡ c.in-Some.answer = to_z-of_z w64 c.in-Some.answer (search rules) in
+    let moves : advanced c.args.op v.from w ≡ Advances c.in-Some.next answer = ap (λ t. advanced c.args.op t w) c.requires.seat.thread_is ∙ c.in-Some.ensures.table ∙ ap (Advances c.in-Some.next) (sym same) in
+    let inside = look.inside in (
+      c.load-seen.ensures.0 ∙ k.table_is,
+      omega (arith, words, inside),
+      exchanges _ shared.key shared.table_id seat.seat.table_id me k (record { op = c.args.op; obj = c.args.obj; marks = seat.marks; answer = answer }) p w c.in-Some.next c.requires.due look moves shared.table_id.slots c.load-seen.new.seat.id c.load-seen.new.seat.me looks.slots looks.view,
+    )
+
+pub returns-then-found-seen-clause-is : goal.returns-then-found-seen-clause-is
+returns-then-found-seen-clause-is c =
+    let shared = c.self.inside.table.shared in
+    let seat = c.args.seat.now in
+    let me = seat.seat.me in
+    let v = me.0 in
+    let p = c.place_of-place.result in
+    let w = c.load-seen.result in
+    let looks = c.load-seen.ensures.2 in
+    let look = looking _ shared.key shared.table_id _ _ _ _ seat.seat.table_id me seat.thread c.self.view_is c.self.invariant c.requires.seat seat.marks c.args.op c.args.obj c.requires.object c.requires.due p c.place_of-place.ensures shared.table_id.slots w c.load-seen.new.seat.me looks in
+    let found = c.compare_exchange_with-found.result in
+    let differs : found ≢ w = c.if-found-seen.true in
+    inr record {
+      was = w;
+      differs = differs;
+      found = look.found;
+      later = look.later;
+      view = c.compare_exchange_with-found.ensures.2.other differs ∙ ap (λ z. missed z p found) looks.view ∙ ap (λ z. missed (looked v z w) z found) (sym look.place_is);
+      marks = refl;
+    }
+
+pub returns-clause-is : goal.returns-clause-is
+returns-clause-is c =
+    let shared = c.self.inside.table.shared in
+    let seat = c.args.seat.now in
+    let me = seat.seat.me in
+    let v = me.0 in
+    let p = c.place_of-place.result in
+    let w = c.load-seen.result in
+    let looks = c.load-seen.ensures.2 in
+    let look = looking _ shared.key shared.table_id _ _ _ _ seat.seat.table_id me seat.thread c.self.view_is c.self.invariant c.requires.seat seat.marks c.args.op c.args.obj c.requires.object c.requires.due p c.place_of-place.ensures shared.table_id.slots w c.load-seen.new.seat.me looks in
+    let answer = to_z w64 (of_z w64 c.in-Some.answer) in
+    let same : answer ≡ c.in-Some.answer = to_z-of_z w64 c.in-Some.answer (search rules) in
+    let moves : advanced c.args.op v.from w ≡ Advances c.in-Some.next answer = ap (λ t. advanced c.args.op t w) c.requires.seat.thread_is ∙ c.in-Some.ensures.table ∙ ap (Advances c.in-Some.next) (sym same) in
+    let found = c.compare_exchange_with-found.result in
+    let hit : found ≡ w = c.if-found-seen.false in
+    let made = c.compare_exchange_with-found.ensures.2.done hit in
+    record {
+      seen = w;
+      next = c.in-Some.next;
+      moves = moves;
+      number_is = c.number_of.ensures;
+      later = look.later;
+      makes = subst (λ z. Makes (looked v z w) z seat.marks c.args.op c.args.obj w answer c.compare_exchange_with-found.new.seat.me.0) (sym look.place_is)
+          (subst (λ z. Makes z p seat.marks c.args.op c.args.obj w answer c.compare_exchange_with-found.new.seat.me.0) looks.view made);
+      marks = refl;
+    }

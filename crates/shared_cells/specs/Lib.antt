@@ -1,0 +1,7 @@
+pub mod Views
+pub mod Threads
+pub mod Words
+pub mod Rule
+pub mod Plays
+pub mod Seats
+pub mod Closing

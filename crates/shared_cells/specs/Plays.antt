@@ -1,0 +1,92 @@
+-- What each kind of step on the table tells of the seat that made it, and of what it found.
+use Rattle.std.specs.Prelude.{◌≡◌, ◌≢◌, ⊤, ℕ, ℤ, ◌<◌, ◌≤◌, Some, slice_get}
+use mathlib.Core.Option.{Option, some, none}
+use Rattle.atomic_table.specs.Table.{Me, Step}
+use Rattle.sync_objects.specs.Words.{number_of}
+use Rattle.sync_objects.specs.declared.object.ObjId.{ObjId}
+use Rattle.sync_objects.specs.declared.operation.Op.{Op}
+use Rattle.abstract_machine.specs.declared.event.Action.TheVariants as action
+use Rattle.core_run.specs.Histories.{IsReachable}
+use Rattle.core_run.specs.Machine.{Told}
+use Rattle.core_run.specs.Words.{cells_of}
+use Rattle.runs.specs.Steps.{State}
+use Rattle.shared_cells.specs.Views.{Note, SeatView, with_thread, looked, missed, departing, lowered, never}
+use Rattle.shared_cells.specs.Threads.{pending, IsNext, after_load, after_store, after_operation}
+use Rattle.shared_cells.specs.Words.{objects_end, HasGoneOn}
+use Rattle.shared_cells.specs.Rule.{Carries}
+use Rattle.shared_cells.specs.declared.asked.Asked.{Asked}
+
+abbrev pub Mine : Type 0
+Mine = Me Asked SeatView
+
+-- some state that can be reached has the threads that the view carries
+abbrev pub IsReached : SeatView → Type 0
+IsReached v = (st : State Told) × IsReachable v.code v.setup st × Carries st v
+
+-- and it has this value at this word
+abbrev pub IsReachedWith : SeatView → (word value : ℕ) → Type 0
+IsReachedWith v word value = (st : State Told) × IsReachable v.code v.setup st × Carries st v × (slice_get st.words word ≡ Some value)
+
+-- the word of an object has gone on from all values that these notes have of it
+abbrev pub GoesOn : SeatView → (word value : ℕ) → Type 0
+GoesOn v word value = (k : ℕ) (n : Note) → slice_get v.notes k ≡ Some n → n.word ≡ word → HasGoneOn n.value value
+
+-- the seat's thread has made its marks and the load of this cell, which found this word
+pub record LoadsCell (step : Step Asked) (me : Mine) (found : ℕ) (after : Mine) : Type 0 where
+  pub slots : after.1 ≡ me.1
+  pub view : (n : ℕ) → IsNext me.0 n (action.Load step.word) → after.0 ≡ with_thread me.0 (after_load me.0.code me.0.setup me.0.from (pending me.0 n) step.word found)
+  pub reached : IsReached after.0
+
+-- the seat's thread has made its marks and the store of this word into this cell
+pub record StoresCell (step : Step Asked) (me : Mine) (stored : ℕ) (after : Mine) : Type 0 where
+  pub slots : after.1 ≡ me.1
+  pub view : (n : ℕ) → IsNext me.0 n (action.Store step.word step.first) → after.0 ≡ with_thread me.0 (after_store me.0.code me.0.setup me.0.from (pending me.0 n) step.word step.first)
+  pub reached : IsReached after.0
+
+-- the seat's thread has made its marks and the operation, which was allowed in a state that can be reached
+pub record Makes (v : SeatView) (place : ℕ) (n : ℕ) (o : Op) (obj : ObjId) (seen : ℕ) (answer : ℤ) (after : SeatView) : Type 0 where
+  pub view : after ≡ with_thread v (after_operation v.code v.setup v.from (pending v n) o obj answer (number_of seen))
+  pub reached : IsReached after
+  pub state : State Told
+  pub before : IsReachable v.code v.setup state
+  pub thread : slice_get state.threads v.from ≡ Some (pending v n)
+  pub word : slice_get state.words place ≡ Some seen
+
+-- an exchange has made the operation, or has found another word than it asked for
+pub record Exchanges (it : Asked) (step : Step Asked) (me : Mine) (found : ℕ) (after : Mine) : Type 0 where
+  pub slots : after.1 ≡ me.1
+  pub done : found ≡ step.first → Makes me.0 step.word it.marks it.op it.obj step.first it.answer after.0
+  pub other : found ≢ step.first → after.0 ≡ missed me.0 step.word found
+
+abbrev pub if_said : Option Asked → (Asked → Type 0) → Type 0
+if_said none P = ⊤
+if_said (some it) P = P it
+
+abbrev pub exchanging : Step Asked → Mine → ℕ → Mine → Type 0
+exchanging step me found after = if_said step.said (λ it. Exchanges it step me found after)
+
+-- a look at a word; that of an object was found in a state that can be reached
+pub record Looks (step : Step Asked) (me : Mine) (found : ℕ) (after : Mine) : Type 0 where
+  pub slots : after.1 ≡ me.1
+  pub view : after.0 ≡ looked me.0 step.word found
+  pub state : cells_of me.0.code me.0.setup ≤ step.word → step.word < objects_end me.0.code me.0.setup → IsReachedWith me.0 step.word found
+  pub later : cells_of me.0.code me.0.setup ≤ step.word → step.word < objects_end me.0.code me.0.setup → GoesOn me.0 step.word found
+
+-- a look at the departure word
+pub record Departs (step : Step Asked) (me : Mine) (found : ℕ) (after : Mine) : Type 0 where
+  pub slots : after.1 ≡ me.1
+  pub view : after.0 ≡ departing me.0 step.word found
+  pub below : found ≤ me.0.met
+  pub low : found ≤ never
+
+-- a position was put into the departure word
+pub record Lowers (step : Step Asked) (me : Mine) (found : ℕ) (after : Mine) : Type 0 where
+  pub slots : after.1 ≡ me.1
+  pub view : after.0 ≡ lowered me.0 step.first found
+  pub below : found ≤ me.0.met
+  pub low : found ≤ never
+
+-- a step that tells nothing
+pub record Stays (step : Step Asked) (me : Mine) (found : ℕ) (after : Mine) : Type 0 where
+  pub slots : after.1 ≡ me.1
+  pub view : after.0 ≡ me.0

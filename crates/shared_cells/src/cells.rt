@@ -1,0 +1,306 @@
+// The words and the calls on them.
+ghost use Rattle.std.specs.Prelude.{◌≡◌, ◌+◌, ◌*◌, ◌<◌, ◌≤◌, ◌++◌, [], ◌∷◌, true, length, IfOk};
+ghost use Rattle.std.specs.Vec.{vec_len, vec_capacity};
+ghost use Rattle.abstract_machine.specs.declared.event.Action.TheVariants as action;
+ghost use Rattle.flow_code.specs.Settle.{IsRunnable};
+ghost use Rattle.core_run.specs.Words.{cells_of, has_object, place_of};
+ghost use Rattle.shared_cells.specs.Views.{with_thread, looked, departing, lowered};
+ghost use Rattle.shared_cells.specs.Words.{objects_end, departure_place, memory_place, first_words};
+ghost use Rattle.shared_cells.specs.Threads.{pending, after_load, after_store};
+
+use crate::asked::Asked;
+use crate::attempt::Attempt;
+use crate::closed::Closed;
+use crate::dealing::{deal, join};
+use crate::seat::Seat;
+use crate::steps::{Depart, Exchange, Load, Look, Lower, Part, Rule, Stay, Store, Whole};
+use crate::view::{Known, View};
+use atomic_table::Table;
+use core_run::{place_of, start_words};
+use flow_code::Code;
+use std::alloc::{AllocError, Global};
+use std::marker::Model;
+use sync_objects::{ObjId, Op, Setup, advance, number_of};
+
+/// The words of a code's cells and objects under a setup, and beside them a want word for each stripe, the departure word and
+/// the memory word.
+#[derive(Drop)]
+pub struct Cells<'a> {
+    cells: u32,
+    objects: usize,
+    departure: usize,
+    memory: usize,
+    table: Table<Asked, View, Known<'a>, Rule, Global>,
+}
+
+impl<'a> Model for Cells<'a> {
+    ghost use Rattle.shared_cells.specs.Rule.{Board, IsBoard};
+
+    ghost Value = { Board };
+
+    ghost view = { λ c. record { code = c.table.shared.key.code; setup = c.table.shared.key.setup; table = c.table.shared.table_id } };
+
+    ghost invariant = { λ c. IsBoard c.cells c.objects c.departure c.memory c.table.shared.key c.table.shared.table_id };
+}
+
+// The words at the start.
+fn first_words(alloc: Global, code: &Code, setup: &Setup) -> Result<Vec<u64>, AllocError>
+    requires { IsRunnable code.now }
+    ensures { IfOk result (λ it. it.items ≡ first_words code.now setup.now) }
+{
+    let mut words = start_words(alloc, code, setup)?;
+    for _k in 0..code.locks.len() {
+        words.extend_from_slice(&[0; 8])?;
+    }
+    words.push(u64::from(u32::MAX))?;
+    words.push(0)?;
+    Ok(words)
+}
+
+// Puts a word behind the others, where there is room.
+fn put_word(words: &mut Vec<u64>, word: u64)
+    requires { vec_len words.old < vec_capacity words.old }
+    ensures items { words.new.items ≡ words.old.items ++ word ∷ [] }
+    ensures count { vec_len words.new ≡ vec_len words.old + 1 }
+    ensures room { vec_capacity words.old ≤ vec_capacity words.new }
+{
+    match words.push(word) {
+        Ok(()) => {}
+        Err(_) => unreachable!(),
+    }
+}
+
+impl<'a> Cells<'a> {
+    ghost use Rattle.shared_cells.specs.Seats.{view_of, IsSeatOf, HasNext, HasDue, place_in, AttemptIs, Tells, IsSameSeat, AreSeats, AreAtStart};
+    ghost use Rattle.shared_cells.specs.Plays.{IsReached, IsReachedWith, GoesOn};
+    ghost use Rattle.shared_cells.specs.Closing.{Closes};
+
+    /// The cells and objects with their start words, and a seat for each thread, in order. Nothing is wanted, nothing has
+    /// departed, and there is memory.
+    pub fn new(
+        alloc: Global,
+        code: &'a Code,
+        setup: &'a Setup,
+    ) -> Result<(Cells<'a>, Vec<Seat>), AllocError>
+        requires runnable { IsRunnable code.now }
+        ensures code { IfOk result (λ r. r.0.code ≡ code.now) }
+        ensures setup { IfOk result (λ r. r.0.setup ≡ setup.now) }
+        ensures seats { IfOk result (λ r. AreSeats r.0 r.1.items) }
+        ensures start { IfOk result (λ r. AreAtStart code.now setup.now r.1.items) }
+    {
+        let words = first_words(alloc, code, setup)?;
+        let count = words.len();
+        let known = Known { code, setup };
+        let (table, first) = Table::<Asked, View, Known<'a>, Rule, Global>::of_words(
+            alloc,
+            words.as_slice(),
+            &known,
+        )?;
+        let seats = deal(alloc, &table.shared, first, setup.slots())?;
+        let cells = 2 * u32::from(setup.slots())
+            + code.globals.len() as u32
+            + u32::from(setup.slots()) * setup.cells();
+        let made = Cells {
+            cells,
+            objects: count - 2 - 8 * code.locks.len(),
+            departure: count - 2,
+            memory: count - 1,
+            table,
+        };
+        Ok((made, seats))
+    }
+
+    /// Loads a cell. The seat's thread has this load next.
+    pub fn load(&self, seat: &mut Seat, cell: u32) -> u64
+        requires seat { IsSeatOf self.now seat.old }
+        requires cell { cell < cells_of self.now.code self.now.setup }
+        requires next { HasNext seat.old (action.Load cell) }
+        ensures seat { IsSeatOf self.now seat.new }
+        ensures view { view_of seat.new ≡ with_thread (view_of seat.old) (after_load (view_of seat.old).code (view_of seat.old).setup (view_of seat.old).from (pending (view_of seat.old) seat.old.marks) cell result) }
+        ensures reached { IsReached (view_of seat.new) }
+        ensures marks { seat.new.marks ≡ 0 }
+    {
+        seat.marks = 0;
+        self.table
+            .shared
+            .load::<Load>(&mut seat.seat, cell as usize)
+    }
+
+    /// Stores a word into a cell. The seat's thread has this store next.
+    pub fn store(&self, seat: &mut Seat, cell: u32, value: u64)
+        requires seat { IsSeatOf self.now seat.old }
+        requires cell { cell < cells_of self.now.code self.now.setup }
+        requires next { HasNext seat.old (action.Store cell value) }
+        ensures seat { IsSeatOf self.now seat.new }
+        ensures view { view_of seat.new ≡ with_thread (view_of seat.old) (after_store (view_of seat.old).code (view_of seat.old).setup (view_of seat.old).from (pending (view_of seat.old) seat.old.marks) cell value) }
+        ensures reached { IsReached (view_of seat.new) }
+        ensures marks { seat.new.marks ≡ 0 }
+    {
+        seat.marks = 0;
+        self.table
+            .shared
+            .store::<Store>(&mut seat.seat, cell as usize, value);
+    }
+
+    /// Attempts an operation that the seat's thread may make as far as it goes: its own next one, or a revoke, a stop or a close
+    /// of it. It makes one load of the object's word, and at most one exchange. The operation isn't made where that word doesn't
+    /// allow it, or has changed between the two.
+    pub fn attempt(&self, seat: &mut Seat, obj: ObjId, op: Op) -> Attempt
+        requires seat { IsSeatOf self.now seat.old }
+        requires object { has_object self.now.code self.now.setup obj ≡ true }
+        requires due { HasDue seat.old op obj }
+        ensures seat { IsSeatOf self.now seat.new }
+        ensures is { AttemptIs seat.old seat.new op obj result }
+    {
+        let place = place_of(self.cells, obj);
+        let seen = self.table.shared.load::<Look>(&mut seat.seat, place);
+        let Some((next, answer)) = advance(op, seat.thread, seen) else {
+            return Attempt::NotYet { seen };
+        };
+        let asked = Asked {
+            op,
+            obj,
+            marks: seat.marks,
+            answer,
+        };
+        let found = self
+            .table
+            .shared
+            .compare_exchange_with::<Exchange>(&mut seat.seat, place, seen, next, &asked);
+        if found != seen {
+            return Attempt::NotYet { seen: found };
+        }
+        seat.marks = 0;
+        Attempt::Done {
+            answer,
+            number: number_of(seen),
+        }
+    }
+
+    /// The word of an object, as this look finds it.
+    pub fn look(&self, seat: &mut Seat, obj: ObjId) -> u64
+        requires seat { IsSeatOf self.now seat.old }
+        requires object { has_object self.now.code self.now.setup obj ≡ true }
+        ensures seat { IsSeatOf self.now seat.new }
+        ensures view { view_of seat.new ≡ looked (view_of seat.old) (place_in (view_of seat.old) obj) result }
+        ensures found { IsReachedWith (view_of seat.old) (place_in (view_of seat.old) obj) result }
+        ensures later { GoesOn (view_of seat.old) (place_in (view_of seat.old) obj) result }
+        ensures marks { seat.new.marks ≡ seat.old.marks }
+    {
+        self.table
+            .shared
+            .load::<Look>(&mut seat.seat, place_of(self.cells, obj))
+    }
+
+    // Where the want word of a stripe stands.
+    fn want_place(&self, lock: u16, stripe: u8) -> usize
+        requires lock { lock < length self.now.code.locks }
+        requires stripe { stripe < 8 }
+        ensures { result ≡ objects_end self.now.code self.now.setup + 8 * lock + stripe }
+    {
+        self.objects + 8 * usize::from(lock) + usize::from(stripe)
+    }
+
+    /// Says that a stripe is wanted, or that it isn't any more.
+    pub fn want(&self, seat: &mut Seat, lock: u16, stripe: u8, on: bool)
+        requires seat { IsSeatOf self.now seat.old }
+        requires lock { lock < length self.now.code.locks }
+        requires stripe { stripe < 8 }
+        ensures seat { IsSeatOf self.now seat.new }
+        ensures same { IsSameSeat seat.old seat.new }
+    {
+        let place = self.want_place(lock, stripe);
+        self.table
+            .shared
+            .store::<Stay>(&mut seat.seat, place, u64::from(on));
+    }
+
+    /// Whether a stripe is wanted, as this look finds it.
+    pub fn wanted(&self, seat: &mut Seat, lock: u16, stripe: u8) -> bool
+        requires seat { IsSeatOf self.now seat.old }
+        requires lock { lock < length self.now.code.locks }
+        requires stripe { stripe < 8 }
+        ensures seat { IsSeatOf self.now seat.new }
+        ensures tells { Tells seat.old seat.new (objects_end self.now.code self.now.setup + 8 * lock + stripe) result }
+    {
+        let place = self.want_place(lock, stripe);
+        self.table.shared.load::<Look>(&mut seat.seat, place) != 0
+    }
+
+    /// Says that memory has run out.
+    pub fn no_memory(&self, seat: &mut Seat)
+        requires seat { IsSeatOf self.now seat.old }
+        ensures seat { IsSeatOf self.now seat.new }
+        ensures same { IsSameSeat seat.old seat.new }
+    {
+        self.table
+            .shared
+            .store::<Stay>(&mut seat.seat, self.memory, 1);
+    }
+
+    /// Whether memory has run out, as this look finds it.
+    pub fn lacks_memory(&self, seat: &mut Seat) -> bool
+        requires seat { IsSeatOf self.now seat.old }
+        ensures seat { IsSeatOf self.now seat.new }
+        ensures tells { Tells seat.old seat.new (memory_place self.now.code self.now.setup) result }
+    {
+        self.table.shared.load::<Look>(&mut seat.seat, self.memory) != 0
+    }
+
+    /// Lowers the departure word to a position, if that is lower, and answers the word before.
+    pub fn least(&self, seat: &mut Seat, position: u32) -> u32
+        requires seat { IsSeatOf self.now seat.old }
+        ensures seat { IsSeatOf self.now seat.new }
+        ensures view { view_of seat.new ≡ lowered (view_of seat.old) position result }
+        ensures below { result ≤ (view_of seat.old).met }
+        ensures marks { seat.new.marks ≡ seat.old.marks }
+    {
+        self.table
+            .shared
+            .fetch_min::<Lower>(&mut seat.seat, self.departure, u64::from(position)) as u32
+    }
+
+    /// The departure word, as this look finds it.
+    pub fn depart(&self, seat: &mut Seat) -> u32
+        requires seat { IsSeatOf self.now seat.old }
+        ensures seat { IsSeatOf self.now seat.new }
+        ensures view { view_of seat.new ≡ departing (view_of seat.old) (departure_place self.now.code self.now.setup) result }
+        ensures below { result ≤ (view_of seat.old).met }
+        ensures marks { seat.new.marks ≡ seat.old.marks }
+    {
+        self.table
+            .shared
+            .load::<Depart>(&mut seat.seat, self.departure) as u32
+    }
+
+    /// How many cells there are.
+    pub fn cell_count(&self) -> u32
+        ensures { result ≡ cells_of self.now.code self.now.setup }
+    {
+        self.cells
+    }
+
+    /// Takes all seats back, and gives the words of all cells and objects, and the departure word. Its memory is taken before the
+    /// seats are joined.
+    pub fn close(self, alloc: Global, seats: Vec<Seat>) -> Result<Closed, AllocError>
+        requires { AreSeats self seats.items }
+        ensures { IfOk result (λ c. Closes self.entry.code self.entry.setup seats.items c.words.items c.departure) }
+    {
+        let Cells {
+            objects,
+            departure,
+            table,
+            ..
+        } = self;
+        let mut words = Vec::new(alloc);
+        words.reserve(objects)?;
+        let whole = join(&table.shared, seats);
+        let closed = table.close_with(whole);
+        for k in 0..objects {
+            put_word(&mut words, closed.word(k));
+        }
+        let departure = closed.word(departure) as u32;
+        closed.free();
+        Ok(Closed { words, departure })
+    }
+}
