@@ -1,5 +1,5 @@
 -- Seats that are dealt out keep the rule, and the table's first words and first view meet it.
-use Rattle.std.proofs.Common.{◌≡◌, ◌≢◌, ℕ, zero, suc, ◌+◌, ◌*◌, ◌-◌, ◌<◌, ◌⊎◌, inl, inr, List, [], ◌∷◌, ◌++◌, length, take, drop, replicate, Some, refl, sym, ap, subst, ◌∙◌, ⊎_elim, arith, append_assoc, length-append}
+use Rattle.std.proofs.Common.{◌≡◌, ◌≢◌, ℕ, zero, suc, ◌+◌, ◌*◌, ◌-◌, ◌<◌, ◌⊎◌, inl, inr, List, [], ◌∷◌, ◌++◌, length, take, drop, replicate, Some, None, refl, sym, ap, subst, ◌∙◌, ⊎_elim, arith, append_assoc, length-append}
 use Rattle.std.specs.Prelude.{slice_get, slice_set}
 use Rattle.std.proofs.lemmas.List.{length-replicate}
 use Rattle.std.proofs.lemmas.Option.{same_Some}
@@ -13,11 +13,13 @@ use Rattle.sync_objects.specs.Setup.{SetupView}
 use Rattle.flow_code.specs.declared.code.Code.{Code}
 use Rattle.core_run.specs.Machine.{Told, start_told, start_threads_from, start_state}
 use Rattle.core_run.specs.Words.{start_words}
-use Rattle.rr_base.proofs.Lists.{slice_get-append_at}
+use Rattle.rr_base.proofs.Lists.{slice_get-append_at, slice_get_inside}
+use Rattle.core_run.proofs.Reached.{start_length}
+use Rattle.core_run.proofs.ThreadRanges.{start_thread_is}
 use Rattle.shared_cells.specs.Views.{SeatView, never}
 use Rattle.shared_cells.specs.Words.{departure_place, first_words}
 use Rattle.shared_cells.specs.Rule.{Knowledge, Carries, AreApart, IsPut, IsSeen, Shows, Holds, everyone, first_part, other_part}
-use Rattle.shared_cells.specs.Plays.{Mine}
+use Rattle.shared_cells.specs.Plays.{Mine, IsReached}
 use Rattle.shared_cells.specs.Seats.{view_of, IsSeatOf, start_view}
 use Rattle.shared_cells.specs.declared.asked.Asked.{Asked}
 use Rattle.shared_cells.specs.declared.seat.Seat.{Seat}
@@ -239,6 +241,19 @@ module _ (key : Knowledge) where
       split [] (suc k) e = cc
       split (y ∷ ys) zero e = inl e
       split (y ∷ ys) (suc k) e = ⊎_elim inl (λ p. inr (ap suc p.0, p.1)) (split ys k e)
+
+  pub started_reached : (id : TableId) (k : ℕ) (seat : Seat) → IsStarted id k seat → k < s.slots → IsReached (view_of seat)
+  started_reached id k seat h lt = subst IsReached (sym h.view) (start_state code s, ([], refl), carries)
+    where
+      there : slice_get (start_state code s).threads k ≡ Some (start_told code s k)
+      there =
+          let len = start_length code s 0 s.slots in
+          let p = slice_get_inside (start_state code s).threads k (omega (arith, len, lt)) in
+          p.1 ∙ ap Some (start_thread_is code s k p.0 p.1)
+
+      carries : Carries (start_state code s) (start_view code s k)
+      carries zero told e = let z : k + 0 ≡ k = omega arith in ap (slice_get (start_state code s).threads) z ∙ there ∙ e
+      carries (suc j) told e = let none : slice_get {X = Told} (start_told code s k ∷ []) (suc j) ≡ None = refl in cc
 
   pub dealt_first : (id : TableId) (first : TableSeat Asked SeatView) (seats : List Seat) → first.table_id ≡ id → first.me ≡ (everyone key, []) → seats ≡ [] → IsDealt id 0 first seats
   dealt_first id first seats table me none = record {

@@ -10,8 +10,8 @@ use Rattle.core_run.specs.Histories.{IsReachable}
 use Rattle.core_run.specs.Machine.{Told}
 use Rattle.core_run.specs.Words.{cells_of}
 use Rattle.runs.specs.Steps.{State}
-use Rattle.shared_cells.specs.Views.{Note, SeatView, with_thread, looked, missed, departing, lowered, never}
-use Rattle.shared_cells.specs.Threads.{pending, IsNext, after_load, after_store, after_operation}
+use Rattle.shared_cells.specs.Views.{Note, SeatView, looked, missed, departing, lowered, never}
+use Rattle.shared_cells.specs.Threads.{pending, IsNext, loaded, stored, made}
 use Rattle.shared_cells.specs.Words.{objects_end, HasGoneOn}
 use Rattle.shared_cells.specs.Rule.{Carries}
 use Rattle.shared_cells.specs.declared.asked.Asked.{Asked}
@@ -34,18 +34,18 @@ GoesOn v word value = (k : ℕ) (n : Note) → slice_get v.notes k ≡ Some n �
 -- the seat's thread has made its marks and the load of this cell, which found this word
 pub record LoadsCell (step : Step Asked) (me : Mine) (found : ℕ) (after : Mine) : Type 0 where
   pub slots : after.1 ≡ me.1
-  pub view : (n : ℕ) → IsNext me.0 n (action.Load step.word) → after.0 ≡ with_thread me.0 (after_load me.0.code me.0.setup me.0.from (pending me.0 n) step.word found)
+  pub view : (n : ℕ) → IsNext me.0 n (action.Load step.word) → after.0 ≡ loaded me.0 n step.word found
   pub reached : IsReached after.0
 
 -- the seat's thread has made its marks and the store of this word into this cell
-pub record StoresCell (step : Step Asked) (me : Mine) (stored : ℕ) (after : Mine) : Type 0 where
+pub record StoresCell (step : Step Asked) (me : Mine) (written : ℕ) (after : Mine) : Type 0 where
   pub slots : after.1 ≡ me.1
-  pub view : (n : ℕ) → IsNext me.0 n (action.Store step.word step.first) → after.0 ≡ with_thread me.0 (after_store me.0.code me.0.setup me.0.from (pending me.0 n) step.word step.first)
+  pub view : (n : ℕ) → IsNext me.0 n (action.Store step.word step.first) → after.0 ≡ stored me.0 n step.word step.first
   pub reached : IsReached after.0
 
 -- the seat's thread has made its marks and the operation, which was allowed in a state that can be reached
 pub record Makes (v : SeatView) (place : ℕ) (n : ℕ) (o : Op) (obj : ObjId) (seen : ℕ) (answer : ℤ) (after : SeatView) : Type 0 where
-  pub view : after ≡ with_thread v (after_operation v.code v.setup v.from (pending v n) o obj answer (number_of seen))
+  pub view : after ≡ made v n o obj answer (number_of seen)
   pub reached : IsReached after
   pub state : State Told
   pub before : IsReachable v.code v.setup state

@@ -13,7 +13,7 @@ use Rattle.core_run.specs.Words.{cells_of, place_of}
 use Rattle.shared_cells.specs.Views.{SeatView, looked, missed, never}
 use Rattle.shared_cells.specs.Threads.{IsNext, IsDueIn}
 use Rattle.shared_cells.specs.Rule.{Board}
-use Rattle.shared_cells.specs.Plays.{Mine, IsReachedWith, GoesOn, Makes}
+use Rattle.shared_cells.specs.Plays.{Mine, IsReached, IsReachedWith, GoesOn, Makes}
 use Rattle.shared_cells.specs.declared.seat.Seat.{Seat}
 use Rattle.shared_cells.specs.declared.attempt.Attempt.{Attempt}
 use Rattle.shared_cells.specs.declared.attempt.Attempt.TheVariants as attempt
@@ -109,5 +109,6 @@ pub record AreSeats (cells : Board) (seats : List Seat) : Type 0 where
 abbrev pub start_view : Code → SetupView → ℕ → SeatView
 start_view code s k = record { code = code; setup = s; from = k; carried = start_told code s k ∷ []; notes = []; positions = []; met = never }
 
+-- each seat's thread is at its start, which is that of a state that can be reached, and has no marks to come
 abbrev pub AreAtStart : Code → SetupView → List Seat → Type 0
-AreAtStart code s seats = (k : ℕ) (seat : Seat) → slice_get seats k ≡ Some seat → (view_of seat ≡ start_view code s k) × (seat.marks ≡ 0)
+AreAtStart code s seats = (k : ℕ) (seat : Seat) → slice_get seats k ≡ Some seat → (view_of seat ≡ start_view code s k) × IsReached (view_of seat) × (seat.marks ≡ 0)

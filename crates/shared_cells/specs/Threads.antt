@@ -16,7 +16,7 @@ use Rattle.flow_code.specs.Next.{stepped, gave_up, stopped, shut}
 use Rattle.flow_code.specs.Settle.{settled, next, after}
 use Rattle.core_run.specs.Machine.{Told, accessed, marked, operated, entry_of, access_of, may_revoke, may_stop, may_close, start_told}
 use Rattle.thread_step.specs.Steps as thread
-use Rattle.shared_cells.specs.Views.{SeatView}
+use Rattle.shared_cells.specs.Views.{SeatView, with_thread}
 
 -- ---- marks
 
@@ -106,3 +106,17 @@ pub record IsNext (v : SeatView) (n : ℕ) (a : Action) : Type 0 where
 pub record IsDueIn (v : SeatView) (n : ℕ) (o : Op) (obj : ObjId) : Type 0 where
   pub marks : AreMarks v.code v.setup v.from n (own v)
   pub due : IsDue v.code v.setup v.from (pending v n) o obj
+
+-- ---- what the thread's steps make of the view
+
+-- the thread has made so many marks, and a load of a cell that found this word
+abbrev pub loaded : SeatView → (marks : ℕ) → (cell word : ℕ) → SeatView
+loaded v n c w = with_thread v (after_load v.code v.setup v.from (pending v n) c w)
+
+-- the thread has made so many marks, and a store of this word into a cell
+abbrev pub stored : SeatView → (marks : ℕ) → (cell word : ℕ) → SeatView
+stored v n c w = with_thread v (after_store v.code v.setup v.from (pending v n) c w)
+
+-- the thread has made so many marks, and an operation with this answer and this number
+abbrev pub made : SeatView → (marks : ℕ) → Op → ObjId → (answer : ℤ) → (number : ℕ) → SeatView
+made v n o obj answer number_is = with_thread v (after_operation v.code v.setup v.from (pending v n) o obj answer number_is)

@@ -4,9 +4,9 @@ ghost use Rattle.std.specs.Vec.{vec_len, vec_capacity};
 ghost use Rattle.abstract_machine.specs.declared.event.Action.TheVariants as action;
 ghost use Rattle.flow_code.specs.Settle.{IsRunnable};
 ghost use Rattle.core_run.specs.Words.{cells_of, has_object, place_of};
-ghost use Rattle.shared_cells.specs.Views.{with_thread, looked, departing, lowered};
+ghost use Rattle.shared_cells.specs.Views.{looked, departing, lowered};
 ghost use Rattle.shared_cells.specs.Words.{objects_end, departure_place, memory_place, first_words};
-ghost use Rattle.shared_cells.specs.Threads.{pending, after_load, after_store};
+ghost use Rattle.shared_cells.specs.Threads.{loaded, stored};
 
 use crate::asked::Asked;
 use crate::attempt::Attempt;
@@ -116,7 +116,7 @@ impl<'a> Cells<'a> {
         requires cell { cell < cells_of self.now.code self.now.setup }
         requires next { HasNext seat.old (action.Load cell) }
         ensures seat { IsSeatOf self.now seat.new }
-        ensures view { view_of seat.new ≡ with_thread (view_of seat.old) (after_load (view_of seat.old).code (view_of seat.old).setup (view_of seat.old).from (pending (view_of seat.old) seat.old.marks) cell result) }
+        ensures view { view_of seat.new ≡ loaded (view_of seat.old) seat.old.marks cell result }
         ensures reached { IsReached (view_of seat.new) }
         ensures marks { seat.new.marks ≡ 0 }
     {
@@ -132,7 +132,7 @@ impl<'a> Cells<'a> {
         requires cell { cell < cells_of self.now.code self.now.setup }
         requires next { HasNext seat.old (action.Store cell value) }
         ensures seat { IsSeatOf self.now seat.new }
-        ensures view { view_of seat.new ≡ with_thread (view_of seat.old) (after_store (view_of seat.old).code (view_of seat.old).setup (view_of seat.old).from (pending (view_of seat.old) seat.old.marks) cell value) }
+        ensures view { view_of seat.new ≡ stored (view_of seat.old) seat.old.marks cell value }
         ensures reached { IsReached (view_of seat.new) }
         ensures marks { seat.new.marks ≡ 0 }
     {

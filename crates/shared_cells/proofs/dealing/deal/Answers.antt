@@ -1,6 +1,7 @@
-use Rattle.std.proofs.Common.{◌≡◌, ◌<◌, ◌+◌, ◌-◌, ◌++◌, ◌∷◌, [], arith, ap, ◌∙◌}
+use Rattle.std.proofs.Common.{◌≡◌, ◌<◌, ◌+◌, ◌-◌, ◌++◌, ◌∷◌, [], arith, subst, ap, ◌∙◌}
 use Rattle.shared_cells.specs.Views.{SeatView}
-use Rattle.shared_cells.proofs.Dealt.{dealt_first, dealt_more, dealt_last, split_allowed}
+use Rattle.shared_cells.proofs.Dealt.{dealt_first, dealt_more, dealt_last, split_allowed, started_reached}
+use Rattle.std.proofs.lemmas.Option.{slice_get_within}
 use Rattle.shared_cells.proofs.dealing.deal.Goals as goal
 
 pub loop-k-init : goal.loop-k-init
@@ -56,4 +57,5 @@ returns-clause-start c = λ j seat there.
     let end : k + 1 ≡ shared.key.setup.slots = omega (arith, at, c.requires.slots.0, c.requires.slots.1) in
     let all = dealt_last shared.key shared.table_id k c.loop-k.last c.loop-k.seats.items c.push-2.new.self.items end c.loop-k.invariant.dealt (c.in_ok-push-2.ensures.items ∙ ap (λ n. c.loop-k.seats.items ++ record { seat = c.loop-k.last; thread = n; marks = 0 } ∷ []) at) in
     let started = all.1 j seat there in
-    (started.view, started.marks)
+    let within : j < shared.key.setup.slots = subst (λ n. j < n) all.0 (slice_get_within c.push-2.new.self.items j seat there) in
+    (started.view, started_reached shared.key shared.table_id j seat started within, started.marks)
