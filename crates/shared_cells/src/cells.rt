@@ -26,6 +26,8 @@ use sync_objects::{ObjId, Op, Setup, advance, number_of};
 /// the memory word.
 #[derive(Drop)]
 pub struct Cells<'a> {
+    code: &'a Code,
+    setup: &'a Setup,
     cells: u32,
     objects: usize,
     departure: usize,
@@ -34,13 +36,14 @@ pub struct Cells<'a> {
 }
 
 impl<'a> Model for Cells<'a> {
+    ghost use Rattle.std.specs.Prelude.{◌≡◌};
     ghost use Rattle.shared_cells.specs.Rule.{Board, IsBoard};
 
     ghost Value = { Board };
 
     ghost view = { λ c. record { code = c.table.shared.key.code; setup = c.table.shared.key.setup; table = c.table.shared.table_id } };
 
-    ghost invariant = { λ c. IsBoard c.cells c.objects c.departure c.memory c.table.shared.key c.table.shared.table_id };
+    ghost invariant = { λ c. IsBoard c.cells c.objects c.departure c.memory c.table.shared.key c.table.shared.table_id × (c.code.now ≡ c.table.shared.key.code) × (c.setup.now ≡ c.table.shared.key.setup) };
 }
 
 // The words at the start.
@@ -101,6 +104,8 @@ impl<'a> Cells<'a> {
             + code.globals.len() as u32
             + u32::from(setup.slots()) * setup.cells();
         let made = Cells {
+            code,
+            setup,
             cells,
             objects: count - 2 - 8 * code.locks.len(),
             departure: count - 2,
@@ -271,6 +276,20 @@ impl<'a> Cells<'a> {
         self.table
             .shared
             .load::<Depart>(&mut seat.seat, self.departure) as u32
+    }
+
+    /// The code.
+    pub fn code(&self) -> &'a Code
+        ensures { result.now ≡ self.now.code }
+    {
+        self.code
+    }
+
+    /// The setup.
+    pub fn setup(&self) -> &'a Setup
+        ensures { result.now ≡ self.now.setup }
+    {
+        self.setup
     }
 
     /// How many cells there are.

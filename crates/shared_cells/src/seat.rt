@@ -1,3 +1,5 @@
+ghost use Rattle.std.specs.Prelude.{◌≡◌};
+
 use crate::asked::Asked;
 use crate::view::View;
 use atomic_table::Seat as TableSeat;
@@ -9,4 +11,13 @@ pub struct Seat {
     pub(crate) seat: TableSeat<Asked, View>,
     pub(crate) thread: u8,
     pub marks: u32,
+}
+
+impl Seat {
+    /// The thread's number.
+    pub fn thread(&self) -> u8
+        ensures { result ≡ self.now.thread }
+    {
+        self.thread
+    }
 }

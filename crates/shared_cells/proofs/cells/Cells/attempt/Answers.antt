@@ -21,9 +21,9 @@ load-seen-requires c =
     let me = seat.seat.me in
     let v = me.0 in
     let p = c.place_of-place.result in
-    let k = called _ shared.key shared.table_id _ _ _ _ seat.seat.table_id me seat.thread c.self.view_is c.self.invariant c.requires.seat in
+    let k = called _ shared.key shared.table_id _ _ _ _ seat.seat.table_id me seat.thread c.self.view_is c.self.invariant.0 c.requires.seat in
     let words = k.words ∙ length-first_words v.code v.setup in
-    let place : place_of (cells_of v.code v.setup) c.args.obj ≡ p = place_is _ shared.key shared.table_id _ _ _ _ seat.seat.table_id me seat.thread c.self.view_is c.self.invariant c.requires.seat c.args.obj p c.place_of-place.ensures in
+    let place : place_of (cells_of v.code v.setup) c.args.obj ≡ p = place_is _ shared.key shared.table_id _ _ _ _ seat.seat.table_id me seat.thread c.self.view_is c.self.invariant.0 c.requires.seat c.args.obj p c.place_of-place.ensures in
     let spot = object_place v.code v.setup c.args.obj k.limits (object_is _ shared.key shared.table_id seat.seat.table_id me k c.args.obj c.requires.object) in
     let inside = spot.1 in (
       k.table_is,
@@ -41,7 +41,7 @@ advance-requires-clause-range c =
     let p = c.place_of-place.result in
     let w = c.load-seen.result in
     let looks = c.load-seen.ensures.2 in
-    let look = looking _ shared.key shared.table_id _ _ _ _ seat.seat.table_id me seat.thread c.self.view_is c.self.invariant c.requires.seat seat.marks c.args.op c.args.obj c.requires.object c.requires.due p c.place_of-place.ensures shared.table_id.slots w c.load-seen.new.seat.me looks in
+    let look = looking _ shared.key shared.table_id _ _ _ _ seat.seat.table_id me seat.thread c.self.view_is c.self.invariant.0 c.requires.seat seat.marks c.args.op c.args.obj c.requires.object c.requires.due p c.place_of-place.ensures shared.table_id.slots w c.load-seen.new.seat.me looks in
     look.makeable.range
 
 pub advance-requires-clause-number : goal.advance-requires-clause-number
@@ -53,7 +53,7 @@ advance-requires-clause-number c =
     let p = c.place_of-place.result in
     let w = c.load-seen.result in
     let looks = c.load-seen.ensures.2 in
-    let look = looking _ shared.key shared.table_id _ _ _ _ seat.seat.table_id me seat.thread c.self.view_is c.self.invariant c.requires.seat seat.marks c.args.op c.args.obj c.requires.object c.requires.due p c.place_of-place.ensures shared.table_id.slots w c.load-seen.new.seat.me looks in
+    let look = looking _ shared.key shared.table_id _ _ _ _ seat.seat.table_id me seat.thread c.self.view_is c.self.invariant.0 c.requires.seat seat.marks c.args.op c.args.obj c.requires.object c.requires.due p c.place_of-place.ensures shared.table_id.slots w c.load-seen.new.seat.me looks in
     look.ask.number
 
 pub advance-requires-clause-sound : goal.advance-requires-clause-sound
@@ -65,7 +65,7 @@ advance-requires-clause-sound c =
     let p = c.place_of-place.result in
     let w = c.load-seen.result in
     let looks = c.load-seen.ensures.2 in
-    let look = looking _ shared.key shared.table_id _ _ _ _ seat.seat.table_id me seat.thread c.self.view_is c.self.invariant c.requires.seat seat.marks c.args.op c.args.obj c.requires.object c.requires.due p c.place_of-place.ensures shared.table_id.slots w c.load-seen.new.seat.me looks in
+    let look = looking _ shared.key shared.table_id _ _ _ _ seat.seat.table_id me seat.thread c.self.view_is c.self.invariant.0 c.requires.seat seat.marks c.args.op c.args.obj c.requires.object c.requires.due p c.place_of-place.ensures shared.table_id.slots w c.load-seen.new.seat.me looks in
     look.ask.sound
 
 pub returns-in_default-clause-is : goal.returns-in_default-clause-is
@@ -77,7 +77,7 @@ returns-in_default-clause-is c =
     let p = c.place_of-place.result in
     let w = c.load-seen.result in
     let looks = c.load-seen.ensures.2 in
-    let look = looking _ shared.key shared.table_id _ _ _ _ seat.seat.table_id me seat.thread c.self.view_is c.self.invariant c.requires.seat seat.marks c.args.op c.args.obj c.requires.object c.requires.due p c.place_of-place.ensures shared.table_id.slots w c.load-seen.new.seat.me looks in
+    let look = looking _ shared.key shared.table_id _ _ _ _ seat.seat.table_id me seat.thread c.self.view_is c.self.invariant.0 c.requires.seat seat.marks c.args.op c.args.obj c.requires.object c.requires.due p c.place_of-place.ensures shared.table_id.slots w c.load-seen.new.seat.me looks in
     inl record {
       refused = ap (λ t. advanced c.args.op t w) c.requires.seat.thread_is ∙ c.in_default.ensures.table;
       found = look.found;
@@ -95,8 +95,8 @@ compare_exchange_with-found-requires c =
     let p = c.place_of-place.result in
     let w = c.load-seen.result in
     let looks = c.load-seen.ensures.2 in
-    let look = looking _ shared.key shared.table_id _ _ _ _ seat.seat.table_id me seat.thread c.self.view_is c.self.invariant c.requires.seat seat.marks c.args.op c.args.obj c.requires.object c.requires.due p c.place_of-place.ensures shared.table_id.slots w c.load-seen.new.seat.me looks in
-    let k = called _ shared.key shared.table_id _ _ _ _ seat.seat.table_id me seat.thread c.self.view_is c.self.invariant c.requires.seat in
+    let look = looking _ shared.key shared.table_id _ _ _ _ seat.seat.table_id me seat.thread c.self.view_is c.self.invariant.0 c.requires.seat seat.marks c.args.op c.args.obj c.requires.object c.requires.due p c.place_of-place.ensures shared.table_id.slots w c.load-seen.new.seat.me looks in
+    let k = called _ shared.key shared.table_id _ _ _ _ seat.seat.table_id me seat.thread c.self.view_is c.self.invariant.0 c.requires.seat in
     let words = k.words ∙ length-first_words v.code v.setup in
     let answer = to_z w64 (of_z w64 c.in-Some.answer) in
     let same : answer ≡ c.in-Some.answer = to_z-of_z w64 c.in-Some.answer (search rules) in
@@ -116,7 +116,7 @@ returns-then-found-seen-clause-is c =
     let p = c.place_of-place.result in
     let w = c.load-seen.result in
     let looks = c.load-seen.ensures.2 in
-    let look = looking _ shared.key shared.table_id _ _ _ _ seat.seat.table_id me seat.thread c.self.view_is c.self.invariant c.requires.seat seat.marks c.args.op c.args.obj c.requires.object c.requires.due p c.place_of-place.ensures shared.table_id.slots w c.load-seen.new.seat.me looks in
+    let look = looking _ shared.key shared.table_id _ _ _ _ seat.seat.table_id me seat.thread c.self.view_is c.self.invariant.0 c.requires.seat seat.marks c.args.op c.args.obj c.requires.object c.requires.due p c.place_of-place.ensures shared.table_id.slots w c.load-seen.new.seat.me looks in
     let found = c.compare_exchange_with-found.result in
     let differs : found ≢ w = c.if-found-seen.true in
     inr record {
@@ -137,7 +137,7 @@ returns-clause-is c =
     let p = c.place_of-place.result in
     let w = c.load-seen.result in
     let looks = c.load-seen.ensures.2 in
-    let look = looking _ shared.key shared.table_id _ _ _ _ seat.seat.table_id me seat.thread c.self.view_is c.self.invariant c.requires.seat seat.marks c.args.op c.args.obj c.requires.object c.requires.due p c.place_of-place.ensures shared.table_id.slots w c.load-seen.new.seat.me looks in
+    let look = looking _ shared.key shared.table_id _ _ _ _ seat.seat.table_id me seat.thread c.self.view_is c.self.invariant.0 c.requires.seat seat.marks c.args.op c.args.obj c.requires.object c.requires.due p c.place_of-place.ensures shared.table_id.slots w c.load-seen.new.seat.me looks in
     let answer = to_z w64 (of_z w64 c.in-Some.answer) in
     let same : answer ≡ c.in-Some.answer = to_z-of_z w64 c.in-Some.answer (search rules) in
     let moves : advanced c.args.op v.from w ≡ Advances c.in-Some.next answer = ap (λ t. advanced c.args.op t w) c.requires.seat.thread_is ∙ c.in-Some.ensures.table ∙ ap (Advances c.in-Some.next) (sym same) in

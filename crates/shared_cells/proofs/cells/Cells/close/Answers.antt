@@ -37,8 +37,8 @@ loop-k-preserved c =
 pub word-departure-requires : goal.word-departure-requires
 word-departure-requires c =
     let key = c.self.inside.table.shared.key in
-    let place = c.self.invariant.departure_is in
-    let size = c.self.invariant.size ∙ length-first_words key.code key.setup in
+    let place = c.self.invariant.0.departure_is in
+    let size = c.self.invariant.0.size ∙ length-first_words key.code key.setup in
     let all = c.close_with-closed.ensures.counts.0 in
     (omega (arith, place, size, all), c.close_with-closed.ensures.values.0)
 
@@ -47,7 +47,7 @@ overflow_cast-departure c =
     let key = c.self.inside.table.shared.key in
     let closed = c.close_with-closed.result in
     let whole = c.join-whole.result in
-    let at : get_elem? (slots_items closed.words) (departure_place key.code key.setup) ≡ some c.word-departure.result = subst (λ p. get_elem? (slots_items closed.words) p ≡ some c.word-departure.result) c.self.invariant.departure_is c.word-departure.ensures in
+    let at : get_elem? (slots_items closed.words) (departure_place key.code key.setup) ≡ some c.word-departure.result = subst (λ p. get_elem? (slots_items closed.words) p ≡ some c.word-departure.result) c.self.invariant.0.departure_is c.word-departure.ensures in
     let low = departure_low key (slots_items closed.words) (slots_items closed.slots) whole.id whole.me.0 c.word-departure.result c.close_with-closed.ensures.values.2 at in
     record { fits = omega (arith, low) }
 
@@ -58,8 +58,8 @@ returns c =
     let closed = c.close_with-closed.result in
     let whole = c.join-whole.result in
     let seats = c.args.seats.items in
-    let at : get_elem? (slots_items closed.words) (departure_place key.code key.setup) ≡ some c.word-departure.result = subst (λ p. get_elem? (slots_items closed.words) p ≡ some c.word-departure.result) c.self.invariant.departure_is c.word-departure.ensures in
+    let at : get_elem? (slots_items closed.words) (departure_place key.code key.setup) ≡ some c.word-departure.result = subst (λ p. get_elem? (slots_items closed.words) p ≡ some c.word-departure.result) c.self.invariant.0.departure_is c.word-departure.ensures in
     let over = c.loop-k-test.false in
-    let end : c.loop-k.k ≡ objects_end key.code key.setup = (let objects = c.self.invariant.objects_are in omega (arith, over, c.loop-k.auto.k-end, objects)) in
+    let end : c.loop-k.k ≡ objects_end key.code key.setup = (let objects = c.self.invariant.0.objects_are in omega (arith, over, c.loop-k.auto.k-end, objects)) in
     subst (λ (z : Board). Closes z.code z.setup seats c.loop-k.words.items c.word-departure.result) c.self.view_is
-    (closes key id (slots_items closed.words) (slots_items closed.slots) whole.id whole.me.0 seats c.loop-k.words.items c.word-departure.result c.self.invariant.runnable c.self.invariant.limits (subst (λ (z : Board). AreSeats z seats) (sym c.self.view_is) c.requires) c.join-whole.ensures.view c.close_with-closed.ensures.values.2 (c.loop-k.invariant.items ∙ ap (λ n. take n (slots_items closed.words)) end) at)
+    (closes key id (slots_items closed.words) (slots_items closed.slots) whole.id whole.me.0 seats c.loop-k.words.items c.word-departure.result c.self.invariant.0.runnable c.self.invariant.0.limits (subst (λ (z : Board). AreSeats z seats) (sym c.self.view_is) c.requires) c.join-whole.ensures.view c.close_with-closed.ensures.values.2 (c.loop-k.invariant.items ∙ ap (λ n. take n (slots_items closed.words)) end) at)

@@ -16,9 +16,9 @@ fetch_min-requires c =
     let seat = c.args.seat.now in
     let me = seat.seat.me in
     let v = me.0 in
-    let k = called _ shared.key shared.table_id _ _ _ _ seat.seat.table_id me seat.thread c.self.view_is c.self.invariant c.requires.seat in
+    let k = called _ shared.key shared.table_id _ _ _ _ seat.seat.table_id me seat.thread c.self.view_is c.self.invariant.0 c.requires.seat in
     let words = k.words ∙ length-first_words v.code v.setup in
-    let place : departure_place v.code v.setup ≡ c.self.inside.departure = departure_is _ shared.key shared.table_id _ _ _ _ seat.seat.table_id me seat.thread c.self.view_is c.self.invariant c.requires.seat in
+    let place : departure_place v.code v.setup ≡ c.self.inside.departure = departure_is _ shared.key shared.table_id _ _ _ _ seat.seat.table_id me seat.thread c.self.view_is c.self.invariant.0 c.requires.seat in
     let x = c.from.result in (
       k.table_is,
       omega (arith, place, words),

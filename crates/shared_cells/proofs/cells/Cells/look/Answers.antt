@@ -17,10 +17,10 @@ load-requires c =
     let seat = c.args.seat.now in
     let me = seat.seat.me in
     let v = me.0 in
-    let k = called _ shared.key shared.table_id _ _ _ _ seat.seat.table_id me seat.thread c.self.view_is c.self.invariant c.requires.seat in
+    let k = called _ shared.key shared.table_id _ _ _ _ seat.seat.table_id me seat.thread c.self.view_is c.self.invariant.0 c.requires.seat in
     let words = k.words ∙ length-first_words v.code v.setup in
     let p = c.place_of.result in
-    let place : place_of (cells_of v.code v.setup) c.args.obj ≡ p = place_is _ shared.key shared.table_id _ _ _ _ seat.seat.table_id me seat.thread c.self.view_is c.self.invariant c.requires.seat c.args.obj p c.place_of.ensures in
+    let place : place_of (cells_of v.code v.setup) c.args.obj ≡ p = place_is _ shared.key shared.table_id _ _ _ _ seat.seat.table_id me seat.thread c.self.view_is c.self.invariant.0 c.requires.seat c.args.obj p c.place_of.ensures in
     let spot = object_place v.code v.setup c.args.obj k.limits (object_is _ shared.key shared.table_id seat.seat.table_id me k c.args.obj c.requires.object) in
     let inside = spot.1 in (
       k.table_is,
@@ -35,9 +35,9 @@ returns-clause-found c =
     let seat = c.args.seat.now in
     let me = seat.seat.me in
     let v = me.0 in
-    let k = called _ shared.key shared.table_id _ _ _ _ seat.seat.table_id me seat.thread c.self.view_is c.self.invariant c.requires.seat in
+    let k = called _ shared.key shared.table_id _ _ _ _ seat.seat.table_id me seat.thread c.self.view_is c.self.invariant.0 c.requires.seat in
     let p = c.place_of.result in
-    let place : place_of (cells_of v.code v.setup) c.args.obj ≡ p = place_is _ shared.key shared.table_id _ _ _ _ seat.seat.table_id me seat.thread c.self.view_is c.self.invariant c.requires.seat c.args.obj p c.place_of.ensures in
+    let place : place_of (cells_of v.code v.setup) c.args.obj ≡ p = place_is _ shared.key shared.table_id _ _ _ _ seat.seat.table_id me seat.thread c.self.view_is c.self.invariant.0 c.requires.seat c.args.obj p c.place_of.ensures in
     let spot = object_place v.code v.setup c.args.obj k.limits (object_is _ shared.key shared.table_id seat.seat.table_id me k c.args.obj c.requires.object) in
     let looks = c.load.ensures.2 in
     subst (λ z. IsReachedWith v z c.load.result) (sym place) (looks.state (subst (λ z. cells_of v.code v.setup ≤ z) place spot.0) (subst (λ z. z < objects_end v.code v.setup) place spot.1))
@@ -48,9 +48,9 @@ returns-clause-later c =
     let seat = c.args.seat.now in
     let me = seat.seat.me in
     let v = me.0 in
-    let k = called _ shared.key shared.table_id _ _ _ _ seat.seat.table_id me seat.thread c.self.view_is c.self.invariant c.requires.seat in
+    let k = called _ shared.key shared.table_id _ _ _ _ seat.seat.table_id me seat.thread c.self.view_is c.self.invariant.0 c.requires.seat in
     let p = c.place_of.result in
-    let place : place_of (cells_of v.code v.setup) c.args.obj ≡ p = place_is _ shared.key shared.table_id _ _ _ _ seat.seat.table_id me seat.thread c.self.view_is c.self.invariant c.requires.seat c.args.obj p c.place_of.ensures in
+    let place : place_of (cells_of v.code v.setup) c.args.obj ≡ p = place_is _ shared.key shared.table_id _ _ _ _ seat.seat.table_id me seat.thread c.self.view_is c.self.invariant.0 c.requires.seat c.args.obj p c.place_of.ensures in
     let spot = object_place v.code v.setup c.args.obj k.limits (object_is _ shared.key shared.table_id seat.seat.table_id me k c.args.obj c.requires.object) in
     let looks = c.load.ensures.2 in
     subst (λ z. GoesOn v z c.load.result) (sym place) (looks.later (subst (λ z. cells_of v.code v.setup ≤ z) place spot.0) (subst (λ z. z < objects_end v.code v.setup) place spot.1))

@@ -16,10 +16,10 @@ store-requires c =
     let seat = c.args.seat.now in
     let me = seat.seat.me in
     let v = me.0 in
-    let k = called _ shared.key shared.table_id _ _ _ _ seat.seat.table_id me seat.thread c.self.view_is c.self.invariant c.requires.seat in
+    let k = called _ shared.key shared.table_id _ _ _ _ seat.seat.table_id me seat.thread c.self.view_is c.self.invariant.0 c.requires.seat in
     let words = k.words ∙ length-first_words v.code v.setup in
     let p = c.self.inside.memory in
-    let place : memory_place v.code v.setup ≡ p = memory_is _ shared.key shared.table_id _ _ _ _ seat.seat.table_id me seat.thread c.self.view_is c.self.invariant c.requires.seat in (
+    let place : memory_place v.code v.setup ≡ p = memory_is _ shared.key shared.table_id _ _ _ _ seat.seat.table_id me seat.thread c.self.view_is c.self.invariant.0 c.requires.seat in (
       k.table_is,
       omega (arith, place, words),
       subst (λ z. Allows (Holds z) shared.table_id.slots seat.seat.id me p (λ _. 1) (λ _ after. Stays (step shared.table_id.slots p 1 0 none) me 1 after)) k.known

@@ -4,7 +4,7 @@ use Rattle.shared_cells.proofs.cells.Cells.want_place.Goals as goal
 
 pub overflow_add-result : goal.overflow_add-result
 overflow_add-result c =
-    let board = c.self.invariant in
+    let board = c.self.invariant.0 in
     let low : c.args.lock < length c.self.inside.table.shared.key.code.locks = subst (λ (z : Board). c.args.lock < length z.code.locks) (sym c.self.view_is) c.requires.lock in
     let objects = board.objects_are in
     let departure = board.departure_is in
@@ -13,7 +13,7 @@ overflow_add-result c =
 
 pub overflow_add-result-2 : goal.overflow_add-result-2
 overflow_add-result-2 c =
-    let board = c.self.invariant in
+    let board = c.self.invariant.0 in
     let low : c.args.lock < length c.self.inside.table.shared.key.code.locks = subst (λ (z : Board). c.args.lock < length z.code.locks) (sym c.self.view_is) c.requires.lock in
     let objects = board.objects_are in
     let departure = board.departure_is in
