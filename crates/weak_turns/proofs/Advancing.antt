@@ -1,0 +1,45 @@
+-- A turn that begins with a look at the memory word.
+use Rattle.std.proofs.Common.{◌≡◌, ℕ, Bool, false, List, [], ◌∷◌, ◌++◌, Some, None, refl, subst, arith}
+use Rattle.shared_cells.specs.Rule.{Board}
+use Rattle.shared_cells.specs.Seats.{IsSameSeat, IsSeatOf, Tells}
+use Rattle.shared_cells.specs.Views.{Note}
+use Rattle.shared_cells.specs.Words.{memory_place}
+use Rattle.shared_cells.specs.declared.seat.Seat.{Seat}
+use Rattle.thread_step.specs.Steps.{Stepping}
+use Rattle.weak_turns.specs.Finding.{Advances, Steps}
+use Rattle.weak_turns.specs.Shown.{IsCarrying}
+use Rattle.weak_turns.specs.Turns.{Meets, Saw}
+use Rattle.weak_turns.specs.declared.played.Played.{Played}
+use Rattle.weak_turns.proofs.Noting.{newer, older, step_on, meets_same, meets_look, meets_then, carrying_on}
+use Rattle.weak_turns.proofs.Searching.{unset}
+
+module _ (cells : Board) (a b : Seat) (lacks : Bool) (tells : Tells a b (memory_place cells.code cells.setup) lacks) where
+  abbrev word : ℕ
+  word = memory_place cells.code cells.setup
+
+  abbrev pub note : List Note
+  note = record { failed = false; word = word; value = tells.value } ∷ []
+
+  pub looked_at : Meets a b note
+  looked_at = meets_look a b word tells.value tells.view tells.marks
+
+  pub carried : (r : Stepping) → IsSeatOf cells b → IsCarrying cells a r → IsCarrying cells b r
+  carried r of h = carrying_on cells a b r note looked_at of h
+
+  -- memory was seen to be out
+  pub advances_out : (since : List ℕ) (budget turn : ℕ) → Advances cells a b since since budget turn None
+  advances_out since budget turn = (note, looked_at, refl)
+
+  -- or was wanting
+  pub advances_none : (c : Seat) (since : List ℕ) (budget turn : ℕ) → IsSameSeat b c → Advances cells a c since since budget turn None
+  advances_none c since budget turn same = (note, meets_then a b c note [] looked_at (meets_same b c same.view same.marks), refl)
+
+  -- a step is made
+  pub advances_some : (new : Seat) (since later : List ℕ) (budget turn : ℕ) (p : Played) → lacks ≡ false → Steps cells b new since later budget turn p → Advances cells a new since later budget turn (Some p)
+  advances_some new since later budget turn p has s = (
+    s.mid,
+    s.fresh ++ note,
+    meets_then a b s.mid note s.fresh looked_at s.meets,
+    older s.fresh note _ (subst (Saw note word) (unset tells.value lacks tells.is has) (0, omega arith, refl)),
+    step_on s.fresh (s.fresh ++ note) (newer s.fresh note) cells s.mid new since later budget turn p s.step,
+  )

@@ -1,0 +1,14 @@
+pub mod Showing
+pub mod Lists
+pub mod Beside
+pub mod Losing
+pub mod Stripes
+pub mod Moving
+pub mod Noting
+pub mod Ending
+pub mod Searching
+pub mod Acting
+pub mod Causes
+pub mod Advancing
+pub mod Beginning
+pub mod Playing

@@ -1,0 +1,25 @@
+use Rattle.std.proofs.Common.{◌≡◌, sym, subst, ◌∙◌}
+use Rattle.sync_objects.specs.declared.object.ObjId.TheVariants as object
+use Rattle.sync_objects.specs.declared.operation.Op.TheVariants as op
+use Rattle.shared_cells.specs.Seats.{view_of, AttemptIs}
+use Rattle.shared_cells.specs.declared.attempt.Attempt.TheVariants as attempt
+use Rattle.weak_turns.proofs.Moving.{close_due, shuts, done}
+use Rattle.weak_turns.proofs.operations.shut.Goals as goal
+
+pub attempt-requires-clause-due : goal.attempt-requires-clause-due
+attempt-requires-clause-due c =
+    let h = c.requires.carrying in
+    close_due (view_of c.args.seat.now) c.args.seat.now.marks c.args.run.now h.carries c.thread.result (c.thread.ensures ∙ sym h.seat_of.thread_is) c.requires.early c.requires.open
+
+pub returns-in-Done-clause-carrying : goal.returns-in-Done-clause-carrying
+returns-in-Done-clause-carrying c =
+    let old = c.args.seat.now in
+    let q = c.shut.new.self in
+    let h = c.requires.carrying in
+    let is : c.thread.result ≡ (view_of old).from = c.thread.ensures ∙ sym h.seat_of.thread_is in
+    let came = subst (λ k. AttemptIs old c.attempt.new.seat op.Close (object.Slot k) (attempt.Done c.in-Done.answer c.in-Done.number)) is c.in-Done.ensures.is in
+    record {
+      seat_of = c.in-Done.ensures.seat;
+      carries = done old c.attempt.new.seat q op.Close (object.Slot (view_of old).from) c.in-Done.answer c.in-Done.number came
+          (shuts (view_of old) old.marks c.args.run.now h.carries q c.shut.ensures.same c.requires.open c.in-Done.answer c.in-Done.number c.shut.ensures.told);
+    }

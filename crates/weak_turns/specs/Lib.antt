@@ -1,0 +1,4 @@
+pub mod Shown
+pub mod Carrying
+pub mod Turns
+pub mod Finding

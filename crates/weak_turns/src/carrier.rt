@@ -1,0 +1,140 @@
+// A thread with its seat, as a job.
+ghost use Rattle.std.specs.Prelude.{◌≡◌, ◌≤◌, IfOk, true, false};
+ghost use Rattle.std.proofs.Common.{refl, ◌∙◌};
+ghost use Rattle.core_run.specs.Machine.{start_told};
+ghost use Rattle.crew.specs.Counts.{RoseBy};
+ghost use Rattle.flow_code.specs.Settle.{IsRunnable};
+ghost use Rattle.shared_cells.specs.Seats.{IsSeatOf, start_view, view_of};
+ghost use Rattle.thread_step.specs.Steps.{told_of};
+ghost use Rattle.weak_turns.specs.Carrying.{IsSameCarrier, IsSound, is_over, run_has_ended};
+ghost use Rattle.weak_turns.specs.Turns.{PlayedIs};
+
+use crate::played::Played;
+use crate::turn::advance;
+use crew::Job;
+use shared_cells::{Cells, Seat};
+use std::alloc::{AllocError, Global};
+use std::marker::Model;
+use thread_step::ThreadRun;
+
+/// Runs one thread of a code, over words that all threads share. A stripe that another thread wants is taken from it once it has
+/// held it for `budget` turns.
+#[derive(Drop)]
+pub struct Carrier<'c, 'a> {
+    cells: &'c Cells<'a>,
+    seat: Seat,
+    run: ThreadRun<'a>,
+    budget: u32,
+    turns: u64,
+    // For each stripe of the code's locks the turn in which it was taken last.
+    since: Vec<u64>,
+    is_out: bool,
+}
+
+impl<'c, 'a> Model for Carrier<'c, 'a> {
+    ghost use Rattle.weak_turns.specs.Carrying.{Carrying, IsSound};
+
+    ghost Value = { Carrying };
+
+    ghost view = { λ c. record { cells = c.cells.now; seat = c.seat; run = c.run; budget = c.budget; turns = c.turns; since = c.since.items; is_out = c.is_out } };
+
+    ghost invariant = { λ c. IsSound (record { cells = c.cells.now; seat = c.seat; run = c.run; budget = c.budget; turns = c.turns; since = c.since.items; is_out = c.is_out }) };
+}
+
+impl<'c, 'a> Carrier<'c, 'a> {
+    /// A thread at its start, with its seat.
+    pub fn new(
+        alloc: Global,
+        cells: &'c Cells<'a>,
+        seat: Seat,
+        run: ThreadRun<'a>,
+        budget: u32,
+    ) -> Result<Carrier<'c, 'a>, AllocError>
+        requires runnable { IsRunnable cells.now.code }
+        requires seat { IsSeatOf cells.now seat }
+        requires view { view_of seat ≡ start_view cells.now.code cells.now.setup (view_of seat).from }
+        requires marks { seat.marks ≡ 0 }
+        requires code { run.flow.code ≡ cells.now.code }
+        requires setup { run.flow.setup ≡ cells.now.setup }
+        requires number { run.flow.number ≡ (view_of seat).from }
+        requires told { told_of run ≡ start_told cells.now.code cells.now.setup (view_of seat).from }
+        ensures { IfOk result (λ c. (c.cells ≡ cells.now) × (c.seat ≡ seat) × (c.run ≡ run.entry) × (c.budget ≡ budget) × (c.turns ≡ 0) × (c.is_out ≡ false)) }
+    {
+        let stripes = cells.code().locks.len();
+        let mut since = Vec::new(alloc);
+        for _k in 0..stripes {
+            since.extend_from_slice(&[0; 8])?;
+        }
+        Ok(Carrier {
+            cells,
+            seat,
+            run,
+            budget,
+            turns: 0,
+            since,
+            is_out: false,
+        })
+    }
+
+    /// The seat and the run. What holds of them is told here too.
+    pub fn into_parts(self) -> (Seat, ThreadRun<'a>)
+        ensures seat { result.0 ≡ self.entry.seat }
+        ensures run { result.1 ≡ self.entry.run }
+        ensures sound { IsSound self.entry }
+    {
+        let Carrier { seat, run, .. } = self;
+        (seat, run)
+    }
+
+    /// A turn, and what it has come to. Where memory is wanting all other carriers of these cells are told.
+    pub fn play(&mut self) -> Played
+        ensures same { IsSameCarrier self.old self.new }
+        ensures turns { RoseBy 1 self.old.turns self.new.turns }
+        ensures stays { is_over self.old ≡ true → is_over self.new ≡ true }
+        ensures played { PlayedIs self.old self.new result }
+    {
+        self.turns = self.turns.saturating_add(1);
+        if self.is_out || self.run.ending().is_some() {
+            return Played::Nothing;
+        }
+        let advanced = advance(
+            self.cells,
+            &mut self.seat,
+            &mut self.run,
+            &mut self.since,
+            self.budget,
+            self.turns,
+        );
+        // no turn makes two entries
+        let entries = self.run.noted().len() as u64;
+        prove!(entries <= self.turns);
+        match advanced {
+            Some(played) => played,
+            None => {
+                self.is_out = true;
+                Played::Nothing
+            }
+        }
+    }
+}
+
+impl<'c, 'a> Job for Carrier<'c, 'a> {
+    ghost ended = { λ c. is_over c };
+
+    ghost turns = { λ c. c.turns };
+
+    ghost leads_to = { λ c later. IsSameCarrier c later };
+
+    ghost reflexive = { λ c. record { cells = refl; thread = refl; budget = refl } };
+
+    ghost transitive = { λ first second third one two. record { cells = two.cells ∙ one.cells; thread = two.thread ∙ one.thread; budget = two.budget ∙ one.budget } };
+
+    fn turn(&mut self) -> bool {
+        self.play();
+        self.is_out || self.run.ending().is_some()
+    }
+
+    fn turns(&self) -> u64 {
+        self.turns
+    }
+}
