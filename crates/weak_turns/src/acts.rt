@@ -16,7 +16,7 @@ use sync_objects::{ObjId, Op};
 use thread_step::ThreadRun;
 
 /// The thread's load of a cell.
-fn load(cells: &Cells, seat: &mut Seat, run: &mut ThreadRun, cell: u32)
+pub fn load(cells: &Cells, seat: &mut Seat, run: &mut ThreadRun, cell: u32)
     requires carrying { IsCarrying cells.now seat.old run.old }
     requires settled { IsSettled run.old }
     requires ready { IsReady run.old }
@@ -31,7 +31,7 @@ fn load(cells: &Cells, seat: &mut Seat, run: &mut ThreadRun, cell: u32)
 }
 
 /// The thread's store into a cell.
-fn store(cells: &Cells, seat: &mut Seat, run: &mut ThreadRun, cell: u32, value: u64)
+pub fn store(cells: &Cells, seat: &mut Seat, run: &mut ThreadRun, cell: u32, value: u64)
     requires carrying { IsCarrying cells.now seat.old run.old }
     requires settled { IsSettled run.old }
     requires ready { IsReady run.old }
@@ -46,7 +46,7 @@ fn store(cells: &Cells, seat: &mut Seat, run: &mut ThreadRun, cell: u32, value: 
 }
 
 /// The thread's mark, which its seat takes in at its next step.
-fn mark(cells: &Cells, seat: &mut Seat, run: &mut ThreadRun)
+pub fn mark(cells: &Cells, seat: &mut Seat, run: &mut ThreadRun)
     requires carrying { IsCarrying cells.now seat.old run.old }
     requires settled { IsSettled run.old }
     requires ready { IsReady run.old }

@@ -12,9 +12,10 @@ ghost use Rattle.weak_turns.specs.Turns.{PlayedIs};
 use crate::played::Played;
 use crate::turn::advance;
 use crew::Job;
-use shared_cells::{Cells, Seat};
+use shared_cells::{Attempt, Cells, Seat};
 use std::alloc::{AllocError, Global};
 use std::marker::Model;
+use std::thread;
 use thread_step::ThreadRun;
 
 /// Runs one thread of a code, over words that all threads share. A stripe that another thread wants is taken from it once it has
@@ -130,7 +131,14 @@ impl<'c, 'a> Job for Carrier<'c, 'a> {
     ghost transitive = { λ first second third one two. record { cells = two.cells ∙ one.cells; thread = two.thread ∙ one.thread; budget = two.budget ∙ one.budget } };
 
     fn turn(&mut self) -> bool {
-        self.play();
+        // a thread that has to wait lets others run
+        if let Played::Tried {
+            came: Attempt::NotYet { .. },
+            ..
+        } = self.play()
+        {
+            thread::yield_now();
+        }
         self.is_out || self.run.ending().is_some()
     }
 

@@ -11,5 +11,9 @@ mod played;
 mod revokes;
 mod turn;
 
+pub use acts::{load, mark, store};
 pub use carrier::Carrier;
+pub use operations::{give_up, operate, shut, stop};
 pub use played::Played;
+pub use revokes::Place;
+pub use turn::prepare;

@@ -18,7 +18,7 @@ use sync_objects::{ObjId, Op};
 use thread_step::ThreadRun;
 
 /// Attempts to stop the thread.
-pub(crate) fn stop(cells: &Cells, seat: &mut Seat, run: &mut ThreadRun) -> Attempt
+pub fn stop(cells: &Cells, seat: &mut Seat, run: &mut ThreadRun) -> Attempt
     requires carrying { IsCarrying cells.now seat.old run.old }
     requires room { run.old.has_entry ≡ true }
     requires begun { has_begun run.old.flow.kept.thread.phase ≡ true }
@@ -37,7 +37,7 @@ pub(crate) fn stop(cells: &Cells, seat: &mut Seat, run: &mut ThreadRun) -> Attem
 }
 
 /// Attempts to close the slot of a thread that hasn't begun.
-pub(crate) fn shut(cells: &Cells, seat: &mut Seat, run: &mut ThreadRun) -> Attempt
+pub fn shut(cells: &Cells, seat: &mut Seat, run: &mut ThreadRun) -> Attempt
     requires carrying { IsCarrying cells.now seat.old run.old }
     requires room { run.old.has_entry ≡ true }
     requires early { has_begun run.old.flow.kept.thread.phase ≡ false }
@@ -56,7 +56,7 @@ pub(crate) fn shut(cells: &Cells, seat: &mut Seat, run: &mut ThreadRun) -> Attem
 }
 
 /// Attempts to take a stripe from the thread.
-pub(crate) fn give_up(cells: &Cells, seat: &mut Seat, run: &mut ThreadRun, place: Place) -> Attempt
+pub fn give_up(cells: &Cells, seat: &mut Seat, run: &mut ThreadRun, place: Place) -> Attempt
     requires runnable { IsRunnable cells.now.code }
     requires carrying { IsCarrying cells.now seat.old run.old }
     requires settled { IsSettled run.old }
@@ -81,13 +81,7 @@ pub(crate) fn give_up(cells: &Cells, seat: &mut Seat, run: &mut ThreadRun, place
 }
 
 /// Attempts the thread's own next operation.
-pub(crate) fn operate(
-    cells: &Cells,
-    seat: &mut Seat,
-    run: &mut ThreadRun,
-    op: Op,
-    obj: ObjId,
-) -> Attempt
+pub fn operate(cells: &Cells, seat: &mut Seat, run: &mut ThreadRun, op: Op, obj: ObjId) -> Attempt
     requires runnable { IsRunnable cells.now.code }
     requires carrying { IsCarrying cells.now seat.old run.old }
     requires settled { IsSettled run.old }

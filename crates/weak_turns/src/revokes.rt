@@ -14,7 +14,7 @@ const MOST_REVOKES: u32 = 1 << 14;
 
 /// A stripe of a lock.
 #[derive(Clone, Copy)]
-pub(crate) struct Place {
+pub struct Place {
     pub lock: u16,
     pub stripe: u8,
 }

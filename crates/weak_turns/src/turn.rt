@@ -17,7 +17,7 @@ use sync_objects::{ObjId, Op};
 use thread_step::ThreadRun;
 
 /// The thread's quiet steps, and room for one step more. After an Err some of them may be made.
-pub(crate) fn prepare(run: &mut ThreadRun) -> Result<(), AllocError>
+pub fn prepare(run: &mut ThreadRun) -> Result<(), AllocError>
     requires open { has_ended run.old.flow.kept.thread.phase ≡ false }
     ensures rests { HasRested run.old run.new }
     ensures settled { OnOk result (IsSettled run.new) }
