@@ -1,0 +1,10 @@
+pub mod Effects
+pub mod Departing
+pub mod Attempts
+pub mod Seated
+pub mod Looking
+pub mod Listing
+pub mod Ending
+pub mod Follows
+pub mod Numbers
+pub mod Gathering

@@ -1,0 +1,4 @@
+pub mod Wants
+pub mod Steps
+pub mod Following
+pub mod Replays

@@ -1,0 +1,57 @@
+-- What a replay comes to.
+use Rattle.std.specs.Prelude.{◌≡◌, ℕ, ◌<◌, Bool, true, false, List, length, map, Some, slice_get}
+use Rattle.std.specs.List.{list_all}
+use Rattle.rr_base.specs.Faults.{Rose}
+use Rattle.sync_objects.specs.Setup.{SetupView, IsWithinLimits}
+use Rattle.sync_objects.specs.declared.entry.Entry.{Entry}
+use Rattle.flow_code.specs.Next.{has_ended}
+use Rattle.shared_cells.specs.Rule.{Board}
+use Rattle.shared_cells.specs.Seats.{view_of}
+use Rattle.shared_cells.specs.declared.seat.Seat.{Seat}
+use Rattle.replayer.specs.Following.{Following, IsSound, is_over}
+use Rattle.replayer.specs.Wants.{wanted_of}
+use Rattle.replayer.specs.declared.replaying.ReplayFault.{ReplayFault}
+use Rattle.replayer.specs.declared.replaying.ReplayFault.TheVariants as fault
+
+-- only a fault of the crew raises its count of faults
+abbrev pub ReplayFaults : ReplayFault → ℕ → ℕ → Type 0
+ReplayFaults fault.CrewFault old new = Rose old new
+ReplayFaults fault.OutOfMemory old new = new ≡ old
+
+-- each entry is of one of the setup's threads
+abbrev pub AreThreads : SetupView → List Entry → Type 0
+AreThreads s es = (k : ℕ) (e : Entry) → slice_get es k ≡ Some e → e.thread < s.slots
+
+-- ---- the followers of a log
+
+-- thread k of these cells follows its entries of the log
+pub record IsFollower (cells : Board) (es : List Entry) (k : ℕ) (f : Following) : Type 0 where
+  pub cells_are : f.cells ≡ cells
+  pub thread : (view_of f.seat).from ≡ k
+  pub wanted : f.wanted ≡ wanted_of k es
+
+-- one for each thread, in order
+pub record AreFollowers (cells : Board) (es : List Entry) (fs : List Following) : Type 0 where
+  pub limits : IsWithinLimits cells.setup
+  pub count : length fs ≡ cells.setup.slots
+  pub each : (k : ℕ) (f : Following) → slice_get fs k ≡ Some f → IsFollower cells es k f
+
+-- they have come to their end
+pub record AreDone (cells : Board) (es : List Entry) (fs : List Following) : Type 0 where
+  pub followers : AreFollowers cells es fs
+  pub over : (k : ℕ) (f : Following) → slice_get fs k ≡ Some f → is_over f ≡ true
+
+-- memory ran out for none of them
+abbrev pub AreWhole : List Following → Type 0
+AreWhole fs = (k : ℕ) (f : Following) → slice_get fs k ≡ Some f → (f.is_out ≡ false) × IsSound f
+
+abbrev pub has_ended_in : Following → Bool
+has_ended_in f = has_ended f.run.flow.kept.thread.phase
+
+-- these are the seats of followers that have come to their end, and this is whether their threads have ended
+pub record HaveFollowed (cells : Board) (es : List Entry) (seats : List Seat) (all_ended : Bool) : Type 0 where
+  pub fs : List Following
+  pub done : AreDone cells es fs
+  pub whole : AreWhole fs
+  pub seats_are : seats ≡ map (λ (f : Following). f.seat) fs
+  pub ended : all_ended ≡ list_all has_ended_in fs

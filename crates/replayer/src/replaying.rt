@@ -1,0 +1,201 @@
+// The replay of a log.
+ghost use Rattle.std.specs.Prelude.{◌≡◌, ◌-◌, ◌<◌, ◌^◌, false, IfOk, MatchResult, List, length, map};
+ghost use Rattle.std.specs.List.{list_all};
+ghost use Rattle.core_run.specs.Histories.{HasNoRace};
+ghost use Rattle.core_run.specs.Walks.{WalkIs};
+ghost use Rattle.crew.specs.Counts.{RoseBy};
+ghost use Rattle.flow_code.specs.Settle.{IsRunnable};
+ghost use Rattle.shared_cells.specs.Rule.{Board};
+ghost use Rattle.shared_cells.specs.Seats.{AreAtStart, AreSeats};
+ghost use Rattle.sync_objects.specs.declared.entry.Entry.{Entry as EntryOf};
+ghost use Rattle.replayer.specs.Following.{Following};
+ghost use Rattle.replayer.specs.Replays.{AreDone, AreFollowers, AreThreads, AreWhole, HaveFollowed, ReplayFaults, has_ended_in};
+ghost use Rattle.replayer.specs.declared.replaying.ReplayFault.TheVariants as fault;
+
+use crate::follower::Follower;
+use crate::numbering::{number_all, own_entries};
+use core_run::{Formula, Walk, walk};
+use crew::{Crew, CrewEnd};
+use flow_code::Code;
+use log_walks::{law_unfinished, law_wrong};
+use rr_base::List;
+use shared_cells::{Cells, Seat};
+use std::alloc::{AllocError, Global};
+use std::sync::Wait;
+use std::thread::Threads;
+use sync_objects::{Entry, Setup};
+use thread_step::ThreadRun;
+
+/// Why there is no answer.
+#[derive(Clone, Copy, Debug, PartialEq, Eq)]
+pub enum ReplayFault {
+    /// A fault of the crew, which its count of faults shows too.
+    CrewFault,
+    OutOfMemory,
+}
+
+impl From<AllocError> for ReplayFault {
+    ghost from_gives = { λ _ end. end ≡ fault.OutOfMemory };
+
+    fn from(_error: AllocError) -> ReplayFault {
+        ReplayFault::OutOfMemory
+    }
+}
+
+// A follower for each seat, in order.
+fn followers<'c, 'a>(
+    alloc: Global,
+    cells: &'c Cells<'a>,
+    code: &'a Code,
+    setup: &'a Setup,
+    seats: Vec<Seat>,
+    entries: &List<Entry>,
+) -> Result<Vec<Follower<'c, 'a>>, AllocError>
+    requires runnable { IsRunnable code.now }
+    requires code { cells.now.code ≡ code.now }
+    requires setup { cells.now.setup ≡ setup.now }
+    requires seats { AreSeats cells.now seats.items }
+    requires start { AreAtStart code.now setup.now seats.items }
+    requires few { length entries.now < 2 ^ 32 - 1 }
+    ensures { IfOk result (λ it. AreFollowers cells.now entries.now it.items) }
+{
+    let noted = number_all(alloc, entries)?;
+    let mut jobs = Vec::with_capacity(alloc, usize::from(setup.slots()))?;
+    for seat in seats {
+        let thread = seat.thread();
+        let run = ThreadRun::new(alloc, code, setup, thread)?;
+        let wanted = own_entries(alloc, noted.as_slice(), thread)?;
+        jobs.push(Follower::new(cells, seat, run, wanted))?;
+    }
+    Ok(jobs)
+}
+
+// Whether memory ran out for one of them. Else all of them are whole.
+fn some_is_out(followers: &[Follower]) -> bool
+    ensures { result ≡ false → AreWhole followers.now }
+{
+    for k in 0..followers.len() {
+        if followers[k].is_out() {
+            return true;
+        }
+    }
+    false
+}
+
+// Whether the threads of all of them have ended.
+fn all_have_ended(followers: &[Follower]) -> bool
+    ensures { result ≡ list_all has_ended_in followers.now }
+{
+    let mut rest = followers;
+    while let [follower, more @ ..] = rest {
+        if !follower.has_ended() {
+            return false;
+        }
+        rest = more;
+    }
+    true
+}
+
+// Their seats, in order.
+fn seats_of(alloc: Global, followers: Vec<Follower>) -> Result<Vec<Seat>, AllocError>
+    ensures { IfOk result (λ it. it.items ≡ map (λ (f : Following). f.seat) followers.entry.items) }
+{
+    let mut seats = Vec::new(alloc);
+    for follower in followers {
+        seats.push(follower.into_seat())?;
+    }
+    Ok(seats)
+}
+
+// The seats of followers that have come to their end, and whether their threads have ended. Err where memory ran out for one of
+// them.
+fn gather(alloc: Global, followers: Vec<Follower>) -> Result<(Vec<Seat>, bool), AllocError>
+    ensures { IfOk result (λ it. (cells : Board) (es : List EntryOf) → AreDone cells es followers.entry.items → HaveFollowed cells es it.0.items it.1) }
+{
+    if some_is_out(&followers) {
+        return Err(AllocError);
+    }
+    let all_ended = all_have_ended(&followers);
+    let seats = seats_of(alloc, followers)?;
+    Ok((seats, all_ended))
+}
+
+// What the walk of the log comes to, by how the threads have followed it.
+fn conclude(
+    alloc: Global,
+    cells: Cells,
+    code: &Code,
+    setup: &Setup,
+    entries: &List<Entry>,
+    formula: &Formula,
+    seats: Vec<Seat>,
+    all_ended: bool,
+) -> Result<Walk, AllocError>
+    requires code { cells.code ≡ code.now }
+    requires setup { cells.setup ≡ setup.now }
+    requires runnable { IsRunnable code.now }
+    requires race_free { HasNoRace code.now setup.now }
+    requires few { length entries.now < 2 ^ 32 - 1 }
+    requires threads { AreThreads setup.now entries.now }
+    requires followed { HaveFollowed cells entries.now seats.items all_ended }
+    ensures { IfOk result (WalkIs code.now setup.now entries.now formula.now) }
+{
+    let closed = cells.close(alloc, seats)?;
+    if closed.departure != u32::MAX {
+        law_wrong();
+        return Ok(Walk::Wrong {
+            at: closed.departure,
+        });
+    }
+    if !all_ended {
+        law_unfinished();
+        return Ok(Walk::Wrong {
+            at: entries.len() as u32,
+        });
+    }
+    walk(alloc, code, setup, entries, formula)
+}
+
+/// Replays a log: each thread of the code follows its own entries of it, in turns that the crew gives, as a job of its own. The
+/// answer is the log's walk.
+pub fn replay<R: Threads + Wait + Sync, C: Crew>(
+    rt: &R,
+    alloc: Global,
+    code: &Code,
+    setup: &Setup,
+    entries: &List<Entry>,
+    formula: &Formula,
+    crew: &mut C,
+) -> Result<Walk, ReplayFault>
+    requires runnable { IsRunnable code.now }
+    requires race_free { HasNoRace code.now setup.now }
+    requires few { length entries.now < 2 ^ 32 - 1 }
+    requires threads { AreThreads setup.now entries.now }
+    ensures walk { IfOk result (WalkIs code.now setup.now entries.now formula.now) }
+    ensures fault { MatchResult result (λ _. C.faults crew.new ≡ C.faults crew.old) (λ end. ReplayFaults end (C.faults crew.old) (C.faults crew.new)) }
+    ensures jobs_run { IfOk result (λ _. RoseBy setup.now.slots (C.jobs_run crew.old) (C.jobs_run crew.new)) }
+{
+    let (cells, seats) = match Cells::new(alloc, code, setup) {
+        Ok(made) => made,
+        Err(error) => return Err(ReplayFault::from(error)),
+    };
+    let jobs = match followers(alloc, &cells, code, setup, seats, entries) {
+        Ok(jobs) => jobs,
+        Err(error) => return Err(ReplayFault::from(error)),
+    };
+    let jobs = match crew.run(rt, alloc, jobs) {
+        Ok(jobs) => jobs,
+        Err(CrewEnd::Failed) => return Err(ReplayFault::CrewFault),
+        Err(CrewEnd::OutOfMemory) => return Err(ReplayFault::OutOfMemory),
+    };
+    let (seats, all_ended) = match gather(alloc, jobs) {
+        Ok(gathered) => gathered,
+        Err(error) => return Err(ReplayFault::from(error)),
+    };
+    match conclude(
+        alloc, cells, code, setup, entries, formula, seats, all_ended,
+    ) {
+        Ok(walk) => Ok(walk),
+        Err(error) => Err(ReplayFault::from(error)),
+    }
+}
