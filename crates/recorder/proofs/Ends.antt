@@ -47,7 +47,7 @@ never_wrong code s es end k walked ended wrong = ⊎_elim
     (λ u. u.open_end (subst (HaveEnded code s) (same_Some end u.last (sym walked ∙ u.walked)) ended))
     wrong
 
-whole_walk : (code : Code) (s : SetupView) (es : List Entry) (f : Formula) (end : State Told) (w : Walk) → walk_of code s es (start_state code s) ≡ Some end → HaveEnded code s end → WalkIs code s es f w → IsWholeWalk w
+pub whole_walk : (code : Code) (s : SetupView) (es : List Entry) (f : Formula) (end : State Told) (w : Walk) → walk_of code s es (start_state code s) ≡ Some end → HaveEnded code s end → WalkIs code s es f w → IsWholeWalk w
 whole_walk code s es f end (walk.Done out reads ends) walked ended is = tt
 whole_walk code s es f end (walk.Trapped kind thread line out reads ends) walked ended is = tt
 whole_walk code s es f end (walk.Wrong at) walked ended is = absurd (never_wrong code s es end is.0 walked ended is.2)

@@ -3,3 +3,5 @@ pub mod States
 pub mod Starts
 pub mod Ends
 pub mod LookUps
+pub mod Dealing
+pub mod Finishing

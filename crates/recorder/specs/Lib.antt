@@ -1,2 +1,4 @@
 pub mod Recording
 pub mod Records
+pub mod Carriers
+pub mod Finished

@@ -4,7 +4,9 @@
 
 mod record;
 mod recording;
+mod threads;
 mod turn;
 
 pub use record::{Recorded, RunFault, record_run};
 pub use recording::Recording;
+pub use threads::record_threads;

@@ -1,0 +1,139 @@
+// The log of a run whose threads run as jobs of their own.
+ghost use Rattle.std.specs.Prelude.{◌≡◌, ◌≤◌, IfOk, MatchResult, length};
+ghost use Rattle.core_run.specs.Histories.{HasNoRace};
+ghost use Rattle.crew.specs.Counts.{RoseBy};
+ghost use Rattle.flow_code.specs.Settle.{IsRunnable};
+ghost use Rattle.recorder.specs.Carriers.{AreCarriers, AreParts, RoseAtLeast};
+ghost use Rattle.recorder.specs.Records.{Records, RunFaults};
+ghost use Rattle.recorder.specs.Finished.{IsFinished};
+ghost use Rattle.runs.specs.Merge.{total_length};
+ghost use Rattle.shared_cells.specs.Seats.{AreAtStart, AreSeats};
+ghost use Rattle.sync_objects.specs.Setup.{IsWithinLimits};
+
+use crate::record::{Recorded, RunFault};
+use core_run::{Formula, Noted, walk};
+use crew::{Crew, CrewEnd};
+use entry_merge::merge;
+use flow_code::Code;
+use rr_base::List;
+use shared_cells::{Cells, Seat};
+use std::alloc::{AllocError, Global};
+use std::sync::Wait;
+use std::thread::Threads;
+use sync_objects::Setup;
+use thread_step::ThreadRun;
+use weak_turns::Carrier;
+
+/// The seats of all threads and their entries, in order.
+#[derive(Drop)]
+struct Parts {
+    seats: Vec<Seat>,
+    lists: List<List<Noted>>,
+}
+
+// A carrier for each seat.
+fn carriers_of<'c, 'a>(
+    alloc: Global,
+    cells: &'c Cells<'a>,
+    seats: Vec<Seat>,
+    budget: u32,
+) -> Result<Vec<Carrier<'c, 'a>>, AllocError>
+    requires runnable { IsRunnable cells.now.code }
+    requires seats { AreSeats cells.now seats.items }
+    requires start { AreAtStart cells.now.code cells.now.setup seats.items }
+    ensures { IfOk result (λ it. AreCarriers cells.now it.items) }
+{
+    let mut carriers = Vec::new(alloc);
+    for seat in seats {
+        let run = ThreadRun::new(alloc, cells.code(), cells.setup(), seat.thread())?;
+        carriers.push(Carrier::new(alloc, cells, seat, run, budget)?)?;
+    }
+    Ok(carriers)
+}
+
+// The seats and the entries of carriers whose threads have ended. Where one hasn't, memory was wanting.
+fn parts_of(alloc: Global, carriers: Vec<Carrier>) -> Result<Parts, AllocError>
+    ensures { IfOk result (λ it. AreParts carriers.entry.items it.seats.items it.lists) }
+{
+    let mut seats = Vec::new(alloc);
+    let mut lists = List::new(alloc);
+    for carrier in carriers {
+        let (seat, run) = carrier.into_parts();
+        if run.ending().is_none() {
+            return Err(AllocError);
+        }
+        seats.push(seat)?;
+        lists.push(List::from_slice(alloc, run.noted())?)?;
+    }
+    Ok(Parts { seats, lists })
+}
+
+// What these lists leave, which are those of a run in which all threads have ended.
+fn log_of(
+    alloc: Global,
+    lists: &List<List<Noted>>,
+    code: &Code,
+    setup: &Setup,
+    formula: &Formula,
+) -> Result<Recorded, AllocError>
+    requires runnable { IsRunnable code.now }
+    requires limits { IsWithinLimits setup.now }
+    requires finished { IsFinished code.now setup.now lists.now }
+    requires race_free { HasNoRace code.now setup.now }
+    ensures records { IfOk result (λ it. Records code.now setup.now formula.now it.entries it.walk) }
+    ensures entries { IfOk result (λ it. length it.entries ≤ total_length lists.now) }
+{
+    let entries = merge(alloc, lists.as_slice())?;
+    if entries.len() >= u32::MAX as usize {
+        return Err(AllocError);
+    }
+    let walk = walk(alloc, code, setup, &entries, formula)?;
+    Ok(Recorded { entries, walk })
+}
+
+/// Runs the code's threads to their end, each as a job of its own, in turns that the crew gives; a stripe that another thread
+/// wants may be taken from a thread that has held it for `budget` of its turns. The entries are the log of that run, and the walk
+/// is theirs: it takes all entries, and keeps the accesses that meet the formula.
+pub fn record_threads<R: Threads + Wait + Sync, C: Crew>(
+    rt: &R,
+    alloc: Global,
+    code: &Code,
+    setup: &Setup,
+    budget: u32,
+    formula: &Formula,
+    crew: &mut C,
+) -> Result<Recorded, RunFault>
+    requires runnable { IsRunnable code.now }
+    requires race_free { HasNoRace code.now setup.now }
+    ensures records { IfOk result (λ it. Records code.now setup.now formula.now it.entries it.walk) }
+    ensures jobs_run { IfOk result (λ _. RoseBy setup.now.slots (C.jobs_run crew.old) (C.jobs_run crew.new)) }
+    ensures turns { IfOk result (λ it. RoseAtLeast (length it.entries) (C.turns crew.old) (C.turns crew.new)) }
+    ensures fault { MatchResult result (λ _. C.faults crew.new ≡ C.faults crew.old) (λ end. RunFaults end (C.faults crew.old) (C.faults crew.new)) }
+{
+    prove!(setup.slots() <= 16);
+    let (cells, seats) = match Cells::new(alloc, code, setup) {
+        Ok(made) => made,
+        Err(error) => return Err(RunFault::from(error)),
+    };
+    let carriers = match carriers_of(alloc, &cells, seats, budget) {
+        Ok(carriers) => carriers,
+        Err(error) => return Err(RunFault::from(error)),
+    };
+    let carriers = match crew.run(rt, alloc, carriers) {
+        Ok(carriers) => carriers,
+        Err(CrewEnd::Failed) => return Err(RunFault::CrewFault),
+        Err(CrewEnd::OutOfMemory) => return Err(RunFault::OutOfMemory),
+    };
+    let Parts { seats, lists } = match parts_of(alloc, carriers) {
+        Ok(parts) => parts,
+        Err(error) => return Err(RunFault::from(error)),
+    };
+    let _closed = match cells.close(alloc, seats) {
+        Ok(closed) => closed,
+        Err(error) => return Err(RunFault::from(error)),
+    };
+    match log_of(alloc, &lists, code, setup, formula) {
+        Ok(recorded) => Ok(recorded),
+        Err(error) => Err(RunFault::from(error)),
+    }
+}
