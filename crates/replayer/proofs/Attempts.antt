@@ -1,5 +1,5 @@
 -- An entry that its thread may make: what comes of a look at its object, and of an attempt at it.
-use Rattle.std.proofs.Common.{◌≡◌, ◌≢◌, ℕ, ℤ, pos, ◌⊎◌, inl, inr, true, false, Bool, List, [], ◌∷◌, ◌++◌, length, Some, refl, sym, ap, subst, ◌∙◌, ⊎_elim, arith}
+use Rattle.std.proofs.Common.{◌≡◌, ℕ, ℤ, ◌⊎◌, inl, inr, true, false, List, [], ◌∷◌, ◌++◌, refl, sym, ap, subst, ◌∙◌}
 use Rattle.std.specs.Prelude.{if◌then◌else◌}
 use Rattle.sync_objects.specs.Advance.{Advance, NotAllowed as NoRow, Advances, advanced}
 use Rattle.sync_objects.specs.Names.{name_of}
@@ -21,14 +21,13 @@ use Rattle.flow_code.specs.Settle.{settled, next, IsRunnable}
 use Rattle.flow_code.specs.Threads.{Thread}
 use Rattle.flow_code.proofs.Asked.{own_action}
 use Rattle.flow_code.proofs.Counts.{settled_count}
-use Rattle.core_run.specs.Machine.{Told, effect_of, operation, change_of, entry_of, operated, may_revoke, may_stop, may_close}
+use Rattle.core_run.specs.Machine.{Told, effect_of, operation, change_of, entry_of, may_revoke, may_stop, may_close}
 use Rattle.core_run.specs.Pieces.{piece_next}
-use Rattle.core_run.specs.Words.{cells_of, has_object, place_of}
+use Rattle.core_run.specs.Words.{has_object}
 use Rattle.core_run.proofs.Lawful.{effect_revoke, effect_stop, effect_close}
-use Rattle.log_walks.specs.Followed.{floor}
 use Rattle.log_walks.proofs.Floors.{leaves_floor}
-use Rattle.runs.specs.Labels.{Label, Go, Revoke, Stop, Close, label_of}
-use Rattle.runs.specs.Steps.{Change, NotAllowed, Becomes, Effect, Refused, Operates}
+use Rattle.runs.specs.Labels.{Go, Revoke, Stop, Close, label_of}
+use Rattle.runs.specs.Steps.{Change, NotAllowed, Becomes, Refused, Operates}
 use Rattle.shared_cells.specs.Rule.{Board}
 use Rattle.shared_cells.specs.Seats.{view_of, IsSeatOf, place_in, AttemptIs, IsDone, IsRefused, HasMoved}
 use Rattle.shared_cells.specs.Threads.{Way, Own, way_of, after_operation, pending}
@@ -37,9 +36,9 @@ use Rattle.shared_cells.specs.declared.attempt.Attempt.{Attempt}
 use Rattle.shared_cells.specs.declared.attempt.Attempt.TheVariants as attempt
 use Rattle.shared_cells.specs.declared.seat.Seat.{Seat}
 use Rattle.thread_step.specs.Steps.{Stepping}
-use Rattle.weak_turns.specs.Shown.{Carries, IsCarrying}
+use Rattle.weak_turns.specs.Shown.{IsCarrying}
 use Rattle.weak_turns.proofs.Showing.{noted_on, carries_at}
-use Rattle.replayer.specs.Steps.{told_at, HasDeparted, StepIs, KeepsDeparture, Comes, Sees, SightIs, CameIs}
+use Rattle.replayer.specs.Steps.{told_at, HasDeparted, StepIs, KeepsDeparture, Comes, Sees, CameIs}
 use Rattle.replayer.specs.declared.sight.Sight.{Sight}
 use Rattle.replayer.specs.declared.sight.Sight.TheVariants as sight
 use Rattle.replayer.specs.declared.step.Step.{Step}

@@ -1,5 +1,5 @@
 -- Why a thread departs from its entry.
-use Rattle.std.proofs.Common.{◌≡◌, ◌≢◌, ℕ, ◌<◌, ◌≤◌, ◌⊎◌, inl, inr, true, false, List, [], ◌∷◌, ◌++◌, length, Some, refl, sym, ap, subst, ◌∙◌, ⊎_elim, arith}
+use Rattle.std.proofs.Common.{◌≡◌, ◌≢◌, ℕ, ◌<◌, ◌≤◌, true, false, List, [], ◌∷◌, ◌++◌, refl, sym, ap, subst, ◌∙◌, ⊎_elim, arith}
 use Rattle.std.specs.Prelude.{slice_get}
 use Rattle.std.proofs.lemmas.Bool.{cases_order}
 use Rattle.std.proofs.lemmas.Option.{slice_get_within}
@@ -14,7 +14,7 @@ use Rattle.core_run.specs.Machine.{Told, effect_of}
 use Rattle.core_run.specs.Words.{cells_of, has_object, place_of}
 use Rattle.core_run.proofs.Beginnings.{start_word_at}
 use Rattle.core_run.proofs.Places.{place_behind}
-use Rattle.followed_logs.specs.Following.{IsNoStep, Departs, Above, Early, Other, Barred}
+use Rattle.followed_logs.specs.Following.{IsNoStep, Above, Early, Other, Barred}
 use Rattle.log_walks.specs.Followed.{floor}
 use Rattle.log_walks.proofs.Floors.{ended_rests}
 use Rattle.runs.specs.Labels.{Go, label_of}

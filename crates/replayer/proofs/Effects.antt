@@ -1,21 +1,18 @@
 -- What a label does with a thread whose next action is known.
-use Rattle.std.proofs.Common.{◌≡◌, ◌≢◌, ℕ, ◌<◌, ◌≤◌, ℤ, Bool, true, false, List, refl, sym, ap, ◌∙◌, arith, nat_lt}
+use Rattle.std.proofs.Common.{◌≡◌, ℕ, ◌≤◌, Bool, true, false, refl, sym, ap, ◌∙◌, arith, nat_lt}
 use Rattle.std.specs.Prelude.{if◌then◌else◌}
 use Rattle.std.proofs.lemmas.Bool.Decides.{nat_tests}
-use Rattle.sync_objects.specs.Advance.{advanced}
 use Rattle.sync_objects.specs.Names.{name_of}
 use Rattle.sync_objects.specs.Setup.{SetupView}
 use Rattle.sync_objects.specs.declared.entry.Entry.{Entry}
 use Rattle.sync_objects.specs.declared.object.ObjId.{ObjId}
 use Rattle.sync_objects.specs.declared.object.ObjId.TheVariants as object
 use Rattle.sync_objects.specs.declared.operation.Op.{Op}
-use Rattle.sync_objects.specs.declared.operation.Op.TheVariants as op
 use Rattle.abstract_machine.specs.declared.event.Action.{Action}
 use Rattle.abstract_machine.specs.declared.event.Action.TheVariants as action
 use Rattle.flow_code.specs.declared.code.Code.{Code}
-use Rattle.flow_code.specs.Next.{action_at, gave_up, stopped, shut}
 use Rattle.flow_code.specs.Settle.{settled, next}
-use Rattle.core_run.specs.Machine.{Told, effect_of, action_effect, operation, entry_of, may_revoke, may_stop, may_close}
+use Rattle.core_run.specs.Machine.{Told, effect_of, action_effect, entry_of, may_revoke, may_stop, may_close}
 use Rattle.core_run.specs.Words.{cells_of, has_object}
 use Rattle.core_run.proofs.Lawful.{effect_go, effect_revoke, effect_stop, effect_close}
 use Rattle.followed_logs.specs.Following.{IsNoStep}

@@ -1,5 +1,5 @@
 -- The end of a replay: how the threads of its followers stand by the log.
-use Rattle.std.proofs.Common.{◌≡◌, ◌≢◌, ℕ, zero, suc, ◌+◌, ◌-◌, ◌^◌, ◌<◌, ◌≤◌, ◌⊎◌, inl, inr, Bool, true, false, List, [], ◌∷◌, length, take, map, Option, Some, None, refl, sym, ap, subst, ◌∙◌, ⊎_elim, arith, get_or}
+use Rattle.std.proofs.Common.{◌≡◌, ◌≢◌, ℕ, zero, suc, ◌-◌, ◌^◌, ◌<◌, ◌≤◌, Bool, true, false, List, [], ◌∷◌, length, take, Option, Some, None, refl, sym, ap, subst, ◌∙◌, ⊎_elim, arith, get_or}
 use Rattle.std.specs.Prelude.{slice_get, ◌||◌, ◌&&◌, nat_le, Contains}
 use Rattle.std.specs.List.{list_all}
 use Rattle.std.specs.Option.{option_map}
@@ -15,12 +15,14 @@ use Rattle.flow_code.specs.Next.{has_ended}
 use Rattle.flow_code.specs.Settle.{IsRunnable}
 use Rattle.core_run.specs.Histories.{HasNoRace, HaveEnded, IsReachable}
 use Rattle.core_run.specs.Machine.{Told, machine, start_state}
-use Rattle.core_run.specs.Walks.{IsRefusedAt, IsUnfinished}
+use Rattle.core_run.specs.Walks.{IsRefusedAt, IsUnfinished, WalkIs}
+use Rattle.core_run.specs.declared.access.Formula.{Formula}
+use Rattle.core_run.specs.declared.outcome.Walk.{Walk}
+use Rattle.core_run.specs.declared.outcome.Walk.TheVariants as walk
 use Rattle.core_run.proofs.Reached.{kept}
 use Rattle.followed_logs.specs.Following.{Departs}
 use Rattle.followed_logs.specs.Numbered.{numbered, with_number}
 use Rattle.log_walks.specs.Followed.{floor, StandsBy, Followed}
-use Rattle.runs.specs.Labels.{Label}
 use Rattle.runs.specs.Paths.{IsPrefixOf}
 use Rattle.runs.specs.Steps.{State, entries_of}
 use Rattle.shared_cells.specs.Closing.{Closes}
@@ -30,14 +32,15 @@ use Rattle.shared_cells.specs.Threads.{own, after_marks, AreMarks}
 use Rattle.shared_cells.specs.Views.{SeatView, never}
 use Rattle.shared_cells.specs.Words.{objects_end, HaveGoneOn}
 use Rattle.shared_cells.specs.declared.seat.Seat.{Seat}
-use Rattle.shared_cells.proofs.ThreadSteps.{GoesTo, goes_nowhere, goes_marks}
+use Rattle.shared_cells.proofs.ThreadSteps.{goes_nowhere, goes_marks}
 use Rattle.weak_turns.proofs.Showing.{same_phase}
-use Rattle.replayer.specs.Following.{Following, IsSound, IsOnTrack, StandsSo, next_of, is_behind, is_over}
-use Rattle.replayer.specs.Replays.{IsFollower, AreFollowers, AreDone, AreWhole, HaveFollowed, has_ended_in}
+use Rattle.replayer.specs.Following.{Following, IsSound, IsOnTrack, StandsSo, next_of, is_behind, is_over, made_in}
+use Rattle.replayer.specs.Replays.{IsFollower, HaveFollowed, entries_taken, has_ended_in}
 use Rattle.replayer.specs.Steps.{told_at, HasDeparted}
-use Rattle.replayer.specs.Wants.{wanted_of, wanted_from, noted_in}
+use Rattle.replayer.specs.Wants.{wanted_of, noted_in}
 use Rattle.replayer.specs.declared.wanted.Wanted.{Wanted}
-use Rattle.replayer.proofs.Listing.{wanted_are, StandsAt, stands_at, reached_by, take_noted, numbered-take, numbered_at, entry_at, length-numbered}
+use Rattle.replayer.proofs.Counting.{made_enough, prefix_short, noted_short, take_within, take_beyond}
+use Rattle.replayer.proofs.Listing.{wanted_are, stands_at, reached_by, take_noted, numbered-take, numbered_at, entry_at, length-numbered}
 
 -- ---- one follower
 
@@ -101,6 +104,21 @@ module _ (cells : Board) (es : List Entry) (t : ℕ) (f : Following) (is : IsFol
             position = ap (λ i. get_or (s.0.position ∷ []) i departure) (sym k) ∙ one.2;
             departs = s.4;
           }
+
+-- what stands among the first ones stands there
+take_at : {A : Type 0} (n : ℕ) (xs : List A) (k : ℕ) (x : A) → slice_get (take n xs) k ≡ Some x → slice_get xs k ≡ Some x
+take_at zero xs k x e = cc
+take_at (suc n) [] k x e = cc
+take_at (suc n) (y ∷ xs) zero x e = e
+take_at (suc n) (y ∷ xs) (suc k) x e = take_at n xs k x e
+
+-- a walk takes no more entries than there are
+pub walk_short : (code : Code) (s : SetupView) (es : List Entry) (f : Formula) (w : Walk) → WalkIs code s es f w → entries_taken es w ≤ length es
+walk_short code s es f (walk.Done out reads ends) h = omega arith
+walk_short code s es f (walk.Trapped kind thread line out reads ends) h = omega arith
+walk_short code s es f (walk.Wrong at) h =
+    let is = h.1 in
+    ⊎_elim (λ r. let lt = r.within in omega (arith, is, lt)) (λ u. let all = u.all in omega (arith, is, all)) h.2
 
 -- ---- all followers
 
@@ -355,3 +373,43 @@ module _ (code : Code) (s : SetupView) (cells : Board) (es : List Entry) (seats 
         pub is_unfinished : ((code : Code) (s : SetupView) (es : List Entry) (departure : ℕ) (end : State Told) → IsRunnable code → IsWithinLimits s → HasNoRace code s → Followed code s es departure end → ((k : ℕ) (e : Entry) → slice_get es k ≡ Some e → e.thread < length end.threads) → length es ≤ departure → (HaveEnded code s end → ⊥) → IsUnfinished code s (start_state code s) es (length es)) →
             departure ≡ never → length es < 2 ^ 32 - 1 → all_ended ≡ false → IsUnfinished code s (start_state code s) es (length es)
         is_unfinished law high few open_is = law code s es departure all_marked.state runnable limits free (followed (none_put high few)) (threads_here small) (omega (arith, high, few)) (open_end open_is)
+
+      -- ---- how many entries were made
+
+      there_is : (i : ℕ) (f : Following) → slice_get h.fs i ≡ Some f → slice_get seats i ≡ Some f.seat
+      there_is i f e = ap (λ xs. slice_get xs i) h.seats_are ∙ slice_get-map (λ (g : Following). g.seat) h.fs i ∙ ap (option_map (λ (g : Following). g.seat)) e
+
+      made_there : (i : ℕ) (f : Following) → slice_get h.fs i ≡ Some f → length (entries_of i (numbered (take departure es))) ≤ f.made
+      made_there i f e =
+          let is = h.done.followers.each i f e in
+          let whole = h.whole i f e in
+          let low = closes.met i f.seat (there_is i f e) in
+          let front = prefix_short (entries_of i (numbered (take departure es))) (told_at f.seat).entries (reached cells es i f is whole.1 whole.0 (h.done.over i f e) departure low) in
+          let same = ap length (entries_are cells es i f is whole.1 whole.0) in
+          let short = noted_short f.made (wanted_of i es) in
+          omega (arith, front, same, short)
+
+      module _ (small : (k : ℕ) (e : Entry) → slice_get es k ≡ Some e → e.thread < s.slots) where
+        -- all entries before the departure were made
+        pub enough : length (take departure es) ≤ made_in h.fs
+        enough =
+            let count = h.done.followers.count in
+            let slots = ap (λ (z : SetupView). z.slots) setup_is in
+            let long = length-numbered [] (take departure es) in
+            let made = made_enough (numbered (take departure es)) h.fs
+            (λ k x e. let lt = small k x.entry (take_at departure es k x.entry (entry_at [] (take departure es) k x e)) in omega (arith, lt, count, slots))
+            made_there in
+            omega (arith, made, long)
+
+        pub taken_before : departure ≢ never → departure ≤ made_in h.fs
+        taken_before low =
+            let within = put_within departure (lowered_by low) in
+            let same = take_within departure es (omega (arith, within)) in
+            let most = enough in
+            omega (arith, same, most)
+
+        pub taken_all : departure ≡ never → length es < 2 ^ 32 - 1 → length es ≤ made_in h.fs
+        taken_all high few =
+            let same = take_beyond departure es (omega (arith, high, few)) in
+            let most = enough in
+            omega (arith, same, most)

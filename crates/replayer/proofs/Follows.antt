@@ -1,12 +1,10 @@
 -- A follower's turns keep it sound, and it is so at the start.
-use Rattle.std.proofs.Common.{◌≡◌, ℕ, zero, suc, ◌+◌, ◌<◌, ◌≤◌, Bool, true, false, List, [], ◌∷◌, ◌++◌, length, take, map, Some, min, refl, sym, ap, subst, ◌∙◌, inl, inr, add-one, arith}
+use Rattle.std.proofs.Common.{◌≡◌, ℕ, ◌+◌, ◌<◌, ◌≤◌, Bool, true, false, [], ◌∷◌, ◌++◌, length, take, Some, min, refl, sym, ap, subst, ◌∙◌, inl, inr, add-one, arith}
 use Rattle.std.specs.Prelude.{slice_get, ◌||◌}
 use Rattle.std.proofs.lemmas.Bool.{true≢false}
 use Rattle.std.proofs.lemmas.Option.{same_Some, slice_get_within}
-use Rattle.sync_objects.specs.Setup.{IsWithinLimits}
 use Rattle.sync_objects.specs.declared.entry.Noted.{Noted}
 use Rattle.flow_code.specs.Next.{has_ended}
-use Rattle.flow_code.specs.Settle.{IsRunnable}
 use Rattle.core_run.specs.Machine.{Told}
 use Rattle.shared_cells.specs.Rule.{Board}
 use Rattle.shared_cells.specs.Seats.{view_of, IsSeatOf}
@@ -17,7 +15,7 @@ use Rattle.weak_turns.specs.Finding.{HasRested}
 use Rattle.weak_turns.specs.Shown.{Carries, IsCarrying}
 use Rattle.weak_turns.proofs.Showing.{carries_at, same_phase, rested_on, rested_phase}
 use Rattle.replayer.specs.Following.{Following, IsSound, IsOnTrack, StandsSo, TriedIs, next_of, is_over, positions_after, IsMetBy}
-use Rattle.replayer.specs.Steps.{told_at, left_by, IsInStep, HasDeparted, StepIs, KeepsDeparture, Comes}
+use Rattle.replayer.specs.Steps.{told_at, left_by, IsInStep, HasDeparted, StepIs, Comes}
 use Rattle.replayer.specs.Wants.{noted_in}
 use Rattle.replayer.specs.declared.step.Step.{Step}
 use Rattle.replayer.specs.declared.step.Step.TheVariants as step
@@ -43,14 +41,15 @@ pub rested_lives : (cells : Board) (seat : Seat) (run q : Stepping) → IsCarryi
 rested_lives cells seat run q c h lives = ap has_ended (rested_phase (view_of seat) seat.marks run c.carries q h) ∙ lives
 
 -- a thread that departs puts the entry's position
-pub departs_tried : (cells : Board) (old s2 s3 s4 : Seat) (run : Stepping) (w : Wanted) (bound found : ℕ) (st : Step) → st ≡ step.Departs → (v2 : SeatView) → view_of s2 ≡ v2 → v2.from ≡ (view_of old).from → v2.positions ≡ (view_of old).positions → v2.met ≤ bound → told_at s2 ≡ told_at old → Comes cells s2 s3 run w.noted st → IsSeatOf cells s4 → view_of s4 ≡ lowered (view_of s3) w.position found → s4.marks ≡ s3.marks → TriedIs cells old s4 run w (record { bound = bound; step = st })
-departs_tried cells old s2 s3 s4 run w bound found st is v2 view2 from2 positions2 met2 told2 comes seat4 view4 marks4 =
+pub departs_tried : (cells : Board) (old s2 s3 s4 : Seat) (run : Stepping) (w : Wanted) (bound found : ℕ) (st : Step) → w.position < bound → st ≡ step.Departs → (v2 : SeatView) → view_of s2 ≡ v2 → v2.from ≡ (view_of old).from → v2.positions ≡ (view_of old).positions → v2.met ≤ bound → told_at s2 ≡ told_at old → Comes cells s2 s3 run w.noted st → IsSeatOf cells s4 → view_of s4 ≡ lowered (view_of s3) w.position found → s4.marks ≡ s3.marks → TriedIs cells old s4 run w (record { bound = bound; step = st })
+departs_tried cells old s2 s3 s4 run w bound found st before is v2 view2 from2 positions2 met2 told2 comes seat4 view4 marks4 =
     subst (λ z. TriedIs cells old s4 run w (record { bound = bound; step = z })) (sym is) (record {
       carrying = record { seat_of = seat4; carries = carries_at (lowered (view_of s3) w.position found) (view_of s4) s3.marks s4.marks run view4 marks4 (lowered_on (view_of s3) s3.marks run comes.carrying.carries) };
       thread = ap (λ (z : SeatView). z.from) view4 ∙ comes.keeps.thread ∙ ap (λ (z : SeatView). z.from) view2 ∙ from2;
       bound = let m = met3 in let k = met4 in omega (arith, m, k, met2);
       met = let k = met4 in omega (arith, k);
       positions = ap (λ (z : SeatView). z.positions) view4 ∙ ap (λ ps. w.position ∷ ps) (comes.keeps.positions ∙ ap (λ (z : SeatView). z.positions) view2 ∙ positions2);
+      early = λ le. absurd (omega (arith, before, le));
       is = (told4 ∙ gone.0 ∙ told2, subst (λ told. HasDeparted (view_of s4) told w.noted) (sym told4) (subst (λ v. HasDeparted v (told_at s3) w.noted) (sym view4) gone.1));
     })
   where
@@ -108,14 +107,15 @@ module _ (f : Following) (w : Wanted) (sound : IsSound f) (next : next_of f ≡ 
   abbrev pub after : (made : ℕ) → (departed out : Bool) → Following
   after made departed out = record f { seat = seat; run = run; bound = tried.bound; made = made; has_departed = departed; is_out = out }
 
-  sounds : (made : ℕ) (departed out : Bool) → made ≤ length f.wanted → (out ≡ false → IsOnTrack (after made departed out)) → IsSound (after made departed out)
-  sounds made departed out within track = record {
+  sounds : (made : ℕ) (departed out : Bool) → made ≤ length f.wanted → made ≤ f.turns → (out ≡ false → IsOnTrack (after made departed out)) → IsSound (after made departed out)
+  sounds made departed out within listed track = record {
     runnable = sound.runnable;
     limits = sound.limits;
     carrying = is.carrying;
     own = own_still;
     within = within;
     few = sound.few;
+    listed = listed;
     on_track = track;
   }
 
@@ -126,7 +126,7 @@ module _ (f : Following) (w : Wanted) (sound : IsSound f) (next : next_of f ≡ 
   sound_waits e =
       let told : told_at seat ≡ told_at f.seat = subst (StepIs f.seat seat w.noted) e is.is in
       let put : (view_of seat).positions ≡ (view_of f.seat).positions = is.positions ∙ ap (λ s. positions_after s w.position (view_of f.seat).positions) e in
-      still f.made (sounds f.made false false sound.within (λ _. record {
+      still f.made (sounds f.made false false sound.within sound.listed (λ _. record {
         made = ap (λ (z : Told). z.entries) told ∙ going.track.made;
         bound = is.bound;
         stands = (put ∙ going.none, λ v q. subst (λ z. IsInStep z v.noted) (sym told) (subst (λ (z : Wanted). IsInStep (told_at f.seat) z.noted) (same_next v q) going.in_step));
@@ -136,34 +136,34 @@ module _ (f : Following) (w : Wanted) (sound : IsSound f) (next : next_of f ≡ 
   sound_goes e =
       let went : StepIs f.seat seat w.noted step.Goes = subst (StepIs f.seat seat w.noted) e is.is in
       let put : (view_of seat).positions ≡ (view_of f.seat).positions = is.positions ∙ ap (λ s. positions_after s w.position (view_of f.seat).positions) e in
-      still f.made (sounds f.made false false sound.within (λ _. record {
+      still f.made (sounds f.made false false sound.within sound.listed (λ _. record {
         made = went.0 ∙ going.track.made;
         bound = is.bound;
         stands = (put ∙ going.none, λ v q. inl (subst (λ (z : Wanted). (told_at seat).thread.count ≤ z.noted.entry.count) (same_next v q) went.1));
       }))
 
-  pub sound_makes : tried.step ≡ step.Makes → IsSound (after (f.made + 1) f.has_departed f.is_out)
-  sound_makes e =
+  pub sound_makes : f.made < f.turns → tried.step ≡ step.Makes → IsSound (after (f.made + 1) f.has_departed f.is_out)
+  sound_makes room e =
       let made : StepIs f.seat seat w.noted step.Makes = subst (StepIs f.seat seat w.noted) e is.is in
       let put : (view_of seat).positions ≡ (view_of f.seat).positions = is.positions ∙ ap (λ s. positions_after s w.position (view_of f.seat).positions) e in
       let inside = slice_get_within f.wanted f.made w next in
       let left = ap left_by made.0 ∙ left-append (told_at f.seat).entries w.noted in
       let count = made.1 in
-      still (f.made + 1) (sounds (f.made + 1) false false (omega (arith, inside)) (λ _. record {
+      still (f.made + 1) (sounds (f.made + 1) false false (omega (arith, inside)) (omega (arith, room)) (λ _. record {
         made = made.0 ∙ ap (λ xs. xs ++ w.noted ∷ []) going.track.made ∙ sym (ap (λ n. noted_in (take n f.wanted)) (add-one f.made) ∙ take_next f.made f.wanted w next);
         bound = is.bound;
         stands = (put ∙ going.none, λ v q. inr (omega (arith, left, count)));
       }))
 
-  pub sound_out : (made : ℕ) → made ≤ length f.wanted → (departed : Bool) → IsSound (after made departed true)
-  sound_out made within departed = sounds made departed true within (λ e. absurd (true≢false e))
+  pub sound_out : (made : ℕ) → made ≤ length f.wanted → made ≤ f.turns → (departed : Bool) → IsSound (after made departed true)
+  sound_out made within listed departed = sounds made departed true within listed (λ e. absurd (true≢false e))
 
   pub sound_departs : tried.step ≡ step.Departs → IsSound (after f.made true f.is_out)
   sound_departs e =
       let gone : StepIs f.seat seat w.noted step.Departs = subst (StepIs f.seat seat w.noted) e is.is in
       let put : (view_of seat).positions ≡ w.position ∷ (view_of f.seat).positions = is.positions ∙ ap (λ s. positions_after s w.position (view_of f.seat).positions) e in
       let met : (view_of seat).met ≤ w.position = subst (λ s. IsMetBy s (view_of seat).met w.position) e is.met in
-      subst (λ o. IsSound (after f.made true o)) (sym going.alive) (sounds f.made true false sound.within (λ _. record {
+      subst (λ o. IsSound (after f.made true o)) (sym going.alive) (sounds f.made true false sound.within sound.listed (λ _. record {
         made = ap (λ (z : Told). z.entries) gone.0 ∙ going.track.made;
         bound = is.bound;
         stands = (w, next, put ∙ ap (λ ps. w.position ∷ ps) going.none, met, gone.1);

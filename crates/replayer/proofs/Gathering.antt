@@ -1,7 +1,7 @@
 -- The followers of a log, as they are made and as they come back.
-use Rattle.std.proofs.Common.{◌≡◌, ◌≢◌, ℕ, zero, suc, ◌+◌, ◌<◌, ◌≤◌, ◌⊎◌, inl, inr, Bool, true, false, List, [], ◌∷◌, ◌++◌, length, map, Some, None, refl, sym, ap, subst, ◌∙◌, ⊎_elim, append_assoc, get_or, arith}
+use Rattle.std.proofs.Common.{◌≡◌, ℕ, zero, suc, ◌+◌, ◌<◌, ◌⊎◌, inl, inr, true, false, List, [], ◌∷◌, ◌++◌, length, Some, refl, sym, ap, subst, ◌∙◌, ⊎_elim, append_assoc, get_or, arith}
 use Rattle.std.specs.Prelude.{slice_get}
-use Rattle.std.specs.List.{AllZip, list_all}
+use Rattle.std.specs.List.{AllZip}
 use Rattle.std.proofs.lemmas.List.{append-nil, length-append}
 use Rattle.std.proofs.lemmas.Bool.{cases_eq}
 use Rattle.std.proofs.lemmas.Option.{same_Some, slice_get-get_or}
@@ -17,8 +17,8 @@ use Rattle.shared_cells.specs.Rule.{Board}
 use Rattle.shared_cells.specs.Seats.{view_of, IsSeatOf, AreSeats, AreAtStart, start_view}
 use Rattle.shared_cells.specs.declared.seat.Seat.{Seat}
 use Rattle.replayer.specs.Following.{Following, IsSound, IsSameFollower, is_over}
-use Rattle.replayer.specs.Replays.{IsFollower, AreFollowers, AreDone, AreWhole}
-use Rattle.replayer.specs.Wants.{wanted_of, wanted_from}
+use Rattle.replayer.specs.Replays.{IsFollower, AreFollowers, AreFresh, AreDone}
+use Rattle.replayer.specs.Wants.{wanted_from}
 use Rattle.replayer.specs.declared.wanted.Wanted.{Wanted}
 use Rattle.replayer.proofs.Listing.{stands_at}
 
@@ -30,9 +30,10 @@ pub record AreMaking (cells : Board) (es : List Entry) (seats : List Seat) (fs :
   pub split : front ++ rest ≡ seats
   pub long : length front ≡ length fs
   pub each : (k : ℕ) (f : Following) → slice_get fs k ≡ Some f → IsFollower cells es k f
+  pub fresh : AreFresh fs
 
 pub making_begins : (cells : Board) (es : List Entry) (seats rest : List Seat) → rest ≡ seats → AreMaking cells es seats [] rest
-making_begins cells es seats rest e = record { front = []; split = e; long = refl; each = λ k f q. cc }
+making_begins cells es seats rest e = record { front = []; split = e; long = refl; each = λ k f q. cc; fresh = λ k f q. cc }
 
 split_last : (fs : List Following) (f : Following) (k : ℕ) (x : Following) → slice_get (fs ++ f ∷ []) k ≡ Some x → (slice_get fs k ≡ Some x) ⊎ ((k ≡ length fs) × (f ≡ x))
 split_last [] f zero x e = inr (refl, same_Some f x e)
@@ -45,8 +46,8 @@ module _ (cells : Board) (es : List Entry) (seats : List Seat) (fs : List Follow
   pub next_there : slice_get seats (length fs) ≡ Some seat
   next_there = ap (λ xs. slice_get xs (length fs)) (sym h.split) ∙ slice_get-append_at h.front seat rest (length fs) h.long
 
-  pub makes_more : (pushed : List Following) (f : Following) → pushed ≡ fs ++ f ∷ [] → IsFollower cells es (length fs) f → AreMaking cells es seats pushed rest
-  makes_more pushed f is one =
+  pub makes_more : (pushed : List Following) (f : Following) → pushed ≡ fs ++ f ∷ [] → IsFollower cells es (length fs) f → f.turns ≡ 0 → AreMaking cells es seats pushed rest
+  makes_more pushed f is one none =
       let long = h.long in
       let front_more = length-append h.front (seat ∷ []) in
       let more = ap length is ∙ length-append fs (f ∷ []) in
@@ -57,6 +58,10 @@ module _ (cells : Board) (es : List Entry) (seats : List Seat) (fs : List Follow
         each = λ k x e. ⊎_elim
             (λ q. h.each k x q)
             (λ p. subst (IsFollower cells es k) p.1 (subst (λ n. IsFollower cells es n f) (sym p.0) one))
+            (split_last fs f k x (ap (λ xs. slice_get xs k) (sym is) ∙ e));
+        fresh = λ k x e. ⊎_elim
+            (λ q. h.fresh k x q)
+            (λ p. ap (λ (z : Following). z.turns) (sym p.1) ∙ none)
             (split_last fs f k x (ap (λ xs. slice_get xs k) (sym is) ∙ e));
       }
 

@@ -8,3 +8,4 @@ pub mod Ending
 pub mod Follows
 pub mod Numbers
 pub mod Gathering
+pub mod Counting

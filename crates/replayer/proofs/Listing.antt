@@ -1,16 +1,16 @@
 -- The entries of one thread of a log, with their positions.
-use Rattle.std.proofs.Common.{◌≡◌, ◌≢◌, ℕ, zero, suc, ◌+◌, ◌<◌, ◌≤◌, Bool, true, false, List, [], ◌∷◌, ◌++◌, length, take, map, Some, None, refl, sym, ap, subst, ◌∙◌, append_assoc, arith}
+use Rattle.std.proofs.Common.{◌≡◌, ℕ, zero, suc, ◌+◌, ◌≤◌, Bool, true, false, List, [], ◌∷◌, ◌++◌, length, take, Some, refl, sym, ap, ◌∙◌, append_assoc, arith}
 use Rattle.std.specs.Prelude.{slice_get, ◌==◌, if◌then◌else◌}
 use Rattle.std.proofs.lemmas.Bool.{eqb-true, eqb-false}
 use Rattle.std.proofs.lemmas.List.{append-nil}
 use Rattle.std.proofs.lemmas.Option.{same_Some}
 use Rattle.sync_objects.specs.declared.entry.Entry.{Entry}
 use Rattle.sync_objects.specs.declared.entry.Noted.{Noted}
-use Rattle.followed_logs.specs.Numbered.{with_number, numbered_behind, numbered}
+use Rattle.followed_logs.specs.Numbered.{with_number, numbered_behind}
 use Rattle.runs.specs.Paths.{IsPrefixOf}
 use Rattle.runs.specs.Steps.{entries_of}
 use Rattle.runs.proofs.Lists.{own_in, own_out}
-use Rattle.replayer.specs.Wants.{wanted_from, wanted_of, noted_in}
+use Rattle.replayer.specs.Wants.{wanted_from, noted_in}
 use Rattle.replayer.specs.declared.wanted.Wanted.{Wanted}
 
 -- without their positions they are the thread's entries

@@ -1,5 +1,5 @@
 -- The word of an object, as a look finds it, can be.
-use Rattle.std.proofs.Common.{◌≡◌, ◌-◌, ◌^◌, ℕ, true, Some, sym, ap, subst, ◌∙◌, arith}
+use Rattle.std.proofs.Common.{◌≡◌, ◌-◌, ◌^◌, ℕ, true, sym, ap, subst, ◌∙◌, arith}
 use Rattle.sync_objects.specs.Names.{name_of, Fits}
 use Rattle.sync_objects.specs.Setup.{IsWithinLimits}
 use Rattle.sync_objects.specs.declared.object.ObjId.{ObjId}

@@ -1,5 +1,5 @@
 -- A thread at its seat that stands at an entry: what its next action is, and what comes of it.
-use Rattle.std.proofs.Common.{◌≡◌, ◌≢◌, ℕ, suc, ◌+◌, ◌<◌, ◌≤◌, ◌⊎◌, inl, inr, ℤ, pos, Bool, true, false, not, ◌&&◌, nat_lt, List, refl, sym, ap, subst, ◌∙◌, add-one, arith}
+use Rattle.std.proofs.Common.{◌≡◌, ◌≢◌, ℕ, suc, ◌<◌, ◌≤◌, ℤ, pos, Bool, true, false, not, ◌&&◌, nat_lt, refl, sym, ap, subst, ◌∙◌, add-one, arith}
 use Rattle.std.proofs.lemmas.Bool.Decides.{nat_tests}
 use Rattle.sync_objects.specs.Names.{name_of, Fits}
 use Rattle.sync_objects.specs.Sound.{IsInRange}
@@ -27,21 +27,21 @@ use Rattle.runs.specs.Labels.{Label, Go, Revoke, Stop, Close, label_of}
 use Rattle.runs.specs.Steps.{Change, Operates}
 use Rattle.shared_cells.specs.Rule.{Board}
 use Rattle.shared_cells.specs.Seats.{view_of, IsSeatOf, AttemptIs}
-use Rattle.shared_cells.specs.Threads.{after_load, after_store, after_mark, pending}
+use Rattle.shared_cells.specs.Threads.{after_load, after_store, after_mark}
 use Rattle.abstract_machine.specs.Values.{number as number_of_word}
 use Rattle.shared_cells.specs.Views.{SeatView, with_thread}
 use Rattle.shared_cells.specs.declared.attempt.Attempt.{Attempt}
 use Rattle.shared_cells.specs.declared.seat.Seat.{Seat}
 use Rattle.thread_step.specs.Steps.{Stepping, next_of}
 use Rattle.weak_turns.specs.Shown.{Carries, IsCarrying}
-use Rattle.weak_turns.specs.Turns.{AccessIs, HasCome}
+use Rattle.weak_turns.specs.Turns.{AccessIs}
 use Rattle.weak_turns.proofs.Showing.{comes, comes_next, same_count, same_phase}
 use Rattle.weak_turns.proofs.Stripes.{holds_settled}
-use Rattle.replayer.specs.Steps.{told_at, HasDeparted, StepIs, KeepsDeparture, Comes, IsSet, IsInStep, Sees, CameIs, may_lose}
+use Rattle.replayer.specs.Steps.{told_at, HasDeparted, KeepsDeparture, Comes, IsSet, IsInStep, Sees, CameIs, may_lose}
 use Rattle.replayer.specs.declared.sight.Sight.{Sight}
 use Rattle.replayer.specs.declared.step.Step.{Step}
 use Rattle.replayer.specs.declared.step.Step.TheVariants as step
-use Rattle.replayer.proofs.Departing.{above, early, other, ended}
+use Rattle.replayer.proofs.Departing.{above, early, other}
 use Rattle.replayer.proofs.Effects.{effect_here, operate_no_step, load_no_step, store_no_step, rested, adds, revoke_adds, stop_adds, close_adds}
 use Rattle.replayer.proofs.Attempts.{CanMake, can_operate, can_revoke, can_stop, can_close, keeps_still, keeps_by, told_by, comes_on, look_told, look_keeps, look_carries, attempted}
 

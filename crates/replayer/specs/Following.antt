@@ -1,5 +1,5 @@
 -- A thread that follows its entries of a log.
-use Rattle.std.specs.Prelude.{◌≡◌, ℕ, ◌^◌, nat_le, ◌<◌, ◌≤◌, ◌||◌, Bool, true, false, List, [], ◌∷◌, ◌++◌, length, take, Option, Some, None, slice_get}
+use Rattle.std.specs.Prelude.{◌≡◌, ℕ, ◌+◌, ◌^◌, nat_le, ◌<◌, ◌≤◌, ◌||◌, Bool, true, false, List, [], ◌∷◌, length, take, Option, Some, None, slice_get}
 use Rattle.sync_objects.specs.Setup.{IsWithinLimits}
 use Rattle.flow_code.specs.Settle.{IsRunnable}
 use Rattle.shared_cells.specs.Rule.{Board}
@@ -58,7 +58,13 @@ pub record IsSound (f : Following) : Type 0 where
   pub own : (k : ℕ) (w : Wanted) → slice_get f.wanted k ≡ Some w → w.noted.entry.thread ≡ (view_of f.seat).from
   pub within : f.made ≤ length f.wanted
   pub few : length f.wanted < 2 ^ 32
+  pub listed : f.made ≤ f.turns
   pub on_track : f.is_out ≡ false → IsOnTrack f
+
+-- how many entries they have made
+abbrev pub made_in : List Following → ℕ
+made_in [] = 0
+made_in (f ∷ fs) = f.made + made_in fs
 
 -- both follow the same entries with the same thread of the same cells
 pub record IsSameFollower (f later : Following) : Type 0 where
@@ -85,4 +91,5 @@ pub record TriedIs (cells : Board) (old new : Seat) (run : Stepping) (w : Wanted
   pub bound : (view_of new).met ≤ tried.bound
   pub met : IsMetBy tried.step (view_of new).met w.position
   pub positions : (view_of new).positions ≡ positions_after tried.step w.position (view_of old).positions
+  pub early : tried.bound ≤ w.position → tried.step ≡ step.Waits
   pub is : StepIs old new w.noted tried.step

@@ -1,6 +1,8 @@
 -- What a replay comes to.
-use Rattle.std.specs.Prelude.{◌≡◌, ℕ, ◌<◌, Bool, true, false, List, length, map, Some, slice_get}
+use Rattle.std.specs.Prelude.{◌≡◌, ℕ, ◌+◌, ◌-◌, ◌^◌, ◌<◌, ◌≤◌, min, Bool, true, false, List, length, map, Some, slice_get}
 use Rattle.std.specs.List.{list_all}
+use Rattle.core_run.specs.declared.outcome.Walk.{Walk}
+use Rattle.core_run.specs.declared.outcome.Walk.TheVariants as walk
 use Rattle.rr_base.specs.Faults.{Rose}
 use Rattle.sync_objects.specs.Setup.{SetupView, IsWithinLimits}
 use Rattle.sync_objects.specs.declared.entry.Entry.{Entry}
@@ -22,6 +24,15 @@ ReplayFaults fault.OutOfMemory old new = new ≡ old
 abbrev pub AreThreads : SetupView → List Entry → Type 0
 AreThreads s es = (k : ℕ) (e : Entry) → slice_get es k ≡ Some e → e.thread < s.slots
 
+-- the count has risen by this number or more, or stands at its end
+abbrev pub RoseAtLeast : (by old new : ℕ) → Type 0
+RoseAtLeast by old new = min (old + by) (2 ^ 64 - 1) ≤ new
+
+-- how many entries of the log its walk takes
+abbrev pub entries_taken : List Entry → Walk → ℕ
+entries_taken es (walk.Wrong at) = at
+entries_taken es _ = length es
+
 -- ---- the followers of a log
 
 -- thread k of these cells follows its entries of the log
@@ -35,6 +46,10 @@ pub record AreFollowers (cells : Board) (es : List Entry) (fs : List Following) 
   pub limits : IsWithinLimits cells.setup
   pub count : length fs ≡ cells.setup.slots
   pub each : (k : ℕ) (f : Following) → slice_get fs k ≡ Some f → IsFollower cells es k f
+
+-- they have had no turn yet
+abbrev pub AreFresh : List Following → Type 0
+AreFresh fs = (k : ℕ) (f : Following) → slice_get fs k ≡ Some f → f.turns ≡ 0
 
 -- they have come to their end
 pub record AreDone (cells : Board) (es : List Entry) (fs : List Following) : Type 0 where

@@ -17,6 +17,7 @@ use crew::Job;
 use rr_base::List;
 use shared_cells::{Cells, Seat};
 use std::marker::Model;
+use std::thread;
 use thread_step::ThreadRun;
 
 /// A thread of a code that follows its entries of a log, over words that all threads share. It goes on only while its next entry
@@ -130,6 +131,7 @@ impl<'c, 'a> Follower<'c, 'a> {
     fn play(&mut self, next: Wanted)
         requires next { next_of self.old ≡ Some next }
         requires open { is_over self.old ≡ false }
+        requires room { self.old.made < self.old.turns }
         ensures same { IsSameFollower self.old self.new }
         ensures turns { self.new.turns ≡ self.old.turns }
     {
@@ -139,7 +141,9 @@ impl<'c, 'a> Follower<'c, 'a> {
         };
         self.bound = tried.bound;
         match tried.step {
-            Step::Waits | Step::Goes => {}
+            // a thread that has to wait lets others run
+            Step::Waits => thread::yield_now(),
+            Step::Goes => {}
             Step::Makes => self.made += 1,
             Step::Strays => self.is_out = true,
             Step::Departs => self.has_departed = true,

@@ -1,5 +1,5 @@
 // The replay of a log.
-ghost use Rattle.std.specs.Prelude.{◌≡◌, ◌-◌, ◌<◌, ◌^◌, false, IfOk, MatchResult, List, length, map};
+ghost use Rattle.std.specs.Prelude.{◌≡◌, ◌-◌, ◌<◌, ◌≤◌, ◌^◌, false, IfOk, MatchResult, List, length, map};
 ghost use Rattle.std.specs.List.{list_all};
 ghost use Rattle.core_run.specs.Histories.{HasNoRace};
 ghost use Rattle.core_run.specs.Walks.{WalkIs};
@@ -8,8 +8,8 @@ ghost use Rattle.flow_code.specs.Settle.{IsRunnable};
 ghost use Rattle.shared_cells.specs.Rule.{Board};
 ghost use Rattle.shared_cells.specs.Seats.{AreAtStart, AreSeats};
 ghost use Rattle.sync_objects.specs.declared.entry.Entry.{Entry as EntryOf};
-ghost use Rattle.replayer.specs.Following.{Following};
-ghost use Rattle.replayer.specs.Replays.{AreDone, AreFollowers, AreThreads, AreWhole, HaveFollowed, ReplayFaults, has_ended_in};
+ghost use Rattle.replayer.specs.Following.{Following, made_in};
+ghost use Rattle.replayer.specs.Replays.{AreDone, AreFollowers, AreFresh, AreThreads, AreWhole, HaveFollowed, ReplayFaults, RoseAtLeast, entries_taken, has_ended_in};
 ghost use Rattle.replayer.specs.declared.replaying.ReplayFault.TheVariants as fault;
 
 use crate::follower::Follower;
@@ -57,7 +57,8 @@ fn followers<'c, 'a>(
     requires seats { AreSeats cells.now seats.items }
     requires start { AreAtStart code.now setup.now seats.items }
     requires few { length entries.now < 2 ^ 32 - 1 }
-    ensures { IfOk result (λ it. AreFollowers cells.now entries.now it.items) }
+    ensures followers { IfOk result (λ it. AreFollowers cells.now entries.now it.items) }
+    ensures fresh { IfOk result (λ it. AreFresh it.items) }
 {
     let noted = number_all(alloc, entries)?;
     let mut jobs = Vec::with_capacity(alloc, usize::from(setup.slots()))?;
@@ -110,7 +111,7 @@ fn seats_of(alloc: Global, followers: Vec<Follower>) -> Result<Vec<Seat>, AllocE
 // The seats of followers that have come to their end, and whether their threads have ended. Err where memory ran out for one of
 // them.
 fn gather(alloc: Global, followers: Vec<Follower>) -> Result<(Vec<Seat>, bool), AllocError>
-    ensures { IfOk result (λ it. (cells : Board) (es : List EntryOf) → AreDone cells es followers.entry.items → HaveFollowed cells es it.0.items it.1) }
+    ensures { IfOk result (λ it. (cells : Board) (es : List EntryOf) → AreDone cells es followers.entry.items → (h : HaveFollowed cells es it.0.items it.1) × (h.fs ≡ followers.entry.items)) }
 {
     if some_is_out(&followers) {
         return Err(AllocError);
@@ -138,7 +139,8 @@ fn conclude(
     requires few { length entries.now < 2 ^ 32 - 1 }
     requires threads { AreThreads setup.now entries.now }
     requires followed { HaveFollowed cells entries.now seats.items all_ended }
-    ensures { IfOk result (WalkIs code.now setup.now entries.now formula.now) }
+    ensures walk { IfOk result (WalkIs code.now setup.now entries.now formula.now) }
+    ensures taken { IfOk result (λ w. (h : HaveFollowed cells.entry entries.now seats.items all_ended) → entries_taken entries.now w ≤ made_in h.fs) }
 {
     let closed = cells.close(alloc, seats)?;
     if closed.departure != u32::MAX {
@@ -173,6 +175,7 @@ pub fn replay<R: Threads + Wait + Sync, C: Crew>(
     requires threads { AreThreads setup.now entries.now }
     ensures walk { IfOk result (WalkIs code.now setup.now entries.now formula.now) }
     ensures fault { MatchResult result (λ _. C.faults crew.new ≡ C.faults crew.old) (λ end. ReplayFaults end (C.faults crew.old) (C.faults crew.new)) }
+    ensures turns { IfOk result (λ w. RoseAtLeast (entries_taken entries.now w) (C.turns crew.old) (C.turns crew.new)) }
     ensures jobs_run { IfOk result (λ _. RoseBy setup.now.slots (C.jobs_run crew.old) (C.jobs_run crew.new)) }
 {
     let (cells, seats) = match Cells::new(alloc, code, setup) {

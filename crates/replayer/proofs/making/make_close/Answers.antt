@@ -1,12 +1,12 @@
-use Rattle.std.proofs.Common.{◌≡◌, true, false, not, ◌&&◌, sym, ap, subst, ◌∙◌}
+use Rattle.std.proofs.Common.{◌≡◌, not, ◌&&◌, sym, ap, subst, ◌∙◌}
 use Rattle.std.proofs.lemmas.Bool.{true≢false}
 use Rattle.flow_code.specs.Next.{has_begun, has_ended}
 use Rattle.shared_cells.specs.Seats.{view_of}
 use Rattle.sync_objects.specs.declared.object.ObjId.TheVariants as object
 use Rattle.sync_objects.specs.declared.operation.Op.TheVariants as op
-use Rattle.replayer.specs.Steps.{Comes, Sees}
+use Rattle.replayer.specs.Steps.{Sees}
 use Rattle.replayer.specs.declared.sight.Sight.TheVariants as sight
-use Rattle.replayer.proofs.Attempts.{is_barred, look_keeps}
+use Rattle.replayer.proofs.Attempts.{is_barred}
 use Rattle.replayer.proofs.Seated.{no_close, closes, phase_here, limits_here, looked_set, tried}
 use Rattle.replayer.proofs.making.make_close.Goals as goal
 

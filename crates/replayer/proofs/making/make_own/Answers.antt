@@ -1,9 +1,7 @@
 use Rattle.std.proofs.Common.{◌≡◌, true, false, sym, subst, ◌∙◌}
 use Rattle.std.proofs.lemmas.Bool.{true≢false}
-use Rattle.abstract_machine.specs.declared.event.Action.TheVariants as action
 use Rattle.sync_objects.specs.Names.{name_of}
 use Rattle.core_run.specs.Words.{has_object}
-use Rattle.thread_step.specs.Steps.{next_of}
 use Rattle.replayer.proofs.Attempts.{is_barred}
 use Rattle.replayer.proofs.Seated.{mismatch, operates, operates_range, operates_fits, limits_here, looked_set, tried, has_read}
 use Rattle.replayer.proofs.making.make_own.Goals as goal

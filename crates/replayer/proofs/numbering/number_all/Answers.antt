@@ -1,5 +1,5 @@
-use Rattle.std.proofs.Common.{◌≡◌, ◌++◌, ◌∷◌, [], rules, sym, ap, ◌∙◌, arith}
-use Rattle.replayer.proofs.Numbers.{small, one_more, all_numbered}
+use Rattle.std.proofs.Common.{◌≡◌, ◌++◌, ◌∷◌, [], rules, ap, ◌∙◌, arith}
+use Rattle.replayer.proofs.Numbers.{small, one_more}
 use Rattle.replayer.proofs.numbering.number_all.Goals as goal
 
 pub overflow_cast-number : goal.overflow_cast-number

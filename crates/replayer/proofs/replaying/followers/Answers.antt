@@ -1,4 +1,4 @@
-use Rattle.std.proofs.Common.{◌≡◌, ◌∷◌, length, sym, ap, subst, ◌∙◌, arith}
+use Rattle.std.proofs.Common.{length, ap, subst, ◌∙◌, arith}
 use Rattle.std.specs.Vec.Iter.{into_iter_items}
 use Rattle.replayer.proofs.Gathering.{AreMaking, small_thread, of_cells, view_here, marks_here, told_here, own_here, thread_from, follower_here, makes_more}
 use Rattle.replayer.proofs.Listing.{length-numbered}
@@ -49,4 +49,4 @@ pub loop-seat-preserved : goal.loop-seat-preserved
 loop-seat-preserved c =
     let making = subst (AreMaking c.args.cells.now c.args.entries.now c.args.seats.items c.loop-seat.jobs.items) c.in-Some.ensures.steps.0 c.loop-seat.invariant.2 in
     let made = follower_here c.args.cells.now c.args.code.now c.args.setup.now c.args.entries.now c.args.seats.items c.loop-seat.jobs.items c.in-Some.seat (into_iter_items c.next.new.self) c.requires.code c.requires.setup c.requires.seats c.requires.start making c.thread-thread.result c.as_slice.result.now c.in_ok-wanted.wanted c.new-in-loop-seat.result c.thread-thread.ensures (c.as_slice.ensures ∙ c.in_ok-noted.ensures) c.in_ok-wanted.ensures.wanted c.new-in-loop-seat.ensures.cells c.new-in-loop-seat.ensures.seat c.new-in-loop-seat.ensures.wanted in
-    (tt, tt, makes_more c.args.cells.now c.args.entries.now c.args.seats.items c.loop-seat.jobs.items c.in-Some.seat (into_iter_items c.next.new.self) making c.push.new.self.items c.new-in-loop-seat.result c.in_ok-push.ensures.items made)
+    (tt, tt, makes_more c.args.cells.now c.args.entries.now c.args.seats.items c.loop-seat.jobs.items c.in-Some.seat (into_iter_items c.next.new.self) making c.push.new.self.items c.new-in-loop-seat.result c.in_ok-push.ensures.items made c.new-in-loop-seat.ensures.turns)

@@ -1,4 +1,3 @@
-use Rattle.std.proofs.Common.{◌≡◌, ◌+◌, length, drop}
 use Rattle.std.specs.Vec.Iter.{into_iter_items}
 use Rattle.replayer.proofs.Gathering.{AreMaking}
 use Rattle.replayer.proofs.replaying.followers.Given as goal

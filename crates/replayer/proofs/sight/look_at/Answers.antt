@@ -1,7 +1,3 @@
-use Rattle.std.proofs.Common.{◌≡◌, sym, ap, subst, ◌∙◌}
-use Rattle.core_run.specs.Words.{has_object}
-use Rattle.flow_code.specs.Settle.{IsRunnable}
-use Rattle.sync_objects.specs.Setup.{IsWithinLimits}
 use Rattle.replayer.proofs.Looking.{askable_at}
 use Rattle.replayer.proofs.sight.look_at.Goals as goal
 

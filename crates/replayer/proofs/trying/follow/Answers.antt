@@ -1,4 +1,4 @@
-use Rattle.std.proofs.Common.{◌≡◌, ◌<◌, subst}
+use Rattle.std.proofs.Common.{◌<◌, subst}
 use Rattle.replayer.proofs.Seated.{passed}
 use Rattle.replayer.proofs.trying.follow.Goals as goal
 

@@ -1,4 +1,4 @@
-use Rattle.std.proofs.Common.{◌≡◌, ◌≤◌, sym, subst, ◌∙◌}
+use Rattle.std.proofs.Common.{◌≤◌, sym, subst, ◌∙◌}
 use Rattle.replayer.proofs.Seated.{idle_operate, idle_load, idle_store, idle_quiet, idle_ended, went_load, went_store, went_mark}
 use Rattle.replayer.proofs.trying.go_on.Goals as goal
 

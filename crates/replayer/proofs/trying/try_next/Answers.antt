@@ -1,4 +1,4 @@
-use Rattle.std.proofs.Common.{◌≡◌, ◌≤◌, min, true, false, refl, sym, ap, ◌∙◌, arith}
+use Rattle.std.proofs.Common.{◌≡◌, ◌≤◌, min, refl, sym, ◌∙◌, arith}
 use Rattle.std.proofs.lemmas.Bool.{true≢false}
 use Rattle.shared_cells.specs.Seats.{view_of}
 use Rattle.shared_cells.specs.Views.{looked, departing}
@@ -23,4 +23,4 @@ returns-then-matches-clause-tried c =
     let both = looked_twice old s1 s2 (memory_place cells.code cells.setup) tells.value (departure_place cells.code cells.setup) bound tells.view tells.marks c.depart-bound.ensures.view c.depart-bound.ensures.marks in
     let v2 = departing (looked (view_of old) (memory_place cells.code cells.setup) tells.value) (departure_place cells.code cells.setup) bound in
     let met : min (view_of old).met bound ≤ bound = omega arith in
-    departs_tried cells old s2 s3 s4 c.step.new.run w bound c.least.result c.in-Ok.step departs v2 both.0 refl refl met both.1 c.in-Ok.ensures.comes c.least.ensures.seat c.least.ensures.view c.least.ensures.marks
+    departs_tried cells old s2 s3 s4 c.step.new.run w bound c.least.result c.in-Ok.step c.if-bound-next.false departs v2 both.0 refl refl met both.1 c.in-Ok.ensures.comes c.least.ensures.seat c.least.ensures.view c.least.ensures.marks

@@ -1,4 +1,4 @@
-use Rattle.std.proofs.Common.{◌≡◌, ◌<◌, length, sym, subst, ap, ◌∙◌, arith, rules}
+use Rattle.std.proofs.Common.{◌<◌, length, sym, subst, ap, ◌∙◌, arith}
 use Rattle.std.proofs.lemmas.Option.{slice_get_within}
 use Rattle.replayer.specs.Following.{Following, next_of, is_over}
 use Rattle.replayer.proofs.Follows.{is_going, sound_makes}
@@ -16,4 +16,4 @@ invariant_of-self-in-Makes c =
     let f : Following = record { cells = i.cells.now; seat = i.seat; run = i.run; wanted = i.wanted; made = i.made; bound = i.bound; turns = i.turns; has_departed = i.has_departed; is_out = i.is_out } in
     let next = ap next_of c.self.view_is ∙ c.requires.next in
     let going = is_going f c.args.next c.self.invariant (ap is_over c.self.view_is ∙ c.requires.open) next in
-    sound_makes f c.args.next c.self.invariant next going c.try_next.new.seat c.try_next.new.run c.in-Some.tried c.in-Some.ensures.tried c.in-Makes.is
+    sound_makes f c.args.next c.self.invariant next going c.try_next.new.seat c.try_next.new.run c.in-Some.tried c.in-Some.ensures.tried (subst (λ (z : Following). z.made < z.turns) (sym c.self.view_is) c.requires.room) c.in-Makes.is
