@@ -1,0 +1,4 @@
+pub mod Reading
+pub mod Putting
+pub mod InRow
+pub mod Endings
