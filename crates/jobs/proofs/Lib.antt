@@ -1,0 +1,5 @@
+pub mod Ending
+pub mod Found
+pub mod Recorded
+pub mod Replayed
+pub mod Unique

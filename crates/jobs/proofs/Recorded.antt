@@ -1,0 +1,165 @@
+-- What a run leaves is a recording of its source.
+use Rattle.std.proofs.Common.{◌≡◌, ◌≤◌, refl, sym, ap, subst, ◌∙◌, ℕ, List, [], ◌∷◌, Result, Ok, Err, Option, Some, length}
+use Rattle.std.specs.List.{AllByRecursion}
+use Rattle.std.specs.Prelude.{IfOk, MatchResult}
+use Rattle.std.specs.declared.alloc.AllocError.{AllocError}
+use Rattle.answers.specs.Jobs.{RecordAsked, HasRecordLimits}
+use Rattle.answers.specs.declared.answer.Answer.{Answer}
+use Rattle.answers.specs.declared.answer.Part.TheVariants as part
+use Rattle.c_tree.specs.Tree.{Outer}
+use Rattle.core_run.specs.declared.access.Formula.{Formula}
+use Rattle.core_run.specs.Histories.{run_of, HaveEnded, lists_of, entries_in}
+use Rattle.core_run.specs.Machine.{Told}
+use Rattle.facts.specs.declared.profile.Profile.{Profile}
+use Rattle.flow_code.specs.declared.code.Code.{Code}
+use Rattle.lock_sound.specs.Weakened.{Analysed, IsAnalysed}
+use Rattle.order_log.specs.Log.{AreWithin}
+use Rattle.order_log.specs.Text.{log_text}
+use Rattle.outcomes.specs.Faults.{CrewStops, InputStops, RunStops}
+use Rattle.outcomes.specs.Outcomes.{answers}
+use Rattle.outcomes.specs.Steps.{Comes, Gives, IsInput, Then}
+use Rattle.outcomes.specs.declared.outcome.Outcome.{Outcome}
+use Rattle.outcomes.specs.declared.stop.Stop.{Stop}
+use Rattle.outcomes.specs.declared.stop.Stop.TheVariants as stop
+use Rattle.recorder.specs.Records.{Records}
+use Rattle.recorder.specs.declared.record.Recorded.{Recorded}
+use Rattle.runs.specs.Labels.{Label}
+use Rattle.runs.specs.Merge.{written_merge}
+use Rattle.runs.specs.Steps.{State}
+use Rattle.sync_objects.specs.Names.{Fits}
+use Rattle.sync_objects.specs.Setup.{SetupView, IsWithinLimits}
+use Rattle.sync_objects.specs.declared.entry.Entry.{Entry}
+use Rattle.walk_answers.specs.Walking.{formula_of, outcome_of}
+use Rattle.jobs.specs.Recordings.{setup_of, IsRecorded, IsRecording, IsRunOf}
+use Rattle.jobs.specs.Sources.{AreOrdered, Compiles, IsFound, IsSourceWalk, IsTree}
+
+-- the log of a run in which all threads have ended
+abbrev log_of : State Told → List Entry
+log_of end = entries_in (written_merge (lists_of end))
+
+-- ---- the run
+
+module _ (a : Analysed) (s : SetupView) where
+  pub left_of_run : (code : Code) (f : Formula) (it : Recorded) → code ≡ a.weak
+      → ((labels : List Label) (end : State Told) → run_of a.weak s labels ≡ Some end → AreOrdered a.weak s labels)
+      → ((labels : List Label) (end : State Told) → run_of a.weak s labels ≡ Some end → AreWithin s (log_of end) × AllByRecursion (λ (e : Entry). Fits e.op e.obj) (log_of end))
+      → Records code s f it.entries it.walk → IsRunOf a s f it
+  left_of_run code f it e ordered within h =
+      let r : Records a.weak s f it.entries it.walk = subst (λ (c : Code). Records c s f it.entries it.walk) e h in
+      let w = within r.labels r.end r.ran in
+      record {
+        records = r;
+        ordered = ordered r.labels r.end r.ran;
+        within = subst (AreWithin s) (sym r.log) w.0;
+        fitting = subst (AllByRecursion (λ (e : Entry). Fits e.op e.obj)) (sym r.log) w.1;
+      }
+
+-- ---- limits
+
+pub setup_within : (r : RecordAsked) (input : List ℕ) → HasRecordLimits r → length input ≤ 1048576 → IsWithinLimits (setup_of r input)
+setup_within r input h short = record { some_slot = h.slots_low; few_slots = h.slots_high; enough_cells = h.cells_low; few_cells = h.cells_high; some_event = h.limit_low; few_events = h.limit_high; short_input = short }
+
+-- ---- the source
+
+module _ (r : RecordAsked) (p : Profile) (os : List Outer) (w : Analysed) where
+  -- the log of each run is a walk of the source
+  abbrev LogsWalk : (input : List ℕ) → Type 0
+  LogsWalk input = (labels : List Label) (end : State Told) → run_of w.weak (setup_of r input) labels ≡ Some end → HaveEnded w.weak (setup_of r input) end → IsSourceWalk os w.weak (setup_of r input) (log_of end)
+
+  recording : (input : List ℕ) (o : Outcome) → IsFound os p w → LogsWalk input → IsRecorded r p w input o → IsRecording r p os input o
+  recording input o found walks h =
+      let run = h.run.records in
+      record {
+        found = w;
+        is = found;
+        entries = h.recorded.entries;
+        walk = h.recorded.walk;
+        records = run;
+        source = subst (IsSourceWalk os w.weak (setup_of r input)) (sym run.log) (walks run.labels run.end run.ran run.ended);
+        ordered = h.run.ordered;
+        told = h.told;
+      }
+
+  module _ (IsStep : Result (List ℕ) Answer → Type 0) (found : IsFound os p w) (walks : (input : List ℕ) → IsStep (Ok input) → LogsWalk input) where
+    then_recording : (step : Result (List ℕ) Answer) (o : Outcome) → IsStep step → Then (IsRecorded r p w) step o → Then (IsRecording r p os) step o
+    then_recording (Ok input) o is h = recording input o found (walks input is) h
+    then_recording (Err a) o is h = h
+
+    comes_recording : (o : Outcome) → Comes IsStep (IsRecorded r p w) o → Comes IsStep (IsRecording r p os) o
+    comes_recording o h = record { step = h.step; is = h.is; next = then_recording h.step o h.is h.next }
+
+-- ---- the outcome
+
+module _ (source : List ℕ) (left : Option (List ℕ)) (r : RecordAsked) (p : Profile) (w : Analysed) (limits : HasRecordLimits r) (compiles : Compiles source p (Ok w)) where
+  -- each log of a run is a walk of the source, whatever the setup is
+  abbrev LawOfLogs : Type 0
+  LawOfLogs = (s : SetupView) (labels : List Label) (end : State Told) → IsWithinLimits s → run_of w.weak s labels ≡ Some end → HaveEnded w.weak s end → IsSourceWalk compiles.0 w.weak s (log_of end)
+
+  of_source : (o : Outcome) → LawOfLogs → Comes (IsInput left 1048576 part.Input) (IsRecorded r p w) o → Comes (IsTree source) (λ os. Comes (IsInput left 1048576 part.Input) (IsRecording r p os)) o
+  of_source o law h =
+      let walks = λ (input : List ℕ) (is : IsInput left 1048576 part.Input (Ok input)). λ (labels : List Label) (end : State Told). law (setup_of r input) labels end (setup_within r input limits (subst (λ (xs : List ℕ). length xs ≤ 1048576) (sym is.within.0) is.within.1)) in
+      record { step = Ok compiles.0; is = compiles.1; next = comes_recording r p compiles.0 w (IsInput left 1048576 part.Input) compiles.2 walks o h }
+
+  pub recorded_gives : (res : Result Outcome Stop) → LawOfLogs → Gives (Comes (IsInput left 1048576 part.Input) (IsRecorded r p w)) res → Gives (Comes (IsTree source) (λ os. Comes (IsInput left 1048576 part.Input) (IsRecording r p os))) res
+  recorded_gives (Ok o) law h = of_source o law h
+  recorded_gives (Err (stop.Refused a)) law h = of_source (answers a) law h
+  recorded_gives (Err stop.ShelfFailed) law h = tt
+  recorded_gives (Err stop.InputFailed) law h = tt
+  recorded_gives (Err stop.CrewFailed) law h = tt
+  recorded_gives (Err stop.OutOfMemory) law h = tt
+
+-- ---- in the code
+
+-- what is told of what a run left
+abbrev TellsLog : RecordAsked → Profile → SetupView → Recorded → Outcome → Type 0
+TellsLog r p s it o = o ≡ outcome_of (record { name = r.log; content = log_text (record { setup = s; profile = p; entries = it.entries }) } ∷ []) r.reads it.walk
+
+told_of : (r : RecordAsked) (p : Profile) (w : Analysed) (input : List ℕ) (it : Recorded) (f : Result Outcome AllocError) (res : Result Outcome Stop) → IsRunOf w (setup_of r input) (formula_of r.reads) it → IfOk f (TellsLog r p (setup_of r input) it) → MatchResult res (λ o. f ≡ Ok o) (λ end. end ≡ stop.OutOfMemory) → IfOk res (IsRecorded r p w input)
+told_of r p w input it f (Ok o) run told is = record { recorded = it; run = run; told = subst (λ g. IfOk g (TellsLog r p (setup_of r input) it)) is told }
+told_of r p w input it f (Err s) run told is = tt
+
+pub recorded_of : (r : RecordAsked) (p : Profile) (w : Analysed) (input : List ℕ) (it : Recorded) (s : SetupView) (formula : Formula) (f : Result Outcome AllocError) (res : Result Outcome Stop) → s ≡ setup_of r input → formula ≡ formula_of r.reads → IsRunOf w s formula it → IfOk f (λ o. o ≡ outcome_of (record { name = r.log; content = log_text (record { setup = s; profile = p; entries = it.entries }) } ∷ []) r.reads it.walk) → MatchResult res (λ o. f ≡ Ok o) (λ end. end ≡ stop.OutOfMemory) → IfOk res (IsRecorded r p w input)
+recorded_of r p w input it s formula f res e g run told is =
+    told_of r p w input it f res (subst (λ x. IsRunOf w x (formula_of r.reads) it) e (subst (λ x. IsRunOf w s x it) g run)) (subst (λ x. IfOk f (TellsLog r p x it)) e told) is
+
+-- memory was wanting, and the crew has not failed
+pub memory_of_crew : (f : Result Outcome AllocError) (res : Result Outcome Stop) (old new : ℕ) → new ≡ old → MatchResult res (λ o. f ≡ Ok o) (λ end. end ≡ stop.OutOfMemory) → MatchResult res (λ _. new ≡ old) (λ s. CrewStops s old new)
+memory_of_crew f (Ok o) old new e is = e
+memory_of_crew f (Err s) old new e is = subst (λ y. CrewStops y old new) (sym is) e
+
+-- a crew refuses nothing
+pub crew_gives : (IsStep : Result (List ℕ) Answer → Type 0) (Next : List ℕ → Outcome → Type 0) (x : List ℕ) (res : Result Outcome Stop) (same : Type 0) (old new : ℕ) → IsStep (Ok x) → IfOk res (Next x) → MatchResult res (λ _. same) (λ s. CrewStops s old new) → Gives (Comes IsStep Next) res
+crew_gives IsStep Next x (Ok o) same old new is h f = record { step = Ok x; is = is; next = h }
+crew_gives IsStep Next x (Err (stop.Refused a)) same old new is h f = absurd f
+crew_gives IsStep Next x (Err stop.ShelfFailed) same old new is h f = tt
+crew_gives IsStep Next x (Err stop.InputFailed) same old new is h f = tt
+crew_gives IsStep Next x (Err stop.CrewFailed) same old new is h f = tt
+crew_gives IsStep Next x (Err stop.OutOfMemory) same old new is h f = tt
+
+-- nothing was run of what is not compiled
+pub runs_nothing : (source : List ℕ) (p : Profile) (s : Stop) (input crew : ℕ) → Compiles source p (Err s) → RunStops s input input crew crew
+runs_nothing source p (stop.Refused a) input crew h = (refl, refl)
+runs_nothing source p stop.ShelfFailed input crew h = absurd h
+runs_nothing source p stop.InputFailed input crew h = absurd h
+runs_nothing source p stop.CrewFailed input crew h = absurd h
+runs_nothing source p stop.OutOfMemory input crew h = (refl, refl)
+
+-- an input that isn't read, and a crew that then isn't asked
+pub input_stops : (s : Stop) (input_old input_new crew : ℕ) → InputStops s input_old input_new → RunStops s input_old input_new crew crew
+input_stops (stop.Refused a) input_old input_new crew h = (h, refl)
+input_stops stop.ShelfFailed input_old input_new crew h = absurd h
+input_stops stop.InputFailed input_old input_new crew h = (h, refl)
+input_stops stop.CrewFailed input_old input_new crew h = absurd h
+input_stops stop.OutOfMemory input_old input_new crew h = (h, refl)
+
+-- a crew after an input that was read
+pub crew_stops : (s : Stop) (input_old input_new crew_old crew_new : ℕ) → input_new ≡ input_old → CrewStops s crew_old crew_new → RunStops s input_old input_new crew_old crew_new
+crew_stops (stop.Refused a) input_old input_new crew_old crew_new e h = absurd h
+crew_stops stop.ShelfFailed input_old input_new crew_old crew_new e h = absurd h
+crew_stops stop.InputFailed input_old input_new crew_old crew_new e h = absurd h
+crew_stops stop.CrewFailed input_old input_new crew_old crew_new e h = (e, h)
+crew_stops stop.OutOfMemory input_old input_new crew_old crew_new e h = (e, h)
+
+pub crew_faults : (res : Result Outcome Stop) (input_old input_new crew_old crew_new : ℕ) → input_new ≡ input_old → MatchResult res (λ _. crew_new ≡ crew_old) (λ s. CrewStops s crew_old crew_new) → MatchResult res (λ _. (input_new ≡ input_old) × (crew_new ≡ crew_old)) (λ s. RunStops s input_old input_new crew_old crew_new)
+crew_faults (Ok o) input_old input_new crew_old crew_new e h = (e, h)
+crew_faults (Err s) input_old input_new crew_old crew_new e h = crew_stops s input_old input_new crew_old crew_new e h

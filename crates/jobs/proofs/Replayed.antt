@@ -1,0 +1,73 @@
+-- A walk of a log on a source's weakened code.
+use Rattle.std.proofs.Common.{◌≡◌, sym, ap, subst, ◌∙◌, ℕ, List, [], Result, Ok, Err, Option, Some}
+use Rattle.std.specs.Prelude.{MatchResult}
+use Rattle.c_elaborate.specs.Whole.{core_of_source}
+use Rattle.c_tree.specs.Tree.{Outer}
+use Rattle.core_run.specs.declared.outcome.Walk.{Walk}
+use Rattle.core_run.specs.Machine.{Told, start_state}
+use Rattle.core_run.specs.Walks.{out_of, walk_of, WalkIs}
+use Rattle.erasure.specs.Erased.{erased_walk, IsAnywhere}
+use Rattle.flow_code.specs.declared.code.Code.{Code}
+use Rattle.front.specs.Plain.{plain_code}
+use Rattle.lock_sound.specs.Weakened.{Analysed, IsAnalysed}
+use Rattle.answers.specs.declared.answer.Part.TheVariants as part
+use Rattle.order_log.specs.Log.{LogView}
+use Rattle.outcomes.proofs.InRow.{gives_next, gives_stop}
+use Rattle.outcomes.specs.Steps.{Comes, Finds, Gives, IsFile}
+use Rattle.outcomes.specs.declared.outcome.Outcome.{Outcome}
+use Rattle.outcomes.specs.declared.stop.Stop.{Stop}
+use Rattle.outcomes.specs.declared.stop.Stop.TheVariants as stop
+use Rattle.rr_base.specs.Files.{Files}
+use Rattle.runs.specs.Steps.{State}
+use Rattle.source_runs.specs.SourceRuns.{IsSourceRun, bytes_of}
+use Rattle.sync_objects.specs.Setup.{SetupView}
+use Rattle.sync_objects.specs.declared.entry.Entry.{Entry}
+use Rattle.weak_code.specs.Weakened.{weakened}
+use Rattle.weak_facts.specs.Ranges.{ranges_of}
+use Rattle.walk_answers.specs.Walking.{formula_of, outcome_of}
+use Rattle.jobs.specs.Jobs.{IsReplay}
+use Rattle.jobs.specs.Replays.{IsLogIn, Replays}
+use Rattle.jobs.specs.Sources.{Compiles, IsSourceWalk, IsTree, WalksAsSource}
+
+-- ---- the source
+
+module _ (os : List Outer) (s : SetupView) (es : List Entry) where
+  -- the entries' walk on this code is a walk of the source
+  abbrev WalksSo : Code → State Told → Type 0
+  WalksSo c end = walk_of c s es (start_state c s) ≡ Some end → IsSourceRun (core_of_source os) s IsAnywhere (erased_walk c s es) × (out_of c s es (start_state c s) ≡ bytes_of (erased_walk c s es))
+
+  source_walk : (c : Code) (end : State Told) → WalksSo c end → walk_of c s es (start_state c s) ≡ Some end → IsSourceWalk os c s es
+  source_walk c end law walks = let both = law walks in record { runs = both.0; prints = both.1 }
+
+  pub walks_as_source : (w : Analysed) → IsAnalysed w → w.plain ≡ plain_code os → ((end : State Told) → WalksSo (weakened (plain_code os) w.points w.pairs (ranges_of w.plain w.points) w.grains.rows) end) → WalksAsSource os w.weak s es
+  walks_as_source w h is law =
+      let weak : w.weak ≡ weakened (plain_code os) w.points w.pairs (ranges_of w.plain w.points) w.grains.rows = h.weak ∙ ap (λ (p : Code). weakened p w.points w.pairs (ranges_of w.plain w.points) w.grains.rows) is in
+      λ end walks. source_walk w.weak end (subst (λ (c : Code). WalksSo c end) (sym weak) (law end)) walks
+
+-- ---- the outcome
+
+-- what is told of some walk
+abbrev TellsWalk : LogView → Option (List ℕ) → Analysed → Outcome → Type 0
+TellsWalk log reads w o = (walk : Walk) × WalkIs w.weak log.setup log.entries (formula_of reads) walk × (o ≡ outcome_of [] reads walk)
+
+pub replayed_gives : (source : List ℕ) (log : LogView) (reads : Option (List ℕ)) (w : Analysed) (r : Result Outcome Stop) (compiles : Compiles source log.profile (Ok w)) → WalksAsSource compiles.0 w.weak log.setup log.entries → MatchResult r (λ o. (walk : Walk) × WalkIs w.weak log.setup log.entries (formula_of reads) walk × (o ≡ outcome_of [] reads walk)) (λ end. end ≡ stop.OutOfMemory) → Gives (Comes (IsTree source) (Replays log reads)) r
+replayed_gives source log reads w (Ok o) h walks is = record { step = Ok h.0; is = h.1; next = record { found = w; is = h.2; walk = is.0; walks = is.1; source = walks; told = is.2 } }
+replayed_gives source log reads w (Err end) h walks is = subst (λ y. Gives (Comes (IsTree source) (Replays log reads)) (Err y)) (sym is) tt
+
+-- ---- the files
+
+module _ (files : Option Files) (source log : List ℕ) (reads : Option (List ℕ)) (text bytes : List ℕ) where
+  -- what comes of the log's bytes
+  abbrev ByBytes : List ℕ → Outcome → Type 0
+  ByBytes b = Comes (IsLogIn b) (λ view. Comes (IsTree text) (Replays view reads))
+
+  of_files : (r : Result Outcome Stop) → IsFile files 1048576 part.Source source (Ok text) → IsFile files 536870912 part.Log log (Ok bytes) → Gives (ByBytes bytes) r → Gives (IsReplay files source log reads) r
+  of_files r h g m =
+      gives_next (IsFile files 1048576 part.Source source) (λ t. Comes (IsFile files 536870912 part.Log log) (λ b. Comes (IsLogIn b) (λ view. Comes (IsTree t) (Replays view reads)))) text r h
+      (gives_next (IsFile files 536870912 part.Log log) ByBytes bytes r g m)
+
+  pub replay_gives : (view : LogView) (r : Result Outcome Stop) → IsFile files 1048576 part.Source source (Ok text) → IsFile files 536870912 part.Log log (Ok bytes) → IsLogIn bytes (Ok view) → Gives (Comes (IsTree text) (Replays view reads)) r → Gives (IsReplay files source log reads) r
+  replay_gives view r h g is m = of_files r h g (gives_next (IsLogIn bytes) (λ v. Comes (IsTree text) (Replays v reads)) view r is m)
+
+  pub replay_stops : (s : Stop) → IsFile files 1048576 part.Source source (Ok text) → IsFile files 536870912 part.Log log (Ok bytes) → Finds (IsLogIn bytes) (Err s) → Gives (IsReplay files source log reads) (Err s)
+  replay_stops s h g is = of_files (Err s) h g (gives_stop (IsLogIn bytes) (λ v. Comes (IsTree text) (Replays v reads)) s is)

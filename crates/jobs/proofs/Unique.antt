@@ -1,0 +1,166 @@
+-- Files and words have one outcome.
+use Rattle.std.proofs.Common.{◌≡◌, ◌≢◌, ◌<◌, ◌≤◌, ℕ, List, [], ◌++◌, length, Option, Some, None, Result, Ok, Err, refl, sym, ◌∙◌, ap, subst, arith}
+use Rattle.answers.specs.Jobs.{Asked}
+use Rattle.answers.specs.Jobs.Asked.{Races, Weaken, Record, Replay, Profile, Make}
+use Rattle.answers.specs.declared.answer.Answer.{Answer}
+use Rattle.answers.specs.declared.answer.Answer.TheVariants as answer
+use Rattle.answers.specs.declared.answer.Part.{Part}
+use Rattle.answers.specs.declared.answer.Part.TheVariants as part
+use Rattle.c_tree.specs.Tree.{Outer}
+use Rattle.core_run.specs.declared.access.Formula.{Formula}
+use Rattle.core_run.specs.declared.access.Access.{Access}
+use Rattle.core_run.specs.Walks.{WalkIs}
+use Rattle.facts.specs.declared.profile.Profile.{Profile as ProfileOf}
+use Rattle.facts.specs.declared.profile.Profile.TheVariants as profile
+use Rattle.front.proofs.One.{one_reading}
+use Rattle.front.proofs.OneWeakened.{one_weakened}
+use Rattle.front.specs.Readings.{Reading, sound, refused}
+use Rattle.front.specs.declared.reading.SourceFault.{SourceFault}
+use Rattle.listing.specs.Text.{races_text_of}
+use Rattle.listing.specs.WeakText.{weak_text_of}
+use Rattle.lock_sound.specs.Weakened.{Analysed}
+use Rattle.order_log.proofs.Only.{log_at-only}
+use Rattle.order_log.specs.Log.{LogView}
+use Rattle.order_log.specs.declared.fault.LogFault.{LogFault}
+use Rattle.order_log.specs.declared.fault.LogFault.TheVariants.{LogSyntax, LogLimit, OutOfMemory}
+use Rattle.outcomes.specs.Outcomes.{answers}
+use Rattle.outcomes.specs.Steps.{Comes, IsFile, IsWithin, Then}
+use Rattle.outcomes.specs.declared.outcome.Outcome.{Outcome}
+use Rattle.profile_book.proofs.OneAnswer.{one_answer}
+use Rattle.profile_book.specs.Faults.{number_of}
+use Rattle.profile_book.specs.declared.fault.ProfileFault.{ProfileFault}
+use Rattle.profile_book.specs.declared.fault.ProfileFault.TheVariants as unread
+use Rattle.rr_base.specs.Files.{Files}
+use Rattle.walk_answers.proofs.OneWalk.{one_walk}
+use Rattle.jobs.specs.Jobs.{IsOutcome, IsRaces, IsReplay, IsWeaken, RunsThreads}
+use Rattle.jobs.specs.Laws.{OneOutcome}
+use Rattle.jobs.specs.Listings.{ListsRaces, ListsWeakLocks}
+use Rattle.job_profiles.specs.Profiles.{IsProfile, IsSpelled}
+use Rattle.jobs.specs.Replays.{IsLogIn, IsRefusal, Replays}
+use Rattle.jobs.specs.Sources.{IsFound, IsTree}
+use Rattle.walk_answers.specs.Walking.{answer_of, formula_of, kept, outcome_of, put_of}
+
+-- ---- steps
+
+module _ {X : Type 0} (IsStep : Result X Answer → Type 0) (Next : X → Outcome → Type 0) (o p : Outcome) where
+  then_once : (r : Result X Answer) → ((x : X) → Next x o → Next x p → o ≡ p) → Then Next r o → Then Next r p → o ≡ p
+  then_once (Ok x) next h g = next x h g
+  then_once (Err a) next h g = h ∙ sym g
+
+  pub comes_once : ((r s : Result X Answer) → IsStep r → IsStep s → r ≡ s) → ((x : X) → Next x o → Next x p → o ≡ p) → Comes IsStep Next o → Comes IsStep Next p → o ≡ p
+  comes_once one next h g = then_once g.step next (subst (λ r. Then Next r o) (one h.step g.step h.is g.is) h.next) g.next
+
+same_some : {A : Type 0} (x y : A) → Some x ≡ Some y → x ≡ y
+same_some x y e = cc e
+
+within_once : (most : ℕ) (what : Part) (content : List ℕ) (r s : Result (List ℕ) Answer) → IsWithin most what content r → IsWithin most what content s → r ≡ s
+within_once most what content (Ok x) (Ok y) h g = ap Ok (h.0 ∙ sym g.0)
+within_once most what content (Ok x) (Err b) h g = absurd (omega (arith, h.1, g.0))
+within_once most what content (Err a) (Ok y) h g = absurd (omega (arith, h.0, g.1))
+within_once most what content (Err a) (Err b) h g = ap Err (h.1 ∙ sym g.1)
+
+file_once : (files : Files) (most : ℕ) (what : Part) (name : List ℕ) (r s : Result (List ℕ) Answer) → IsFile (Some files) most what name r → IsFile (Some files) most what name s → r ≡ s
+file_once files most what name r s h g =
+    let same : h.content ≡ g.content = same_some h.content g.content (sym h.held ∙ g.held) in
+    within_once most what g.content r s (subst (λ c. IsWithin most what c r) same h.within) g.within
+
+-- ---- sources
+
+same_refusal : (f g : SourceFault) → f ≡ g → answer.SourceRefused f.number f.line f.column ≡ answer.SourceRefused g.number g.line g.column
+same_refusal f g e = ap (λ (x : SourceFault). answer.SourceRefused x.number x.line x.column) e
+
+tree_once : (source : List ℕ) (r s : Result (List Outer) Answer) → IsTree source r → IsTree source s → r ≡ s
+tree_once source (Ok os) (Ok xs) h g = cc (one_reading source (sound os) (sound xs) h g)
+tree_once source (Ok os) (Err b) h g = absurd (cc (one_reading source (sound os) (refused g.0) h g.1))
+tree_once source (Err a) (Ok xs) h g = absurd (cc (one_reading source (refused h.0) (sound xs) h.1 g))
+tree_once source (Err a) (Err b) h g =
+    let same : h.0 ≡ g.0 = cc (one_reading source (refused h.0) (refused g.0) h.1 g.1) in
+    ap Err (h.2 ∙ same_refusal h.0 g.0 same ∙ sym g.2)
+
+found_once : (os : List Outer) (p : ProfileOf) (a b : Analysed) → IsFound os p a → IsFound os p b → a ≡ b
+found_once os p a b h g = one_weakened a b h.is g.is (h.of ∙ sym g.of) (h.by_profile ∙ sym g.by_profile)
+
+-- ---- profiles
+
+spelled_once : (file : Result (List ℕ) Answer) (r s : Result ProfileOf Answer) → IsSpelled file r → IsSpelled file s → r ≡ s
+spelled_once (Err a) r s h g = h ∙ sym g
+spelled_once (Ok bytes) (Ok p) (Ok q) h g = cc (one_answer bytes (Ok p) (Ok q) h g (λ e. absurd (cc e)) (λ e. absurd (cc e)))
+spelled_once (Ok bytes) (Ok p) (Err b) h g = absurd (cc (one_answer bytes (Ok p) (Err g.0) h g.2 (λ e. absurd (cc e)) (λ e. absurd (cc (e, g.3)))))
+spelled_once (Ok bytes) (Err a) (Ok q) h g = absurd (cc (one_answer bytes (Err h.0) (Ok q) h.2 g (λ e. absurd (cc (e, h.3))) (λ e. absurd (cc e))))
+spelled_once (Ok bytes) (Err a) (Err b) h g =
+    let same = one_answer bytes (Err h.0) (Err g.0) h.2 g.2 (λ e. absurd (cc (e, h.3))) (λ e. absurd (cc (e, g.3))) in
+    cc (same, h.3, g.3, h.4, g.4)
+
+profile_once : (files : Files) (name : Option (List ℕ)) (r s : Result ProfileOf Answer) → IsProfile (Some files) name r → IsProfile (Some files) name s → r ≡ s
+profile_once files None r s h g = h ∙ sym g
+profile_once files (Some name) r s h g =
+    let same : h.0 ≡ g.0 = file_once files 1048576 part.Profile name h.0 g.0 h.1 g.1 in
+    spelled_once g.0 r s (subst (λ f. IsSpelled f r) same h.2) g.2
+
+-- ---- logs
+
+refusal_once : (fault : LogFault) (a b : Answer) → IsRefusal fault a → IsRefusal fault b → a ≡ b
+refusal_once (LogSyntax line) a b h g = h ∙ sym g
+refusal_once (LogLimit line) a b h g = h ∙ sym g
+refusal_once OutOfMemory a b h g = absurd h
+
+log_once : (bytes : List ℕ) (r s : Result LogView Answer) → IsLogIn bytes r → IsLogIn bytes s → r ≡ s
+log_once bytes (Ok v) (Ok w) h g = cc (sym (log_at-only bytes (Ok v) h) ∙ log_at-only bytes (Ok w) g)
+log_once bytes (Ok v) (Err b) h g = absurd (cc (sym (log_at-only bytes (Ok v) h) ∙ log_at-only bytes (Err g.0) g.1))
+log_once bytes (Err a) (Ok w) h g = absurd (cc (sym (log_at-only bytes (Err h.0) h.1) ∙ log_at-only bytes (Ok w) g))
+log_once bytes (Err a) (Err b) h g =
+    let same : h.0 ≡ g.0 = cc (sym (log_at-only bytes (Err h.0) h.1) ∙ log_at-only bytes (Err g.0) g.1) in
+    ap Err (refusal_once g.0 a b (subst (λ f. IsRefusal f a) same h.2) g.2)
+
+-- ---- what comes of a code
+
+races_once : (os : List Outer) (o p : Outcome) → ListsRaces os o → ListsRaces os p → o ≡ p
+races_once os o p h g =
+    let same : h.found ≡ g.found = found_once os profile.All h.found g.found h.is g.is in
+    h.told ∙ ap (λ (w : Analysed). answers (answer.Done (races_text_of w.plain w.pairs))) same ∙ sym g.told
+
+locks_once : (q : ProfileOf) (os : List Outer) (o p : Outcome) → ListsWeakLocks q os o → ListsWeakLocks q os p → o ≡ p
+locks_once q os o p h g =
+    let same : h.found ≡ g.found = found_once os q h.found g.found h.is g.is in
+    h.told ∙ ap (λ (w : Analysed). answers (answer.Done (weak_text_of w.plain w.weak.locks w.grains.rows))) same ∙ sym g.told
+
+replays_once : (log : LogView) (reads : Option (List ℕ)) (os : List Outer) (o p : Outcome) → Replays log reads os o → Replays log reads os p → o ≡ p
+replays_once log reads os o p h g =
+    let same : h.found ≡ g.found = found_once os log.profile h.found g.found h.is g.is in
+    let walks : WalkIs g.found.weak log.setup log.entries (formula_of reads) h.walk = subst (λ (w : Analysed). WalkIs w.weak log.setup log.entries (formula_of reads) h.walk) same h.walks in
+    let one = one_walk g.found.weak log.setup log.entries (formula_of reads) h.walk g.walk walks g.walks in
+    h.told ∙ (λ i. record { puts = [] ++ put_of reads (one.1 i); answer = one.0 i }) ∙ sym g.told
+
+-- ---- jobs
+
+-- the source of every job
+source_once : (files : Files) (source : List ℕ) (Next : List ℕ → Outcome → Type 0) (o p : Outcome) → ((text : List ℕ) → Next text o → Next text p → o ≡ p) → Comes (IsFile (Some files) 1048576 part.Source source) Next o → Comes (IsFile (Some files) 1048576 part.Source source) Next p → o ≡ p
+source_once files source Next o p next h g = comes_once (IsFile (Some files) 1048576 part.Source source) Next o p (file_once files 1048576 part.Source source) next h g
+
+by_tree : (text : List ℕ) (Next : List Outer → Outcome → Type 0) (o p : Outcome) → ((os : List Outer) → Next os o → Next os p → o ≡ p) → Comes (IsTree text) Next o → Comes (IsTree text) Next p → o ≡ p
+by_tree text Next o p next h g = comes_once (IsTree text) Next o p (tree_once text) next h g
+
+of_races : (files : Files) (source : List ℕ) (o p : Outcome) → IsRaces (Some files) source o → IsRaces (Some files) source p → o ≡ p
+of_races files source o p h g = source_once files source (λ text. Comes (IsTree text) ListsRaces) o p (λ text. by_tree text ListsRaces o p (λ os. races_once os o p)) h g
+
+of_weaken : (files : Files) (source : List ℕ) (name : Option (List ℕ)) (o p : Outcome) → IsWeaken (Some files) source name o → IsWeaken (Some files) source name p → o ≡ p
+of_weaken files source name o p h g =
+    source_once files source (λ text. Comes (IsProfile (Some files) name) (λ q. Comes (IsTree text) (ListsWeakLocks q))) o p
+    (λ text. comes_once (IsProfile (Some files) name) (λ q. Comes (IsTree text) (ListsWeakLocks q)) o p (profile_once files name)
+    (λ q. by_tree text (ListsWeakLocks q) o p (λ os. locks_once q os o p))) h g
+
+of_replay : (files : Files) (source log : List ℕ) (reads : Option (List ℕ)) (o p : Outcome) → IsReplay (Some files) source log reads o → IsReplay (Some files) source log reads p → o ≡ p
+of_replay files source log reads o p h g =
+    source_once files source (λ text. Comes (IsFile (Some files) 536870912 part.Log log) (λ bytes. Comes (IsLogIn bytes) (λ view. Comes (IsTree text) (Replays view reads)))) o p
+    (λ text. comes_once (IsFile (Some files) 536870912 part.Log log) (λ bytes. Comes (IsLogIn bytes) (λ view. Comes (IsTree text) (Replays view reads))) o p (file_once files 536870912 part.Log log)
+    (λ bytes. comes_once (IsLogIn bytes) (λ view. Comes (IsTree text) (Replays view reads)) o p (log_once bytes)
+    (λ view. by_tree text (Replays view reads) o p (λ os. replays_once view reads os o p)))) h g
+
+pub one_outcome : OneOutcome
+one_outcome files left None o p none h g = h ∙ sym g
+one_outcome files left (Some (Races source)) o p none h g = of_races files source o p h g
+one_outcome files left (Some (Weaken source name)) o p none h g = of_weaken files source name o p h g
+one_outcome files left (Some (Record r)) o p none h g = absurd (none tt)
+one_outcome files left (Some (Replay source log reads)) o p none h g = of_replay files source log reads o p h g
+one_outcome files left (Some (Profile source log name)) o p none h g = h ∙ sym g
+one_outcome files left (Some (Make count name)) o p none h g = h ∙ sym g

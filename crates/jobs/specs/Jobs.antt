@@ -1,0 +1,71 @@
+-- The outcomes that each job may have on the files of a shelf and an input, where these tell what they hold: step by step, in the
+-- order in which a refusal comes.
+use Rattle.std.specs.Prelude.{◌≡◌, ℕ, Bool, nat_le, List, Option, Some, None}
+use Rattle.answers.specs.Jobs.{Asked, RecordAsked}
+use Rattle.answers.specs.Jobs.Asked.{Races, Weaken, Record, Replay, Profile, Make}
+use Rattle.answers.specs.declared.answer.Answer.TheVariants as answer
+use Rattle.answers.specs.declared.answer.Part.TheVariants as part
+use Rattle.outcomes.specs.Outcomes.{answers}
+use Rattle.outcomes.specs.Steps.{Comes, IsFile, IsInput}
+use Rattle.outcomes.specs.declared.outcome.Outcome.{Outcome}
+use Rattle.rr_base.specs.Files.{Files}
+use Rattle.jobs.specs.Listings.{ListsRaces, ListsWeakLocks}
+use Rattle.job_profiles.specs.Profiles.{IsProfile, named}
+use Rattle.jobs.specs.Recordings.{IsRecording}
+use Rattle.jobs.specs.Replays.{IsLogIn, Replays}
+use Rattle.jobs.specs.Sources.{IsTree}
+
+-- the source of this name
+abbrev pub IsSource : Option Files → List ℕ → (List ℕ → Outcome → Type 0) → Outcome → Type 0
+IsSource files source Next o = Comes (IsFile files 1048576 part.Source source) Next o
+
+abbrev pub IsRaces : Option Files → (source : List ℕ) → Outcome → Type 0
+IsRaces files source o = IsSource files source (λ text. Comes (IsTree text) ListsRaces) o
+
+abbrev pub IsWeaken : Option Files → (source : List ℕ) → (profile : Option (List ℕ)) → Outcome → Type 0
+IsWeaken files source profile o =
+    IsSource files source (λ text.
+    Comes (IsProfile files profile) (λ p.
+    Comes (IsTree text) (ListsWeakLocks p))) o
+
+abbrev pub IsReplay : Option Files → (source log : List ℕ) → (reads : Option (List ℕ)) → Outcome → Type 0
+IsReplay files source log reads o =
+    IsSource files source (λ text.
+    Comes (IsFile files 536870912 part.Log log) (λ bytes.
+    Comes (IsLogIn bytes) (λ view.
+    Comes (IsTree text) (Replays view reads)))) o
+
+abbrev pub IsRecord : Option Files → (left : Option (List ℕ)) → RecordAsked → Outcome → Type 0
+IsRecord files left r o =
+    IsSource files r.source (λ text.
+    Comes (IsProfile files r.profile) (λ p.
+    Comes (IsTree text) (λ os.
+    Comes (IsInput left 1048576 part.Input) (λ input.
+    IsRecording r (named p) os input)))) o
+
+-- words that are no job, and jobs that the program doesn't do yet, are answered by `usage`
+abbrev pub IsOutcome : Option Files → (left : Option (List ℕ)) → Option Asked → Outcome → Type 0
+IsOutcome files left None o = o ≡ answers answer.Usage
+IsOutcome files left (Some (Races source)) o = IsRaces files source o
+IsOutcome files left (Some (Weaken source profile)) o = IsWeaken files source profile o
+IsOutcome files left (Some (Record r)) o = IsRecord files left r o
+IsOutcome files left (Some (Replay source log reads)) o = IsReplay files source log reads o
+IsOutcome files left (Some (Profile source log name)) o = o ≡ answers answer.Usage
+IsOutcome files left (Some (Make count name)) o = o ≡ answers answer.Usage
+
+-- ---- what a job touches
+
+abbrev pub UsesShelf : Option Asked → Type 0
+UsesShelf None = ⊥
+UsesShelf (Some (Profile source log name)) = ⊥
+UsesShelf (Some (Make count name)) = ⊥
+UsesShelf _ = Unit {0}
+
+-- the job reads the input and has threads run
+abbrev pub RunsThreads : Option Asked → Type 0
+RunsThreads (Some (Record r)) = Unit {0}
+RunsThreads _ = ⊥
+
+-- the statuses with which the program ends
+abbrev pub is_status : ℕ → Bool
+is_status n = nat_le n 12

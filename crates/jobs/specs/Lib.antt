@@ -1,0 +1,6 @@
+pub mod Sources
+pub mod Listings
+pub mod Replays
+pub mod Recordings
+pub mod Jobs
+pub mod Laws

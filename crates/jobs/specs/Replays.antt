@@ -1,0 +1,36 @@
+-- A run of a source by a log: the walk of the log's entries on the source's weakened code.
+use Rattle.std.specs.Prelude.{◌≡◌, ℕ, List, [], Option, Result, Ok, Err}
+use Rattle.answers.specs.declared.answer.Answer.{Answer}
+use Rattle.answers.specs.declared.answer.Answer.TheVariants as answer
+use Rattle.c_tree.specs.Tree.{Outer}
+use Rattle.core_run.specs.declared.outcome.Walk.{Walk}
+use Rattle.core_run.specs.Walks.{WalkIs}
+use Rattle.lock_sound.specs.Weakened.{Analysed}
+use Rattle.order_log.specs.Log.{LogView}
+use Rattle.order_log.specs.Reading as log_text
+use Rattle.order_log.specs.declared.fault.LogFault.{LogFault}
+use Rattle.order_log.specs.declared.fault.LogFault.TheVariants.{LogSyntax, LogLimit, OutOfMemory}
+use Rattle.outcomes.specs.declared.outcome.Outcome.{Outcome}
+use Rattle.jobs.specs.Sources.{IsFound, WalksAsSource}
+use Rattle.walk_answers.specs.Walking.{formula_of, outcome_of}
+
+-- how a log is refused
+abbrev pub IsRefusal : LogFault → Answer → Type 0
+IsRefusal (LogSyntax line) a = a ≡ answer.LogRefused 23 line
+IsRefusal (LogLimit line) a = a ≡ answer.LogRefused 24 line
+IsRefusal OutOfMemory a = ⊥
+
+-- reading a log
+abbrev pub IsLogIn : (bytes : List ℕ) → Result LogView Answer → Type 0
+IsLogIn bytes (Ok log) = log_text.IsAnswer bytes (Ok log)
+IsLogIn bytes (Err a) = (fault : LogFault) × log_text.IsAnswer bytes (Err fault) × IsRefusal fault a
+
+-- the walk of the log on the code with the weak locks that it has for the log's profile. As far as the entries have a walk it is a
+-- run of the source
+pub record Replays (log : LogView) (reads : Option (List ℕ)) (os : List Outer) (o : Outcome) : Type 0 where
+  pub found : Analysed
+  pub is : IsFound os log.profile found
+  pub walk : Walk
+  pub walks : WalkIs found.weak log.setup log.entries (formula_of reads) walk
+  pub source : WalksAsSource os found.weak log.setup log.entries
+  pub told : o ≡ outcome_of [] reads walk

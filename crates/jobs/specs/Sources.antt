@@ -1,0 +1,65 @@
+-- Reading a source, and what its code is.
+use Rattle.std.specs.Prelude.{◌≡◌, ◌≤◌, ◌<◌, ◌≢◌, ℕ, List, Result, Ok, Err, Some}
+use Rattle.answers.specs.declared.answer.Answer.{Answer}
+use Rattle.answers.specs.declared.answer.Answer.TheVariants as answer
+use Rattle.c_elaborate.specs.Whole.{core_of_source}
+use Rattle.c_tree.specs.Tree.{Outer}
+use Rattle.core_run.specs.Machine.{Told, machine, start_state}
+use Rattle.core_run.specs.Walks.{out_of, walk_of}
+use Rattle.erasure.specs.Erased.{erased_walk, IsAnywhere}
+use Rattle.facts.specs.declared.profile.Profile.{Profile}
+use Rattle.flow_code.specs.declared.code.Code.{Code}
+use Rattle.front.specs.Plain.{plain_code}
+use Rattle.front.specs.Readings.{sound, refused, IsReading}
+use Rattle.front.specs.declared.reading.SourceFault.{SourceFault}
+use Rattle.lock_sound.specs.Weakened.{Analysed, IsAnalysed}
+use Rattle.outcomes.specs.declared.stop.Stop.{Stop}
+use Rattle.outcomes.specs.declared.stop.Stop.TheVariants as stop
+use Rattle.runs.specs.Labels.{Label}
+use Rattle.runs.specs.Laws.{Conflict}
+use Rattle.runs.specs.Ordered.{Event, event_access, event_at, event_thread, Ordered}
+use Rattle.runs.specs.Steps.{State}
+use Rattle.source_runs.specs.SourceRuns.{IsSourceRun, bytes_of}
+use Rattle.sync_objects.specs.Setup.{SetupView}
+use Rattle.sync_objects.specs.declared.entry.Entry.{Entry}
+
+-- reading a source: its tree, or its first fault
+abbrev pub IsTree : (source : List ℕ) → Result (List Outer) Answer → Type 0
+IsTree source (Ok os) = IsReading source (sound os)
+IsTree source (Err a) = (fault : SourceFault) × IsReading source (refused fault) × (a ≡ answer.SourceRefused fault.number fault.line fault.column)
+
+-- the code of the tree with what the analyses find of it, where the profile tells which functions may be at work at once, and
+-- with its weak locks
+pub record IsFound (os : List Outer) (p : Profile) (found : Analysed) : Type 0 where
+  pub is : IsAnalysed found
+  pub of : found.plain ≡ plain_code os
+  pub by_profile : found.profile ≡ p
+
+-- ---- what is known of runs of weakened code
+
+-- the entries' walk alone is a run of the source once the operations on stripes are left out, and tells the bytes that this run
+-- prints
+pub record IsSourceWalk (os : List Outer) (code : Code) (s : SetupView) (entries : List Entry) : Type 0 where
+  pub runs : IsSourceRun (core_of_source os) s IsAnywhere (erased_walk code s entries)
+  pub prints : out_of code s entries (start_state code s) ≡ bytes_of (erased_walk code s entries)
+
+-- .. where they have a walk
+abbrev pub WalksAsSource : List Outer → Code → SetupView → List Entry → Type 0
+WalksAsSource os code s entries = (end : State Told) → walk_of code s entries (start_state code s) ≡ Some end → IsSourceWalk os code s entries
+
+-- each two conflicting accesses of two threads in the run are ordered by operations, each of which passes its object on
+abbrev pub AreOrdered : Code → SetupView → List Label → Type 0
+AreOrdered code s labels =
+    let events = event_at (machine code s) labels (start_state code s) in
+    (i j : ℕ) (first second : Event) → i < j → events i ≡ Some first → events j ≡ Some second → event_thread first ≢ event_thread second → Conflict (event_access first) (event_access second) → Ordered events i j
+
+-- ---- for private clauses
+
+-- the code of the source, or its refusal
+abbrev pub Compiles : (source : List ℕ) → Profile → Result Analysed Stop → Type 0
+Compiles source p (Ok found) = (os : List Outer) × IsTree source (Ok os) × IsFound os p found
+Compiles source p (Err (stop.Refused a)) = IsTree source (Err a)
+Compiles source p (Err stop.ShelfFailed) = ⊥
+Compiles source p (Err stop.InputFailed) = ⊥
+Compiles source p (Err stop.CrewFailed) = ⊥
+Compiles source p (Err stop.OutOfMemory) = Unit {0}

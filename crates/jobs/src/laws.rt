@@ -1,0 +1,8 @@
+// How far files and words determine an outcome.
+
+ghost use Rattle.jobs.specs.Laws.{OneOutcome};
+
+/// A job that has no threads run has one outcome on files.
+pub fn law_one_outcome()
+    ensures { OneOutcome }
+{}

@@ -1,0 +1,54 @@
+// The race listing of a source.
+
+ghost use Rattle.std.specs.Prelude.{◌≡◌, ◌≤◌, ◌^◌, length, IfErr, IfOk, MatchResult};
+ghost use Rattle.answers.specs.declared.answer.Answer.TheVariants as answer;
+ghost use Rattle.jobs.specs.Jobs.{IsRaces};
+ghost use Rattle.jobs.specs.Listings.{ListsRaces};
+ghost use Rattle.jobs.specs.Sources.{IsTree};
+ghost use Rattle.outcomes.specs.Faults.{IsPure, ShelfStops};
+ghost use Rattle.listing.specs.Text.{races_text_of};
+ghost use Rattle.outcomes.specs.Outcomes.{answers};
+ghost use Rattle.outcomes.specs.Steps.{Comes, Gives};
+
+use crate::sources::{SOURCE_BYTES, compiled, or_stop};
+use answers::{Answer, Part};
+use facts::Profile;
+use listing::races_text;
+use lock_sound::Weakened;
+use outcomes::{Outcome, Stop, file};
+use rr_base::Shelf;
+use std::alloc::{AllocError, Global};
+
+// The listing of a code.
+fn listing_of<'a>(alloc: Global, weakened: &Weakened) -> Result<Outcome<'a>, AllocError>
+    ensures { IfOk result (λ o. o ≡ answers (answer.Done (races_text_of weakened.now.plain weakened.now.pairs))) }
+{
+    let out = races_text(alloc, weakened.plain(), weakened.pairs().as_slice())?;
+    Ok(Outcome::answers(alloc, Answer::Done { out }))
+}
+
+// The outcome of a source's bytes.
+fn listed<'a>(alloc: Global, source: &[u8]) -> Result<Outcome<'a>, Stop>
+    requires { length source.now ≤ 2 ^ 20 }
+    ensures outcome { Gives (Comes (IsTree source.now) ListsRaces) result }
+    ensures pure { IfErr result IsPure }
+{
+    match compiled(alloc, source, &Profile::All) {
+        Ok(weakened) => or_stop(listing_of(alloc, &weakened)),
+        Err(stop) => Err(stop),
+    }
+}
+
+/// The outcome of a source by its name.
+pub(crate) fn races<'a, S: Shelf>(
+    alloc: Global,
+    source: &'a str,
+    shelf: &mut S,
+) -> Result<Outcome<'a>, Stop>
+    ensures outcome { Gives (IsRaces (S.files shelf.old) source.now) result }
+    ensures files { S.files shelf.new ≡ S.files shelf.old }
+    ensures faults { MatchResult result (λ _. S.faults shelf.new ≡ S.faults shelf.old) (λ stop. ShelfStops stop (S.faults shelf.old) (S.faults shelf.new)) }
+{
+    let text = file(alloc, shelf, source, SOURCE_BYTES, Part::Source)?;
+    listed(alloc, text.as_slice())
+}

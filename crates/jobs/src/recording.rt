@@ -1,0 +1,170 @@
+// A recorded run of a source.
+
+ghost use Rattle.std.specs.Prelude.{◌≡◌, ◌≤◌, ◌^◌, ◌∷◌, [], length, IfErr, IfOk, MatchResult, option_map};
+ghost use Rattle.answers.specs.Jobs.{HasRecordLimits, record_told};
+ghost use Rattle.answers.specs.declared.answer.Part.TheVariants as part;
+ghost use Rattle.jobs.specs.Jobs.{IsRecord};
+ghost use Rattle.jobs.specs.Recordings.{IsRecorded, IsRecording, IsRunOf, log_put};
+ghost use Rattle.jobs.specs.Sources.{IsTree};
+ghost use Rattle.walk_answers.specs.Walking.{outcome_of as outcome_by};
+ghost use Rattle.order_log.specs.Log.{AreWithin, HasNames};
+ghost use Rattle.order_log.specs.Text.{log_text};
+ghost use Rattle.outcomes.specs.Faults.{CrewStops, RunStops, StopCounts};
+ghost use Rattle.outcomes.specs.Steps.{Comes, Gives, IsInput};
+ghost use Rattle.std.specs.List.{AllByRecursion};
+ghost use Rattle.sync_objects.specs.Names.{Fits};
+
+use crate::sources::{SOURCE_BYTES, compiled, or_stop};
+use access_order::law_ordered;
+use answers::{Part, RecordJob};
+use core_run::Formula;
+use crew::Crew;
+use facts::Profile;
+use job_profiles::{named, profile_of};
+use lock_sound::{Weakened, law_weakened_runs};
+use log_limits::law_log_is_within;
+use order_log::{Log, write_log};
+use outcomes::{Outcome, Put, Stop, file, input as whole_input};
+use race_free::law_no_race;
+use recorder::{Recorded, RunFault, record_run};
+use rr_base::{Bytes, List, Shelf, Source};
+use std::alloc::{AllocError, Global};
+use std::sync::Wait;
+use std::thread::Threads;
+use sync_objects::Setup;
+use text_runs::law_text_log;
+use walk_answers::{formula_of, outcome_of};
+
+/// The most bytes of an input.
+const INPUT_BYTES: u32 = 1_048_576;
+
+// A run of the weakened code, whose log is within the limits of a log.
+fn run<R: Threads + Wait + Sync, C: Crew>(
+    rt: &R,
+    alloc: Global,
+    weakened: &Weakened,
+    setup: &Setup,
+    formula: &Formula,
+    crew: &mut C,
+) -> Result<Recorded, Stop>
+    ensures run { IfOk result (IsRunOf weakened.now setup.now formula.now) }
+    ensures faults { MatchResult result (λ _. C.faults crew.new ≡ C.faults crew.old) (λ stop. CrewStops stop (C.faults crew.old) (C.faults crew.new)) }
+{
+    let code = weakened.code();
+    let _slots = setup.slots();
+    law_weakened_runs();
+    law_no_race();
+    law_ordered();
+    law_log_is_within();
+    match record_run(rt, alloc, code, setup, formula, crew) {
+        Ok(recorded) => Ok(recorded),
+        Err(RunFault::CrewFault) => Err(Stop::CrewFailed),
+        Err(RunFault::OutOfMemory) => Err(Stop::OutOfMemory),
+    }
+}
+
+// What a recording puts and tells.
+fn told<'a>(
+    alloc: Global,
+    recorded: Recorded,
+    setup: Setup,
+    profile: Profile,
+    job: &RecordJob<'a>,
+) -> Result<Outcome<'a>, AllocError>
+    requires names { HasNames profile }
+    requires fitting { AllByRecursion (λ e. Fits e.op e.obj) recorded.entries }
+    requires within { AreWithin setup recorded.entries }
+    ensures { IfOk result (λ o. o ≡ outcome_by (record { name = job.now.log.now; content = log_text (record { setup = setup; profile = profile; entries = recorded.entries }) } ∷ []) (option_map (λ n. n.now) job.now.reads) recorded.walk) }
+{
+    let Recorded { entries, walk } = recorded;
+    let log = Log::new(setup, profile, entries);
+    let mut puts = List::new(alloc);
+    puts.push(Put::new(job.log, write_log(alloc, &log)?))?;
+    outcome_of(alloc, puts, job.reads, walk)
+}
+
+// The recording of weakened code on an input.
+fn recorded_on<'a, R: Threads + Wait + Sync, C: Crew>(
+    rt: &R,
+    alloc: Global,
+    weakened: &Weakened,
+    profile: Profile,
+    input: Bytes,
+    job: &RecordJob<'a>,
+    crew: &mut C,
+) -> Result<Outcome<'a>, Stop>
+    requires limits { HasRecordLimits (record_told job.now) }
+    requires short { length input ≤ 1048576 }
+    requires names { HasNames profile }
+    ensures outcome { IfOk result (IsRecorded (record_told job.now) profile weakened.now input) }
+    ensures faults { MatchResult result (λ _. C.faults crew.new ≡ C.faults crew.old) (λ stop. CrewStops stop (C.faults crew.old) (C.faults crew.new)) }
+{
+    let setup = Setup::new(job.slots, job.cells, job.limit, input);
+    let formula = formula_of(job.reads);
+    match run(rt, alloc, weakened, &setup, &formula, crew) {
+        Ok(recorded) => or_stop(told(alloc, recorded, setup, profile, job)),
+        Err(stop) => Err(stop),
+    }
+}
+
+// The recording of weakened code, whose input comes first.
+fn recorded_code<'a, R: Threads + Wait + Sync, I: Source, C: Crew>(
+    rt: &R,
+    alloc: Global,
+    weakened: &Weakened,
+    profile: Profile,
+    job: &RecordJob<'a>,
+    input: &mut I,
+    crew: &mut C,
+) -> Result<Outcome<'a>, Stop>
+    requires limits { HasRecordLimits (record_told job.now) }
+    requires names { HasNames profile }
+    ensures outcome { Gives (Comes (IsInput (I.left input.old) 1048576 part.Input) (IsRecorded (record_told job.now) profile weakened.now)) result }
+    ensures faults { MatchResult result (λ _. (I.faults input.new ≡ I.faults input.old) × (C.faults crew.new ≡ C.faults crew.old)) (λ stop. RunStops stop (I.faults input.old) (I.faults input.new) (C.faults crew.old) (C.faults crew.new)) }
+{
+    let bytes = whole_input(alloc, input, INPUT_BYTES, Part::Input)?;
+    recorded_on(rt, alloc, weakened, profile, bytes, job, crew)
+}
+
+// The outcome of a source's bytes for this profile.
+fn recorded<'a, R: Threads + Wait + Sync, I: Source, C: Crew>(
+    rt: &R,
+    alloc: Global,
+    source: &[u8],
+    profile: Profile,
+    job: &RecordJob<'a>,
+    input: &mut I,
+    crew: &mut C,
+) -> Result<Outcome<'a>, Stop>
+    requires limits { HasRecordLimits (record_told job.now) }
+    requires short { length source.now ≤ 2 ^ 20 }
+    requires names { HasNames profile }
+    ensures outcome { Gives (Comes (IsTree source.now) (λ os. Comes (IsInput (I.left input.old) 1048576 part.Input) (λ bytes. IsRecording (record_told job.now) profile os bytes))) result }
+    ensures faults { MatchResult result (λ _. (I.faults input.new ≡ I.faults input.old) × (C.faults crew.new ≡ C.faults crew.old)) (λ stop. RunStops stop (I.faults input.old) (I.faults input.new) (C.faults crew.old) (C.faults crew.new)) }
+{
+    law_text_log();
+    match compiled(alloc, source, &profile) {
+        Ok(weakened) => recorded_code(rt, alloc, &weakened, profile, job, input, crew),
+        Err(stop) => Err(stop),
+    }
+}
+
+/// The outcome of a recording of a source by its name.
+pub(crate) fn record_source<'a, R: Threads + Wait + Sync, I: Source, S: Shelf, C: Crew>(
+    rt: &R,
+    alloc: Global,
+    job: &RecordJob<'a>,
+    input: &mut I,
+    shelf: &mut S,
+    crew: &mut C,
+) -> Result<Outcome<'a>, Stop>
+    requires limits { HasRecordLimits (record_told job.now) }
+    ensures outcome { Gives (IsRecord (S.files shelf.old) (I.left input.old) (record_told job.now)) result }
+    ensures files { S.files shelf.new ≡ S.files shelf.old }
+    ensures faults { MatchResult result (λ _. (S.faults shelf.new ≡ S.faults shelf.old) × (I.faults input.new ≡ I.faults input.old) × (C.faults crew.new ≡ C.faults crew.old)) (λ stop. StopCounts stop (record { shelf = S.faults shelf.old; input = I.faults input.old; crew = C.faults crew.old }) (record { shelf = S.faults shelf.new; input = I.faults input.new; crew = C.faults crew.new })) }
+{
+    let text = file(alloc, shelf, job.source, SOURCE_BYTES, Part::Source)?;
+    let profile = profile_of(alloc, shelf, job.profile)?;
+    let profile = named(alloc, &profile)?;
+    recorded(rt, alloc, text.as_slice(), profile, job, input, crew)
+}

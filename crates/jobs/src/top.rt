@@ -1,0 +1,78 @@
+// The whole call: from words to the files that are put, what is written, and the status.
+
+ghost use Rattle.std.specs.Prelude.{◌≡◌, map, string_bytes, IfErr, IsTrue, MatchResult, Some};
+ghost use Rattle.answers.specs.Jobs.{HasLimits, job_of as job_by, told};
+ghost use Rattle.jobs.specs.Jobs.{IsOutcome, RunsThreads, UsesShelf, is_status};
+ghost use Rattle.outcomes.specs.Endings.{Ends, MayStop};
+ghost use Rattle.outcomes.specs.Faults.{StopCounts};
+ghost use Rattle.outcomes.specs.Steps.{Gives};
+ghost use Rattle.rr_base.specs.Faults.{Rose};
+
+use crate::races::races;
+use crate::recording::record_source;
+use crate::replaying::replay;
+use crate::weak_locks::weak_locks;
+use answers::{Answer, Job, job_of, tell_answer};
+use crew::Crew;
+use outcomes::{Outcome, Stop, finish, tell_stop};
+use rr_base::{Shelf, Sink, Source};
+use std::alloc::Global;
+use std::sync::Wait;
+use std::thread::Threads;
+
+// The outcome of a job.
+fn outcome_of_job<'a, R: Threads + Wait + Sync, I: Source, S: Shelf, C: Crew>(
+    rt: &R,
+    alloc: Global,
+    job: Job<'a>,
+    input: &mut I,
+    shelf: &mut S,
+    crew: &mut C,
+) -> Result<Outcome<'a>, Stop>
+    requires { HasLimits (told job) }
+    ensures outcome { Gives (IsOutcome (S.files shelf.old) (I.left input.old) (Some (told job.entry))) result }
+    ensures files { S.files shelf.new ≡ S.files shelf.old }
+    ensures faults { MatchResult result (λ _. (S.faults shelf.new ≡ S.faults shelf.old) × (I.faults input.new ≡ I.faults input.old) × (C.faults crew.new ≡ C.faults crew.old)) (λ stop. StopCounts stop (record { shelf = S.faults shelf.old; input = I.faults input.old; crew = C.faults crew.old }) (record { shelf = S.faults shelf.new; input = I.faults input.new; crew = C.faults crew.new })) }
+    ensures causes { IfErr result (MayStop (UsesShelf (Some (told job.entry))) (RunsThreads (Some (told job.entry)))) }
+    ensures input { (RunsThreads (Some (told job.entry)) → ⊥) → input.new ≡ input.old }
+{
+    match job {
+        Job::Races { source } => races(alloc, source, shelf),
+        Job::Weaken { source, profile } => weak_locks(alloc, source, profile, shelf),
+        Job::Replay { source, log, reads } => replay(alloc, source, log, reads, shelf),
+        Job::Record(job) => record_source(rt, alloc, &job, input, shelf, crew),
+        Job::Profile { .. } | Job::Make { .. } => Ok(Outcome::answers(alloc, Answer::Usage)),
+    }
+}
+
+/// Does what the words behind the program's name ask for, and answers the exit status: 0 where the run ended or the listing was
+/// written, 1 where the words are no job, 2 where the source is refused, 3 where a thread trapped, 4 where the log is refused, 5
+/// where it isn't one of this program, 6 where the profile is refused, 7 where the input failed, 8 where the sink did, 9 where the
+/// shelf did, 10 where the crew did, 11 where a file or the input has too many bytes, 12 without memory. Nothing is put but where
+/// the run ended or a thread trapped, and only a recording touches `input` and `crew`.
+pub fn chimera<R: Threads + Wait + Sync, I: Source, O: Sink, S: Shelf, C: Crew>(
+    rt: &R,
+    alloc: Global,
+    words: &[String],
+    input: &mut I,
+    out: &mut O,
+    shelf: &mut S,
+    crew: &mut C,
+) -> u8
+    ensures ends { let job = job_by (map string_bytes words.now) in Ends (IsOutcome (S.files shelf.old) (I.left input.old) job) (UsesShelf job) (RunsThreads job) (record { files = S.files shelf.old; counts = record { shelf = S.faults shelf.old; input = I.faults input.old; crew = C.faults crew.old }; out = record { held = O.held out.old; faults = O.faults out.old } }) (record { files = S.files shelf.new; counts = record { shelf = S.faults shelf.new; input = I.faults input.new; crew = C.faults crew.new }; out = record { held = O.held out.new; faults = O.faults out.new } }) result }
+    ensures status { IsTrue (is_status result) }
+    // Each of these comes only from a fault of its object.
+    ensures read_fault { result ≡ 7 → Rose (I.faults input.old) (I.faults input.new) }
+    ensures write_fault { result ≡ 8 → Rose (O.faults out.old) (O.faults out.new) }
+    ensures shelf_fault { result ≡ 9 → Rose (S.faults shelf.old) (S.faults shelf.new) }
+    ensures crew_fault { result ≡ 10 → Rose (C.faults crew.old) (C.faults crew.new) }
+    ensures input { (RunsThreads (job_by (map string_bytes words.now)) → ⊥) → input.new ≡ input.old }
+{
+    let Some(job) = job_of(words) else {
+        return tell_answer(alloc, out, Answer::Usage);
+    };
+    match outcome_of_job(rt, alloc, job, input, shelf, crew) {
+        Ok(outcome) => finish(alloc, outcome, shelf, out),
+        Err(stop) => tell_stop(alloc, out, stop),
+    }
+}
