@@ -1,4 +1,0 @@
-pub mod Sources
-pub mod Listings
-pub mod Replays
-pub mod Endings

@@ -1,27 +1,26 @@
-//! The program: it replays a C source by a log of its order of synchronisation, and lists the accesses of a source that may
-//! race, and its weak locks. It stands on all crates below. It promises that what it writes is the answer that its words and
-//! files have, and names the cause of each other end.
+//! The program: it records a run of a C source with its log, runs a source by a log, and lists the accesses of a source that may
+//! race, and its weak locks. It stands on `jobs`, which promises what its words and files come to.
 #![tactic(auto)]
 
 #[cfg(test)]
 mod race_tests;
-mod races;
-mod replay;
+#[cfg(test)]
+mod record_tests;
 #[cfg(test)]
 mod tests;
-mod top;
-mod weak_locks;
 #[cfg(test)]
 mod weak_tests;
 #[cfg(test)]
 mod whole_tests;
 
 use answers::{FileShelf, InSource, OutSink};
+use crew::SchedCrew;
+use jobs::chimera;
+use rr_base::List;
 use std::env;
 use std::io::{self, ErrorKind};
 use std::process::ExitCode;
 use std::rt::Files;
-use top::chimera;
 
 // The words behind the program's name.
 fn words(rt: &(impl std::rt::Env + AllocGlobal)) -> io::Result<Vec<String>> {
@@ -42,11 +41,14 @@ fn main(rt: HostRuntime) -> ExitCode {
     let mut input = InSource::new(rt.stdin());
     let mut out = OutSink::new(io::writer(&rt));
     let mut shelf = FileShelf::new(&rt);
+    let mut crew = SchedCrew::new(List::new(rt.alloc()), u64::MAX);
     ExitCode::from(chimera(
+        &rt,
         rt.alloc(),
         words.as_slice(),
         &mut input,
         &mut out,
         &mut shelf,
+        &mut crew,
     ))
 }

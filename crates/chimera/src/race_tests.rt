@@ -2,7 +2,9 @@ use crate::tests::{BANK, check, joined, shelf_of};
 use rr_base::List;
 use std::alloc::Global;
 use std::process::Abort;
+use std::sync::Wait;
 use std::test::Fail;
+use std::thread::Threads;
 
 // A counter without a lock.
 pub const COUNTER: &str = "#include <pthread.h>
@@ -157,7 +159,7 @@ const ROWS: [(&str, &str, u8); 12] = [
 
 static RACES: [&str; 2] = ["races", "a"];
 
-fn check_rows(rt: &impl Abort, alloc: Global) -> Result<(), Fail> {
+fn check_rows(rt: &(impl Abort + Threads + Wait + Sync), alloc: Global) -> Result<(), Fail> {
     for (source, text, status) in ROWS {
         let mut shelf = shelf_of(alloc, joined(alloc, &[source])?, List::new(alloc))?;
         check(rt, alloc, &RACES, &[], &mut shelf, (text, status))?;
@@ -166,7 +168,7 @@ fn check_rows(rt: &impl Abort, alloc: Global) -> Result<(), Fail> {
 }
 
 // No file of that name, a source of one byte more than it may have, and a sink that fails after four bytes.
-fn check_outside(rt: &impl Abort, alloc: Global) -> Result<(), Fail> {
+fn check_outside(rt: &(impl Abort + Threads + Wait + Sync), alloc: Global) -> Result<(), Fail> {
     let large = List::from_vec(vec![in alloc; b' '; 1_048_577]?);
     let mut shelf = shelf_of(alloc, large, List::new(alloc))?;
     let missing = ["races", "c"];

@@ -1,10 +1,13 @@
 ghost use Rattle.std.specs.Prelude.{◌<◌};
 
-use crate::top::chimera;
-use rr_base::{Bytes, List, MemShelf, MemSink, SoundSource};
+use crew::SchedCrew;
+use jobs::chimera;
+use rr_base::{Bytes, List, MemShelf, MemSink, MemSource};
 use std::alloc::{AllocError, Global};
 use std::process::Abort;
+use std::sync::Wait;
 use std::test::Fail;
+use std::thread::Threads;
 
 pub const BANK: &str = "#include <pthread.h>
 #include <stdio.h>
@@ -30,7 +33,7 @@ return 0; }
 
 pub const FIRST: &str = "chimera log 1\n";
 
-const SLOTS_1: &str = "slots 1\ncells 16384\nlimit 16777216\nprofile all\ninput 0\n\n";
+pub const SLOTS_1: &str = "slots 1\ncells 16384\nlimit 16777216\nprofile all\ninput 0\n\n";
 
 const SLOTS_2: &str = "slots 2\ncells 16384\nlimit 16777216\nprofile all\ninput 0\n\n";
 
@@ -52,7 +55,8 @@ const GOES_ON: &str =
 
 const LAST: &str = "7 0 close s7\n";
 
-const MISUSE: &str = "pthread_mutex_t m;\nint main(void) { pthread_mutex_unlock(&m); return 0; }\n";
+pub const MISUSE: &str =
+    "pthread_mutex_t m;\nint main(void) { pthread_mutex_unlock(&m); return 0; }\n";
 
 // A thread traps while `main` holds a lock and waits for it.
 const HELD: &str = "#include <pthread.h>
@@ -75,7 +79,7 @@ const SUM: &str =
 pub const SLOTS_3: &str = "slots 3\ncells 16384\nlimit 16777216\nprofile all\ninput 0\n\n";
 
 // One thread reads these two bytes.
-const INPUT_HI: &str = "slots 1\ncells 16384\nlimit 16777216\nprofile all\ninput 2\n6869\n";
+pub const INPUT_HI: &str = "slots 1\ncells 16384\nlimit 16777216\nprofile all\ninput 2\n6869\n";
 
 // The number that a cell held before it was freed.
 const FREED: &str =
@@ -94,10 +98,10 @@ return 0; }
 ";
 
 // A number that no pointer holds.
-const NO_POINTER: &str = "int main(void) {\nvoid *q = (void *)9007199254740992; return 0; }\n";
+pub const NO_POINTER: &str = "int main(void) {\nvoid *q = (void *)9007199254740992; return 0; }\n";
 
 // A thread divides by zero while `main` holds a lock.
-const DIVIDES: &str = "#include <pthread.h>
+pub const DIVIDES: &str = "#include <pthread.h>
 pthread_mutex_t m;
 void *f(void *p) {
 int z = 0;
@@ -112,7 +116,7 @@ return 0; }
 ";
 
 // No slot is left for the second thread.
-const NONE_LEFT: &str = "#include <pthread.h>
+pub const NONE_LEFT: &str = "#include <pthread.h>
 #include <stdio.h>
 void *f(void *p) { return p; }
 int main(void) {
@@ -124,11 +128,11 @@ return 0; }
 
 const OVERFLOWS: &str = "int main(void) { long x = 9223372036854775807; x = x + 1; return 0; }\n";
 
-const ECHOES: &str =
+pub const ECHOES: &str =
     "int main(void) { int c = getchar(); while (c != EOF) { putchar(c); c = getchar(); } return 0; }\n";
 
 // Two threads wait for a number that `main` raises twice.
-const WAITS: &str = "#include <pthread.h>
+pub const WAITS: &str = "#include <pthread.h>
 #include <stdio.h>
 pthread_mutex_t m; pthread_cond_t c; int n;
 void *f(void *p) {
@@ -151,7 +155,7 @@ return 0; }
 ";
 
 // Three threads pass a barrier twice, and one of them counts each time.
-const PASSES: &str = "#include <pthread.h>
+pub const PASSES: &str = "#include <pthread.h>
 #include <stdio.h>
 pthread_mutex_t m; pthread_barrier_t b; int n;
 void pass(void) { if (pthread_barrier_wait(&b) == PTHREAD_BARRIER_SERIAL_THREAD) { pthread_mutex_lock(&m); n = n + 1; pthread_mutex_unlock(&m); } }
@@ -413,7 +417,7 @@ static RUNS: [(&str, &[&str], &str, u8); 28] = [
 ];
 
 // The entries of a program of one thread that only ends.
-const IDLE: &str =
+pub const IDLE: &str =
     "0 1 halt H\n1 0 close s1\n2 0 close s2\n3 0 close s3\n4 0 close s4\n5 0 close s5\n6 0 close s6\n7 0 close s7\n";
 
 // A source, and what is told of it with a log of one thread that only ends: its faults by bytes, by the grammar, and by
@@ -452,7 +456,7 @@ pub fn joined(alloc: Global, parts: &[&str]) -> Result<Bytes, AllocError> {
     Ok(text)
 }
 
-// A shelf of a source `a` and a log `b`.
+/// A shelf of a source `a` and another file `b`.
 pub fn shelf_of(alloc: Global, source: Bytes, log: Bytes) -> Result<MemShelf, AllocError> {
     let mut files = List::new(alloc);
     files.push((List::from_slice(alloc, b"a")?, source))?;
@@ -460,37 +464,75 @@ pub fn shelf_of(alloc: Global, source: Bytes, log: Bytes) -> Result<MemShelf, Al
     Ok(MemShelf::new(files, List::new(alloc)))
 }
 
-// A sink that takes a byte a call and fails at these calls.
-fn sink_of(alloc: Global, fails: &[u64]) -> Result<MemSink, AllocError> {
-    let fails = List::from_slice(alloc, fails)?;
-    Ok(MemSink::new(List::new(alloc), fails, 1))
+/// The outside of a call but for its shelf: the input with the numbers of its reads that fail, the numbers of the sink's calls
+/// that fail, where each takes one byte, and the turns of the crew.
+pub struct Outside<'a> {
+    pub input: &'a [u8],
+    pub read_fails: &'a [u64],
+    pub write_fails: &'a [u64],
+    pub turns: u64,
 }
 
-// Calls with these words over a sink that fails at these calls, and compares what is told.
+/// No input, no fault, and all turns that are wanted.
+pub const SOUND: Outside<'static> = Outside {
+    input: &[],
+    read_fails: &[],
+    write_fails: &[],
+    turns: u64::MAX,
+};
+
+/// Calls with these words, and answers what the sink holds then, and the status.
+pub fn call(
+    rt: &(impl Abort + Threads + Wait + Sync),
+    alloc: Global,
+    words: &[&str],
+    outside: &Outside,
+    shelf: &mut MemShelf,
+) -> Result<(Bytes, u8), Fail> {
+    let mut owned = Vec::new(alloc);
+    for word in words {
+        owned.push(String::from_str(alloc, word)?)?;
+    }
+    let bytes = List::from_slice(alloc, outside.input)?;
+    let mut input = MemSource::new(bytes, List::from_slice(alloc, outside.read_fails)?);
+    let fails = List::from_slice(alloc, outside.write_fails)?;
+    let mut out = MemSink::new(List::new(alloc), fails, 1);
+    let mut crew = SchedCrew::new(List::new(alloc), outside.turns);
+    let status = chimera(
+        rt,
+        alloc,
+        owned.as_slice(),
+        &mut input,
+        &mut out,
+        shelf,
+        &mut crew,
+    );
+    Ok((out.bytes().copied(alloc)?, status))
+}
+
+/// Calls with these words over a sink that fails at these calls, and compares what is told.
 pub fn check(
-    rt: &impl Abort,
+    rt: &(impl Abort + Threads + Wait + Sync),
     alloc: Global,
     words: &[&str],
     fails: &[u64],
     shelf: &mut MemShelf,
     want: (&str, u8),
 ) -> Result<(), Fail> {
-    let mut owned = Vec::new(alloc);
-    for word in words {
-        owned.push(String::from_str(alloc, word)?)?;
-    }
-    let mut input = SoundSource::sound(List::new(alloc));
-    let mut out = sink_of(alloc, fails)?;
-    let status = chimera(alloc, owned.as_slice(), &mut input, &mut out, shelf);
+    let outside = Outside {
+        write_fails: fails,
+        ..SOUND
+    };
+    let (told, status) = call(rt, alloc, words, &outside, shelf)?;
     let (text, wanted) = want;
-    assert_eq!(rt; out.bytes().as_slice(), text.as_bytes());
+    assert_eq!(rt; told.as_slice(), text.as_bytes());
     assert_eq!(rt; status, wanted);
     Ok(())
 }
 
 static REPLAY: [&str; 3] = ["replay", "a", "b"];
 
-fn check_no_jobs(rt: &impl Abort, alloc: Global) -> Result<(), Fail> {
+fn check_no_jobs(rt: &(impl Abort + Threads + Wait + Sync), alloc: Global) -> Result<(), Fail> {
     for words in NO_JOBS {
         let mut shelf = shelf_of(alloc, List::new(alloc), List::new(alloc))?;
         check(rt, alloc, words, &[], &mut shelf, ("usage\n", 1))?;
@@ -499,7 +541,7 @@ fn check_no_jobs(rt: &impl Abort, alloc: Global) -> Result<(), Fail> {
 }
 
 // No file of that name, a source of one byte more than it may have, and a sink that fails at once and after one byte.
-fn check_outside(rt: &impl Abort, alloc: Global) -> Result<(), Fail> {
+fn check_outside(rt: &(impl Abort + Threads + Wait + Sync), alloc: Global) -> Result<(), Fail> {
     let large = List::from_vec(vec![in alloc; b' '; 1_048_577]?);
     let mut shelf = shelf_of(alloc, large, List::new(alloc))?;
     let missing = ["replay", "c", "b"];
@@ -517,7 +559,7 @@ fn check_outside(rt: &impl Abort, alloc: Global) -> Result<(), Fail> {
     check(rt, alloc, &REPLAY, &[1], &mut shelf, ("2", 8))
 }
 
-fn check_runs(rt: &impl Abort, alloc: Global) -> Result<(), Fail> {
+fn check_runs(rt: &(impl Abort + Threads + Wait + Sync), alloc: Global) -> Result<(), Fail> {
     for (source, log, text, status) in RUNS {
         let mut shelf = shelf_of(alloc, joined(alloc, &[source])?, joined(alloc, log)?)?;
         check(rt, alloc, &REPLAY, &[], &mut shelf, (text, status))?;
@@ -536,7 +578,7 @@ fn cut_answer(alloc: Global, front: &[u8]) -> Result<(String, u8), AllocError> {
 }
 
 // Each front part of the bank's log, byte by byte: none but the whole runs to the end.
-fn check_front_parts(rt: &impl Abort, alloc: Global) -> Result<(), Fail> {
+fn check_front_parts(rt: &(impl Abort + Threads + Wait + Sync), alloc: Global) -> Result<(), Fail> {
     let whole = joined(alloc, RUNS[0].1)?;
     for end in 0..whole.len() {
         let front = &whole.as_slice()[..end];
@@ -551,7 +593,7 @@ fn check_front_parts(rt: &impl Abort, alloc: Global) -> Result<(), Fail> {
     Ok(())
 }
 
-fn check_sources(rt: &impl Abort, alloc: Global) -> Result<(), Fail> {
+fn check_sources(rt: &(impl Abort + Threads + Wait + Sync), alloc: Global) -> Result<(), Fail> {
     for (source, text, status) in SOURCES {
         let log = joined(alloc, &[FIRST, SLOTS_8, IDLE])?;
         let mut shelf = shelf_of(alloc, joined(alloc, &[source])?, log)?;
@@ -571,7 +613,7 @@ fn nested(alloc: Global, depth: usize) -> Result<Bytes, AllocError> {
 }
 
 // One level more than 256, and the last that the grammar takes.
-fn check_levels(rt: &impl Abort, alloc: Global) -> Result<(), Fail> {
+fn check_levels(rt: &(impl Abort + Threads + Wait + Sync), alloc: Global) -> Result<(), Fail> {
     let rows = [(255, "source refused 8 1 278\n", 2), (254, "", 0)];
     for (depth, text, status) in rows {
         let log = joined(alloc, &[FIRST, SLOTS_8, IDLE])?;

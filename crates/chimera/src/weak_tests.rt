@@ -3,7 +3,9 @@ use crate::tests::{BANK, FIRST, SLOTS_3, check, joined, shelf_of};
 use rr_base::List;
 use std::alloc::Global;
 use std::process::Abort;
+use std::sync::Wait;
 use std::test::Fail;
+use std::thread::Threads;
 
 // Two threads store the two halves of an array.
 const HALVES: &str = "#include <pthread.h>
@@ -179,7 +181,7 @@ static RUNS: [(&str, &[&str], &str, u8); 9] = [
 
 static WEAKEN: [&str; 2] = ["weaken", "a"];
 
-fn check_listings(rt: &impl Abort, alloc: Global) -> Result<(), Fail> {
+fn check_listings(rt: &(impl Abort + Threads + Wait + Sync), alloc: Global) -> Result<(), Fail> {
     for (source, text, status) in LISTINGS {
         let mut shelf = shelf_of(alloc, joined(alloc, &[source])?, List::new(alloc))?;
         check(rt, alloc, &WEAKEN, &[], &mut shelf, (text, status))?;
@@ -189,7 +191,7 @@ fn check_listings(rt: &impl Abort, alloc: Global) -> Result<(), Fail> {
 
 static REPLAY: [&str; 3] = ["replay", "a", "b"];
 
-fn check_runs(rt: &impl Abort, alloc: Global) -> Result<(), Fail> {
+fn check_runs(rt: &(impl Abort + Threads + Wait + Sync), alloc: Global) -> Result<(), Fail> {
     for (source, log, text, status) in RUNS {
         let mut shelf = shelf_of(alloc, joined(alloc, &[source])?, joined(alloc, log)?)?;
         check(rt, alloc, &REPLAY, &[], &mut shelf, (text, status))?;
@@ -198,7 +200,7 @@ fn check_runs(rt: &impl Abort, alloc: Global) -> Result<(), Fail> {
 }
 
 // No file of that name, a source of one byte more than it may have, and a sink that fails after four bytes.
-fn check_outside(rt: &impl Abort, alloc: Global) -> Result<(), Fail> {
+fn check_outside(rt: &(impl Abort + Threads + Wait + Sync), alloc: Global) -> Result<(), Fail> {
     let large = List::from_vec(vec![in alloc; b' '; 1_048_577]?);
     let mut shelf = shelf_of(alloc, large, List::new(alloc))?;
     let missing = ["weaken", "c"];

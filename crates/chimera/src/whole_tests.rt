@@ -3,7 +3,9 @@
 use crate::tests::{check, joined, shelf_of};
 use std::alloc::Global;
 use std::process::Abort;
+use std::sync::Wait;
 use std::test::Fail;
+use std::thread::Threads;
 
 // Declarations, scopes, initials, operators, statements, pointers, members and prints, on one thread.
 const EVERY_CONSTRUCT: &str = "#include <stdio.h>
@@ -436,7 +438,7 @@ static ROWS: [(&str, &str, &str); 2] = [
     ),
 ];
 
-fn check_rows(rt: &impl Abort, alloc: Global) -> Result<(), Fail> {
+fn check_rows(rt: &(impl Abort + Threads + Wait + Sync), alloc: Global) -> Result<(), Fail> {
     for (source, log, prints) in ROWS {
         let mut shelf = shelf_of(alloc, joined(alloc, &[source])?, joined(alloc, &[log])?)?;
         check(

@@ -1,0 +1,241 @@
+use crate::race_tests::{COUNTER, HELD_BY_CALLER};
+use crate::tests::{
+    BANK, DIVIDES, ECHOES, FIRST, IDLE, INPUT_HI, MISUSE, NO_POINTER, NONE_LEFT, Outside, PASSES,
+    SLOTS_1, SLOTS_3, SLOTS_8, SOUND, WAITS, call, joined, shelf_of,
+};
+use rr_base::{Bytes, List, MemShelf};
+use std::alloc::Global;
+use std::process::Abort;
+use std::sync::Wait;
+use std::test::Fail;
+use std::thread::Threads;
+
+const SHORT: &str = "int main(void){return 0;}\n";
+
+// Words, a source, an input, what is told with which status, and the log where it is the only one.
+static RECORDS: [(&[&str], &str, &str, &str, u8, &[&str]); 10] = [
+    (&["record", "a", "l"], BANK, "", "20\n", 0, &[]),
+    (
+        &["record", "a", "l"],
+        SHORT,
+        "",
+        "",
+        0,
+        &[FIRST, SLOTS_8, IDLE],
+    ),
+    (
+        &["record", "--slots=1", "a", "l"],
+        ECHOES,
+        "hi",
+        "hi",
+        0,
+        &[
+            FIRST,
+            INPUT_HI,
+            "0 1 getchar I\n0 3 print O\n0 4 getchar I\n0 6 print O\n0 7 getchar I\n0 9 halt H\n",
+        ],
+    ),
+    (
+        &["record", "a", "l", "--slots", "1"],
+        MISUSE,
+        "",
+        "trap 9 thread 0 line 2\n",
+        3,
+        &[FIRST, SLOTS_1, "0 1 unlock m2\n0 2 trap H\n"],
+    ),
+    (
+        &["record", "a", "--slots", "1", "l"],
+        NO_POINTER,
+        "",
+        "trap 13 thread 0 line 2\n",
+        3,
+        &[FIRST, SLOTS_1, "0 1 trap H\n"],
+    ),
+    (
+        &["record", "a", "l", "--slots", "2"],
+        DIVIDES,
+        "",
+        "trap 1 thread 1 line 5\n",
+        3,
+        &[],
+    ),
+    (
+        &["record", "a", "l", "--slots", "2"],
+        NONE_LEFT,
+        "",
+        "11\n",
+        0,
+        &[],
+    ),
+    (&["record", "a", "l"], WAITS, "", "2\n", 0, &[]),
+    (&["record", "a", "l"], PASSES, "", "2\n", 0, &[]),
+    (
+        &["record", "a", "l", "--profile", "b"],
+        HELD_BY_CALLER,
+        "",
+        "",
+        0,
+        &[],
+    ),
+];
+
+// The shelf with the profile of no pairs beside the source.
+fn with_source(alloc: Global, source: &str) -> Result<MemShelf, Fail> {
+    Ok(shelf_of(
+        alloc,
+        joined(alloc, &[source])?,
+        joined(alloc, &["{\"pairs\":[]}"])?,
+    )?)
+}
+
+fn same_log(rt: &impl Abort, alloc: Global, shelf: &MemShelf, log: &[&str]) -> Result<(), Fail> {
+    let want = joined(alloc, log)?;
+    let found = shelf.content("l").map(|held| held.as_slice());
+    if log.is_empty() {
+        assert!(rt; found.is_some());
+    } else {
+        assert_eq!(rt; found, Some(want.as_slice()));
+    }
+    Ok(())
+}
+
+// Each row is told, and its log is told the same.
+#[test]
+fn records_and_replays(rt: HostRuntime) -> Result<(), Fail> {
+    let alloc = rt.alloc();
+    for (words, source, input, text, status, log) in RECORDS {
+        let mut shelf = with_source(alloc, source)?;
+        let outside = Outside {
+            input: input.as_bytes(),
+            turns: 1_000,
+            ..SOUND
+        };
+        for words in [words, &["replay", "a", "l"]] {
+            let (told, found) = call(&rt, alloc, words, &outside, &mut shelf)?;
+            assert_eq!(rt; told.as_slice(), text.as_bytes());
+            assert_eq!(rt; found, status, "{text}");
+            same_log(&rt, alloc, &shelf, log)?;
+        }
+    }
+    Ok(())
+}
+
+// An input of so many bytes, and what is told of it.
+static INPUTS: [(usize, &str, u8); 2] = [(1_048_576, "", 0), (1_048_577, "too large input\n", 11)];
+
+#[test]
+fn takes_an_input_of_its_limit(rt: HostRuntime) -> Result<(), Fail> {
+    let alloc = rt.alloc();
+    for (length, text, status) in INPUTS {
+        let mut shelf = with_source(alloc, SHORT)?;
+        let input = vec![in alloc; b'a'; length]?;
+        let outside = Outside {
+            input: input.as_slice(),
+            ..SOUND
+        };
+        let (told, found) = call(&rt, alloc, &["record", "a", "l"], &outside, &mut shelf)?;
+        assert_eq!(rt; told.as_slice(), text.as_bytes());
+        assert_eq!(rt;
+            (found, shelf.content("l").is_some()),
+            (status, status == 0)
+        );
+    }
+    Ok(())
+}
+
+// The calls of the input, of the shelf and of the sink that fail, the turns, what is told, and whether the log is put.
+static FAULTS: [(&[u64], &[u64], &[u64], u64, &str, u8, bool); 7] = [
+    (&[], &[], &[], 1_000, "20\n", 0, true),
+    (&[0], &[], &[], 1_000, "read fault\n", 7, false),
+    (&[], &[0], &[], 1_000, "shelf fault\n", 9, false),
+    (&[], &[1], &[], 1_000, "shelf fault\n", 9, false),
+    (&[], &[], &[1], 1_000, "2", 8, true),
+    (&[], &[], &[], 0, "crew fault\n", 10, false),
+    (&[], &[], &[], 24, "crew fault\n", 10, false),
+];
+
+#[test]
+fn tells_each_fault(rt: HostRuntime) -> Result<(), Fail> {
+    let alloc = rt.alloc();
+    for (read_fails, shelf_fails, write_fails, turns, text, status, is_put) in FAULTS {
+        let mut files = List::new(alloc);
+        files.push((joined(alloc, &["a"])?, joined(alloc, &[BANK])?))?;
+        let mut shelf = MemShelf::new(files, List::from_slice(alloc, shelf_fails)?);
+        let outside = Outside {
+            input: &[],
+            read_fails,
+            write_fails,
+            turns,
+        };
+        let (told, found) = call(&rt, alloc, &["record", "a", "l"], &outside, &mut shelf)?;
+        assert_eq!(rt; told.as_slice(), text.as_bytes());
+        assert_eq!(rt;
+            (found, shelf.content("l").is_some()),
+            (status, is_put),
+            "{text}"
+        );
+    }
+    Ok(())
+}
+
+// A profile, and what is told of a source with it.
+static PROFILES: [(&[&str], &str, &str, u8); 5] = [
+    (
+        &["weaken", "a", "--profile=b"],
+        "{",
+        "profile refused 21\n",
+        6,
+    ),
+    (
+        &["record", "a", "l", "--profile", "b"],
+        "{\"pairs\":3}",
+        "profile refused 22\n",
+        6,
+    ),
+    (
+        &["weaken", "a", "--profile=b"],
+        "{\"pairs\":[]}",
+        "lock w0 x+0 stripes 1\naccess 4:18 store function h\naccess 6:3 store function f\n",
+        0,
+    ),
+    (
+        &["weaken", "a", "--profile=b"],
+        "{\"pairs\":[[\"f\",\"g\"],[\"f\",\"h\"],[\"f\",\"main\"],[\"g\",\"main\"],[\"h\",\"main\"]]}",
+        "lock w0 x+0 stripes 1\naccess 4:18 store instruction 4:18\naccess 6:3 store instruction 6:3\n",
+        0,
+    ),
+    (&["weaken", "a", "--profile=c"], "", "shelf fault\n", 9),
+];
+
+#[test]
+fn takes_a_profile(rt: HostRuntime) -> Result<(), Fail> {
+    let alloc = rt.alloc();
+    for (words, profile, text, status) in PROFILES {
+        let source = joined(alloc, &[HELD_BY_CALLER])?;
+        let mut shelf = shelf_of(alloc, source, joined(alloc, &[profile])?)?;
+        let (told, found) = call(&rt, alloc, words, &SOUND, &mut shelf)?;
+        assert_eq!(rt; told.as_slice(), text.as_bytes());
+        assert_eq!(rt; found, status, "{text}");
+    }
+    Ok(())
+}
+
+// The entries of a counter's run on three slots, whose threads both load 0, and its loads: thread, count, cell and number.
+const LOST_UPDATE: &str =
+    "0 1 draw T\n0 4 start s1\n0 5 draw T\n0 8 start s2\n1 0 begin s1\n1 3 take w0.0\n1 4 give w0.0\n2 0 begin s2\n2 3 take w0.0\n2 4 give w0.0\n1 4 take w0.0\n1 5 give w0.0\n1 6 end s1\n0 10 join s1\n1 7 leave T\n2 4 take w0.0\n2 5 give w0.0\n2 6 end s2\n0 12 join s2\n0 13 take w0.0\n0 14 give w0.0\n0 14 print O\n0 15 halt H\n2 7 leave T\n";
+
+const LOADS: &str = "0 9 7 1\n0 11 8 2\n0 13 6 1\n1 1 2 0\n1 3 6 0\n2 1 4 0\n2 3 6 0\n";
+
+#[test]
+fn writes_the_loads(rt: HostRuntime) -> Result<(), Fail> {
+    let alloc = rt.alloc();
+    let log = joined(alloc, &[FIRST, SLOTS_3, LOST_UPDATE])?;
+    let mut shelf = shelf_of(alloc, joined(alloc, &[COUNTER])?, log)?;
+    let words = ["replay", "a", "--reads", "r", "b"];
+    let (told, found) = call(&rt, alloc, &words, &SOUND, &mut shelf)?;
+    assert_eq!(rt; told.as_slice(), b"1\n");
+    assert_eq!(rt; found, 0);
+    let reads = shelf.content("r").map(|held| held.as_slice());
+    assert_eq!(rt; reads, Some(LOADS.as_bytes()));
+    Ok(())
+}
