@@ -1,6 +1,7 @@
 -- A walk of a log on a source's weakened code.
-use Rattle.std.proofs.Common.{◌≡◌, sym, ap, subst, ◌∙◌, ℕ, List, [], Result, Ok, Err, Option, Some}
-use Rattle.std.specs.Prelude.{MatchResult}
+use Rattle.std.proofs.Common.{◌≡◌, refl, sym, ap, subst, ◌∙◌, ◌<◌, ℕ, zero, suc, List, [], ◌∷◌, Result, Ok, Err, Option, Some}
+use Rattle.std.specs.Prelude.{IfOk, MatchResult}
+use Rattle.std.specs.List.{AllByRecursion}
 use Rattle.c_elaborate.specs.Whole.{core_of_source}
 use Rattle.c_tree.specs.Tree.{Outer}
 use Rattle.core_run.specs.declared.outcome.Walk.{Walk}
@@ -11,7 +12,9 @@ use Rattle.flow_code.specs.declared.code.Code.{Code}
 use Rattle.front.specs.Plain.{plain_code}
 use Rattle.lock_sound.specs.Weakened.{Analysed, IsAnalysed}
 use Rattle.answers.specs.declared.answer.Part.TheVariants as part
-use Rattle.order_log.specs.Log.{LogView}
+use Rattle.order_log.specs.Log.{IsEntryWithin, LogView}
+use Rattle.outcomes.specs.Faults.{CrewStops, IsPure, RefusingCrewStops}
+use Rattle.replayer.specs.Replays.{AreThreads}
 use Rattle.outcomes.proofs.InRow.{gives_next, gives_stop}
 use Rattle.outcomes.specs.Steps.{Comes, Finds, Gives, IsFile}
 use Rattle.outcomes.specs.declared.outcome.Outcome.{Outcome}
@@ -50,9 +53,35 @@ module _ (os : List Outer) (s : SetupView) (es : List Entry) where
 abbrev TellsWalk : LogView → Option (List ℕ) → Analysed → Outcome → Type 0
 TellsWalk log reads w o = (walk : Walk) × WalkIs w.weak log.setup log.entries (formula_of reads) walk × (o ≡ outcome_of [] reads walk)
 
-pub replayed_gives : (source : List ℕ) (log : LogView) (reads : Option (List ℕ)) (w : Analysed) (r : Result Outcome Stop) (compiles : Compiles source log.profile (Ok w)) → WalksAsSource compiles.0 w.weak log.setup log.entries → MatchResult r (λ o. (walk : Walk) × WalkIs w.weak log.setup log.entries (formula_of reads) walk × (o ≡ outcome_of [] reads walk)) (λ end. end ≡ stop.OutOfMemory) → Gives (Comes (IsTree source) (Replays log reads)) r
-replayed_gives source log reads w (Ok o) h walks is = record { step = Ok h.0; is = h.1; next = record { found = w; is = h.2; walk = is.0; walks = is.1; source = walks; told = is.2 } }
-replayed_gives source log reads w (Err end) h walks is = subst (λ y. Gives (Comes (IsTree source) (Replays log reads)) (Err y)) (sym is) tt
+pub replayed_gives : (source : List ℕ) (log : LogView) (reads : Option (List ℕ)) (w : Analysed) (r : Result Outcome Stop) (old new : ℕ) (compiles : Compiles source log.profile (Ok w)) → WalksAsSource compiles.0 w.weak log.setup log.entries → IfOk r (TellsWalk log reads w) → MatchResult r (λ _. new ≡ old) (λ end. CrewStops end old new) → Gives (Comes (IsTree source) (Replays log reads)) r
+replayed_gives source log reads w (Ok o) old new h walks is stops = record { step = Ok h.0; is = h.1; next = record { found = w; is = h.2; walk = is.0; walks = is.1; source = walks; told = is.2 } }
+replayed_gives source log reads w (Err (stop.Refused a)) old new h walks is stops = absurd stops
+replayed_gives source log reads w (Err stop.ShelfFailed) old new h walks is stops = tt
+replayed_gives source log reads w (Err stop.InputFailed) old new h walks is stops = tt
+replayed_gives source log reads w (Err stop.CrewFailed) old new h walks is stops = tt
+replayed_gives source log reads w (Err stop.OutOfMemory) old new h walks is stops = tt
+
+-- what stops a crew's run stops a job that may refuse, too
+pub may_refuse : (r : Result Outcome Stop) (old new : ℕ) → MatchResult r (λ _. new ≡ old) (λ end. CrewStops end old new) → MatchResult r (λ _. new ≡ old) (λ end. RefusingCrewStops end old new)
+may_refuse (Ok o) old new h = h
+may_refuse (Err (stop.Refused a)) old new h = absurd h
+may_refuse (Err stop.ShelfFailed) old new h = h
+may_refuse (Err stop.InputFailed) old new h = h
+may_refuse (Err stop.CrewFailed) old new h = h
+may_refuse (Err stop.OutOfMemory) old new h = h
+
+pub refused_before : (s : Stop) (n : ℕ) → IsPure s → RefusingCrewStops s n n
+refused_before (stop.Refused a) n h = refl
+refused_before stop.ShelfFailed n h = h
+refused_before stop.InputFailed n h = h
+refused_before stop.CrewFailed n h = absurd h
+refused_before stop.OutOfMemory n h = refl
+
+-- the entries of a log are of its setup's threads
+pub of_threads : (s : SetupView) (es : List Entry) → AllByRecursion (IsEntryWithin s) es → AreThreads s es
+of_threads s [] h k e is = cc
+of_threads s (x ∷ xs) h zero e is = let same : x ≡ e = cc in subst (λ z. z.thread < s.slots) same h.0.thread
+of_threads s (x ∷ xs) h (suc k) e is = of_threads s xs h.1 k e is
 
 -- ---- the files
 

@@ -32,7 +32,7 @@ use Rattle.profile_book.specs.declared.fault.ProfileFault.{ProfileFault}
 use Rattle.profile_book.specs.declared.fault.ProfileFault.TheVariants as unread
 use Rattle.rr_base.specs.Files.{Files}
 use Rattle.walk_answers.proofs.OneWalk.{one_walk}
-use Rattle.jobs.specs.Jobs.{IsOutcome, IsRaces, IsReplay, IsWeaken, RunsThreads}
+use Rattle.jobs.specs.Jobs.{IsOutcome, IsRaces, IsReplay, IsWeaken, ReadsInput}
 use Rattle.jobs.specs.Laws.{OneOutcome}
 use Rattle.jobs.specs.Listings.{ListsRaces, ListsWeakLocks}
 use Rattle.job_profiles.specs.Profiles.{IsProfile, IsSpelled}

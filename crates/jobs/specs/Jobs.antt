@@ -61,9 +61,13 @@ UsesShelf (Some (Profile source log name)) = ⊥
 UsesShelf (Some (Make count name)) = ⊥
 UsesShelf _ = Unit {0}
 
--- the job reads the input and has threads run
+abbrev pub ReadsInput : Option Asked → Type 0
+ReadsInput (Some (Record r)) = Unit {0}
+ReadsInput _ = ⊥
+
 abbrev pub RunsThreads : Option Asked → Type 0
 RunsThreads (Some (Record r)) = Unit {0}
+RunsThreads (Some (Replay source log reads)) = Unit {0}
 RunsThreads _ = ⊥
 
 -- the statuses with which the program ends

@@ -26,7 +26,7 @@ use log_limits::law_log_is_within;
 use order_log::{Log, write_log};
 use outcomes::{Outcome, Put, Stop, file, input as whole_input};
 use race_free::law_no_race;
-use recorder::{Recorded, RunFault, record_run};
+use recorder::{Recorded, RunFault, record_threads};
 use rr_base::{Bytes, List, Shelf, Source};
 use std::alloc::{AllocError, Global};
 use std::sync::Wait;
@@ -44,6 +44,7 @@ fn run<R: Threads + Wait + Sync, C: Crew>(
     alloc: Global,
     weakened: &Weakened,
     setup: &Setup,
+    budget: u32,
     formula: &Formula,
     crew: &mut C,
 ) -> Result<Recorded, Stop>
@@ -56,7 +57,7 @@ fn run<R: Threads + Wait + Sync, C: Crew>(
     law_no_race();
     law_ordered();
     law_log_is_within();
-    match record_run(rt, alloc, code, setup, formula, crew) {
+    match record_threads(rt, alloc, code, setup, budget, formula, crew) {
         Ok(recorded) => Ok(recorded),
         Err(RunFault::CrewFault) => Err(Stop::CrewFailed),
         Err(RunFault::OutOfMemory) => Err(Stop::OutOfMemory),
@@ -101,7 +102,7 @@ fn recorded_on<'a, R: Threads + Wait + Sync, C: Crew>(
 {
     let setup = Setup::new(job.slots, job.cells, job.limit, input);
     let formula = formula_of(job.reads);
-    match run(rt, alloc, weakened, &setup, &formula, crew) {
+    match run(rt, alloc, weakened, &setup, job.budget, &formula, crew) {
         Ok(recorded) => or_stop(told(alloc, recorded, setup, profile, job)),
         Err(stop) => Err(stop),
     }

@@ -1,23 +1,28 @@
 // A run of a source by a log.
 
 ghost use Rattle.std.specs.Prelude.{◌≡◌, ◌≤◌, ◌^◌, length, [], ℕ, IfErr, IfOk, MatchResult, option_map};
-ghost use Rattle.core_run.specs.declared.outcome.Walk.{Walk};
+ghost use Rattle.core_run.specs.declared.outcome.Walk.{Walk as WalkOf};
 ghost use Rattle.core_run.specs.Walks.{WalkIs};
 ghost use Rattle.jobs.specs.Jobs.{IsReplay};
 ghost use Rattle.jobs.specs.Replays.{IsLogIn, Replays};
 ghost use Rattle.jobs.specs.Sources.{IsTree};
 ghost use Rattle.walk_answers.specs.Walking.{formula_of as formula_by, outcome_of as outcome_by};
-ghost use Rattle.outcomes.specs.Faults.{IsPure, ShelfStops};
+ghost use Rattle.outcomes.specs.Faults.{CrewShelfStops, CrewStops, IsPure, RefusingCrewStops};
 ghost use Rattle.outcomes.specs.Steps.{Comes, Finds, Gives};
 
 use crate::sources::{SOURCE_BYTES, compiled, or_stop};
 use answers::{Answer, Part};
-use core_run::walk;
-use lock_sound::Weakened;
+use core_run::{Formula, Walk};
+use crew::Crew;
+use lock_sound::{Weakened, law_weakened_runs};
 use order_log::{Log, LogFault, read_log};
 use outcomes::{Outcome, Stop, file};
+use race_free::law_no_race;
+use replayer::{ReplayFault, replay as follow};
 use rr_base::{Bytes, List, Shelf};
-use std::alloc::{AllocError, Global};
+use std::alloc::Global;
+use std::sync::Wait;
+use std::thread::Threads;
 use text_runs::law_text_erased_walk;
 use walk_answers::{formula_of, outcome_of};
 
@@ -43,53 +48,86 @@ fn log_in(alloc: Global, bytes: &[u8]) -> Result<Log, Stop>
     }
 }
 
-// The walk of the log on the weakened code.
-fn walked<'a>(
+// The walk of the log on the weakened code, whose threads follow it side by side.
+fn walked<R: Threads + Wait + Sync, C: Crew>(
+    rt: &R,
+    alloc: Global,
+    weakened: &Weakened,
+    log: &Log,
+    formula: &Formula,
+    crew: &mut C,
+) -> Result<Walk, Stop>
+    ensures walk { IfOk result (WalkIs weakened.now.weak log.now.setup log.now.entries formula.now) }
+    ensures faults { MatchResult result (λ _. C.faults crew.new ≡ C.faults crew.old) (λ stop. CrewStops stop (C.faults crew.old) (C.faults crew.new)) }
+{
+    let code = weakened.code();
+    let setup = log.setup();
+    let _slots = setup.slots();
+    law_weakened_runs();
+    law_no_race();
+    match follow(rt, alloc, code, setup, log.entries(), formula, crew) {
+        Ok(walk) => Ok(walk),
+        Err(ReplayFault::CrewFault) => Err(Stop::CrewFailed),
+        Err(ReplayFault::OutOfMemory) => Err(Stop::OutOfMemory),
+    }
+}
+
+// What is told of that walk.
+fn told_walk<'a, R: Threads + Wait + Sync, C: Crew>(
+    rt: &R,
     alloc: Global,
     weakened: &Weakened,
     log: &Log,
     reads: Option<&'a str>,
-) -> Result<Outcome<'a>, AllocError>
-    ensures { IfOk result (λ o. (walk : Walk) × WalkIs weakened.now.weak log.now.setup log.now.entries (formula_by (option_map (λ n. n.now) reads.entry)) walk × (o ≡ outcome_by [] (option_map (λ n. n.now) reads.entry) walk)) }
+    crew: &mut C,
+) -> Result<Outcome<'a>, Stop>
+    ensures outcome { IfOk result (λ o. (walk : WalkOf) × WalkIs weakened.now.weak log.now.setup log.now.entries (formula_by (option_map (λ n. n.now) reads.entry)) walk × (o ≡ outcome_by [] (option_map (λ n. n.now) reads.entry) walk)) }
+    ensures faults { MatchResult result (λ _. C.faults crew.new ≡ C.faults crew.old) (λ stop. CrewStops stop (C.faults crew.old) (C.faults crew.new)) }
 {
     let formula = formula_of(reads);
-    let walk = walk(alloc, weakened.code(), log.setup(), log.entries(), &formula)?;
-    outcome_of(alloc, List::new(alloc), reads, walk)
+    match walked(rt, alloc, weakened, log, &formula, crew) {
+        Ok(walk) => or_stop(outcome_of(alloc, List::new(alloc), reads, walk)),
+        Err(stop) => Err(stop),
+    }
 }
 
 // The outcome of a source's bytes and a log.
-fn replayed<'a>(
+fn replayed<'a, R: Threads + Wait + Sync, C: Crew>(
+    rt: &R,
     alloc: Global,
     source: &Bytes,
     log: &Log,
     reads: Option<&'a str>,
+    crew: &mut C,
 ) -> Result<Outcome<'a>, Stop>
     requires { length source.now ≤ 2 ^ 20 }
     ensures outcome { Gives (Comes (IsTree source.now) (Replays log.now (option_map (λ n. n.now) reads.entry))) result }
-    ensures pure { IfErr result IsPure }
+    ensures faults { MatchResult result (λ _. C.faults crew.new ≡ C.faults crew.old) (λ stop. RefusingCrewStops stop (C.faults crew.old) (C.faults crew.new)) }
 {
     let _slots = log.setup().slots();
     law_text_erased_walk();
     match compiled(alloc, source.as_slice(), log.profile()) {
-        Ok(weakened) => or_stop(walked(alloc, &weakened, log, reads)),
+        Ok(weakened) => told_walk(rt, alloc, &weakened, log, reads, crew),
         Err(stop) => Err(stop),
     }
 }
 
 /// The outcome of a source and a log by their names.
-pub(crate) fn replay<'a, S: Shelf>(
+pub(crate) fn replay<'a, R: Threads + Wait + Sync, S: Shelf, C: Crew>(
+    rt: &R,
     alloc: Global,
     source: &str,
     log: &str,
     reads: Option<&'a str>,
     shelf: &mut S,
+    crew: &mut C,
 ) -> Result<Outcome<'a>, Stop>
     ensures outcome { Gives (IsReplay (S.files shelf.old) source.now log.now (option_map (λ n. n.now) reads.entry)) result }
     ensures files { S.files shelf.new ≡ S.files shelf.old }
-    ensures faults { MatchResult result (λ _. S.faults shelf.new ≡ S.faults shelf.old) (λ stop. ShelfStops stop (S.faults shelf.old) (S.faults shelf.new)) }
+    ensures faults { MatchResult result (λ _. (S.faults shelf.new ≡ S.faults shelf.old) × (C.faults crew.new ≡ C.faults crew.old)) (λ stop. CrewShelfStops stop (S.faults shelf.old) (S.faults shelf.new) (C.faults crew.old) (C.faults crew.new)) }
 {
     let text = file(alloc, shelf, source, SOURCE_BYTES, Part::Source)?;
     let bytes = file(alloc, shelf, log, LOG_BYTES, Part::Log)?;
     let log = log_in(alloc, bytes.as_slice())?;
-    replayed(alloc, &text, &log, reads)
+    replayed(rt, alloc, &text, &log, reads, crew)
 }

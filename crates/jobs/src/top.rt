@@ -2,7 +2,7 @@
 
 ghost use Rattle.std.specs.Prelude.{◌≡◌, map, string_bytes, IfErr, IsTrue, MatchResult, Some};
 ghost use Rattle.answers.specs.Jobs.{HasLimits, job_of as job_by, told};
-ghost use Rattle.jobs.specs.Jobs.{IsOutcome, RunsThreads, UsesShelf, is_status};
+ghost use Rattle.jobs.specs.Jobs.{IsOutcome, ReadsInput, RunsThreads, UsesShelf, is_status};
 ghost use Rattle.outcomes.specs.Endings.{Ends, MayStop};
 ghost use Rattle.outcomes.specs.Faults.{StopCounts};
 ghost use Rattle.outcomes.specs.Steps.{Gives};
@@ -33,13 +33,13 @@ fn outcome_of_job<'a, R: Threads + Wait + Sync, I: Source, S: Shelf, C: Crew>(
     ensures outcome { Gives (IsOutcome (S.files shelf.old) (I.left input.old) (Some (told job.entry))) result }
     ensures files { S.files shelf.new ≡ S.files shelf.old }
     ensures faults { MatchResult result (λ _. (S.faults shelf.new ≡ S.faults shelf.old) × (I.faults input.new ≡ I.faults input.old) × (C.faults crew.new ≡ C.faults crew.old)) (λ stop. StopCounts stop (record { shelf = S.faults shelf.old; input = I.faults input.old; crew = C.faults crew.old }) (record { shelf = S.faults shelf.new; input = I.faults input.new; crew = C.faults crew.new })) }
-    ensures causes { IfErr result (MayStop (UsesShelf (Some (told job.entry))) (RunsThreads (Some (told job.entry)))) }
-    ensures input { (RunsThreads (Some (told job.entry)) → ⊥) → input.new ≡ input.old }
+    ensures causes { IfErr result (MayStop (UsesShelf (Some (told job.entry))) (ReadsInput (Some (told job.entry))) (RunsThreads (Some (told job.entry)))) }
+    ensures input { (ReadsInput (Some (told job.entry)) → ⊥) → input.new ≡ input.old }
 {
     match job {
         Job::Races { source } => races(alloc, source, shelf),
         Job::Weaken { source, profile } => weak_locks(alloc, source, profile, shelf),
-        Job::Replay { source, log, reads } => replay(alloc, source, log, reads, shelf),
+        Job::Replay { source, log, reads } => { replay(rt, alloc, source, log, reads, shelf, crew) }
         Job::Record(job) => record_source(rt, alloc, &job, input, shelf, crew),
         Job::Profile { .. } | Job::Make { .. } => Ok(Outcome::answers(alloc, Answer::Usage)),
     }
@@ -49,7 +49,7 @@ fn outcome_of_job<'a, R: Threads + Wait + Sync, I: Source, S: Shelf, C: Crew>(
 /// written, 1 where the words are no job, 2 where the source is refused, 3 where a thread trapped, 4 where the log is refused, 5
 /// where it isn't one of this program, 6 where the profile is refused, 7 where the input failed, 8 where the sink did, 9 where the
 /// shelf did, 10 where the crew did, 11 where a file or the input has too many bytes, 12 without memory. Nothing is put but where
-/// the run ended or a thread trapped, and only a recording touches `input` and `crew`.
+/// the run ended or a thread trapped. Only a recording touches `input`, and only a recording and a replay have the crew run threads.
 pub fn chimera<R: Threads + Wait + Sync, I: Source, O: Sink, S: Shelf, C: Crew>(
     rt: &R,
     alloc: Global,
@@ -59,14 +59,14 @@ pub fn chimera<R: Threads + Wait + Sync, I: Source, O: Sink, S: Shelf, C: Crew>(
     shelf: &mut S,
     crew: &mut C,
 ) -> u8
-    ensures ends { let job = job_by (map string_bytes words.now) in Ends (IsOutcome (S.files shelf.old) (I.left input.old) job) (UsesShelf job) (RunsThreads job) (record { files = S.files shelf.old; counts = record { shelf = S.faults shelf.old; input = I.faults input.old; crew = C.faults crew.old }; out = record { held = O.held out.old; faults = O.faults out.old } }) (record { files = S.files shelf.new; counts = record { shelf = S.faults shelf.new; input = I.faults input.new; crew = C.faults crew.new }; out = record { held = O.held out.new; faults = O.faults out.new } }) result }
+    ensures ends { let job = job_by (map string_bytes words.now) in Ends (IsOutcome (S.files shelf.old) (I.left input.old) job) (UsesShelf job) (ReadsInput job) (RunsThreads job) (record { files = S.files shelf.old; counts = record { shelf = S.faults shelf.old; input = I.faults input.old; crew = C.faults crew.old }; out = record { held = O.held out.old; faults = O.faults out.old } }) (record { files = S.files shelf.new; counts = record { shelf = S.faults shelf.new; input = I.faults input.new; crew = C.faults crew.new }; out = record { held = O.held out.new; faults = O.faults out.new } }) result }
     ensures status { IsTrue (is_status result) }
     // Each of these comes only from a fault of its object.
     ensures read_fault { result ≡ 7 → Rose (I.faults input.old) (I.faults input.new) }
     ensures write_fault { result ≡ 8 → Rose (O.faults out.old) (O.faults out.new) }
     ensures shelf_fault { result ≡ 9 → Rose (S.faults shelf.old) (S.faults shelf.new) }
     ensures crew_fault { result ≡ 10 → Rose (C.faults crew.old) (C.faults crew.new) }
-    ensures input { (RunsThreads (job_by (map string_bytes words.now)) → ⊥) → input.new ≡ input.old }
+    ensures input { (ReadsInput (job_by (map string_bytes words.now)) → ⊥) → input.new ≡ input.old }
 {
     let Some(job) = job_of(words) else {
         return tell_answer(alloc, out, Answer::Usage);

@@ -22,15 +22,15 @@ no_puts : (old new : Option Files) → new ≡ old → ArePut [] old new
 no_puts None new e = e
 no_puts (Some files) new e = e
 
-module _ (MayHave : Outcome → Type 0) (UsesShelf Runs : Type 0) (old new : Outside) (result : ℕ) where
+module _ (MayHave : Outcome → Type 0) (UsesShelf ReadsInput Runs : Type 0) (old new : Outside) (result : ℕ) where
   -- an outcome was found without a change of the outside, and then finished
-  pub finished : (o : Outcome) (between : ShelfSight) → MayHave o → between.files ≡ old.files → between.faults ≡ old.counts.shelf → new.counts.input ≡ old.counts.input → new.counts.crew ≡ old.counts.crew → Finishes o between (shelf_of new) old.out new.out result → Ends MayHave UsesShelf Runs old new result
+  pub finished : (o : Outcome) (between : ShelfSight) → MayHave o → between.files ≡ old.files → between.faults ≡ old.counts.shelf → new.counts.input ≡ old.counts.input → new.counts.crew ≡ old.counts.crew → Finishes o between (shelf_of new) old.out new.out result → Ends MayHave UsesShelf ReadsInput Runs old new result
   finished o between h files faults input crew f =
       let same : between ≡ shelf_of old = λ i. record { files = files i; faults = faults i } in
       Found o h (record { input = input; crew = crew }) (subst (λ (x : ShelfSight). Finishes o x (shelf_of new) old.out new.out result) same f)
 
   -- a job was stopped, and that was told
-  pub stopped : (s : Stop) → Gives MayHave (Err s) → new.files ≡ old.files → StopCounts s old.counts new.counts → MayStop UsesShelf Runs s → TellsStop s old.out new.out result → Ends MayHave UsesShelf Runs old new result
+  pub stopped : (s : Stop) → Gives MayHave (Err s) → new.files ≡ old.files → StopCounts s old.counts new.counts → MayStop UsesShelf ReadsInput Runs s → TellsStop s old.out new.out result → Ends MayHave UsesShelf ReadsInput Runs old new result
   stopped (stop.Refused a) h files counts may tells =
       Found (answers a) h (record { input = ap (λ (c : Counts). c.input) counts; crew = ap (λ (c : Counts). c.crew) counts }) (Tells (no_puts old.files new.files files) (ap (λ (c : Counts). c.shelf) counts) tells)
   stopped stop.ShelfFailed h files counts may tells = ShelfFails may files counts.0 (record { input = counts.1; crew = counts.2 }) tells
@@ -100,9 +100,9 @@ module _ (old new : Outside) (result : ℕ) where
   of_finish o (PutFails puts rose w) = of_writes shelf_fault 9 (of_shelf rose) w
   of_finish o (LacksMemory e same puts faults) = of_memory e
 
-  pub causes : (MayHave : Outcome → Type 0) (UsesShelf Runs : Type 0) → Ends MayHave UsesShelf Runs old new result → Causes old new result
-  causes MayHave UsesShelf Runs (Found o h only f) = of_finish o f
-  causes MayHave UsesShelf Runs (ShelfFails uses files rose only w) = of_writes shelf_fault 9 (of_shelf rose) w
-  causes MayHave UsesShelf Runs (InputFails runs files rose shelf crew w) = of_writes read_fault 7 (of_input rose) w
-  causes MayHave UsesShelf Runs (CrewFails runs files rose shelf input w) = of_writes crew_fault 10 (of_crew rose) w
-  causes MayHave UsesShelf Runs (WantsMemory e same) = of_memory e
+  pub causes : (MayHave : Outcome → Type 0) (UsesShelf ReadsInput Runs : Type 0) → Ends MayHave UsesShelf ReadsInput Runs old new result → Causes old new result
+  causes MayHave UsesShelf ReadsInput Runs (Found o h only f) = of_finish o f
+  causes MayHave UsesShelf ReadsInput Runs (ShelfFails uses files rose only w) = of_writes shelf_fault 9 (of_shelf rose) w
+  causes MayHave UsesShelf ReadsInput Runs (InputFails runs files rose shelf crew w) = of_writes read_fault 7 (of_input rose) w
+  causes MayHave UsesShelf ReadsInput Runs (CrewFails runs files rose shelf input w) = of_writes crew_fault 10 (of_crew rose) w
+  causes MayHave UsesShelf ReadsInput Runs (WantsMemory e same) = of_memory e

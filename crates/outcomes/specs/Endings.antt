@@ -46,19 +46,19 @@ pub record OnlyShelf (old new : Outside) : Type 0 where
   pub crew : new.counts.crew ≡ old.counts.crew
 
 -- which faults may stop a job
-abbrev pub MayStop : (UsesShelf Runs : Type 0) → Stop → Type 0
-MayStop UsesShelf Runs (stop.Refused a) = Unit {0}
-MayStop UsesShelf Runs stop.ShelfFailed = UsesShelf
-MayStop UsesShelf Runs stop.InputFailed = Runs
-MayStop UsesShelf Runs stop.CrewFailed = Runs
-MayStop UsesShelf Runs stop.OutOfMemory = Unit {0}
+abbrev pub MayStop : (UsesShelf ReadsInput Runs : Type 0) → Stop → Type 0
+MayStop UsesShelf ReadsInput Runs (stop.Refused a) = Unit {0}
+MayStop UsesShelf ReadsInput Runs stop.ShelfFailed = UsesShelf
+MayStop UsesShelf ReadsInput Runs stop.InputFailed = ReadsInput
+MayStop UsesShelf ReadsInput Runs stop.CrewFailed = Runs
+MayStop UsesShelf ReadsInput Runs stop.OutOfMemory = Unit {0}
 
--- How a call ends, where the outcomes that its job may have are given, whether the job uses the shelf, and whether it reads the
--- input and has threads run. An outcome was found, and is put and told; or before that the shelf, the input or the crew failed,
+-- How a call ends, where the outcomes that its job may have are given, and whether the job uses the shelf, reads the input, and has
+-- threads run. An outcome was found, and is put and told; or before that the shelf, the input or the crew failed,
 -- and that was told; or memory was wanting (12), and nothing was told. No file was put then.
-pub data Ends (MayHave : Outcome → Type 0) (UsesShelf Runs : Type 0) (old new : Outside) (result : ℕ) : Type 0 where
-  Found : (o : Outcome) → MayHave o → OnlyShelf old new → Finishes o (shelf_of old) (shelf_of new) old.out new.out result → Ends MayHave UsesShelf Runs old new result
-  ShelfFails : UsesShelf → new.files ≡ old.files → Rose old.counts.shelf new.counts.shelf → OnlyShelf old new → Writes shelf_fault 9 old.out new.out result → Ends MayHave UsesShelf Runs old new result
-  InputFails : Runs → new.files ≡ old.files → Rose old.counts.input new.counts.input → new.counts.shelf ≡ old.counts.shelf → new.counts.crew ≡ old.counts.crew → Writes read_fault 7 old.out new.out result → Ends MayHave UsesShelf Runs old new result
-  CrewFails : Runs → new.files ≡ old.files → Rose old.counts.crew new.counts.crew → new.counts.shelf ≡ old.counts.shelf → new.counts.input ≡ old.counts.input → Writes crew_fault 10 old.out new.out result → Ends MayHave UsesShelf Runs old new result
-  WantsMemory : result ≡ 12 → new ≡ old → Ends MayHave UsesShelf Runs old new result
+pub data Ends (MayHave : Outcome → Type 0) (UsesShelf ReadsInput Runs : Type 0) (old new : Outside) (result : ℕ) : Type 0 where
+  Found : (o : Outcome) → MayHave o → OnlyShelf old new → Finishes o (shelf_of old) (shelf_of new) old.out new.out result → Ends MayHave UsesShelf ReadsInput Runs old new result
+  ShelfFails : UsesShelf → new.files ≡ old.files → Rose old.counts.shelf new.counts.shelf → OnlyShelf old new → Writes shelf_fault 9 old.out new.out result → Ends MayHave UsesShelf ReadsInput Runs old new result
+  InputFails : ReadsInput → new.files ≡ old.files → Rose old.counts.input new.counts.input → new.counts.shelf ≡ old.counts.shelf → new.counts.crew ≡ old.counts.crew → Writes read_fault 7 old.out new.out result → Ends MayHave UsesShelf ReadsInput Runs old new result
+  CrewFails : Runs → new.files ≡ old.files → Rose old.counts.crew new.counts.crew → new.counts.shelf ≡ old.counts.shelf → new.counts.input ≡ old.counts.input → Writes crew_fault 10 old.out new.out result → Ends MayHave UsesShelf ReadsInput Runs old new result
+  WantsMemory : result ≡ 12 → new ≡ old → Ends MayHave UsesShelf ReadsInput Runs old new result

@@ -50,6 +50,22 @@ RunStops InputFailed input_old input_new crew_old crew_new = Rose input_old inpu
 RunStops CrewFailed input_old input_new crew_old crew_new = (input_new ≡ input_old) × Rose crew_old crew_new
 RunStops OutOfMemory input_old input_new crew_old crew_new = (input_new ≡ input_old) × (crew_new ≡ crew_old)
 
+-- .. of one that uses the shelf and a crew
+abbrev pub CrewShelfStops : Stop → (shelf_old shelf_new crew_old crew_new : ℕ) → Type 0
+CrewShelfStops (Refused a) shelf_old shelf_new crew_old crew_new = (shelf_new ≡ shelf_old) × (crew_new ≡ crew_old)
+CrewShelfStops ShelfFailed shelf_old shelf_new crew_old crew_new = Rose shelf_old shelf_new × (crew_new ≡ crew_old)
+CrewShelfStops InputFailed shelf_old shelf_new crew_old crew_new = ⊥
+CrewShelfStops CrewFailed shelf_old shelf_new crew_old crew_new = (shelf_new ≡ shelf_old) × Rose crew_old crew_new
+CrewShelfStops OutOfMemory shelf_old shelf_new crew_old crew_new = (shelf_new ≡ shelf_old) × (crew_new ≡ crew_old)
+
+-- .. of one that has a crew run, and may refuse
+abbrev pub RefusingCrewStops : Stop → (old new : ℕ) → Type 0
+RefusingCrewStops (Refused a) old new = new ≡ old
+RefusingCrewStops ShelfFailed old new = ⊥
+RefusingCrewStops InputFailed old new = ⊥
+RefusingCrewStops CrewFailed old new = Rose old new
+RefusingCrewStops OutOfMemory old new = new ≡ old
+
 -- .. of one that uses nothing of the outside
 abbrev pub IsPure : Stop → Type 0
 IsPure (Refused a) = Unit {0}

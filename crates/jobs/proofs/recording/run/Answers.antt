@@ -4,11 +4,11 @@ use Rattle.flow_code.specs.Settle.{IsRunnable}
 use Rattle.jobs.proofs.Recorded.{left_of_run}
 use Rattle.jobs.proofs.recording.run.Goals as goal
 
-pub record_run-requires-clause-runnable : goal.record_run-requires-clause-runnable
-record_run-requires-clause-runnable g c = λ lifetimes bounds. subst IsRunnable (sym c.code-code.ensures.value) (c.law_weakened_runs.ensures c.args.weakened.now c.code-code.ensures.kept)
+pub record_threads-requires-clause-runnable : goal.record_threads-requires-clause-runnable
+record_threads-requires-clause-runnable g c = λ lifetimes bounds. subst IsRunnable (sym c.code-code.ensures.value) (c.law_weakened_runs.ensures c.args.weakened.now c.code-code.ensures.kept)
 
-pub record_run-requires-clause-race_free : goal.record_run-requires-clause-race_free
-record_run-requires-clause-race_free g c = λ lifetimes bounds. subst (λ code. HasNoRace code c.args.setup.now) (sym c.code-code.ensures.value) (c.law_no_race.ensures c.args.weakened.now c.args.setup.now c.code-code.ensures.kept c.slots-slots.ensures.within)
+pub record_threads-requires-clause-race_free : goal.record_threads-requires-clause-race_free
+record_threads-requires-clause-race_free g c = λ lifetimes bounds. subst (λ code. HasNoRace code c.args.setup.now) (sym c.code-code.ensures.value) (c.law_no_race.ensures c.args.weakened.now c.args.setup.now c.code-code.ensures.kept c.slots-slots.ensures.within)
 
 pub returns-in-Ok-clause-run : goal.returns-in-Ok-clause-run
 returns-in-Ok-clause-run g c =

@@ -2,29 +2,29 @@ use Rattle.std.proofs.Common.{sym, subst, length, ◌≤◌, Ok, Err}
 use Rattle.sync_objects.specs.Setup.{IsWithinLimits}
 use Rattle.weak_facts.specs.Ranges.{ranges_of}
 use Rattle.jobs.specs.Sources.{Compiles}
-use Rattle.jobs.proofs.Found.{memory_is_pure, not_compiled, compile_is_pure, or_memory, same_compile}
-use Rattle.jobs.proofs.Replayed.{replayed_gives, walks_as_source}
+use Rattle.jobs.proofs.Found.{not_compiled, compile_is_pure, same_compile}
+use Rattle.jobs.proofs.Replayed.{may_refuse, refused_before, replayed_gives, walks_as_source}
 use Rattle.jobs.proofs.replaying.replayed.Goals as goal
 
 pub compiled-requires : goal.compiled-requires
-compiled-requires c = subst (λ xs. length xs ≤ 1048576) (sym c.as_slice.ensures) c.requires
+compiled-requires g c = subst (λ xs. length xs ≤ 1048576) (sym c.as_slice.ensures) c.requires
 
 pub returns-in-Ok-clause-outcome : goal.returns-in-Ok-clause-outcome
-returns-in-Ok-clause-outcome c =
+returns-in-Ok-clause-outcome g c =
     let log = c.args.log.now in
     let w = c.in-Ok.weakened in
     let h : Compiles c.args.source.now log.profile (Ok w) = same_compile c.as_slice.result.now c.args.source.now c.profile.result.now log.profile (Ok w) c.as_slice.ensures c.profile.ensures.value c.in-Ok.ensures in
-    replayed_gives c.args.source.now log _ w c.or_stop.result h
+    replayed_gives c.args.source.now log _ w c.told_walk.result _ _ h
     (walks_as_source h.0 log.setup log.entries w h.2.is h.2.of (λ end walks. c.law_text_erased_walk.ensures c.args.source.now h.0 w.points w.pairs (ranges_of w.plain w.points) w.grains.rows log.setup log.entries end c.requires h.1 (subst IsWithinLimits c.setup.ensures c.slots-slots.ensures.within) walks))
-    (or_memory _ c.walked.result c.or_stop.result c.walked.ensures c.or_stop.ensures)
+    c.told_walk.ensures.outcome c.told_walk.ensures.faults
 
-pub returns-in-Ok-clause-pure : goal.returns-in-Ok-clause-pure
-returns-in-Ok-clause-pure c = memory_is_pure _ c.or_stop.result c.or_stop.ensures
+pub returns-in-Ok-clause-faults : goal.returns-in-Ok-clause-faults
+returns-in-Ok-clause-faults g c = may_refuse c.told_walk.result _ _ c.told_walk.ensures.faults
 
 pub returns-in-Err-clause-outcome : goal.returns-in-Err-clause-outcome
-returns-in-Err-clause-outcome c =
+returns-in-Err-clause-outcome g c =
     let h : Compiles c.args.source.now c.args.log.now.profile (Err c.in-Err.stop) = same_compile c.as_slice.result.now c.args.source.now c.profile.result.now c.args.log.now.profile (Err c.in-Err.stop) c.as_slice.ensures c.profile.ensures.value c.in-Err.ensures in
     not_compiled c.args.source.now c.args.log.now.profile _ c.in-Err.stop h
 
-pub returns-in-Err-clause-pure : goal.returns-in-Err-clause-pure
-returns-in-Err-clause-pure c = compile_is_pure c.as_slice.result.now c.profile.result.now c.in-Err.stop c.in-Err.ensures
+pub returns-in-Err-clause-faults : goal.returns-in-Err-clause-faults
+returns-in-Err-clause-faults g c = refused_before c.in-Err.stop _ (compile_is_pure c.as_slice.result.now c.profile.result.now c.in-Err.stop c.in-Err.ensures)
