@@ -1,4 +1,4 @@
-//! The program: it records a run of a C source with its log, runs a source by a log, and lists the accesses of a source that may
+//! The program: it records a run of a C source on threads with its log, runs a source by a log, and lists the accesses of a source that may
 //! race, and its weak locks. It stands on `jobs`, which promises what its words and files come to.
 #![tactic(auto)]
 
@@ -14,9 +14,8 @@ mod weak_tests;
 mod whole_tests;
 
 use answers::{FileShelf, InSource, OutSink};
-use crew::SchedCrew;
+use crew::ScopeCrew;
 use jobs::chimera;
-use rr_base::List;
 use std::env;
 use std::io::{self, ErrorKind};
 use std::process::ExitCode;
@@ -41,7 +40,7 @@ fn main(rt: HostRuntime) -> ExitCode {
     let mut input = InSource::new(rt.stdin());
     let mut out = OutSink::new(io::writer(&rt));
     let mut shelf = FileShelf::new(&rt);
-    let mut crew = SchedCrew::new(List::new(rt.alloc()), u64::MAX);
+    let mut crew = ScopeCrew::new();
     ExitCode::from(chimera(
         &rt,
         rt.alloc(),

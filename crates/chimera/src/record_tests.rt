@@ -107,7 +107,7 @@ fn records_and_replays(rt: HostRuntime) -> Result<(), Fail> {
         let mut shelf = with_source(alloc, source)?;
         let outside = Outside {
             input: input.as_bytes(),
-            turns: 1_000,
+            turns: 100_000,
             ..SOUND
         };
         for words in [words, &["replay", "a", "l"]] {
@@ -145,11 +145,11 @@ fn takes_an_input_of_its_limit(rt: HostRuntime) -> Result<(), Fail> {
 
 // The calls of the input, of the shelf and of the sink that fail, the turns, what is told, and whether the log is put.
 static FAULTS: [(&[u64], &[u64], &[u64], u64, &str, u8, bool); 7] = [
-    (&[], &[], &[], 1_000, "20\n", 0, true),
-    (&[0], &[], &[], 1_000, "read fault\n", 7, false),
-    (&[], &[0], &[], 1_000, "shelf fault\n", 9, false),
-    (&[], &[1], &[], 1_000, "shelf fault\n", 9, false),
-    (&[], &[], &[1], 1_000, "2", 8, true),
+    (&[], &[], &[], 100_000, "20\n", 0, true),
+    (&[0], &[], &[], 100_000, "read fault\n", 7, false),
+    (&[], &[0], &[], 100_000, "shelf fault\n", 9, false),
+    (&[], &[1], &[], 100_000, "shelf fault\n", 9, false),
+    (&[], &[], &[1], 100_000, "2", 8, true),
     (&[], &[], &[], 0, "crew fault\n", 10, false),
     (&[], &[], &[], 24, "crew fault\n", 10, false),
 ];
@@ -233,7 +233,7 @@ fn writes_the_loads(rt: HostRuntime) -> Result<(), Fail> {
     let mut shelf = shelf_of(alloc, joined(alloc, &[COUNTER])?, log)?;
     let words = ["replay", "a", "--reads", "r", "b"];
     let (told, found) = call(&rt, alloc, &words, &SOUND, &mut shelf)?;
-    assert_eq!(rt; told.as_slice(), b"1\n");
+    assert_eq!(rt; told.as_slice(), "1\n".as_bytes());
     assert_eq!(rt; found, 0);
     let reads = shelf.content("r").map(|held| held.as_slice());
     assert_eq!(rt; reads, Some(LOADS.as_bytes()));

@@ -466,6 +466,7 @@ pub fn shelf_of(alloc: Global, source: Bytes, log: Bytes) -> Result<MemShelf, Al
 
 /// The outside of a call but for its shelf: the input with the numbers of its reads that fail, the numbers of the sink's calls
 /// that fail, where each takes one byte, and the turns of the crew.
+#[derive(Clone, Copy)]
 pub struct Outside<'a> {
     pub input: &'a [u8],
     pub read_fails: &'a [u64],
