@@ -26,13 +26,13 @@ use weak_turns::Carrier;
 
 /// The seats of all threads and their entries, in order.
 #[derive(Drop)]
-struct Parts {
-    seats: Vec<Seat>,
-    lists: List<List<Noted>>,
+pub(crate) struct Parts {
+    pub seats: Vec<Seat>,
+    pub lists: List<List<Noted>>,
 }
 
-// A carrier for each seat.
-fn carriers_of<'c, 'a>(
+/// A carrier for each seat.
+pub(crate) fn carriers_of<'c, 'a>(
     alloc: Global,
     cells: &'c Cells<'a>,
     seats: Vec<Seat>,
@@ -51,8 +51,8 @@ fn carriers_of<'c, 'a>(
     Ok(carriers)
 }
 
-// The seats and the entries of carriers whose threads have ended. Where one hasn't, memory was wanting.
-fn parts_of(alloc: Global, carriers: Vec<Carrier>) -> Result<Parts, AllocError>
+/// The seats and the entries of carriers whose threads have ended. Where one hasn't, memory was wanting.
+pub(crate) fn parts_of(alloc: Global, carriers: Vec<Carrier>) -> Result<Parts, AllocError>
     ensures { IfOk result (λ it. AreParts carriers.entry.items it.seats.items it.lists) }
 {
     let mut seats = Vec::new(alloc);
