@@ -1,6 +1,5 @@
 // The operation of an entry, by the thread that stands at its count.
 ghost use Rattle.std.specs.Prelude.{◌≡◌, ◌↔◌, IsTrue};
-ghost use Rattle.abstract_machine.specs.declared.event.Action.TheVariants as action;
 ghost use Rattle.flow_code.specs.Settle.{IsRunnable};
 ghost use Rattle.runs.specs.Labels.{Close, Go, Revoke, Stop, label_of};
 ghost use Rattle.sync_objects.specs.Names.{name_of};

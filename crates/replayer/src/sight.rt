@@ -1,5 +1,5 @@
 // A look at the object of an entry.
-ghost use Rattle.std.specs.Prelude.{◌≡◌, ◌≢◌, ◌<◌, true};
+ghost use Rattle.std.specs.Prelude.{◌≡◌, true};
 ghost use Rattle.core_run.specs.Words.{has_object};
 ghost use Rattle.flow_code.specs.Settle.{IsRunnable};
 ghost use Rattle.shared_cells.specs.Seats.{IsSeatOf, view_of};

@@ -5,7 +5,7 @@ ghost use Rattle.shared_cells.specs.Seats.{view_of};
 ghost use Rattle.sync_objects.specs.Setup.{IsWithinLimits};
 ghost use Rattle.weak_turns.specs.Shown.{IsCarrying};
 ghost use Rattle.replayer.specs.Following.{TriedIs};
-ghost use Rattle.replayer.specs.Steps.{Comes, IsInStep, IsSet, KeepsDeparture, told_at};
+ghost use Rattle.replayer.specs.Steps.{Comes, IsInStep, IsSet, told_at};
 
 use crate::making::make;
 use crate::step::Step;
