@@ -35,8 +35,7 @@ use Rattle.weak_turns.proofs.Showing.{same_phase}
 use Rattle.recorder.specs.Carriers.{AreCarriers, AreParts, RoseAtLeast}
 use Rattle.recorder.specs.Finished.{IsFinished}
 use Rattle.recorder.specs.Records.{Records}
-use Rattle.recorder.proofs.Ends.{whole_walk}
-use Rattle.recorder.proofs.States.{beside}
+use Rattle.recorder.proofs.Ends.{beside, whole_walk}
 
 -- ---- a thread that has ended has no marks to come
 

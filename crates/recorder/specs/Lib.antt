@@ -1,4 +1,3 @@
-pub mod Recording
 pub mod Records
 pub mod Carriers
 pub mod Finished

@@ -1,5 +1,5 @@
 -- What a recording leaves of a run: its log, and what that log's walk comes to.
-use Rattle.std.specs.Prelude.{◌≡◌, ℕ, false, List, None, Some}
+use Rattle.std.specs.Prelude.{◌≡◌, ℕ, List, Some}
 use Rattle.sync_objects.specs.Setup.{SetupView}
 use Rattle.sync_objects.specs.declared.entry.Entry.{Entry}
 use Rattle.flow_code.specs.declared.code.Code.{Code}
@@ -15,10 +15,6 @@ use Rattle.recorder.specs.declared.record.RunFault.TheVariants as fault
 use Rattle.runs.specs.Labels.{Label}
 use Rattle.runs.specs.Merge.{written_merge}
 use Rattle.runs.specs.Steps.{State}
-
--- no access is asked for
-abbrev pub no_reads : Formula
-no_reads = record { loads = false; stores = false; thread = None; low = 1; high = 0; value = None }
 
 -- the walk takes all entries, and all threads have ended
 abbrev pub IsWholeWalk : Walk → Type 0
