@@ -1,5 +1,5 @@
 -- How the call of a job ends.
-use Rattle.std.proofs.Common.{◌≡◌, refl, sym, ap, subst, ◌∙◌, ℕ, List, Option, Some, None, Ok, Err}
+use Rattle.std.proofs.Common.{◌≡◌, refl, sym, ap, subst, ◌∙◌, ℕ, List, Option, Some, None, Err}
 use Rattle.std.specs.Prelude.{option_map}
 use Rattle.answers.specs.Answers.{status_of, text_of}
 use Rattle.answers.specs.Endings.{Writes}

@@ -1,5 +1,5 @@
 -- What a run leaves is a recording of its source.
-use Rattle.std.proofs.Common.{◌≡◌, ◌≤◌, refl, sym, ap, subst, ◌∙◌, ℕ, List, [], ◌∷◌, Result, Ok, Err, Option, Some, length}
+use Rattle.std.proofs.Common.{◌≡◌, ◌≤◌, refl, sym, subst, ℕ, List, [], ◌∷◌, Result, Ok, Err, Option, Some, length}
 use Rattle.std.specs.List.{AllByRecursion}
 use Rattle.std.specs.Prelude.{IfOk, MatchResult}
 use Rattle.std.specs.declared.alloc.AllocError.{AllocError}
@@ -12,7 +12,7 @@ use Rattle.core_run.specs.Histories.{run_of, HaveEnded, lists_of, entries_in}
 use Rattle.core_run.specs.Machine.{Told}
 use Rattle.facts.specs.declared.profile.Profile.{Profile}
 use Rattle.flow_code.specs.declared.code.Code.{Code}
-use Rattle.lock_sound.specs.Weakened.{Analysed, IsAnalysed}
+use Rattle.lock_sound.specs.Weakened.{Analysed}
 use Rattle.order_log.specs.Log.{AreWithin}
 use Rattle.order_log.specs.Text.{log_text}
 use Rattle.outcomes.specs.Faults.{CrewStops, InputStops, RunStops}

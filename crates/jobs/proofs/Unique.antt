@@ -1,20 +1,17 @@
 -- Files and words have one outcome.
-use Rattle.std.proofs.Common.{◌≡◌, ◌≢◌, ◌<◌, ◌≤◌, ℕ, List, [], ◌++◌, length, Option, Some, None, Result, Ok, Err, refl, sym, ◌∙◌, ap, subst, arith}
-use Rattle.answers.specs.Jobs.{Asked}
+use Rattle.std.proofs.Common.{◌≡◌, ℕ, List, [], ◌++◌, Option, Some, None, Result, Ok, Err, sym, ◌∙◌, ap, subst, arith}
 use Rattle.answers.specs.Jobs.Asked.{Races, Weaken, Record, Replay, Profile, Make}
 use Rattle.answers.specs.declared.answer.Answer.{Answer}
 use Rattle.answers.specs.declared.answer.Answer.TheVariants as answer
 use Rattle.answers.specs.declared.answer.Part.{Part}
 use Rattle.answers.specs.declared.answer.Part.TheVariants as part
 use Rattle.c_tree.specs.Tree.{Outer}
-use Rattle.core_run.specs.declared.access.Formula.{Formula}
-use Rattle.core_run.specs.declared.access.Access.{Access}
 use Rattle.core_run.specs.Walks.{WalkIs}
 use Rattle.facts.specs.declared.profile.Profile.{Profile as ProfileOf}
 use Rattle.facts.specs.declared.profile.Profile.TheVariants as profile
 use Rattle.front.proofs.One.{one_reading}
 use Rattle.front.proofs.OneWeakened.{one_weakened}
-use Rattle.front.specs.Readings.{Reading, sound, refused}
+use Rattle.front.specs.Readings.{sound, refused}
 use Rattle.front.specs.declared.reading.SourceFault.{SourceFault}
 use Rattle.listing.specs.Text.{races_text_of}
 use Rattle.listing.specs.WeakText.{weak_text_of}
@@ -27,18 +24,15 @@ use Rattle.outcomes.specs.Outcomes.{answers}
 use Rattle.outcomes.specs.Steps.{Comes, IsFile, IsWithin, Then}
 use Rattle.outcomes.specs.declared.outcome.Outcome.{Outcome}
 use Rattle.profile_book.proofs.OneAnswer.{one_answer}
-use Rattle.profile_book.specs.Faults.{number_of}
-use Rattle.profile_book.specs.declared.fault.ProfileFault.{ProfileFault}
-use Rattle.profile_book.specs.declared.fault.ProfileFault.TheVariants as unread
 use Rattle.rr_base.specs.Files.{Files}
 use Rattle.walk_answers.proofs.OneWalk.{one_walk}
-use Rattle.jobs.specs.Jobs.{IsOutcome, IsRaces, IsReplay, IsWeaken, ReadsInput}
+use Rattle.jobs.specs.Jobs.{IsRaces, IsReplay, IsWeaken}
 use Rattle.jobs.specs.Laws.{OneOutcome}
 use Rattle.jobs.specs.Listings.{ListsRaces, ListsWeakLocks}
 use Rattle.job_profiles.specs.Profiles.{IsProfile, IsSpelled}
 use Rattle.jobs.specs.Replays.{IsLogIn, IsRefusal, Replays}
 use Rattle.jobs.specs.Sources.{IsFound, IsTree}
-use Rattle.walk_answers.specs.Walking.{answer_of, formula_of, kept, outcome_of, put_of}
+use Rattle.walk_answers.specs.Walking.{formula_of, put_of}
 
 -- ---- steps
 

@@ -1,5 +1,4 @@
-use Rattle.facts.specs.declared.profile.Profile.TheVariants as profile
-use Rattle.jobs.specs.Listings.{ListsRaces, ListsWeakLocks}
+use Rattle.jobs.specs.Listings.{ListsWeakLocks}
 use Rattle.jobs.proofs.Found.{locks_listed, memory_is_pure, not_compiled, compile_is_pure, or_memory}
 use Rattle.jobs.proofs.weak_locks.listed.Goals as goal
 
