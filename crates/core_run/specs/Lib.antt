@@ -6,5 +6,6 @@ pub mod Machine
 pub mod Parts
 pub mod Pieces
 pub mod Shown
+pub mod Stacks
 pub mod Walks
 pub mod Words

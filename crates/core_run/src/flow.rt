@@ -6,6 +6,7 @@ ghost use Rattle.flow_code.specs.Settle.{IsRunnable, weight, settled};
 ghost use Rattle.core_run.specs.Flows.{is_ready, needs};
 ghost use Rattle.core_run.specs.Machine.{start_thread, start_phase as start_phase_of};
 ghost use Rattle.core_run.specs.Pieces.{piece_at};
+ghost use Rattle.core_run.specs.Stacks.{stack_of};
 ghost use Rattle.flow_code.specs.Next.{act_at};
 ghost use Rattle.core_run.specs.Endings.{ending_of, trap_of};
 
@@ -16,7 +17,7 @@ use crate::place::arena_start;
 use crate::state::ThreadState;
 use abstract_machine::Action;
 use flow_code::{Code, Phase};
-use rr_base::{Bytes, Trap};
+use rr_base::{Bytes, List, Trap};
 use std::alloc::{AllocError, Global};
 use std::marker::Model;
 use sync_objects::Setup;
@@ -203,6 +204,14 @@ impl<'a> Flow<'a> {
         ensures thread { self.new.kept.thread ≡ shut self.old.kept.thread }
     {
         self.state.shut();
+    }
+
+    /// The functions on the thread's stack, the running one last: none before it enters its first function, and none once it
+    /// has ended.
+    pub fn stack(&self) -> Result<List<u32>, AllocError>
+        ensures { IfOk result (λ it. it ≡ stack_of self.now.kept.thread) }
+    {
+        self.state.stack(self.alloc)
     }
 
     /// The bytes that the call at which the thread stands prints.

@@ -35,6 +35,7 @@ pub use flow_code::Phase;
 pub use laws::{law_converge, law_kept, law_machine, law_merges, law_written_merge};
 pub use outcome::{Ending, Walk};
 pub use parts::{has_object, place_of};
-pub use start::start_words;
+pub use start::{start_flows, start_words};
 pub use sync_objects::{Entry, Noted, Setup};
+pub use walker::make_part;
 pub use walking::walk;

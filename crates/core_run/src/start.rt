@@ -91,7 +91,7 @@ pub fn start_words(alloc: Global, code: &Code, setup: &Setup) -> Result<Vec<u64>
 }
 
 /// The threads at the start, one for each slot.
-pub(crate) fn start_flows<'a>(
+pub fn start_flows<'a>(
     alloc: Global,
     code: &'a Code,
     setup: &'a Setup,

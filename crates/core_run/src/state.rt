@@ -9,6 +9,7 @@ ghost use Rattle.core_run.specs.Flows.{Kept, is_ready, needs, needs_pairs};
 ghost use Rattle.core_run.specs.Machine.{no_frame};
 ghost use Rattle.std.specs.Prelude.{OnOk, IfOk};
 ghost use Rattle.core_run.specs.Pieces.{piece_at};
+ghost use Rattle.core_run.specs.Stacks.{functions_of as functions_of_frames, stack_of};
 ghost use Rattle.flow_code.specs.Next.{act_at};
 
 use crate::frame::Frame;
@@ -16,7 +17,7 @@ use crate::place::{instr_at, instrs_at, registers_at};
 use crate::region::OpenRegion;
 use abstract_machine::{Onward, piece, pointer_at};
 use flow_code::{Act, Code, Instr, Phase, Stripe};
-use rr_base::{Bytes, Trap};
+use rr_base::{Bytes, List, Trap};
 use std::alloc::{AllocError, Global};
 use std::marker::Model;
 use sync_objects::Op;
@@ -178,6 +179,18 @@ impl ThreadState {
         }
     }
 
+    // The functions on the thread's stack.
+    pub(crate) fn stack(&self, alloc: Global) -> Result<List<u32>, AllocError>
+        ensures { IfOk result (λ it. it ≡ stack_of self.now.thread) }
+    {
+        if !matches!(self.phase, Phase::Running) {
+            return Ok(List::new(alloc));
+        }
+        let mut stack = functions_of(alloc, &self.below)?;
+        stack.push(self.top.function)?;
+        Ok(stack)
+    }
+
     // Puts a result into a register, and goes on.
     pub(crate) fn compute(&mut self, into: u32, value: Result<u64, Trap>)
         requires { self.old.thread.top.instr + 1 < 2 ^ 64 }
@@ -313,6 +326,19 @@ impl ThreadState {
         self.phase = Phase::Closed;
         self.count += 1;
     }
+}
+
+// The functions of the frames.
+fn functions_of(alloc: Global, frames: &[Frame]) -> Result<List<u32>, AllocError>
+    ensures { IfOk result (λ it. it ≡ functions_of_frames frames.now) }
+{
+    let mut functions = List::new(alloc);
+    let mut rest = frames;
+    while let [frame, more @ ..] = rest {
+        functions.push(frame.function)?;
+        rest = more;
+    }
+    Ok(functions)
 }
 
 // The register that is to get the value of a call.

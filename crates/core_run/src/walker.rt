@@ -139,7 +139,7 @@ fn count_in(flows: &[Flow], thread: u8) -> u32
 /// The part of one entry in a walk: its thread goes alone up to the entry's count, and then makes the entry. `words`
 /// are those of all cells and objects, and `reads` are the accesses that were kept of each thread. What is printed is
 /// put behind `out`. The answer is false exactly where the part isn't allowed.
-pub(crate) fn make_part(
+pub fn make_part(
     code: &Code,
     setup: &Setup,
     flows: &mut Vec<Flow>,
