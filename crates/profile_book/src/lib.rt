@@ -10,6 +10,7 @@ mod read;
 mod write;
 
 pub use fault::ProfileFault;
+pub use gather::gathered;
 pub use law::{law_one_answer, law_reads_back};
 pub use read::read_profile;
 pub use write::write_profile;
