@@ -1,36 +1,34 @@
--- What expressions with commas between them, calls and steps are, by what was made of their parts.
-use Rattle.std.proofs.Common.{◌≡◌, List, Option, None, true, map, ap, ◌∙◌}
+-- What expressions with commas between them and calls are, by what was made of their parts.
+use Rattle.std.proofs.Common.{◌≡◌, Option, None, sym, ap, ◌∙◌}
 use Rattle.c_lexer.specs.Bytes.{Text}
-use Rattle.abstract_machine.specs.declared.operator.BinaryOp.{BinaryOp as FlowOp}
-use Rattle.c_tree.specs.declared.expr.Expr.{Expr}
-use Rattle.c_tree.specs.Tree.{call, listed}
 use Rattle.rr_base.specs.declared.position.Position.{Position}
-use Rattle.c_tree.specs.View.{exp_of}
+use Rattle.c_tree.specs.Tree.{Exp, Exps, comma, call}
 use Rattle.c_types.specs.Standing.{Target, no_target}
-use Rattle.rr_base.specs.declared.position.Position.{Position}
+use Rattle.c_rules.specs.Faults.{own_place}
 use Rattle.c_core.specs.Core as core
-use Rattle.c_elaborate.specs.Held.{Held, held_value, Part, value_in}
+use Rattle.c_elaborate.specs.Held.{held_value, Part, value_in, position_of}
 use Rattle.c_elaborate.specs.Here.{Here}
-use Rattle.c_elaborate.specs.Operators.{stepped_in}
 use Rattle.c_elaborate.specs.Expressions.{held, tail_of, with_tail, part, value_of}
 
-pub comma_held : (h : Here) (first first' : Expr) (rest rest' : List Expr) (p : Part) (tail : Option core.Exp) (v : Held) (at at1 : Position) → first' ≡ first → rest' ≡ rest → at1 ≡ at → tail ≡ tail_of h (listed (map exp_of rest')) None at1 → p ≡ part h no_target (exp_of first') → v ≡ held_value (with_tail (value_in p) tail at1) → v ≡ held_value (with_tail (value_of h (exp_of first)) (tail_of h (listed (map exp_of rest)) None at) at)
-comma_held h first first' rest rest' p tail v at at1 same_first same_rest same_at is_tail is_part is =
-    is
-    ∙ (ap (λ z. held_value (with_tail (value_in z) tail at1)) is_part
-    ∙ (ap (λ z. held_value (with_tail (value_of h (exp_of z)) tail at1)) same_first
-    ∙ (ap (λ z. held_value (with_tail (value_of h (exp_of first)) z at1)) is_tail
-    ∙ (ap (λ z. held_value (with_tail (value_of h (exp_of first)) (tail_of h (listed (map exp_of z)) None at1) at1)) same_rest
-    ∙ ap (λ z. held_value (with_tail (value_of h (exp_of first)) (tail_of h (listed (map exp_of rest)) None z) z)) same_at))))
+-- the place of an expression, by what the expression is
+placed : (e e1 : Exp) (place : Position) → place ≡ position_of (own_place e) → e ≡ e1 → place ≡ position_of (own_place e1)
+placed e e1 place at is = at ∙ ap (λ (z : Exp). position_of (own_place z)) is
 
-pub call_is_held : (h : Here) (w : Target) (at : Position) (name name' : Text) (es es' : List Expr) (v : Held) → name' ≡ name → es' ≡ es → v ≡ held h w (call name' (listed (map exp_of es')) at) → v ≡ held h w (call name (listed (map exp_of es)) at)
-call_is_held h w at name name' es es' v same_name same_es is =
-    is
-    ∙ (ap (λ z. held h w (call z (listed (map exp_of es')) at)) same_name
-    ∙ ap (λ z. held h w (call name (listed (map exp_of z)) at)) same_es)
+pub comma_is : (h : Here) (w : Target) (e a : Exp) (es es1 : Exps) (at : Position) (p : Part) (tail : Option core.Exp) (place : Position) →
+    e ≡ comma a es at → place ≡ position_of (own_place e) → es1 ≡ es → tail ≡ tail_of h es1 None place → p ≡ part h no_target a →
+    held_value (with_tail (value_in p) tail place) ≡ held h w e
+comma_is h w e a es es1 at p tail place is there same is_tail is_p =
+    ap (λ (z : Part). held_value (with_tail (value_in z) tail place)) is_p
+    ∙ (ap (λ (z : Option core.Exp). held_value (with_tail (value_of h a) z place)) is_tail
+    ∙ (ap (λ (z : Exps). held_value (with_tail (value_of h a) (tail_of h z None place) place)) same
+    ∙ (ap (λ (z : Position). held_value (with_tail (value_of h a) (tail_of h es None z) z)) (placed e (comma a es at) place there is)
+    ∙ sym (ap (held h w) is))))
 
-pub stepped_held : (h : Here) (o : FlowOp) (e e' : Expr) (p : Part) (v : core.Exp) (at at' : Position) → e' ≡ e → at' ≡ at → p ≡ part h no_target (exp_of e') → v ≡ stepped_in h.source o p true at' → v ≡ stepped_in h.source o (part h no_target (exp_of e)) true at
-stepped_held h o e e' p v at at' same same_at is_part is =
-    is
-    ∙ (ap (λ z. stepped_in h.source o p true z) same_at
-    ∙ ap (λ z. stepped_in h.source o z true at) (is_part ∙ ap (λ z. part h no_target (exp_of z)) same))
+pub call_is : (h : Here) (w : Target) (e : Exp) (name name1 : Text) (es es1 : Exps) (at place : Position) →
+    e ≡ call name es at → place ≡ position_of (own_place e) → name1 ≡ name → es1 ≡ es →
+    held h no_target (call name1 es1 (position_of place)) ≡ held h w e
+call_is h w e name name1 es es1 at place is there same_name same_es =
+    ap (λ (z : Text). held h no_target (call z es1 (position_of place))) same_name
+    ∙ (ap (λ (z : Exps). held h no_target (call name z (position_of place))) same_es
+    ∙ (ap (λ (z : Position). held h no_target (call name es (position_of z))) (placed e (call name es at) place there is)
+    ∙ sym (ap (held h w) is)))

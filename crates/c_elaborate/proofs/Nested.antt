@@ -1,5 +1,5 @@
 -- A block and a `for` stand in a scope of their own.
-use Rattle.std.proofs.Common.{◌≡◌, ℕ, ◌+◌, List, ◌++◌, [], map, Option, refl, sym, ap, ◌∙◌}
+use Rattle.std.proofs.Common.{◌≡◌, ℕ, ◌+◌, List, ◌++◌, [], map, Option, Result, Ok, Err, OnOk, refl, sym, ap, ◌∙◌}
 use Rattle.c_tree.specs.Tree.{Exp, Start, Statement, Parts, for_loop}
 use Rattle.rr_base.specs.declared.position.Position.{Position}
 use Rattle.rr_base.specs.Positions.{position_at}
@@ -39,3 +39,8 @@ for_made s f before within numbered inner begin test next body at made o n m =
     ∙ ap (λ (k : Numbered). for_within s f (opened before) k begin test next body at) n
 
 pub ruleset numbers_behind = (behind_none, behind_both)
+
+-- what holds in any case
+pub whenever : {T E : Type 0} {P : Type 0} (r : Result T E) → P → OnOk r P
+whenever (Ok v) p = p
+whenever (Err e) p = tt

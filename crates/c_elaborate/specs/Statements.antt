@@ -1,6 +1,7 @@
 -- The core tree of statements (C99 6.8). A declaration in a block is the statements that give its objects their first
 -- values.
 use Rattle.std.specs.Prelude.{ℕ, false, List, [], ◌∷◌, ◌++◌, map, Option, Some, None}
+use Rattle.rr_base.specs.declared.position.Position.{Position}
 use Rattle.c_tree.specs.declared.ctype.Specifier.{Specifier}
 use Rattle.c_tree.specs.Tree.{Exp, Declared, Object, plain, initialised, Declares, declares, Start, start_declares, start_computes, Statement, block, compute, break_at, continue_at, gives, branch, branch_else, while_loop, do_loop, for_loop, Parts, no_part, and_declares, and_does}
 use Rattle.c_types.specs.Scopes.{opened}
@@ -48,6 +49,19 @@ abbrev pub declares_elaborated : Here → Declares → List core.Statement
 declares_elaborated h (declares s os at) = objects_elaborated h s os
 
 -- ---- statements
+
+-- where it stands
+abbrev pub own_place : Statement → Position
+own_place (block ps at) = at
+own_place (compute e at) = at
+own_place (break_at at) = at
+own_place (continue_at at) = at
+own_place (gives e at) = at
+own_place (branch e a at) = at
+own_place (branch_else e a b at) = at
+own_place (while_loop e a at) = at
+own_place (do_loop a e at) = at
+own_place (for_loop start test next a at) = at
 
 abbrev pub block_of : List core.Statement → core.Statement
 block_of ss = core.block (core.listed_statements ss)

@@ -1,16 +1,21 @@
 //! The core tree of an expression (C99 6.5).
-ghost use Rattle.std.specs.Prelude.{◌≡◌, IfOk, None, map};
+ghost use Rattle.std.specs.Prelude.{◌≡◌, true, if◌then◌else◌, IfOk, None, map};
 ghost use Rattle.c_tree.specs.Tree.{listed};
 ghost use Rattle.rr_base.specs.Positions.{position_at};
 ghost use Rattle.c_tree.specs.Tree as trees;
 ghost use Rattle.c_tree.specs.View as tree;
 ghost use Rattle.c_types.specs.Shown.{shown_maybe, shown_meaning, shown_standing, shown_target, shown_wants};
-ghost use Rattle.c_types.specs.Scopes.{seen};
-ghost use Rattle.c_types.specs.Standing.{standing};
+ghost use Rattle.c_types.specs.Numbers.{is_zero};
+ghost use Rattle.c_types.specs.Scopes as scopes;
+ghost use Rattle.c_types.specs.Standing as standings;
+ghost use Rattle.c_types.specs.Standing.{no_target, standing};
+ghost use Rattle.c_rules.specs.Faults as faults;
 ghost use Rattle.c_programs.specs.Table.{known_of};
+ghost use Rattle.c_core.specs.Core as core;
 ghost use Rattle.c_core.specs.View.{exp_of, maybe_of};
-ghost use Rattle.c_elaborate.specs.Held.{held_value, position_of, value_in};
-ghost use Rattle.c_elaborate.specs.Here.{home_of};
+ghost use Rattle.c_elaborate.specs.Held.{held_value, held_zero, operand_in, position_of, value_in};
+ghost use Rattle.c_elaborate.specs.Here.{home_of, offset_in};
+ghost use Rattle.c_elaborate.specs.Operators.{arrow_in, assigned_in, binary_in, cast_in, conditional_in, member_in, prefix_in, stepped_in};
 ghost use Rattle.c_elaborate.specs.Expressions as spec;
 ghost use Rattle.c_elaborate.specs.Views.{held_of, here_of, part_of};
 
@@ -25,8 +30,8 @@ use crate::operators::{
 use abstract_machine::BinaryOp as FlowOp;
 use c_core::Value;
 use c_programs::Table;
-use c_rules::{format_of, is_constant, judge, value_of, wants_of};
-use c_tree::Expr;
+use c_rules::{format_of, is_constant, judge, own_place, value_of, wants_of};
+use c_tree::{AssignOp, BinaryOp, CType, Expr, Name, PrefixOp};
 use c_types::{
     Meaning, Names, Operand, Standing, Target, TypeRef, Wants, assigned_target, cast_target,
     library_named, pointed_struct, struct_of, type_named,
@@ -39,6 +44,14 @@ pub fn position(line: u32, column: u32) -> Position
     ensures { result ≡ position_of (position_at line column) }
 {
     Position { line, column }
+}
+
+/// The place of an expression.
+fn place_of(e: &Expr) -> Position
+    ensures { result ≡ position_of (faults.own_place (tree.exp_of e.now)) }
+{
+    let at = own_place(e);
+    position(at.0, at.1)
 }
 
 /// What the expression is, where `target` is what a `malloc` in its place makes an object of.
@@ -88,7 +101,7 @@ fn variable(here: Here, name: &[u8], at: Position) -> Held
 }
 
 fn named(here: Here, name: &[u8], at: Position) -> Held
-    ensures { held_of result ≡ spec.named_held (here_of here.entry) name.now (seen (here_of here.entry).known name.now) at }
+    ensures { held_of result ≡ spec.named_held (here_of here.entry) name.now (scopes.seen (here_of here.entry).known name.now) at }
 {
     match here.table.seen(name) {
         Some(Meaning::Variable(_)) => variable(here, name, at),
@@ -122,7 +135,7 @@ fn behind(
 }
 
 /// An expression with others behind it.
-fn with_tail(
+fn sequence(
     alloc: Global,
     first: Part,
     tail: Option<Value>,
@@ -140,6 +153,64 @@ fn with_tail(
     }
 }
 
+/// An assignment of which the sides are made.
+fn assignment(
+    alloc: Global,
+    here: Here,
+    op: AssignOp,
+    left: Part,
+    right: Part,
+    at: Position,
+) -> Result<Held, AllocError>
+    ensures { IfOk result (λ h. held_of h ≡ held_value (assigned_in (here_of here.entry).source op (part_of left.entry) (part_of right.entry) at)) }
+{
+    let value = assigned(alloc, here.source, op, left, right, at)?;
+    Ok(Held::Value(value))
+}
+
+/// `?:`, whose operands are made.
+fn choice(
+    alloc: Global,
+    here: Here,
+    e: &Expr,
+    test: Part,
+    yes: Part,
+    no: Part,
+    at: Position,
+) -> Result<Held, AllocError>
+    ensures { IfOk result (λ h. held_of h ≡ spec.folded (here_of here.entry).known (tree.exp_of e.now) at (held_value (conditional_in (part_of test.entry) (part_of yes.entry) (part_of no.entry) at))) }
+{
+    let value = conditional(alloc, test, yes, no, at)?;
+    Ok(folded(here.table, e, at, Held::Value(value)))
+}
+
+/// An operator with two operands, which are made.
+fn operation(
+    alloc: Global,
+    here: Here,
+    e: &Expr,
+    op: BinaryOp,
+    left: Part,
+    right: Part,
+    at: Position,
+) -> Result<Held, AllocError>
+    ensures { IfOk result (λ h. held_of h ≡ spec.folded (here_of here.entry).known (tree.exp_of e.now) at (held_value (binary_in (here_of here.entry).source op (part_of left.entry) (part_of right.entry) at))) }
+{
+    let value = binary(alloc, here.source, op, left, right, at)?;
+    Ok(folded(here.table, e, at, Held::Value(value)))
+}
+
+/// A literal. That of 0 is a null pointer where a pointer is wanted.
+fn literal(value: i64, at: Position) -> Held
+    ensures { held_of result ≡ (if is_zero value then held_zero at else held_value (core.number value at)) }
+{
+    if value == 0 {
+        Held::Zero { at }
+    } else {
+        Held::Value(make::number(value, at))
+    }
+}
+
 /// What stands for an expression, where `target` is what a `malloc` in its place makes an object of.
 #[cycle(expression)]
 fn held<'h>(
@@ -150,184 +221,155 @@ fn held<'h>(
 ) -> Result<Held, AllocError>
     ensures { IfOk result (λ h. held_of h ≡ spec.held (here_of here.entry) (shown_target target.entry) (tree.exp_of e.now)) }
 {
+    let at = place_of(e);
     match e {
-        Expr::Comma {
-            first,
-            rest,
-            line,
-            column,
-        } => {
-            let at = position(*line, *column);
+        Expr::Comma { first, rest, .. } => {
             let tail = tail_of(alloc, here, rest.as_slice(), at)?;
             let first = part(alloc, here, Target::No, first)?;
-            let made = with_tail(alloc, first, tail, at)?;
-            Ok(made)
+            sequence(alloc, first, tail, at)
         }
         Expr::Assign {
             left,
             op,
             right,
-            line,
-            column,
+            ..
         } => {
             let left = part(alloc, here, Target::No, left)?;
             let right = part(alloc, here, assigned_target(*op, left.standing), right)?;
-            let value = assigned(
-                alloc,
-                here.source,
-                *op,
-                left,
-                right,
-                position(*line, *column),
-            )?;
-            Ok(Held::Value(value))
+            assignment(alloc, here, *op, left, right, at)
         }
-        Expr::Conditional {
-            test,
-            yes,
-            no,
-            line,
-            column,
-        } => {
-            let at = position(*line, *column);
+        Expr::Conditional { test, yes, no, .. } => {
             let test = part(alloc, here, Target::No, test)?;
             let yes = part(alloc, here, Target::No, yes)?;
             let no = part(alloc, here, Target::No, no)?;
-            let value = conditional(alloc, test, yes, no, at)?;
-            Ok(folded(here.table, e, at, Held::Value(value)))
+            choice(alloc, here, e, test, yes, no, at)
         }
         Expr::Binary {
             left,
             op,
             right,
-            line,
-            column,
+            ..
         } => {
-            let at = position(*line, *column);
             let left = part(alloc, here, Target::No, left)?;
             let right = part(alloc, here, Target::No, right)?;
-            let value = binary(alloc, here.source, *op, left, right, at)?;
-            Ok(folded(here.table, e, at, Held::Value(value)))
-        }
-        Expr::Prefix {
-            op,
-            operand,
-            line,
-            column,
-        } => {
-            let at = position(*line, *column);
-            let operand = part(alloc, here, Target::No, operand)?;
-            let held = prefix(alloc, here.source, *op, operand, at)?;
-            Ok(folded(here.table, e, at, held))
-        }
-        Expr::SizeofExpr { line, column, .. } | Expr::SizeofType { line, column, .. } => {
-            let at = position(*line, *column);
-            Ok(folded(here.table, e, at, Held::Zero { at }))
-        }
-        Expr::Cast {
-            to,
-            operand,
-            line,
-            column,
-        } => {
-            let at = position(*line, *column);
-            let named = type_named(here.table, to);
-            let operand = part(alloc, here, cast_target(named, to.stars), operand)?;
-            let value = cast(alloc, is_pointer_type(named), operand, at)?;
-            Ok(folded(here.table, e, at, Held::Value(value)))
+            operation(alloc, here, e, *op, left, right, at)
         }
         Expr::Index {
             base,
             index: by,
-            line,
-            column,
+            ..
         } => {
             let base = part(alloc, here, Target::No, base)?;
             let by = part(alloc, here, Target::No, by)?;
-            index(alloc, here.source, base, by, position(*line, *column))
+            index(alloc, here.source, base, by, at)
         }
-        Expr::Member {
-            base,
-            name,
-            line,
-            column,
-        } => {
-            let base = part(alloc, here, Target::No, base)?;
-            let by = here
-                .source
-                .offset_in(struct_of(base.standing), name.text.as_slice())?;
-            member(alloc, base.held, by, position(*line, *column))
-        }
-        Expr::Arrow {
-            base,
-            name,
-            line,
-            column,
-        } => {
-            let base = part(alloc, here, Target::No, base)?;
-            let by = here
-                .source
-                .offset_in(pointed_struct(base.operand()), name.text.as_slice())?;
-            arrow(alloc, base, by, position(*line, *column))
-        }
-        Expr::PostIncrement {
-            operand,
-            line,
-            column,
-        } => {
-            let place = part(alloc, here, Target::No, operand)?;
-            let at = position(*line, *column);
-            let value = stepped(alloc, here.source, FlowOp::Add, place, true, at)?;
-            Ok(Held::Value(value))
-        }
-        Expr::PostDecrement {
-            operand,
-            line,
-            column,
-        } => {
-            let place = part(alloc, here, Target::No, operand)?;
-            let at = position(*line, *column);
-            let value = stepped(alloc, here.source, FlowOp::Subtract, place, true, at)?;
-            Ok(Held::Value(value))
-        }
-        Expr::Name { name, line, column } => {
-            let at = position(*line, *column);
-            Ok(folded(here.table, e, at, named(here, name.as_slice(), at)))
-        }
+        Expr::Prefix { op, operand, .. } => prefixed(alloc, here, operand, *op, e, at),
+        Expr::Cast { to, operand, .. } => cast_to(alloc, here, operand, to, e, at),
+        Expr::Member { base, name, .. } => member_of(alloc, here, base, name, at),
+        Expr::Arrow { base, name, .. } => pointed_member(alloc, here, base, name, at),
+        Expr::PostIncrement { operand, .. } => post(alloc, here, operand, FlowOp::Add, at),
+        Expr::PostDecrement { operand, .. } => post(alloc, here, operand, FlowOp::Subtract, at),
+        Expr::Paren { inner, .. } => held(alloc, here, target, inner),
         Expr::Call {
             name,
             arguments,
-            line,
-            column,
-        } => {
-            let name = name.as_slice();
-            let arguments = arguments.as_slice();
-            let made = call_held(alloc, here, target, name, arguments, (*line, *column))?;
-            Ok(made)
-        }
-        Expr::Number {
-            value,
-            line,
-            column,
-        } => {
-            let at = position(*line, *column);
-            if *value == 0 {
-                Ok(Held::Zero { at })
-            } else {
-                Ok(Held::Value(make::number(*value, at)))
-            }
-        }
-        Expr::Letter {
-            value,
-            line,
-            column,
-        } => Ok(Held::Value(make::number(i64::from(*value), position(*line, *column)))),
-        Expr::Text { line, column, .. } => Ok(Held::Zero {
-            at: position(*line, *column),
-        }),
-        Expr::Null { line, column } => Ok(Held::Value(make::null(position(*line, *column)))),
-        Expr::Paren { inner, .. } => held(alloc, here, target, inner),
+            ..
+        } => call_held(alloc, here, name.as_slice(), arguments.as_slice(), at),
+        Expr::Name { name, .. } => Ok(folded(here.table, e, at, named(here, name.as_slice(), at))),
+        Expr::SizeofExpr { .. } => Ok(folded(here.table, e, at, Held::Zero { at })),
+        Expr::SizeofType { .. } => Ok(folded(here.table, e, at, Held::Zero { at })),
+        Expr::Number { value, .. } => Ok(literal(*value, at)),
+        Expr::Letter { value, .. } => Ok(Held::Value(make::number(i64::from(*value), at))),
+        Expr::Text { .. } => Ok(Held::Zero { at }),
+        Expr::Null { .. } => Ok(Held::Value(make::null(at))),
     }
+}
+
+/// An operator before its operand.
+#[cycle(expression)]
+fn prefixed(
+    alloc: Global,
+    here: Here,
+    operand: &Expr,
+    op: PrefixOp,
+    e: &Expr,
+    at: Position,
+) -> Result<Held, AllocError>
+    ensures { IfOk result (λ h. held_of h ≡ spec.folded (here_of here.entry).known (tree.exp_of e.now) at (prefix_in (here_of here.entry).source op (spec.part (here_of here.entry) no_target (tree.exp_of operand.now)) at)) }
+{
+    let operand = part(alloc, here, Target::No, operand)?;
+    let held = prefix(alloc, here.source, op, operand, at)?;
+    Ok(folded(here.table, e, at, held))
+}
+
+/// A cast.
+#[cycle(expression)]
+fn cast_to(
+    alloc: Global,
+    here: Here,
+    operand: &Expr,
+    to: &CType,
+    e: &Expr,
+    at: Position,
+) -> Result<Held, AllocError>
+    ensures { let h = here_of here.entry in let named = scopes.type_named h.known to.now in IfOk result (λ r. held_of r ≡ spec.folded h.known (tree.exp_of e.now) at (held_value (cast_in (spec.is_pointer_type named) (spec.part h (standings.cast_target named to.now.stars) (tree.exp_of operand.now)) at))) }
+{
+    let named = type_named(here.table, to);
+    let operand = part(alloc, here, cast_target(named, to.stars), operand)?;
+    let value = cast(alloc, is_pointer_type(named), operand, at)?;
+    Ok(folded(here.table, e, at, Held::Value(value)))
+}
+
+/// A member of a struct.
+#[cycle(expression)]
+fn member_of(
+    alloc: Global,
+    here: Here,
+    base: &Expr,
+    name: &Name,
+    at: Position,
+) -> Result<Held, AllocError>
+    ensures { let h = here_of here.entry in let p = spec.part h no_target (tree.exp_of base.now) in IfOk result (λ r. held_of r ≡ member_in p.held (offset_in h.source (standings.struct_of p.standing) name.now.text) at) }
+{
+    let base = part(alloc, here, Target::No, base)?;
+    let by = here
+        .source
+        .offset_in(struct_of(base.standing), name.text.as_slice())?;
+    member(alloc, base.held, by, at)
+}
+
+/// A member of a struct to which a pointer is given.
+#[cycle(expression)]
+fn pointed_member(
+    alloc: Global,
+    here: Here,
+    base: &Expr,
+    name: &Name,
+    at: Position,
+) -> Result<Held, AllocError>
+    ensures { let h = here_of here.entry in let p = spec.part h no_target (tree.exp_of base.now) in IfOk result (λ r. held_of r ≡ arrow_in p (offset_in h.source (standings.pointed_struct (operand_in p)) name.now.text) at) }
+{
+    let base = part(alloc, here, Target::No, base)?;
+    let by = here
+        .source
+        .offset_in(pointed_struct(base.operand()), name.text.as_slice())?;
+    arrow(alloc, base, by, at)
+}
+
+/// `++` and `--` behind their operand.
+#[cycle(expression)]
+fn post(
+    alloc: Global,
+    here: Here,
+    operand: &Expr,
+    op: FlowOp,
+    at: Position,
+) -> Result<Held, AllocError>
+    ensures { IfOk result (λ h. held_of h ≡ held_value (stepped_in (here_of here.entry).source op (spec.part (here_of here.entry) no_target (tree.exp_of operand.now)) true at)) }
+{
+    let place = part(alloc, here, Target::No, operand)?;
+    let value = stepped(alloc, here.source, op, place, true, at)?;
+    Ok(Held::Value(value))
 }
 
 /// An expression with what it is.
@@ -393,31 +435,28 @@ fn arguments(
 
 /// A call.
 #[cycle(expression)]
-fn call_held<'h>(
+fn call_held(
     alloc: Global,
-    here: Here<'h, '_>,
-    target: Target<'h>,
+    here: Here,
     name: &[u8],
     es: &[Expr],
-    at: (u32, u32),
+    at: Position,
 ) -> Result<Held, AllocError>
-    ensures { IfOk result (λ h. held_of h ≡ spec.held (here_of here.entry) (shown_target target.entry) (trees.call name.now (listed (map tree.exp_of es.now)) (position_at at.0 at.1))) }
+    ensures { IfOk result (λ h. held_of h ≡ spec.held (here_of here.entry) no_target (trees.call name.now (listed (map tree.exp_of es.now)) (position_at at.line at.column))) }
 {
-    let _ = target;
     let wants = wants_of(here.table, name, format_of(es));
     let operands = arguments(alloc, here, wants, es)?;
-    let site = site_at(here.source.sites, at.0, at.1)?;
-    let call = library_named(name);
+    let site = site_at(here.source.sites, at.line, at.column)?;
     let value = called(
         alloc,
         here.table,
         site,
         name,
-        call,
+        library_named(name),
         here.table.seen(name),
         es,
         operands,
-        position(at.0, at.1),
+        position(at.line, at.column),
     )?;
     Ok(Held::Value(value))
 }

@@ -323,6 +323,18 @@ pub fn allocate(alloc: Global, site: u16, size: Value, at: Position) -> Result<V
     }))
 }
 
+pub fn break_at(at: Position) -> Statement
+    ensures { stmt_of result ≡ core.break_at at }
+{
+    Statement::Break { at }
+}
+
+pub fn continue_at(at: Position) -> Statement
+    ensures { stmt_of result ≡ core.continue_at at }
+{
+    Statement::Continue { at }
+}
+
 /// An `if`.
 pub fn branch(
     alloc: Global,

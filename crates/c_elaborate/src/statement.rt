@@ -219,6 +219,25 @@ fn given<'a>(
     }
 }
 
+/// A `return`.
+fn returned<'a>(
+    alloc: Global,
+    source: &Source<'a>,
+    frame: &Frame,
+    table: &Table<'a>,
+    numbers: &NumberTable<'a>,
+    e: &Option<Expr>,
+    at: (u32, u32),
+) -> Result<Statement, AllocError>
+    ensures { IfOk result (λ s. stmt_of s ≡ core.gives (spec.given (here_in (source_in source.now) (frame_in frame.now) (known_of table.now) (numbered_of numbers.now)) (tree.maybe_of e.now)) (position_of (position_at at.0 at.1))) }
+{
+    let value = given(alloc, source, frame, table, numbers, e)?;
+    Ok(Statement::Return {
+        value,
+        at: position(at.0, at.1),
+    })
+}
+
 /// How a `for` begins.
 fn start<'a>(
     alloc: Global,
@@ -410,9 +429,25 @@ fn for_statement<'a>(
     Ok(made)
 }
 
+/// The place of a statement.
+fn place_of(stmt: &Stmt) -> (u32, u32)
+    ensures { position_at result.0 result.1 ≡ spec.own_place (tree.stmt_of stmt.now) }
+{
+    match stmt {
+        Stmt::Block { line, column, .. }
+        | Stmt::Expression { line, column, .. }
+        | Stmt::Break { line, column }
+        | Stmt::Continue { line, column }
+        | Stmt::Return { line, column, .. }
+        | Stmt::If { line, column, .. }
+        | Stmt::While { line, column, .. }
+        | Stmt::Do { line, column, .. }
+        | Stmt::For { line, column, .. } => (*line, *column),
+    }
+}
+
 /// A statement. Its locals aren't seen behind it.
 #[cycle(statement)]
-#[tactic(auto, using(crate::proofs::Nested::numbers_behind))]
 fn statement<'a>(
     alloc: Global,
     source: &Source<'a>,
@@ -425,6 +460,7 @@ fn statement<'a>(
     ensures numbers { OnOk result (numbered_of numbers.new ≡ numbering.behind_statement (numbered_of numbers.old) (tree.stmt_of stmt.now)) }
     ensures statement { IfOk result (λ s. stmt_of s ≡ spec.elaborated (here_in (source_in source.now) (frame_in frame.now) (known_of table.old) (numbered_of numbers.old)) (tree.stmt_of stmt.now)) }
 {
+    let at = place_of(stmt);
     match stmt {
         Stmt::Block { parts, .. } => {
             block(alloc, source, frame, table, numbers, parts.as_slice())
@@ -432,93 +468,42 @@ fn statement<'a>(
         Stmt::Expression { value, .. } => {
             computed(alloc, source, frame, &*table, &*numbers, value)
         }
-        Stmt::Break { line, column } => Ok(Statement::Break {
-            at: position(*line, *column),
-        }),
-        Stmt::Continue { line, column } => Ok(Statement::Continue {
-            at: position(*line, *column),
-        }),
-        Stmt::Return {
-            value,
-            line,
-            column,
-        } => {
-            let value = given(alloc, source, frame, &*table, &*numbers, value)?;
-            Ok(Statement::Return {
-                value,
-                at: position(*line, *column),
-            })
+        Stmt::Break { .. } => Ok(make::break_at(position(at.0, at.1))),
+        Stmt::Continue { .. } => Ok(make::continue_at(position(at.0, at.1))),
+        Stmt::Return { value, .. } => {
+            returned(alloc, source, frame, &*table, &*numbers, value, at)
         }
-        Stmt::If {
-            test,
-            yes,
-            no,
-            line,
-            column,
-        } => {
+        Stmt::If { test, yes, no, .. } => {
             let test = value_at(alloc, source, frame, &*table, &*numbers, test)?;
             let yes = statement(alloc, source, frame, table, numbers, yes)?;
-            let no = match no {
-                None => nothing(alloc),
-                Some(no) => statement(alloc, source, frame, table, numbers, no)?,
-            };
-            make::branch(alloc, test, yes, no, position(*line, *column))
+            match no {
+                None => make::branch(alloc, test, yes, nothing(alloc), position(at.0, at.1)),
+                Some(no) => {
+                    let no = statement(alloc, source, frame, table, numbers, no)?;
+                    make::branch(alloc, test, yes, no, position(at.0, at.1))
+                }
+            }
         }
-        Stmt::While {
-            test,
-            body,
-            line,
-            column,
-        } => while_loop(
-            alloc,
-            source,
-            frame,
-            table,
-            numbers,
-            body,
-            test,
-            (*line, *column),
-        ),
-        Stmt::Do {
-            body,
-            test,
-            line,
-            column,
-        } => do_loop(
-            alloc,
-            source,
-            frame,
-            table,
-            numbers,
-            body,
-            test,
-            (*line, *column),
-        ),
+        Stmt::While { test, body, .. } => {
+            while_loop(alloc, source, frame, table, numbers, body, test, at)
+        }
+        Stmt::Do { body, test, .. } => {
+            do_loop(alloc, source, frame, table, numbers, body, test, at)
+        }
         Stmt::For {
             start,
             test,
             step,
             body,
-            line,
-            column,
+            ..
         } => for_statement(
-            alloc,
-            source,
-            frame,
-            table,
-            numbers,
-            body,
-            start,
-            test,
-            step,
-            (*line, *column),
+            alloc, source, frame, table, numbers, body, start, test, step, at,
         ),
     }
 }
 
 /// What stands in a block, one after another. Its declarations stay in the innermost scope.
 #[cycle(statement)]
-#[tactic(auto, using(crate::proofs::Nested::numbers_behind))]
 pub fn push_parts<'a>(
     alloc: Global,
     source: &Source<'a>,

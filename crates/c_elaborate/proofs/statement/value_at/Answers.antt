@@ -1,0 +1,9 @@
+use Rattle.std.proofs.Common.{◌≡◌, IfOk, subst}
+use Rattle.c_tree.specs.View as tree
+use Rattle.c_core.specs.View.{exp_of}
+use Rattle.c_elaborate.specs.Here.{Here}
+use Rattle.c_elaborate.specs.Expressions.{value_of}
+use Rattle.c_elaborate.proofs.statement.value_at.Goals as goal
+
+pub returns : goal.returns
+returns c = subst (λ (x : Here). IfOk c.value.result (λ v. exp_of v ≡ value_of x (tree.exp_of c.args.e.now))) c.here.ensures c.value.ensures
