@@ -1,3 +1,4 @@
+pub mod StepsAlone
 pub mod Beginnings
 pub mod Changing
 pub mod FlowFacts

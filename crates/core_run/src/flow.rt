@@ -156,6 +156,29 @@ impl<'a> Flow<'a> {
         }
     }
 
+    // One quiet step that needs no room. False, and nothing is made, where no such step comes next.
+    fn step_alone(&mut self) -> bool
+        ensures code { self.new.code ≡ self.old.code }
+        ensures setup { self.new.setup ≡ self.old.setup }
+        ensures number { self.new.number ≡ self.old.number }
+        ensures same { settled self.new.code self.new.setup self.new.number self.new.kept.thread ≡ settled self.old.code self.old.setup self.old.number self.old.kept.thread }
+        ensures falls { result ≡ true → weight self.new.code self.new.setup self.new.number self.new.kept.thread < weight self.old.code self.old.setup self.old.number self.old.kept.thread }
+        ensures stays { result ≡ false → self.new.kept.thread ≡ self.old.kept.thread }
+    {
+        self.state.step_alone(self.code, self.setup)
+    }
+
+    // The quiet steps that need no room, up to the first that needs some.
+    fn pass_alone(&mut self)
+        ensures code { self.new.code ≡ self.old.code }
+        ensures setup { self.new.setup ≡ self.old.setup }
+        ensures number { self.new.number ≡ self.old.number }
+        ensures same { settled self.new.code self.new.setup self.new.number self.new.kept.thread ≡ settled self.old.code self.old.setup self.old.number self.old.kept.thread }
+        ensures falls { weight self.new.code self.new.setup self.new.number self.new.kept.thread ≤ weight self.old.code self.old.setup self.old.number self.old.kept.thread }
+    {
+        while self.step_alone() {}
+    }
+
     /// All quiet steps. After an Err some of them are made, and the others are still to come.
     pub fn settle(&mut self) -> Result<(), AllocError>
         ensures code { self.new.code ≡ self.old.code }
@@ -165,9 +188,11 @@ impl<'a> Flow<'a> {
         ensures rest { settled self.new.code self.new.setup self.new.number self.new.kept.thread ≡ settled self.old.code self.old.setup self.old.number self.old.kept.thread }
         ensures quiet { OnOk result (action_at self.new.code self.new.setup self.new.number self.new.kept.thread ≢ Action.Quiet) }
     {
+        self.pass_alone();
         while let Action::Quiet = self.next_action() {
             self.reserve()?;
             self.take_answer(0);
+            self.pass_alone();
         }
         Ok(())
     }

@@ -5,6 +5,7 @@
 #![tactic(auto)]
 
 mod access;
+mod alone;
 mod due;
 mod enter;
 mod finish;

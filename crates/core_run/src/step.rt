@@ -134,7 +134,7 @@ impl ThreadState {
         self.top.pass();
     }
 
-    fn take_branch(&mut self, on: u32, then_at: u32, else_at: u32)
+    pub(crate) fn take_branch(&mut self, on: u32, then_at: u32, else_at: u32)
         ensures { self.new.thread ≡ in_frame self.old.thread (jumped self.old.thread.top (branch_to_of (register_of self.old.thread.top.registers on) then_at else_at)) }
     {
         let value = register(self.top.registers(), on);

@@ -1,0 +1,15 @@
+use Rattle.std.proofs.Common.{◌≡◌, ◌≤◌}
+use Rattle.flow_code.specs.Settle.{weight, settled}
+use Rattle.core_run.proofs.flow.Flow.pass_alone.Given as goal
+
+abbrev pub invariant-loop : goal.invariant-loop
+invariant-loop l = record {
+  code : l.self.code ≡ l.initial.self.code;
+  setup : l.self.setup ≡ l.initial.self.setup;
+  number : l.self.number ≡ l.initial.self.number;
+  same : settled l.self.code l.self.setup l.self.number l.self.kept.thread ≡ settled l.initial.self.code l.initial.self.setup l.initial.self.number l.initial.self.kept.thread;
+  falls : weight l.self.code l.self.setup l.self.number l.self.kept.thread ≤ weight l.initial.self.code l.initial.self.setup l.initial.self.number l.initial.self.kept.thread;
+}
+
+abbrev pub decreases-loop : goal.decreases-loop
+decreases-loop l = weight l.self.code l.self.setup l.self.number l.self.kept.thread
