@@ -8,6 +8,3 @@ mod threads;
 
 pub use record::{Recorded, RunFault};
 pub use threads::record_threads;
-
-#[cfg(test)]
-mod tests;

@@ -32,7 +32,7 @@ pub(crate) struct Parts {
 }
 
 /// A carrier for each seat.
-pub(crate) fn carriers_of<'c, 'a>(
+fn carriers_of<'c, 'a>(
     alloc: Global,
     cells: &'c Cells<'a>,
     seats: Vec<Seat>,
@@ -52,7 +52,7 @@ pub(crate) fn carriers_of<'c, 'a>(
 }
 
 /// The seats and the entries of carriers whose threads have ended. Where one hasn't, memory was wanting.
-pub(crate) fn parts_of(alloc: Global, carriers: Vec<Carrier>) -> Result<Parts, AllocError>
+fn parts_of(alloc: Global, carriers: Vec<Carrier>) -> Result<Parts, AllocError>
     ensures { IfOk result (λ it. AreParts carriers.entry.items it.seats.items it.lists) }
 {
     let mut seats = Vec::new(alloc);
