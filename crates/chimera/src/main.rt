@@ -3,6 +3,10 @@
 #![tactic(auto)]
 
 #[cfg(test)]
+mod order_tests;
+#[cfg(test)]
+mod outside_tests;
+#[cfg(test)]
 mod race_tests;
 #[cfg(test)]
 mod record_tests;

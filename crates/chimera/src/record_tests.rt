@@ -3,7 +3,7 @@ use crate::tests::{
     BANK, DIVIDES, ECHOES, FIRST, IDLE, INPUT_HI, MISUSE, NO_POINTER, NONE_LEFT, Outside, PASSES,
     SLOTS_1, SLOTS_3, SLOTS_8, SOUND, WAITS, call, joined, shelf_of,
 };
-use rr_base::{Bytes, List, MemShelf};
+use rr_base::{Bytes, MemShelf};
 use std::alloc::Global;
 use std::process::Abort;
 use std::sync::Wait;
@@ -80,7 +80,7 @@ static RECORDS: [(&[&str], &str, &str, &str, u8, &[&str]); 10] = [
 ];
 
 // The shelf with the profile of no pairs beside the source.
-fn with_source(alloc: Global, source: &str) -> Result<MemShelf, Fail> {
+pub fn with_source(alloc: Global, source: &str) -> Result<MemShelf, Fail> {
     Ok(shelf_of(
         alloc,
         joined(alloc, &[source])?,
@@ -138,41 +138,6 @@ fn takes_an_input_of_its_limit(rt: HostRuntime) -> Result<(), Fail> {
         assert_eq!(rt;
             (found, shelf.content("l").is_some()),
             (status, status == 0)
-        );
-    }
-    Ok(())
-}
-
-// The calls of the input, of the shelf and of the sink that fail, the turns, what is told, and whether the log is put.
-static FAULTS: [(&[u64], &[u64], &[u64], u64, &str, u8, bool); 7] = [
-    (&[], &[], &[], 100_000, "20\n", 0, true),
-    (&[0], &[], &[], 100_000, "read fault\n", 7, false),
-    (&[], &[0], &[], 100_000, "shelf fault\n", 9, false),
-    (&[], &[1], &[], 100_000, "shelf fault\n", 9, false),
-    (&[], &[], &[1], 100_000, "2", 8, true),
-    (&[], &[], &[], 0, "crew fault\n", 10, false),
-    (&[], &[], &[], 24, "crew fault\n", 10, false),
-];
-
-#[test]
-fn tells_each_fault(rt: HostRuntime) -> Result<(), Fail> {
-    let alloc = rt.alloc();
-    for (read_fails, shelf_fails, write_fails, turns, text, status, is_put) in FAULTS {
-        let mut files = List::new(alloc);
-        files.push((joined(alloc, &["a"])?, joined(alloc, &[BANK])?))?;
-        let mut shelf = MemShelf::new(files, List::from_slice(alloc, shelf_fails)?);
-        let outside = Outside {
-            input: &[],
-            read_fails,
-            write_fails,
-            turns,
-        };
-        let (told, found) = call(&rt, alloc, &["record", "a", "l"], &outside, &mut shelf)?;
-        assert_eq!(rt; told.as_slice(), text.as_bytes());
-        assert_eq!(rt;
-            (found, shelf.content("l").is_some()),
-            (status, is_put),
-            "{text}"
         );
     }
     Ok(())

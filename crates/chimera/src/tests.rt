@@ -40,20 +40,20 @@ const SLOTS_2: &str = "slots 2\ncells 16384\nlimit 16777216\nprofile all\ninput 
 pub const SLOTS_8: &str = "slots 8\ncells 16384\nlimit 16777216\nprofile all\ninput 0\n\n";
 
 // The bank's entries at positions 0 to 3, 4, 5, 6, 7 to 23, and 24.
-const STARTS: &str = "0 1 draw T\n0 4 start s1\n0 5 draw T\n0 8 start s2\n";
+pub const STARTS: &str = "0 1 draw T\n0 4 start s1\n0 5 draw T\n0 8 start s2\n";
 
-const BEGIN: &str = "1 0 begin s1\n";
+pub const BEGIN: &str = "1 0 begin s1\n";
 
-const LOCK: &str = "1 3 lock m16\n";
+pub const LOCK: &str = "1 3 lock m16\n";
 
-const UNLOCK: &str = "1 8 unlock m16\n";
+pub const UNLOCK: &str = "1 8 unlock m16\n";
 
-const GOES_ON: &str =
+pub const GOES_ON: &str =
     "1 10 end s1\n0 10 join s1\n1 11 leave T\n2 0 begin s2\n2 3 lock m16\n2 8 unlock m16\n\
 2 10 end s2\n0 12 join s2\n0 13 lock m16\n0 15 print O\n0 16 unlock m16\n0 17 halt H\n2 11 leave T\n\
 3 0 close s3\n4 0 close s4\n5 0 close s5\n6 0 close s6\n";
 
-const LAST: &str = "7 0 close s7\n";
+pub const LAST: &str = "7 0 close s7\n";
 
 pub const MISUSE: &str =
     "pthread_mutex_t m;\nint main(void) { pthread_mutex_unlock(&m); return 0; }\n";
@@ -465,22 +465,34 @@ pub fn shelf_of(alloc: Global, source: Bytes, log: Bytes) -> Result<MemShelf, Al
 }
 
 /// The outside of a call but for its shelf: the input with the numbers of its reads that fail, the numbers of the sink's calls
-/// that fail, where each takes one byte, and the turns of the crew.
+/// that fail, where each takes one byte, the order of the crew's first turns, as jobs with how many turns each, and how many
+/// turns it gives in all.
 #[derive(Clone, Copy)]
 pub struct Outside<'a> {
     pub input: &'a [u8],
     pub read_fails: &'a [u64],
     pub write_fails: &'a [u64],
+    pub order: &'a [(u8, usize)],
     pub turns: u64,
 }
 
-/// No input, no fault, and all turns that are wanted.
+/// No input, no fault, no order, and all turns that are wanted.
 pub const SOUND: Outside<'static> = Outside {
     input: &[],
     read_fails: &[],
     write_fails: &[],
+    order: &[],
     turns: u64::MAX,
 };
+
+// The jobs to which the crew's first turns go, one after another.
+fn order_of(alloc: Global, runs: &[(u8, usize)]) -> Result<List<u8>, AllocError> {
+    let mut order = List::new(alloc);
+    for &(job, turns) in runs {
+        order.extend_from_slice(vec![in alloc; job; turns]?.as_slice())?;
+    }
+    Ok(order)
+}
 
 /// Calls with these words, and answers what the sink holds then, and the status.
 pub fn call(
@@ -498,7 +510,7 @@ pub fn call(
     let mut input = MemSource::new(bytes, List::from_slice(alloc, outside.read_fails)?);
     let fails = List::from_slice(alloc, outside.write_fails)?;
     let mut out = MemSink::new(List::new(alloc), fails, 1);
-    let mut crew = SchedCrew::new(List::new(alloc), outside.turns);
+    let mut crew = SchedCrew::new(order_of(alloc, outside.order)?, outside.turns);
     let status = chimera(
         rt,
         alloc,

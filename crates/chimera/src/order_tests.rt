@@ -1,0 +1,163 @@
+use crate::race_tests::{COUNTER, HELD_BY_CALLER};
+use crate::record_tests::with_source;
+use crate::tests::{
+    BANK, BEGIN, FIRST, GOES_ON, LAST, LOCK, Outside, SLOTS_8, SOUND, STARTS, UNLOCK, call, joined,
+    shelf_of,
+};
+use std::test::Fail;
+
+const SLOTS_3_NO_PAIRS: &str =
+    "chimera log 1\nslots 3\ncells 16384\nlimit 16777216\nprofile 0\ninput 0\n\n";
+
+// Thread 2's refused take makes thread 1 give its stripe up, and take it again.
+const REVOKED: &str =
+    "0 1 draw T\n0 4 start s1\n0 5 draw T\n0 8 start s2\n1 0 begin s1\n1 3 take w0.0\n1 4 revoke w0.0\n2 0 begin s2\n2 3 lock m6\n2 5 take w0.0\n2 6 give w0.0\n2 6 unlock m6\n1 4 lock m6\n1 5 unlock m6\n1 6 retake w0.0\n1 6 give w0.0\n1 7 end s1\n0 10 join s1\n1 8 leave T\n2 8 end s2\n0 12 join s2\n0 13 halt H\n2 9 leave T\n";
+
+// Words, a source, the order of turns, what is told, and the log where it is pinned.
+static RECORDS: [(&[&str], &str, &[(u8, usize)], &str, &[&str]); 3] = [
+    (
+        &["record", "a", "l", "--slots", "3"],
+        COUNTER,
+        &[(0, 9), (1, 6), (2, 6)],
+        "1\n",
+        &[],
+    ),
+    (
+        &["record", "a", "l", "--slots", "3"],
+        COUNTER,
+        &[(0, 9), (1, 12), (2, 12)],
+        "2\n",
+        &[],
+    ),
+    (
+        &["record", "a", "l", "--slots=3", "--budget=1", "--profile=b"],
+        HELD_BY_CALLER,
+        &[(0, 9), (2, 4), (1, 5), (2, 2), (1, 1), (2, 4), (1, 7)],
+        "",
+        &[SLOTS_3_NO_PAIRS, REVOKED],
+    ),
+];
+
+// A run shows the order of its turns, and its log is replayed the same by any order.
+#[test]
+fn records_by_orders(rt: HostRuntime) -> Result<(), Fail> {
+    let alloc = rt.alloc();
+    for (words, source, order, text, log) in RECORDS {
+        let mut shelf = with_source(alloc, source)?;
+        let outside = Outside { order, ..SOUND };
+        let (told, status) = call(&rt, alloc, words, &outside, &mut shelf)?;
+        assert_eq!(rt; told.as_slice(), text.as_bytes());
+        assert_eq!(rt; status, 0);
+        if !log.is_empty() {
+            let want = joined(alloc, log)?;
+            let found = shelf.content("l").map(|held| held.as_slice());
+            assert_eq!(rt; found, Some(want.as_slice()));
+        }
+        for order in ORDERS {
+            let outside = Outside { order, ..SOUND };
+            let words = ["replay", "a", "l"];
+            let (told, status) = call(&rt, alloc, &words, &outside, &mut shelf)?;
+            assert_eq!(rt; told.as_slice(), text.as_bytes());
+            assert_eq!(rt; status, 0);
+        }
+    }
+    Ok(())
+}
+
+// Turns of thread 2 first, of thread 1 first, and of each in turn.
+static ORDERS: [&[(u8, usize)]; 3] = [&[(2, 20)], &[(1, 20)], &[]];
+
+// The bank's log with one thing changed, and what is told of it.
+static CHANGES: [(&[&str], &str, u8); 13] = [
+    (&[STARTS, BEGIN, LOCK, UNLOCK, GOES_ON, LAST], "20\n", 0),
+    // exchanged
+    (
+        &[STARTS, BEGIN, UNLOCK, LOCK, GOES_ON, LAST],
+        "wrong entry 5\n",
+        5,
+    ),
+    (
+        &[STARTS, "1 1 begin s1\n", UNLOCK, LOCK, GOES_ON, LAST],
+        "wrong entry 4\n",
+        5,
+    ),
+    // left out
+    (&[STARTS, LOCK, UNLOCK, GOES_ON, LAST], "wrong entry 4\n", 5),
+    (
+        &[STARTS, BEGIN, UNLOCK, GOES_ON, LAST],
+        "wrong entry 5\n",
+        5,
+    ),
+    (&[STARTS, BEGIN, LOCK, GOES_ON, LAST], "wrong entry 6\n", 5),
+    (
+        &[STARTS, BEGIN, LOCK, UNLOCK, GOES_ON],
+        "wrong entry 24\n",
+        5,
+    ),
+    // doubled
+    (
+        &[STARTS, BEGIN, BEGIN, LOCK, UNLOCK, GOES_ON, LAST],
+        "wrong entry 5\n",
+        5,
+    ),
+    (
+        &[STARTS, BEGIN, LOCK, LOCK, UNLOCK, GOES_ON, LAST],
+        "wrong entry 6\n",
+        5,
+    ),
+    // another count, thread and object
+    (
+        &[STARTS, BEGIN, "1 4 lock m16\n", UNLOCK, GOES_ON, LAST],
+        "wrong entry 5\n",
+        5,
+    ),
+    (
+        &[STARTS, BEGIN, "1 2 lock m16\n", UNLOCK, GOES_ON, LAST],
+        "wrong entry 5\n",
+        5,
+    ),
+    (
+        &[STARTS, BEGIN, "2 3 lock m16\n", UNLOCK, GOES_ON, LAST],
+        "wrong entry 5\n",
+        5,
+    ),
+    (
+        &[STARTS, BEGIN, "1 3 lock m17\n", UNLOCK, GOES_ON, LAST],
+        "wrong entry 5\n",
+        5,
+    ),
+];
+
+#[test]
+fn names_the_first_wrong_entry_by_any_order(rt: HostRuntime) -> Result<(), Fail> {
+    let alloc = rt.alloc();
+    for (entries, text, wanted) in CHANGES {
+        let mut log = joined(alloc, &[FIRST, SLOTS_8])?;
+        log.append(joined(alloc, entries)?)?;
+        let mut shelf = shelf_of(alloc, joined(alloc, &[BANK])?, log)?;
+        for order in ORDERS {
+            let outside = Outside { order, ..SOUND };
+            let words = ["replay", "a", "b"];
+            let (told, status) = call(&rt, alloc, &words, &outside, &mut shelf)?;
+            assert_eq!(rt; told.as_slice(), text.as_bytes());
+            assert_eq!(rt; status, wanted, "{text}");
+        }
+    }
+    Ok(())
+}
+
+// A crew with fewer turns than the log has entries.
+#[test]
+fn tells_when_the_turns_end(rt: HostRuntime) -> Result<(), Fail> {
+    let alloc = rt.alloc();
+    let log = [FIRST, SLOTS_8, STARTS, BEGIN, LOCK, UNLOCK, GOES_ON, LAST];
+    let mut shelf = shelf_of(alloc, joined(alloc, &[BANK])?, joined(alloc, &log)?)?;
+    for words in [["replay", "a", "b"], ["record", "a", "l"]] {
+        let outside = Outside { turns: 24, ..SOUND };
+        let (told, status) = call(&rt, alloc, &words, &outside, &mut shelf)?;
+        assert_eq!(rt; told.as_slice(), "crew fault\n".as_bytes());
+        assert_eq!(rt; status, 10);
+    }
+    assert!(rt; shelf.content("l").is_none());
+    Ok(())
+}

@@ -1,0 +1,99 @@
+use crate::race_tests::HELD_BY_CALLER;
+use crate::tests::{
+    BANK, BEGIN, FIRST, GOES_ON, LAST, LOCK, Outside, SLOTS_8, SOUND, STARTS, UNLOCK, call, joined,
+};
+use rr_base::{Bytes, List, MemShelf};
+use std::alloc::{AllocError, Global};
+use std::test::Fail;
+
+/// What fails of the outside, by the number of its call; a crew fails when its turns are spent.
+#[derive(Clone, Copy)]
+enum Failing {
+    Nothing,
+    Read(u64),
+    Shelf(u64),
+    Write(u64),
+    CrewAfter(u64),
+}
+
+use Failing::{CrewAfter, Nothing, Read, Shelf, Write};
+
+static RECORD: [&str; 7] = ["record", "bank", "l", "--profile", "p", "--reads", "r"];
+
+static REPLAY: [&str; 5] = ["replay", "bank", "log", "--reads", "r"];
+
+static RACES: [&str; 2] = ["races", "bank"];
+
+static WEAKEN: [&str; 4] = ["weaken", "held", "--profile", "p"];
+
+const LOCKS: &str =
+    "lock w0 x+0 stripes 1\naccess 4:18 store function h\naccess 6:3 store function f\n";
+
+// Words, what fails, what is told with which status, and whether the log and the reads are put.
+static ROWS: [(&[&str], Failing, &str, u8, (bool, bool)); 22] = [
+    (&RECORD, Nothing, "20\n", 0, (true, true)),
+    (&RECORD, Shelf(0), "shelf fault\n", 9, (false, false)),
+    (&RECORD, Shelf(1), "shelf fault\n", 9, (false, false)),
+    (&RECORD, Read(0), "read fault\n", 7, (false, false)),
+    (&RECORD, CrewAfter(0), "crew fault\n", 10, (false, false)),
+    (&RECORD, CrewAfter(24), "crew fault\n", 10, (false, false)),
+    (&RECORD, Shelf(2), "shelf fault\n", 9, (false, false)),
+    (&RECORD, Shelf(3), "shelf fault\n", 9, (true, false)),
+    (&RECORD, Write(0), "", 8, (true, true)),
+    (&RECORD, Write(1), "2", 8, (true, true)),
+    (&REPLAY, Nothing, "20\n", 0, (false, true)),
+    (&REPLAY, Shelf(0), "shelf fault\n", 9, (false, false)),
+    (&REPLAY, Shelf(1), "shelf fault\n", 9, (false, false)),
+    (&REPLAY, CrewAfter(24), "crew fault\n", 10, (false, false)),
+    (&REPLAY, Shelf(2), "shelf fault\n", 9, (false, false)),
+    (&REPLAY, Write(2), "20", 8, (false, true)),
+    (&RACES, Shelf(0), "shelf fault\n", 9, (false, false)),
+    (&RACES, Write(3), "rac", 8, (false, false)),
+    (&WEAKEN, Nothing, LOCKS, 0, (false, false)),
+    (&WEAKEN, Shelf(0), "shelf fault\n", 9, (false, false)),
+    (&WEAKEN, Shelf(1), "shelf fault\n", 9, (false, false)),
+    (&WEAKEN, Write(0), "", 8, (false, false)),
+];
+
+fn shelf_with(alloc: Global, fails: &[u64]) -> Result<MemShelf, AllocError> {
+    let log = [FIRST, SLOTS_8, STARTS, BEGIN, LOCK, UNLOCK, GOES_ON, LAST];
+    let files: [(&str, &[&str]); 4] = [
+        ("bank", &[BANK]),
+        ("held", &[HELD_BY_CALLER]),
+        ("p", &["{\"pairs\":[]}"]),
+        ("log", &log),
+    ];
+    let mut held: List<(Bytes, Bytes)> = List::new(alloc);
+    for (name, parts) in files {
+        held.push((joined(alloc, &[name])?, joined(alloc, parts)?))?;
+    }
+    Ok(MemShelf::new(held, List::from_slice(alloc, fails)?))
+}
+
+// Each call that a job makes outside fails in turn: what was put before stays, and nothing is put behind it.
+#[test]
+fn tells_each_fault_of_the_outside(rt: HostRuntime) -> Result<(), Fail> {
+    let alloc = rt.alloc();
+    for (words, failing, text, wanted, puts) in ROWS {
+        let numbers = match failing {
+            Read(number) | Shelf(number) | Write(number) => [number],
+            Nothing | CrewAfter(_) => [0],
+        };
+        let mut outside = SOUND;
+        let mut shelf_fails: &[u64] = &[];
+        match failing {
+            Nothing => {}
+            Read(_) => outside.read_fails = &numbers,
+            Shelf(_) => shelf_fails = &numbers,
+            Write(_) => outside.write_fails = &numbers,
+            CrewAfter(turns) => outside.turns = turns,
+        }
+        let mut shelf = shelf_with(alloc, shelf_fails)?;
+        let (told, status) = call(&rt, alloc, words, &outside, &mut shelf)?;
+        assert_eq!(rt; told.as_slice(), text.as_bytes());
+        assert_eq!(rt; status, wanted, "{text}");
+        let held = (shelf.content("l").is_some(), shelf.content("r").is_some());
+        assert_eq!(rt; held, puts, "{text}");
+    }
+    Ok(())
+}
