@@ -9,6 +9,10 @@ pub record RoseBy (by old new : ℕ) : Type 0 where
   pub kept : old ≤ new
   pub rises : new ≡ min (old + by) (2 ^ 64 - 1)
 
+-- by this number or more
+abbrev pub RoseAtLeast : (by old new : ℕ) → Type 0
+RoseAtLeast by old new = min (old + by) (2 ^ 64 - 1) ≤ new
+
 -- only what is answered as a fault is one: want of memory raises no count
 abbrev pub CrewFaults : CrewEnd → ℕ → ℕ → Type 0
 CrewFaults crew_end.Failed old new = Rose old new

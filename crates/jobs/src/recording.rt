@@ -18,7 +18,7 @@ use crate::sources::{SOURCE_BYTES, compiled, or_stop};
 use access_order::law_ordered;
 use answers::{Part, RecordJob};
 use core_run::Formula;
-use crew::Crew;
+use crew::{Crew, CrewEnd};
 use facts::Profile;
 use job_profiles::{named, profile_of};
 use lock_sound::{Weakened, law_weakened_runs};
@@ -26,7 +26,7 @@ use log_limits::law_log_is_within;
 use order_log::{Log, write_log};
 use outcomes::{Outcome, Put, Stop, file, input as whole_input};
 use race_free::law_no_race;
-use recorder::{Recorded, RunFault, record_threads};
+use recorder::{Recorded, record_threads};
 use rr_base::{Bytes, List, Shelf, Source};
 use std::alloc::{AllocError, Global};
 use std::sync::Wait;
@@ -59,8 +59,8 @@ fn run<R: Threads + Wait + Sync, C: Crew>(
     law_log_is_within();
     match record_threads(rt, alloc, code, setup, budget, formula, crew) {
         Ok(recorded) => Ok(recorded),
-        Err(RunFault::CrewFault) => Err(Stop::CrewFailed),
-        Err(RunFault::OutOfMemory) => Err(Stop::OutOfMemory),
+        Err(CrewEnd::Failed) => Err(Stop::CrewFailed),
+        Err(CrewEnd::OutOfMemory) => Err(Stop::OutOfMemory),
     }
 }
 

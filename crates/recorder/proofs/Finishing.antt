@@ -5,7 +5,7 @@ use Rattle.std.specs.List.{AllZip}
 use Rattle.std.proofs.lemmas.Bool.{true≢false}
 use Rattle.std.proofs.lemmas.List.{length-map}
 use Rattle.std.proofs.lemmas.Option.{same_Some}
-use Rattle.crew.specs.Counts.{RoseBy, rises}
+use Rattle.crew.specs.Counts.{RoseAtLeast, RoseBy, rises}
 use Rattle.sync_objects.specs.Setup.{SetupView, IsWithinLimits}
 use Rattle.sync_objects.specs.declared.entry.Entry.{Entry}
 use Rattle.sync_objects.specs.declared.entry.Noted.{Noted}
@@ -32,7 +32,7 @@ use Rattle.thread_step.specs.Steps.{Stepping}
 use Rattle.weak_turns.specs.Carrying.{Carrying, IsSameCarrier, run_has_ended}
 use Rattle.weak_turns.specs.Shown.{Carries}
 use Rattle.weak_turns.proofs.Showing.{same_phase}
-use Rattle.recorder.specs.Carriers.{AreCarriers, AreParts, RoseAtLeast}
+use Rattle.recorder.specs.Carriers.{AreCarriers, AreParts}
 use Rattle.recorder.specs.Finished.{IsFinished}
 use Rattle.recorder.specs.Records.{Records}
 use Rattle.recorder.proofs.Ends.{beside, whole_walk}

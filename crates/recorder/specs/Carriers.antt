@@ -1,5 +1,5 @@
 -- The carriers of all threads, before their first turns and when they are done.
-use Rattle.std.specs.Prelude.{◌≡◌, ℕ, ◌+◌, ◌-◌, ◌^◌, ◌≤◌, min, true, List, length, Some, slice_get}
+use Rattle.std.specs.Prelude.{◌≡◌, ℕ, true, List, length, Some, slice_get}
 use Rattle.sync_objects.specs.declared.entry.Noted.{Noted}
 use Rattle.shared_cells.specs.Rule.{Board}
 use Rattle.shared_cells.specs.Seats.{view_of}
@@ -29,7 +29,3 @@ pub record AreParts (carriers : List Carrying) (seats : List Seat) (lists : List
   pub seat_count : length seats ≡ length carriers
   pub list_count : length lists ≡ length carriers
   pub each : (t : ℕ) (c : Carrying) → slice_get carriers t ≡ Some c → IsTaken c t seats lists
-
--- the count has risen by this number or more, or stands at its end
-abbrev pub RoseAtLeast : (by old new : ℕ) → Type 0
-RoseAtLeast by old new = min (old + by) (2 ^ 64 - 1) ≤ new

@@ -1,5 +1,5 @@
 -- What a recording leaves of a run: its log, and what that log's walk comes to.
-use Rattle.std.specs.Prelude.{◌≡◌, ℕ, List, Some}
+use Rattle.std.specs.Prelude.{◌≡◌, List, Some}
 use Rattle.sync_objects.specs.Setup.{SetupView}
 use Rattle.sync_objects.specs.declared.entry.Entry.{Entry}
 use Rattle.flow_code.specs.declared.code.Code.{Code}
@@ -9,9 +9,6 @@ use Rattle.core_run.specs.declared.outcome.Walk.TheVariants as walk
 use Rattle.core_run.specs.Histories.{run_of, HaveEnded, lists_of, entries_in}
 use Rattle.core_run.specs.Machine.{Told, start_state}
 use Rattle.core_run.specs.Walks.{WalkIs, walk_of}
-use Rattle.rr_base.specs.Faults.{Rose}
-use Rattle.recorder.specs.declared.record.RunFault.{RunFault}
-use Rattle.recorder.specs.declared.record.RunFault.TheVariants as fault
 use Rattle.runs.specs.Labels.{Label}
 use Rattle.runs.specs.Merge.{written_merge}
 use Rattle.runs.specs.Steps.{State}
@@ -32,8 +29,3 @@ pub record Records (code : Code) (s : SetupView) (f : Formula) (entries : List E
   pub same : walk_of code s entries (start_state code s) ≡ Some end
   pub walk : WalkIs code s entries f w
   pub whole : IsWholeWalk w
-
--- only a fault of the crew raises its count of faults
-abbrev pub RunFaults : RunFault → ℕ → ℕ → Type 0
-RunFaults fault.CrewFault old new = Rose old new
-RunFaults fault.OutOfMemory old new = new ≡ old

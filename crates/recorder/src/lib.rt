@@ -6,5 +6,5 @@
 mod record;
 mod threads;
 
-pub use record::{Recorded, RunFault};
+pub use record::Recorded;
 pub use threads::record_threads;

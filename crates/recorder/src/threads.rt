@@ -1,16 +1,16 @@
 // The log of a run whose threads run as jobs of their own.
 ghost use Rattle.std.specs.Prelude.{◌≡◌, ◌≤◌, IfOk, MatchResult, length};
 ghost use Rattle.core_run.specs.Histories.{HasNoRace};
-ghost use Rattle.crew.specs.Counts.{RoseBy};
+ghost use Rattle.crew.specs.Counts.{CrewFaults, RoseAtLeast, RoseBy};
 ghost use Rattle.flow_code.specs.Settle.{IsRunnable};
-ghost use Rattle.recorder.specs.Carriers.{AreCarriers, AreParts, RoseAtLeast};
-ghost use Rattle.recorder.specs.Records.{Records, RunFaults};
+ghost use Rattle.recorder.specs.Carriers.{AreCarriers, AreParts};
+ghost use Rattle.recorder.specs.Records.{Records};
 ghost use Rattle.recorder.specs.Finished.{IsFinished};
 ghost use Rattle.runs.specs.Merge.{total_length};
 ghost use Rattle.shared_cells.specs.Seats.{AreAtStart, AreSeats};
 ghost use Rattle.sync_objects.specs.Setup.{IsWithinLimits};
 
-use crate::record::{Recorded, RunFault};
+use crate::record::Recorded;
 use core_run::{Formula, Noted, walk};
 use crew::{Crew, CrewEnd};
 use entry_merge::merge;
@@ -102,38 +102,37 @@ pub fn record_threads<R: Threads + Wait + Sync, C: Crew>(
     budget: u32,
     formula: &Formula,
     crew: &mut C,
-) -> Result<Recorded, RunFault>
+) -> Result<Recorded, CrewEnd>
     requires runnable { IsRunnable code.now }
     requires race_free { HasNoRace code.now setup.now }
     ensures records { IfOk result (λ it. Records code.now setup.now formula.now it.entries it.walk) }
     ensures jobs_run { IfOk result (λ _. RoseBy setup.now.slots (C.jobs_run crew.old) (C.jobs_run crew.new)) }
     ensures turns { IfOk result (λ it. RoseAtLeast (length it.entries) (C.turns crew.old) (C.turns crew.new)) }
-    ensures fault { MatchResult result (λ _. C.faults crew.new ≡ C.faults crew.old) (λ end. RunFaults end (C.faults crew.old) (C.faults crew.new)) }
+    ensures fault { MatchResult result (λ _. C.faults crew.new ≡ C.faults crew.old) (λ end. CrewFaults end (C.faults crew.old) (C.faults crew.new)) }
 {
     prove!(setup.slots() <= 16);
     let (cells, seats) = match Cells::new(alloc, code, setup) {
         Ok(made) => made,
-        Err(error) => return Err(RunFault::from(error)),
+        Err(error) => return Err(CrewEnd::from(error)),
     };
     let carriers = match carriers_of(alloc, &cells, seats, budget) {
         Ok(carriers) => carriers,
-        Err(error) => return Err(RunFault::from(error)),
+        Err(error) => return Err(CrewEnd::from(error)),
     };
     let carriers = match crew.run(rt, alloc, carriers) {
         Ok(carriers) => carriers,
-        Err(CrewEnd::Failed) => return Err(RunFault::CrewFault),
-        Err(CrewEnd::OutOfMemory) => return Err(RunFault::OutOfMemory),
+        Err(end) => return Err(end),
     };
     let Parts { seats, lists } = match parts_of(alloc, carriers) {
         Ok(parts) => parts,
-        Err(error) => return Err(RunFault::from(error)),
+        Err(error) => return Err(CrewEnd::from(error)),
     };
     let _closed = match cells.close(alloc, seats) {
         Ok(closed) => closed,
-        Err(error) => return Err(RunFault::from(error)),
+        Err(error) => return Err(CrewEnd::from(error)),
     };
     match log_of(alloc, &lists, code, setup, formula) {
         Ok(recorded) => Ok(recorded),
-        Err(error) => Err(RunFault::from(error)),
+        Err(error) => Err(CrewEnd::from(error)),
     }
 }

@@ -3,7 +3,7 @@ use Rattle.std.proofs.Common.{◌≡◌, ℕ, zero, suc, ◌+◌, ◌<◌, ◌�
 use Rattle.std.specs.Prelude.{slice_get, IfOk, Result, Ok, Err}
 use Rattle.std.proofs.lemmas.Bool.{cases_eq}
 use Rattle.std.proofs.lemmas.List.{length-append, length-map}
-use Rattle.crew.specs.Counts.{RoseBy, rises}
+use Rattle.crew.specs.Counts.{RoseAtLeast, RoseBy, rises}
 use Rattle.shared_cells.specs.Rule.{Board}
 use Rattle.shared_cells.specs.declared.seat.Seat.{Seat}
 use Rattle.sync_objects.specs.declared.entry.Entry.{Entry}
@@ -12,7 +12,7 @@ use Rattle.runs.specs.Paths.{IsPrefixOf}
 use Rattle.runs.specs.Steps.{entries_of}
 use Rattle.runs.proofs.Lists.{own_in, own_out}
 use Rattle.replayer.specs.Following.{Following, made_in}
-use Rattle.replayer.specs.Replays.{RoseAtLeast, AreFresh, HaveFollowed}
+use Rattle.replayer.specs.Replays.{AreFresh, HaveFollowed}
 use Rattle.replayer.specs.Wants.{noted_in}
 use Rattle.replayer.specs.declared.wanted.Wanted.{Wanted}
 

@@ -1,5 +1,5 @@
 -- What a replay comes to.
-use Rattle.std.specs.Prelude.{◌≡◌, ℕ, ◌+◌, ◌-◌, ◌^◌, ◌<◌, ◌≤◌, min, Bool, true, false, List, length, map, Some, slice_get}
+use Rattle.std.specs.Prelude.{◌≡◌, ℕ, ◌<◌, Bool, true, false, List, length, map, Some, slice_get}
 use Rattle.std.specs.List.{list_all}
 use Rattle.core_run.specs.declared.outcome.Walk.{Walk}
 use Rattle.core_run.specs.declared.outcome.Walk.TheVariants as walk
@@ -23,10 +23,6 @@ ReplayFaults fault.OutOfMemory old new = new ≡ old
 -- each entry is of one of the setup's threads
 abbrev pub AreThreads : SetupView → List Entry → Type 0
 AreThreads s es = (k : ℕ) (e : Entry) → slice_get es k ≡ Some e → e.thread < s.slots
-
--- the count has risen by this number or more, or stands at its end
-abbrev pub RoseAtLeast : (by old new : ℕ) → Type 0
-RoseAtLeast by old new = min (old + by) (2 ^ 64 - 1) ≤ new
 
 -- how many entries of the log its walk takes
 abbrev pub entries_taken : List Entry → Walk → ℕ

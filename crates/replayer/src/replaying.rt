@@ -3,13 +3,13 @@ ghost use Rattle.std.specs.Prelude.{◌≡◌, ◌-◌, ◌<◌, ◌≤◌, ◌^
 ghost use Rattle.std.specs.List.{list_all};
 ghost use Rattle.core_run.specs.Histories.{HasNoRace};
 ghost use Rattle.core_run.specs.Walks.{WalkIs};
-ghost use Rattle.crew.specs.Counts.{RoseBy};
+ghost use Rattle.crew.specs.Counts.{RoseAtLeast, RoseBy};
 ghost use Rattle.flow_code.specs.Settle.{IsRunnable};
 ghost use Rattle.shared_cells.specs.Rule.{Board};
 ghost use Rattle.shared_cells.specs.Seats.{AreAtStart, AreSeats};
 ghost use Rattle.sync_objects.specs.declared.entry.Entry.{Entry as EntryOf};
 ghost use Rattle.replayer.specs.Following.{Following, made_in};
-ghost use Rattle.replayer.specs.Replays.{AreDone, AreFollowers, AreFresh, AreThreads, AreWhole, HaveFollowed, ReplayFaults, RoseAtLeast, entries_taken, has_ended_in};
+ghost use Rattle.replayer.specs.Replays.{AreDone, AreFollowers, AreFresh, AreThreads, AreWhole, HaveFollowed, ReplayFaults, entries_taken, has_ended_in};
 ghost use Rattle.replayer.specs.declared.replaying.ReplayFault.TheVariants as fault;
 
 use crate::follower::Follower;
