@@ -11,6 +11,8 @@ mod race_tests;
 #[cfg(test)]
 mod record_tests;
 #[cfg(test)]
+mod region_tests;
+#[cfg(test)]
 mod tests;
 #[cfg(test)]
 mod weak_tests;

@@ -43,7 +43,7 @@ static RECORDS: [(&[&str], &str, &[(u8, usize)], &str, &[&str]); 3] = [
 fn records_by_orders(rt: HostRuntime) -> Result<(), Fail> {
     let alloc = rt.alloc();
     for (words, source, order, text, log) in RECORDS {
-        let mut shelf = with_source(alloc, source)?;
+        let mut shelf = with_source(alloc, &[source])?;
         let outside = Outside { order, ..SOUND };
         let (told, status) = call(&rt, alloc, words, &outside, &mut shelf)?;
         assert_eq!(rt; told.as_slice(), text.as_bytes());
@@ -65,7 +65,7 @@ fn records_by_orders(rt: HostRuntime) -> Result<(), Fail> {
 }
 
 // Turns of thread 2 first, of thread 1 first, and of each in turn.
-static ORDERS: [&[(u8, usize)]; 3] = [&[(2, 20)], &[(1, 20)], &[]];
+pub static ORDERS: [&[(u8, usize)]; 3] = [&[(2, 20)], &[(1, 20)], &[]];
 
 // The bank's log with one thing changed, and what is told of it.
 static CHANGES: [(&[&str], &str, u8); 13] = [

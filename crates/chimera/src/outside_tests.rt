@@ -18,41 +18,41 @@ enum Failing {
 
 use Failing::{CrewAfter, Nothing, Read, Shelf, Write};
 
-static RECORD: [&str; 7] = ["record", "bank", "l", "--profile", "p", "--reads", "r"];
+const RECORD: &[&str] = &["record", "bank", "l", "--profile", "p", "--reads", "r"];
 
-static REPLAY: [&str; 5] = ["replay", "bank", "log", "--reads", "r"];
+const REPLAY: &[&str] = &["replay", "bank", "log", "--reads", "r"];
 
-static RACES: [&str; 2] = ["races", "bank"];
+const RACES: &[&str] = &["races", "bank"];
 
-static WEAKEN: [&str; 4] = ["weaken", "held", "--profile", "p"];
+const WEAKEN: &[&str] = &["weaken", "held", "--profile", "p"];
 
 const LOCKS: &str =
     "lock w0 x+0 stripes 1\naccess 4:18 store function h\naccess 6:3 store function f\n";
 
 // Words, what fails, what is told with which status, and whether the log and the reads are put.
 static ROWS: [(&[&str], Failing, &str, u8, (bool, bool)); 22] = [
-    (&RECORD, Nothing, "20\n", 0, (true, true)),
-    (&RECORD, Shelf(0), "shelf fault\n", 9, (false, false)),
-    (&RECORD, Shelf(1), "shelf fault\n", 9, (false, false)),
-    (&RECORD, Read(0), "read fault\n", 7, (false, false)),
-    (&RECORD, CrewAfter(0), "crew fault\n", 10, (false, false)),
-    (&RECORD, CrewAfter(24), "crew fault\n", 10, (false, false)),
-    (&RECORD, Shelf(2), "shelf fault\n", 9, (false, false)),
-    (&RECORD, Shelf(3), "shelf fault\n", 9, (true, false)),
-    (&RECORD, Write(0), "", 8, (true, true)),
-    (&RECORD, Write(1), "2", 8, (true, true)),
-    (&REPLAY, Nothing, "20\n", 0, (false, true)),
-    (&REPLAY, Shelf(0), "shelf fault\n", 9, (false, false)),
-    (&REPLAY, Shelf(1), "shelf fault\n", 9, (false, false)),
-    (&REPLAY, CrewAfter(24), "crew fault\n", 10, (false, false)),
-    (&REPLAY, Shelf(2), "shelf fault\n", 9, (false, false)),
-    (&REPLAY, Write(2), "20", 8, (false, true)),
-    (&RACES, Shelf(0), "shelf fault\n", 9, (false, false)),
-    (&RACES, Write(3), "rac", 8, (false, false)),
-    (&WEAKEN, Nothing, LOCKS, 0, (false, false)),
-    (&WEAKEN, Shelf(0), "shelf fault\n", 9, (false, false)),
-    (&WEAKEN, Shelf(1), "shelf fault\n", 9, (false, false)),
-    (&WEAKEN, Write(0), "", 8, (false, false)),
+    (RECORD, Nothing, "20\n", 0, (true, true)),
+    (RECORD, Shelf(0), "shelf fault\n", 9, (false, false)),
+    (RECORD, Shelf(1), "shelf fault\n", 9, (false, false)),
+    (RECORD, Read(0), "read fault\n", 7, (false, false)),
+    (RECORD, CrewAfter(0), "crew fault\n", 10, (false, false)),
+    (RECORD, CrewAfter(24), "crew fault\n", 10, (false, false)),
+    (RECORD, Shelf(2), "shelf fault\n", 9, (false, false)),
+    (RECORD, Shelf(3), "shelf fault\n", 9, (true, false)),
+    (RECORD, Write(0), "", 8, (true, true)),
+    (RECORD, Write(1), "2", 8, (true, true)),
+    (REPLAY, Nothing, "20\n", 0, (false, true)),
+    (REPLAY, Shelf(0), "shelf fault\n", 9, (false, false)),
+    (REPLAY, Shelf(1), "shelf fault\n", 9, (false, false)),
+    (REPLAY, CrewAfter(24), "crew fault\n", 10, (false, false)),
+    (REPLAY, Shelf(2), "shelf fault\n", 9, (false, false)),
+    (REPLAY, Write(2), "20", 8, (false, true)),
+    (RACES, Shelf(0), "shelf fault\n", 9, (false, false)),
+    (RACES, Write(3), "rac", 8, (false, false)),
+    (WEAKEN, Nothing, LOCKS, 0, (false, false)),
+    (WEAKEN, Shelf(0), "shelf fault\n", 9, (false, false)),
+    (WEAKEN, Shelf(1), "shelf fault\n", 9, (false, false)),
+    (WEAKEN, Write(0), "", 8, (false, false)),
 ];
 
 fn shelf_with(alloc: Global, fails: &[u64]) -> Result<MemShelf, AllocError> {

@@ -80,10 +80,10 @@ static RECORDS: [(&[&str], &str, &str, &str, u8, &[&str]); 10] = [
 ];
 
 // The shelf with the profile of no pairs beside the source.
-pub fn with_source(alloc: Global, source: &str) -> Result<MemShelf, Fail> {
+pub fn with_source(alloc: Global, source: &[&str]) -> Result<MemShelf, Fail> {
     Ok(shelf_of(
         alloc,
-        joined(alloc, &[source])?,
+        joined(alloc, source)?,
         joined(alloc, &["{\"pairs\":[]}"])?,
     )?)
 }
@@ -104,7 +104,7 @@ fn same_log(rt: &impl Abort, alloc: Global, shelf: &MemShelf, log: &[&str]) -> R
 fn records_and_replays(rt: HostRuntime) -> Result<(), Fail> {
     let alloc = rt.alloc();
     for (words, source, input, text, status, log) in RECORDS {
-        let mut shelf = with_source(alloc, source)?;
+        let mut shelf = with_source(alloc, &[source])?;
         let outside = Outside {
             input: input.as_bytes(),
             turns: 100_000,
@@ -127,7 +127,7 @@ static INPUTS: [(usize, &str, u8); 2] = [(1_048_576, "", 0), (1_048_577, "too la
 fn takes_an_input_of_its_limit(rt: HostRuntime) -> Result<(), Fail> {
     let alloc = rt.alloc();
     for (length, text, status) in INPUTS {
-        let mut shelf = with_source(alloc, SHORT)?;
+        let mut shelf = with_source(alloc, &[SHORT])?;
         let input = vec![in alloc; b'a'; length]?;
         let outside = Outside {
             input: input.as_slice(),
