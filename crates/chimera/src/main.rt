@@ -1,11 +1,13 @@
 //! The program: it records a run of a C source on threads with its log, runs a source by a log, and lists the accesses of a source that may
-//! race, and its weak locks. It stands on `jobs`, which promises what its words and files come to.
+//! race, its weak locks, and which functions were at work at once. It stands on `jobs`, which promises what its words and files come to.
 #![tactic(auto)]
 
 #[cfg(test)]
 mod order_tests;
 #[cfg(test)]
 mod outside_tests;
+#[cfg(test)]
+mod profile_tests;
 #[cfg(test)]
 mod race_tests;
 #[cfg(test)]

@@ -35,7 +35,7 @@ pub const FIRST: &str = "chimera log 1\n";
 
 pub const SLOTS_1: &str = "slots 1\ncells 16384\nlimit 16777216\nprofile all\ninput 0\n\n";
 
-const SLOTS_2: &str = "slots 2\ncells 16384\nlimit 16777216\nprofile all\ninput 0\n\n";
+pub const SLOTS_2: &str = "slots 2\ncells 16384\nlimit 16777216\nprofile all\ninput 0\n\n";
 
 pub const SLOTS_8: &str = "slots 8\ncells 16384\nlimit 16777216\nprofile all\ninput 0\n\n";
 
@@ -59,7 +59,7 @@ pub const MISUSE: &str =
     "pthread_mutex_t m;\nint main(void) { pthread_mutex_unlock(&m); return 0; }\n";
 
 // A thread traps while `main` holds a lock and waits for it.
-const HELD: &str = "#include <pthread.h>
+pub const HELD: &str = "#include <pthread.h>
 pthread_mutex_t m;
 int x = 1;
 void *f(void *p) {
@@ -440,12 +440,14 @@ static SOURCES: [(&str, &str, u8); 14] = [
 ];
 
 // Words that are no job.
-static NO_JOBS: [&[&str]; 5] = [
+static NO_JOBS: [&[&str]; 7] = [
     &[],
     &["record", "a"],
     &["record", "a", "b", "--slots", "08"],
     &["replay", "a", "b", "--"],
     &["replay", "a", "-b"],
+    &["profile", "a", "b"],
+    &["profile", "a", "b", "p", "--reads", "r"],
 ];
 
 pub fn joined(alloc: Global, parts: &[&str]) -> Result<Bytes, AllocError> {

@@ -59,32 +59,32 @@ static LISTINGS: [(&str, &str, u8); 8] = [
 ];
 
 // The entries of `main` up to the begin of both threads, in sources that start two of them and join them.
-const STARTS: &str = "0 1 draw T\n0 4 start s1\n0 5 draw T\n0 8 start s2\n1 0 begin s1\n";
+pub const STARTS: &str = "0 1 draw T\n0 4 start s1\n0 5 draw T\n0 8 start s2\n1 0 begin s1\n";
 
-const BEGIN: &str = "2 0 begin s2\n";
+pub const BEGIN: &str = "2 0 begin s2\n";
 
 // Each thread of the counter loads it, and then stores it.
-const LOAD_1: &str = "1 3 take w0.0\n1 4 give w0.0\n";
+pub const LOAD_1: &str = "1 3 take w0.0\n1 4 give w0.0\n";
 
-const STORE_1: &str = "1 4 take w0.0\n1 5 give w0.0\n";
+pub const STORE_1: &str = "1 4 take w0.0\n1 5 give w0.0\n";
 
-const LOAD_2: &str = "2 3 take w0.0\n2 4 give w0.0\n";
+pub const LOAD_2: &str = "2 3 take w0.0\n2 4 give w0.0\n";
 
-const STORE_2: &str = "2 4 take w0.0\n2 5 give w0.0\n";
+pub const STORE_2: &str = "2 4 take w0.0\n2 5 give w0.0\n";
 
-const JOIN_1: &str = "1 6 end s1\n0 10 join s1\n1 7 leave T\n";
+pub const JOIN_1: &str = "1 6 end s1\n0 10 join s1\n1 7 leave T\n";
 
-const END_2: &str = "2 6 end s2\n0 12 join s2\n";
+pub const END_2: &str = "2 6 end s2\n0 12 join s2\n";
 
-const PRINT: &str = "0 13 take w0.0\n0 14 give w0.0\n0 14 print O\n0 15 halt H\n2 7 leave T\n";
+pub const PRINT: &str = "0 13 take w0.0\n0 14 give w0.0\n0 14 print O\n0 15 halt H\n2 7 leave T\n";
 
 // No two functions are at work at once.
-const NO_PAIRS: &str = "slots 3\ncells 16384\nlimit 16777216\nprofile 0\ninput 0\n\n";
+pub const NO_PAIRS: &str = "slots 3\ncells 16384\nlimit 16777216\nprofile 0\ninput 0\n\n";
 
 const ONE_PAIR: &str = "slots 3\ncells 16384\nlimit 16777216\nprofile 1\npair f h\ninput 0\n\n";
 
 // The lock is revoked while the first thread holds it; the second stores, and the first takes it again.
-const REVOKED: &str =
+pub const REVOKED: &str =
     "1 3 take w0.0\n1 4 revoke w0.0\n2 0 begin s2\n2 3 lock m6\n2 5 take w0.0\n2 6 give w0.0\n2 6 unlock m6\n1 4 lock m6\n1 5 unlock m6\n1 6 retake w0.0\n1 6 give w0.0\n1 7 end s1\n0 10 join s1\n1 8 leave T\n2 8 end s2\n0 12 join s2\n0 13 halt H\n2 9 leave T\n";
 
 // A source, a log of it, and what is told.

@@ -1,5 +1,7 @@
 pub mod Ending
 pub mod Found
+pub mod OfLog
+pub mod Profiled
 pub mod Recorded
 pub mod Replayed
 pub mod Unique

@@ -11,16 +11,13 @@ use Rattle.erasure.specs.Erased.{erased_walk, IsAnywhere}
 use Rattle.flow_code.specs.declared.code.Code.{Code}
 use Rattle.front.specs.Plain.{plain_code}
 use Rattle.lock_sound.specs.Weakened.{Analysed, IsAnalysed}
-use Rattle.answers.specs.declared.answer.Part.TheVariants as part
 use Rattle.order_log.specs.Log.{IsEntryWithin, LogView}
 use Rattle.outcomes.specs.Faults.{CrewStops, IsPure, RefusingCrewStops}
 use Rattle.replayer.specs.Replays.{AreThreads}
-use Rattle.outcomes.proofs.InRow.{gives_next, gives_stop}
-use Rattle.outcomes.specs.Steps.{Comes, Finds, Gives, IsFile}
+use Rattle.outcomes.specs.Steps.{Comes, Gives}
 use Rattle.outcomes.specs.declared.outcome.Outcome.{Outcome}
 use Rattle.outcomes.specs.declared.stop.Stop.{Stop}
 use Rattle.outcomes.specs.declared.stop.Stop.TheVariants as stop
-use Rattle.rr_base.specs.Files.{Files}
 use Rattle.runs.specs.Steps.{State}
 use Rattle.source_runs.specs.SourceRuns.{IsSourceRun, bytes_of}
 use Rattle.sync_objects.specs.Setup.{SetupView}
@@ -28,8 +25,7 @@ use Rattle.sync_objects.specs.declared.entry.Entry.{Entry}
 use Rattle.weak_code.specs.Weakened.{weakened}
 use Rattle.weak_facts.specs.Ranges.{ranges_of}
 use Rattle.walk_answers.specs.Walking.{formula_of, outcome_of}
-use Rattle.jobs.specs.Jobs.{IsReplay}
-use Rattle.jobs.specs.Replays.{IsLogIn, Replays}
+use Rattle.jobs.specs.Replays.{Replays}
 use Rattle.jobs.specs.Sources.{Compiles, IsSourceWalk, IsTree, WalksAsSource}
 
 -- ---- the source
@@ -82,21 +78,3 @@ pub of_threads : (s : SetupView) (es : List Entry) → AllByRecursion (IsEntryWi
 of_threads s [] h k e is = cc
 of_threads s (x ∷ xs) h zero e is = let same : x ≡ e = cc in subst (λ z. z.thread < s.slots) same h.0.thread
 of_threads s (x ∷ xs) h (suc k) e is = of_threads s xs h.1 k e is
-
--- ---- the files
-
-module _ (files : Option Files) (source log : List ℕ) (reads : Option (List ℕ)) (text bytes : List ℕ) where
-  -- what comes of the log's bytes
-  abbrev ByBytes : List ℕ → Outcome → Type 0
-  ByBytes b = Comes (IsLogIn b) (λ view. Comes (IsTree text) (Replays view reads))
-
-  of_files : (r : Result Outcome Stop) → IsFile files 1048576 part.Source source (Ok text) → IsFile files 536870912 part.Log log (Ok bytes) → Gives (ByBytes bytes) r → Gives (IsReplay files source log reads) r
-  of_files r h g m =
-      gives_next (IsFile files 1048576 part.Source source) (λ t. Comes (IsFile files 536870912 part.Log log) (λ b. Comes (IsLogIn b) (λ view. Comes (IsTree t) (Replays view reads)))) text r h
-      (gives_next (IsFile files 536870912 part.Log log) ByBytes bytes r g m)
-
-  pub replay_gives : (view : LogView) (r : Result Outcome Stop) → IsFile files 1048576 part.Source source (Ok text) → IsFile files 536870912 part.Log log (Ok bytes) → IsLogIn bytes (Ok view) → Gives (Comes (IsTree text) (Replays view reads)) r → Gives (IsReplay files source log reads) r
-  replay_gives view r h g is m = of_files r h g (gives_next (IsLogIn bytes) (λ v. Comes (IsTree text) (Replays v reads)) view r is m)
-
-  pub replay_stops : (s : Stop) → IsFile files 1048576 part.Source source (Ok text) → IsFile files 536870912 part.Log log (Ok bytes) → Finds (IsLogIn bytes) (Err s) → Gives (IsReplay files source log reads) (Err s)
-  replay_stops s h g is = of_files (Err s) h g (gives_stop (IsLogIn bytes) (λ v. Comes (IsTree text) (Replays v reads)) s is)

@@ -26,10 +26,13 @@ use Rattle.outcomes.specs.declared.outcome.Outcome.{Outcome}
 use Rattle.profile_book.proofs.OneAnswer.{one_answer}
 use Rattle.rr_base.specs.Files.{Files}
 use Rattle.walk_answers.proofs.OneWalk.{one_walk}
-use Rattle.jobs.specs.Jobs.{IsRaces, IsReplay, IsWeaken}
+use Rattle.walk_profiles.proofs.One.{one_profile}
+use Rattle.walk_profiles.specs.Profiling.{ShowsProfile}
+use Rattle.jobs.specs.Jobs.{IsProfiling, IsRaces, IsReplay, IsWeaken}
 use Rattle.jobs.specs.Laws.{OneOutcome}
 use Rattle.jobs.specs.Listings.{ListsRaces, ListsWeakLocks}
 use Rattle.job_profiles.specs.Profiles.{IsProfile, IsSpelled}
+use Rattle.jobs.specs.Profilings.{ShowsLog}
 use Rattle.jobs.specs.Replays.{IsLogIn, IsRefusal, Replays}
 use Rattle.jobs.specs.Sources.{IsFound, IsTree}
 use Rattle.walk_answers.specs.Walking.{formula_of, put_of}
@@ -125,6 +128,11 @@ replays_once log reads os o p h g =
     let one = one_walk g.found.weak log.setup log.entries (formula_of reads) h.walk g.walk walks g.walks in
     h.told ∙ (λ i. record { puts = [] ++ put_of reads (one.1 i); answer = one.0 i }) ∙ sym g.told
 
+shows_once : (log : LogView) (name : List ℕ) (os : List Outer) (o p : Outcome) → ShowsLog log name os o → ShowsLog log name os p → o ≡ p
+shows_once log name os o p h g =
+    let same : h.found ≡ g.found = found_once os log.profile h.found g.found h.is g.is in
+    one_profile g.found.weak log.setup log.entries name o p (subst (λ (w : Analysed). ShowsProfile w.weak log.setup log.entries name o) same h.shows) g.shows
+
 -- ---- jobs
 
 -- the source of every job
@@ -143,12 +151,21 @@ of_weaken files source name o p h g =
     (λ text. comes_once (IsProfile (Some files) name) (λ q. Comes (IsTree text) (ListsWeakLocks q)) o p (profile_once files name)
     (λ q. by_tree text (ListsWeakLocks q) o p (λ os. locks_once q os o p))) h g
 
+-- the source and the log of a job
+by_log : (files : Files) (source log : List ℕ) (Next : LogView → List Outer → Outcome → Type 0) (o p : Outcome) → ((view : LogView) (os : List Outer) → Next view os o → Next view os p → o ≡ p)
+    → Comes (IsFile (Some files) 1048576 part.Source source) (λ text. Comes (IsFile (Some files) 536870912 part.Log log) (λ bytes. Comes (IsLogIn bytes) (λ view. Comes (IsTree text) (Next view)))) o
+    → Comes (IsFile (Some files) 1048576 part.Source source) (λ text. Comes (IsFile (Some files) 536870912 part.Log log) (λ bytes. Comes (IsLogIn bytes) (λ view. Comes (IsTree text) (Next view)))) p → o ≡ p
+by_log files source log Next o p once h g =
+    source_once files source (λ text. Comes (IsFile (Some files) 536870912 part.Log log) (λ bytes. Comes (IsLogIn bytes) (λ view. Comes (IsTree text) (Next view)))) o p
+    (λ text. comes_once (IsFile (Some files) 536870912 part.Log log) (λ bytes. Comes (IsLogIn bytes) (λ view. Comes (IsTree text) (Next view))) o p (file_once files 536870912 part.Log log)
+    (λ bytes. comes_once (IsLogIn bytes) (λ view. Comes (IsTree text) (Next view)) o p (log_once bytes)
+    (λ view. by_tree text (Next view) o p (once view)))) h g
+
 of_replay : (files : Files) (source log : List ℕ) (reads : Option (List ℕ)) (o p : Outcome) → IsReplay (Some files) source log reads o → IsReplay (Some files) source log reads p → o ≡ p
-of_replay files source log reads o p h g =
-    source_once files source (λ text. Comes (IsFile (Some files) 536870912 part.Log log) (λ bytes. Comes (IsLogIn bytes) (λ view. Comes (IsTree text) (Replays view reads)))) o p
-    (λ text. comes_once (IsFile (Some files) 536870912 part.Log log) (λ bytes. Comes (IsLogIn bytes) (λ view. Comes (IsTree text) (Replays view reads))) o p (file_once files 536870912 part.Log log)
-    (λ bytes. comes_once (IsLogIn bytes) (λ view. Comes (IsTree text) (Replays view reads)) o p (log_once bytes)
-    (λ view. by_tree text (Replays view reads) o p (λ os. replays_once view reads os o p)))) h g
+of_replay files source log reads o p h g = by_log files source log (λ view. Replays view reads) o p (λ view os. replays_once view reads os o p) h g
+
+of_profile : (files : Files) (source log name : List ℕ) (o p : Outcome) → IsProfiling (Some files) source log name o → IsProfiling (Some files) source log name p → o ≡ p
+of_profile files source log name o p h g = by_log files source log (λ view. ShowsLog view name) o p (λ view os. shows_once view name os o p) h g
 
 pub one_outcome : OneOutcome
 one_outcome files left None o p none h g = h ∙ sym g
@@ -156,5 +173,5 @@ one_outcome files left (Some (Races source)) o p none h g = of_races files sourc
 one_outcome files left (Some (Weaken source name)) o p none h g = of_weaken files source name o p h g
 one_outcome files left (Some (Record r)) o p none h g = absurd (none tt)
 one_outcome files left (Some (Replay source log reads)) o p none h g = of_replay files source log reads o p h g
-one_outcome files left (Some (Profile source log name)) o p none h g = h ∙ sym g
+one_outcome files left (Some (Profile source log name)) o p none h g = of_profile files source log name o p h g
 one_outcome files left (Some (Make count name)) o p none h g = h ∙ sym g

@@ -11,6 +11,7 @@ use Rattle.outcomes.specs.declared.outcome.Outcome.{Outcome}
 use Rattle.rr_base.specs.Files.{Files}
 use Rattle.jobs.specs.Listings.{ListsRaces, ListsWeakLocks}
 use Rattle.job_profiles.specs.Profiles.{IsProfile, named}
+use Rattle.jobs.specs.Profilings.{ShowsLog}
 use Rattle.jobs.specs.Recordings.{IsRecording}
 use Rattle.jobs.specs.Replays.{IsLogIn, Replays}
 use Rattle.jobs.specs.Sources.{IsTree}
@@ -35,6 +36,13 @@ IsReplay files source log reads o =
     Comes (IsLogIn bytes) (λ view.
     Comes (IsTree text) (Replays view reads)))) o
 
+abbrev pub IsProfiling : Option Files → (source log name : List ℕ) → Outcome → Type 0
+IsProfiling files source log name o =
+    IsSource files source (λ text.
+    Comes (IsFile files 536870912 part.Log log) (λ bytes.
+    Comes (IsLogIn bytes) (λ view.
+    Comes (IsTree text) (ShowsLog view name)))) o
+
 abbrev pub IsRecord : Option Files → (left : Option (List ℕ)) → RecordAsked → Outcome → Type 0
 IsRecord files left r o =
     IsSource files r.source (λ text.
@@ -50,14 +58,13 @@ IsOutcome files left (Some (Races source)) o = IsRaces files source o
 IsOutcome files left (Some (Weaken source profile)) o = IsWeaken files source profile o
 IsOutcome files left (Some (Record r)) o = IsRecord files left r o
 IsOutcome files left (Some (Replay source log reads)) o = IsReplay files source log reads o
-IsOutcome files left (Some (Profile source log name)) o = o ≡ answers answer.Usage
+IsOutcome files left (Some (Profile source log name)) o = IsProfiling files source log name o
 IsOutcome files left (Some (Make count name)) o = o ≡ answers answer.Usage
 
 -- ---- what a job touches
 
 abbrev pub UsesShelf : Option Asked → Type 0
 UsesShelf None = ⊥
-UsesShelf (Some (Profile source log name)) = ⊥
 UsesShelf (Some (Make count name)) = ⊥
 UsesShelf _ = Unit {0}
 

@@ -1,6 +1,7 @@
 pub mod Sources
 pub mod Listings
 pub mod Replays
+pub mod Profilings
 pub mod Recordings
 pub mod Jobs
 pub mod Laws

@@ -27,10 +27,10 @@ use text_runs::law_text_erased_walk;
 use walk_answers::{formula_of, outcome_of};
 
 /// The most bytes of a log.
-const LOG_BYTES: u32 = 536_870_912;
+pub(crate) const LOG_BYTES: u32 = 536_870_912;
 
-// The log that bytes are.
-fn log_in(alloc: Global, bytes: &[u8]) -> Result<Log, Stop>
+/// The log that bytes are.
+pub(crate) fn log_in(alloc: Global, bytes: &[u8]) -> Result<Log, Stop>
     ensures log { Finds (IsLogIn bytes.now) result }
     ensures pure { IfErr result IsPure }
 {

@@ -8,6 +8,7 @@ ghost use Rattle.outcomes.specs.Faults.{StopCounts};
 ghost use Rattle.outcomes.specs.Steps.{Gives};
 ghost use Rattle.rr_base.specs.Faults.{Rose};
 
+use crate::profiling::profile_log;
 use crate::races::races;
 use crate::recording::record_source;
 use crate::replaying::replay;
@@ -41,12 +42,13 @@ fn outcome_of_job<'a, R: Threads + Wait + Sync, I: Source, S: Shelf, C: Crew>(
         Job::Weaken { source, profile } => weak_locks(alloc, source, profile, shelf),
         Job::Replay { source, log, reads } => { replay(rt, alloc, source, log, reads, shelf, crew) }
         Job::Record(job) => record_source(rt, alloc, &job, input, shelf, crew),
-        Job::Profile { .. } | Job::Make { .. } => Ok(Outcome::answers(alloc, Answer::Usage)),
+        Job::Profile { source, log, name } => profile_log(alloc, source, log, name, shelf),
+        Job::Make { .. } => Ok(Outcome::answers(alloc, Answer::Usage)),
     }
 }
 
-/// Does what the words behind the program's name ask for, and answers the exit status: 0 where the run ended or the listing was
-/// written, 1 where the words are no job, 2 where the source is refused, 3 where a thread trapped, 4 where the log is refused, 5
+/// Does what the words behind the program's name ask for, and answers the exit status: 0 where the run ended, or the listing or the
+/// profile was written, 1 where the words are no job, 2 where the source is refused, 3 where a thread trapped, 4 where the log is refused, 5
 /// where it isn't one of this program, 6 where the profile is refused, 7 where the input failed, 8 where the sink did, 9 where the
 /// shelf did, 10 where the crew did, 11 where a file or the input has too many bytes, 12 without memory. Nothing is put but where
 /// the run ended or a thread trapped. Only a recording touches `input`, and only a recording and a replay have the crew run threads.

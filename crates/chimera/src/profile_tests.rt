@@ -1,0 +1,212 @@
+use crate::race_tests::{COUNTER, HELD_BY_CALLER};
+use crate::tests::{
+    BANK, FIRST, HELD, IDLE, MISUSE, Outside, SLOTS_1, SLOTS_2, SLOTS_3, SLOTS_8, SOUND, call,
+    joined, shelf_of,
+};
+use crate::{tests, weak_tests};
+use rr_base::{List, MemShelf};
+use std::alloc::{AllocError, Global};
+use std::process::Abort;
+use std::sync::Wait;
+use std::test::Fail;
+use std::thread::Threads;
+
+// A byte is printed before the only thread traps.
+const PRINTS: &str = "#include <stdio.h>
+#include <pthread.h>
+pthread_mutex_t m;
+int main(void) { putchar('a'); pthread_mutex_unlock(&m); return 0; }
+";
+
+const HELD_LOG: &str =
+    "0 1 lock m4\n0 2 draw T\n0 5 start s1\n1 0 begin s1\n1 3 take w0.0\n1 4 trap H\n0 7 stop H\n";
+
+const BOTH_AND_MAIN: &str = "{\"pairs\":[[\"f\",\"main\"]]}";
+
+// A source, a log, what is told, the status, and the profile that is put.
+static PROFILES: [(&str, &[&str], &str, u8, Option<&str>); 11] = [
+    // The two payments are one after the other.
+    (
+        BANK,
+        &[
+            FIRST,
+            SLOTS_8,
+            tests::STARTS,
+            tests::BEGIN,
+            tests::LOCK,
+            tests::UNLOCK,
+            tests::GOES_ON,
+            tests::LAST,
+        ],
+        "",
+        0,
+        Some("{\"pairs\":[[\"main\",\"pay\"]]}"),
+    ),
+    // Two threads are in one function.
+    (
+        COUNTER,
+        &[
+            FIRST,
+            SLOTS_3,
+            weak_tests::STARTS,
+            weak_tests::LOAD_1,
+            weak_tests::BEGIN,
+            weak_tests::LOAD_2,
+            weak_tests::STORE_1,
+            weak_tests::JOIN_1,
+            weak_tests::STORE_2,
+            weak_tests::END_2,
+            weak_tests::PRINT,
+        ],
+        "",
+        0,
+        Some("{\"pairs\":[[\"inc\",\"inc\"],[\"inc\",\"main\"]]}"),
+    ),
+    // The code is that for the log's profile, and a function is on the stack together with those that called it.
+    (
+        HELD_BY_CALLER,
+        &[
+            FIRST,
+            weak_tests::NO_PAIRS,
+            weak_tests::STARTS,
+            weak_tests::REVOKED,
+        ],
+        "",
+        0,
+        Some(
+            "{\"pairs\":[[\"f\",\"g\"],[\"f\",\"h\"],[\"f\",\"main\"],[\"g\",\"main\"],[\"h\",\"main\"]]}",
+        ),
+    ),
+    (
+        HELD_BY_CALLER,
+        &[FIRST, SLOTS_3, weak_tests::STARTS, weak_tests::REVOKED],
+        "wrong entry 12\n",
+        5,
+        None,
+    ),
+    // One thread is beside no other.
+    (
+        MISUSE,
+        &[FIRST, SLOTS_1, "0 1 unlock m2\n0 2 trap H\n"],
+        "trap 9 thread 0 line 2\n",
+        3,
+        Some("{\"pairs\":[]}"),
+    ),
+    (
+        PRINTS,
+        &[FIRST, SLOTS_1, "0 1 print O\n0 2 unlock m2\n0 3 trap H\n"],
+        "trap 9 thread 0 line 4\n",
+        3,
+        Some("{\"pairs\":[]}"),
+    ),
+    (
+        HELD,
+        &[FIRST, SLOTS_2, HELD_LOG],
+        "trap 2 thread 1 line 5\n",
+        3,
+        Some(BOTH_AND_MAIN),
+    ),
+    (
+        BANK,
+        &[
+            FIRST,
+            SLOTS_8,
+            tests::STARTS,
+            tests::BEGIN,
+            tests::UNLOCK,
+            tests::LOCK,
+            tests::GOES_ON,
+            tests::LAST,
+        ],
+        "wrong entry 5\n",
+        5,
+        None,
+    ),
+    // The log stops too early.
+    (
+        BANK,
+        &[
+            FIRST,
+            SLOTS_8,
+            tests::STARTS,
+            tests::BEGIN,
+            tests::LOCK,
+            tests::UNLOCK,
+            tests::GOES_ON,
+        ],
+        "wrong entry 24\n",
+        5,
+        None,
+    ),
+    // A log is refused before its source is.
+    ("int @", &[FIRST], "log refused 23 2\n", 4, None),
+    (
+        "int @",
+        &[FIRST, SLOTS_8, IDLE],
+        "source refused 1 1 5\n",
+        2,
+        None,
+    ),
+];
+
+static PROFILE: [&str; 4] = ["profile", "a", "b", "p"];
+
+// Under this name stands this profile, or nothing.
+fn holds(rt: &impl Abort, shelf: &MemShelf, name: &str, want: Option<&str>) {
+    let found = shelf.content(name).map(|held| held.as_slice());
+    assert_eq!(rt; found, want.map(|text| text.as_bytes()), "{name}");
+}
+
+#[test]
+fn writes_profiles(rt: HostRuntime) -> Result<(), Fail> {
+    let alloc = rt.alloc();
+    for (source, log, text, status, profile) in PROFILES {
+        let mut shelf = shelf_of(alloc, joined(alloc, &[source])?, joined(alloc, log)?)?;
+        let (told, found) = call(&rt, alloc, &PROFILE, &SOUND, &mut shelf)?;
+        assert_eq!(rt; told.as_slice(), text.as_bytes());
+        assert_eq!(rt; found, status, "{text}");
+        holds(&rt, &shelf, "p", profile);
+        holds(&rt, &shelf, "a", Some(source));
+        let whole = joined(alloc, log)?;
+        let kept = shelf.content("b").map(|held| held.as_slice());
+        assert_eq!(rt; kept, Some(whole.as_slice()));
+    }
+    Ok(())
+}
+
+// A shelf of a trapping source and its log, whose calls of these numbers fail.
+fn failing(alloc: Global, fails: &[u64]) -> Result<MemShelf, AllocError> {
+    let mut files = List::new(alloc);
+    files.push((joined(alloc, &["a"])?, joined(alloc, &[HELD])?))?;
+    files.push((
+        joined(alloc, &["b"])?,
+        joined(alloc, &[FIRST, SLOTS_2, HELD_LOG])?,
+    ))?;
+    Ok(MemShelf::new(files, List::from_slice(alloc, fails)?))
+}
+
+// The calls of the shelf and of the sink that fail, what is told, the status, and the profile that is put.
+static FAULTS: [(&[u64], &[u64], &str, u8, Option<&str>); 5] = [
+    (&[0], &[], "shelf fault\n", 9, None),
+    (&[1], &[], "shelf fault\n", 9, None),
+    (&[2], &[], "shelf fault\n", 9, None),
+    (&[], &[0], "", 8, Some(BOTH_AND_MAIN)),
+    (&[], &[4], "trap", 8, Some(BOTH_AND_MAIN)),
+];
+
+#[test]
+fn tells_faults_of_a_profile(rt: HostRuntime) -> Result<(), Fail> {
+    let alloc = rt.alloc();
+    for (shelf_fails, write_fails, text, status, profile) in FAULTS {
+        let mut shelf = failing(alloc, shelf_fails)?;
+        let outside = Outside {
+            write_fails,
+            ..SOUND
+        };
+        let (told, found) = call(&rt, alloc, &PROFILE, &outside, &mut shelf)?;
+        assert_eq!(rt; told.as_slice(), text.as_bytes());
+        assert_eq!(rt; found, status, "{text}");
+        holds(&rt, &shelf, "p", profile);
+    }
+    Ok(())
+}
