@@ -1,42 +1,58 @@
 -- How calls end.
-use Rattle.std.proofs.Common.{◌≡◌, ◌≤◌, ◌<◌, ◌⊎◌, inl, inr, refl, ap, subst, ℕ, List, [], Option, Some, None, Err, arith}
+use Rattle.std.proofs.Common.{◌≡◌, ◌≤◌, ◌<◌, ◌⊎◌, inl, inr, refl, ap, subst, ◌∙◌, ℕ, List, [], ◌++◌, Option, Some, None, Result, Ok, Err, arith}
 use Rattle.answers.specs.Answers.{status_of, text_of, read_fault, shelf_fault, crew_fault}
-use Rattle.answers.specs.Endings.{Writes}
+use Rattle.answers.specs.Endings.{Sight, Writes}
 use Rattle.answers.specs.Endings.Writes.{Whole, Failed, NoMemory}
 use Rattle.answers.specs.declared.answer.Answer.{Answer}
 use Rattle.answers.specs.declared.answer.Answer.TheVariants as answer
 use Rattle.rr_base.specs.Faults.{Rose}
 use Rattle.rr_base.specs.Files.{Files}
-use Rattle.outcomes.specs.Endings.{Ends, Finishes, MayStop, Outside, ShelfSight, TellsStop, shelf_of}
+use Rattle.outcomes.proofs.Putting.{failed_behind, partly_behind, put_both}
+use Rattle.outcomes.specs.Endings.{ComesTo, Ends, Finishes, IsFoundSo, MayStop, Outside, ShelfSight, TellsStop, shelf_of}
 use Rattle.outcomes.specs.Endings.Ends.{Found, ShelfFails, InputFails, CrewFails, WantsMemory}
 use Rattle.outcomes.specs.Endings.Finishes.{Tells, PutFails, LacksMemory}
+use Rattle.outcomes.specs.Endings.IsCutOff.{NonePut}
 use Rattle.outcomes.specs.Faults.{Counts, StopCounts}
-use Rattle.outcomes.specs.Outcomes.{answers}
-use Rattle.outcomes.specs.Puts.{ArePut}
+use Rattle.outcomes.specs.Outcomes.{answers, behind}
+use Rattle.outcomes.specs.Puts.{Put, ArePut}
 use Rattle.outcomes.specs.Steps.{Gives}
 use Rattle.outcomes.specs.declared.outcome.Outcome.{Outcome}
 use Rattle.outcomes.specs.declared.stop.Stop.{Stop}
 use Rattle.outcomes.specs.declared.stop.Stop.TheVariants as stop
 
-no_puts : (old new : Option Files) → new ≡ old → ArePut [] old new
+pub no_puts : (old new : Option Files) → new ≡ old → ArePut [] old new
 no_puts None new e = e
 no_puts (Some files) new e = e
 
-module _ (MayHave : Outcome → Type 0) (UsesShelf ReadsInput Runs : Type 0) (old new : Outside) (result : ℕ) where
-  -- an outcome was found without a change of the outside, and then finished
-  pub finished : (o : Outcome) (between : ShelfSight) → MayHave o → between.files ≡ old.files → between.faults ≡ old.counts.shelf → new.counts.input ≡ old.counts.input → new.counts.crew ≡ old.counts.crew → Finishes o between (shelf_of new) old.out new.out result → Ends MayHave UsesShelf ReadsInput Runs old new result
-  finished o between h files faults input crew f =
-      let same : between ≡ shelf_of old = λ i. record { files = files i; faults = faults i } in
-      Found o h (record { input = input; crew = crew }) (subst (λ (x : ShelfSight). Finishes o x (shelf_of new) old.out new.out result) same f)
+-- an outcome whose first files were put before is finished
+finishes_behind : (ps : List Put) (o : Outcome) (first between last : ShelfSight) (old new : Sight) (result : ℕ) → ArePut ps first.files between.files → between.faults ≡ first.faults → Finishes o between last old new result → Finishes (behind ps o) first last old new result
+finishes_behind ps o first between last old new result h e (Tells puts faults w) = Tells (put_both ps o.puts first.files between.files last.files h puts) (faults ∙ e) w
+finishes_behind ps o first between last old new result h e (PutFails puts rose w) = PutFails (failed_behind ps o.puts first.files between.files last.files h puts) (subst (λ n. Rose n last.faults) e rose) w
+finishes_behind ps o first between last old new result h e (LacksMemory is same puts faults) = LacksMemory is same (partly_behind ps o.puts first.files between.files last.files h puts) (faults ∙ e)
+
+module _ (MayHave : Outcome → Type 0) (PutsBefore : List Put → Type 0) (UsesShelf ReadsInput Runs : Type 0) (old new : Outside) (result : ℕ) where
+  -- an outcome was found, without a change of the outside but for files that were put, and then finished
+  pub finished : (o : Outcome) (between : ShelfSight) → IsFoundSo MayHave old.files between.files o → between.faults ≡ old.counts.shelf → new.counts.input ≡ old.counts.input → new.counts.crew ≡ old.counts.crew → Finishes o between (shelf_of new) old.out new.out result → Ends MayHave PutsBefore UsesShelf ReadsInput Runs old new result
+  finished o between h faults input crew f = Found (behind h.before o) h.has (record { input = input; crew = crew }) (finishes_behind h.before o (shelf_of old) between (shelf_of new) old.out new.out result h.put faults f)
 
   -- a job was stopped, and that was told
-  pub stopped : (s : Stop) → Gives MayHave (Err s) → new.files ≡ old.files → StopCounts s old.counts new.counts → MayStop UsesShelf ReadsInput Runs s → TellsStop s old.out new.out result → Ends MayHave UsesShelf ReadsInput Runs old new result
-  stopped (stop.Refused a) h files counts may tells =
-      Found (answers a) h (record { input = ap (λ (c : Counts). c.input) counts; crew = ap (λ (c : Counts). c.crew) counts }) (Tells (no_puts old.files new.files files) (ap (λ (c : Counts). c.shelf) counts) tells)
-  stopped stop.ShelfFailed h files counts may tells = ShelfFails may files counts.0 (record { input = counts.1; crew = counts.2 }) tells
-  stopped stop.InputFailed h files counts may tells = InputFails may files counts.0 counts.1 counts.2 tells
-  stopped stop.CrewFailed h files counts may tells = CrewFails may files counts.0 counts.1 counts.2 tells
-  stopped stop.OutOfMemory h files counts may tells = WantsMemory tells.0 (λ i. record { files = files i; counts = counts i; out = tells.1 i })
+  pub stopped : (s : Stop) → ComesTo MayHave PutsBefore old.files new.files (Err s) → StopCounts s old.counts new.counts → MayStop UsesShelf ReadsInput Runs s → TellsStop s old.out new.out result → Ends MayHave PutsBefore UsesShelf ReadsInput Runs old new result
+  stopped (stop.Refused a) h counts may tells =
+      let puts : ArePut (h.before ++ []) old.files new.files = put_both h.before [] old.files new.files new.files h.put (no_puts new.files new.files refl) in
+      Found (behind h.before (answers a)) h.has (record { input = ap (λ (c : Counts). c.input) counts; crew = ap (λ (c : Counts). c.crew) counts }) (Tells puts (ap (λ (c : Counts). c.shelf) counts) tells)
+  stopped stop.ShelfFailed h counts may tells = ShelfFails may h.0 h.1 h.2 counts.0 (record { input = counts.1; crew = counts.2 }) tells
+  stopped stop.InputFailed h counts may tells = InputFails may h counts.0 counts.1 counts.2 tells
+  stopped stop.CrewFailed h counts may tells = CrewFails may h.0 h.1 h.2 counts.0 counts.1 counts.2 tells
+  stopped stop.OutOfMemory h counts may tells = WantsMemory tells.0 h.0 h.1 h.2 counts tells.1
+
+-- no file is put on the way to what was found
+pub comes_at_once : (MayHave : Outcome → Type 0) (PutsBefore : List Put → Type 0) (old new : Option Files) (r : Result Outcome Stop) → PutsBefore [] → Gives MayHave r → new ≡ old → ComesTo MayHave PutsBefore old new r
+comes_at_once MayHave PutsBefore old new (Ok o) none h e = record { before = []; put = no_puts old new e; has = h }
+comes_at_once MayHave PutsBefore old new (Err (stop.Refused a)) none h e = record { before = []; put = no_puts old new e; has = h }
+comes_at_once MayHave PutsBefore old new (Err stop.ShelfFailed) none h e = ([], none, NonePut refl e)
+comes_at_once MayHave PutsBefore old new (Err stop.InputFailed) none h e = e
+comes_at_once MayHave PutsBefore old new (Err stop.CrewFailed) none h e = ([], none, no_puts old new e)
+comes_at_once MayHave PutsBefore old new (Err stop.OutOfMemory) none h e = ([], none, record { made = []; rest = []; split = refl; files = no_puts old new e })
 
 -- ---- the statuses
 
@@ -100,9 +116,9 @@ module _ (old new : Outside) (result : ℕ) where
   of_finish o (PutFails puts rose w) = of_writes shelf_fault 9 (of_shelf rose) w
   of_finish o (LacksMemory e same puts faults) = of_memory e
 
-  pub causes : (MayHave : Outcome → Type 0) (UsesShelf ReadsInput Runs : Type 0) → Ends MayHave UsesShelf ReadsInput Runs old new result → Causes old new result
-  causes MayHave UsesShelf ReadsInput Runs (Found o h only f) = of_finish o f
-  causes MayHave UsesShelf ReadsInput Runs (ShelfFails uses files rose only w) = of_writes shelf_fault 9 (of_shelf rose) w
-  causes MayHave UsesShelf ReadsInput Runs (InputFails runs files rose shelf crew w) = of_writes read_fault 7 (of_input rose) w
-  causes MayHave UsesShelf ReadsInput Runs (CrewFails runs files rose shelf input w) = of_writes crew_fault 10 (of_crew rose) w
-  causes MayHave UsesShelf ReadsInput Runs (WantsMemory e same) = of_memory e
+  pub causes : (MayHave : Outcome → Type 0) (PutsBefore : List Put → Type 0) (UsesShelf ReadsInput Runs : Type 0) → Ends MayHave PutsBefore UsesShelf ReadsInput Runs old new result → Causes old new result
+  causes MayHave PutsBefore UsesShelf ReadsInput Runs (Found o h only f) = of_finish o f
+  causes MayHave PutsBefore UsesShelf ReadsInput Runs (ShelfFails uses puts before files rose only w) = of_writes shelf_fault 9 (of_shelf rose) w
+  causes MayHave PutsBefore UsesShelf ReadsInput Runs (InputFails reads files rose shelf crew w) = of_writes read_fault 7 (of_input rose) w
+  causes MayHave PutsBefore UsesShelf ReadsInput Runs (CrewFails runs puts before files rose shelf input w) = of_writes crew_fault 10 (of_crew rose) w
+  causes MayHave PutsBefore UsesShelf ReadsInput Runs (WantsMemory e puts before files counts out) = of_memory e

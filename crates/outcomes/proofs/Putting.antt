@@ -1,9 +1,27 @@
 -- Files that are put one after the other.
 use Rattle.std.proofs.Common.{◌≡◌, ◌<◌, ◌≤◌, ◌+◌, refl, sym, ap, subst, ◌∙◌, ℕ, zero, suc, List, [], ◌∷◌, ◌++◌, length, take, get_or, Option, Some, None, arith}
 use Rattle.std.specs.Prelude.{drop, option_map}
-use Rattle.std.proofs.lemmas.List.{take_more, take-append-drop}
+use Rattle.std.proofs.lemmas.List.{append_assoc, take_more, take-append-drop}
 use Rattle.rr_base.specs.Files.{Files, with_file, LeavesOthers}
 use Rattle.outcomes.specs.Puts.{Put, with_puts, ArePut, ArePartlyPut, PutFailed}
+
+-- ---- some after others
+
+with_both : (ps qs : List Put) (files : Files) → with_puts (ps ++ qs) files ≡ with_puts qs (with_puts ps files)
+with_both [] qs files = refl
+with_both (p ∷ ps) qs files = with_both ps qs (with_file p.name p.content files)
+
+pub put_both : (ps qs : List Put) (old between new : Option Files) → ArePut ps old between → ArePut qs between new → ArePut (ps ++ qs) old new
+put_both ps qs None between new h g = g ∙ ap (option_map (with_puts qs)) h
+put_both ps qs (Some files) between new h g = g ∙ ap (option_map (with_puts qs)) h ∙ ap Some (sym (with_both ps qs files))
+
+pub partly_behind : (ps qs : List Put) (old between new : Option Files) → ArePut ps old between → ArePartlyPut qs between new → ArePartlyPut (ps ++ qs) old new
+partly_behind ps qs old between new h g = record { made = ps ++ g.made; rest = g.rest; split = ap (λ (xs : List Put). ps ++ xs) g.split ∙ sym (append_assoc ps g.made g.rest); files = put_both ps g.made old between new h g.files }
+
+pub failed_behind : (ps qs : List Put) (old between new : Option Files) → ArePut ps old between → PutFailed qs between new → PutFailed (ps ++ qs) old new
+failed_behind ps qs old between new h g = record { made = ps ++ g.made; failed = g.failed; rest = g.rest; split = ap (λ (xs : List Put). ps ++ xs) g.split ∙ sym (append_assoc ps g.made (g.failed ∷ g.rest)); before = g.before; files = put_both ps g.made old between g.before h g.files; others = g.others }
+
+-- ---- up to a place
 
 -- one more is put last
 with_last : (ps : List Put) (p : Put) (files : Files) → with_puts (ps ++ p ∷ []) files ≡ with_file p.name p.content (with_puts ps files)

@@ -1,8 +1,13 @@
 -- What a job comes to.
-use Rattle.std.specs.Prelude.{[]}
+use Rattle.std.specs.Prelude.{List, [], ◌++◌}
 use Rattle.answers.specs.declared.answer.Answer.{Answer}
+use Rattle.outcomes.specs.Puts.{Put}
 use Rattle.outcomes.specs.declared.outcome.Outcome.{Outcome}
 
 -- an answer alone, with no file put
 abbrev pub answers : Answer → Outcome
 answers a = record { puts = []; answer = a }
+
+-- an outcome, before whose files these are put
+abbrev pub behind : List Put → Outcome → Outcome
+behind puts o = record { puts = puts ++ o.puts; answer = o.answer }
