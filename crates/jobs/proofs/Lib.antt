@@ -1,5 +1,6 @@
 pub mod Ending
 pub mod Found
+pub mod Made
 pub mod OfLog
 pub mod Profiled
 pub mod Recorded

@@ -1,8 +1,7 @@
 -- What a run leaves is a recording of its source.
-use Rattle.std.proofs.Common.{◌≡◌, ◌≤◌, refl, sym, subst, ℕ, List, [], ◌∷◌, Result, Ok, Err, Option, Some, length}
+use Rattle.std.proofs.Common.{◌≡◌, ◌≤◌, refl, sym, ap, ◌∙◌, subst, ℕ, List, [], ◌∷◌, Result, Ok, Err, Option, Some, length}
 use Rattle.std.specs.List.{AllByRecursion}
 use Rattle.std.specs.Prelude.{IfOk, MatchResult}
-use Rattle.std.specs.declared.alloc.AllocError.{AllocError}
 use Rattle.answers.specs.Jobs.{RecordAsked, HasRecordLimits}
 use Rattle.answers.specs.declared.answer.Answer.{Answer}
 use Rattle.answers.specs.declared.answer.Part.TheVariants as part
@@ -13,7 +12,7 @@ use Rattle.core_run.specs.Machine.{Told}
 use Rattle.facts.specs.declared.profile.Profile.{Profile}
 use Rattle.flow_code.specs.declared.code.Code.{Code}
 use Rattle.lock_sound.specs.Weakened.{Analysed}
-use Rattle.order_log.specs.Log.{AreWithin}
+use Rattle.order_log.specs.Log.{AreWithin, LogView}
 use Rattle.order_log.specs.Text.{log_text}
 use Rattle.outcomes.specs.Faults.{CrewStops, InputStops, RunStops}
 use Rattle.outcomes.specs.Outcomes.{answers}
@@ -30,7 +29,7 @@ use Rattle.sync_objects.specs.Names.{Fits}
 use Rattle.sync_objects.specs.Setup.{SetupView, IsWithinLimits}
 use Rattle.sync_objects.specs.declared.entry.Entry.{Entry}
 use Rattle.walk_answers.specs.Walking.{formula_of, outcome_of}
-use Rattle.jobs.specs.Recordings.{setup_of, IsRecorded, IsRecording, IsRunOf}
+use Rattle.jobs.specs.Recordings.{setup_of, IsLogged, IsRecorded, IsRecording, IsRunOf}
 use Rattle.jobs.specs.Sources.{AreOrdered, Compiles, IsFound, IsSourceWalk, IsTree}
 
 -- the log of a run in which all threads have ended
@@ -63,10 +62,10 @@ setup_within r input h short = record { some_slot = h.slots_low; few_slots = h.s
 
 module _ (r : RecordAsked) (p : Profile) (os : List Outer) (w : Analysed) where
   -- the log of each run is a walk of the source
-  abbrev LogsWalk : (input : List ℕ) → Type 0
+  abbrev pub LogsWalk : (input : List ℕ) → Type 0
   LogsWalk input = (labels : List Label) (end : State Told) → run_of w.weak (setup_of r input) labels ≡ Some end → HaveEnded w.weak (setup_of r input) end → IsSourceWalk os w.weak (setup_of r input) (log_of end)
 
-  recording : (input : List ℕ) (o : Outcome) → IsFound os p w → LogsWalk input → IsRecorded r p w input o → IsRecording r p os input o
+  pub recording : (input : List ℕ) (o : Outcome) → IsFound os p w → LogsWalk input → IsRecorded r p w input o → IsRecording r p os input o
   recording input o found walks h =
       let run = h.run.records in
       record {
@@ -79,6 +78,10 @@ module _ (r : RecordAsked) (p : Profile) (os : List Outer) (w : Analysed) where
         ordered = h.run.ordered;
         told = h.told;
       }
+
+  pub recording_entries : (input : List ℕ) (o : Outcome) (found : IsFound os p w) (walks : LogsWalk input) (h : IsRecorded r p w input o) → (recording input o found walks h).entries ≡ h.recorded.entries
+  unfolding recording
+  recording_entries input o found walks h = refl
 
   module _ (IsStep : Result (List ℕ) Answer → Type 0) (found : IsFound os p w) (walks : (input : List ℕ) → IsStep (Ok input) → LogsWalk input) where
     then_recording : (step : Result (List ℕ) Answer) (o : Outcome) → IsStep step → Then (IsRecorded r p w) step o → Then (IsRecording r p os) step o
@@ -110,31 +113,28 @@ module _ (source : List ℕ) (left : Option (List ℕ)) (r : RecordAsked) (p : P
 
 -- ---- in the code
 
--- what is told of what a run left
-abbrev TellsLog : RecordAsked → Profile → SetupView → Recorded → Outcome → Type 0
-TellsLog r p s it o = o ≡ outcome_of (record { name = r.log; content = log_text (record { setup = s; profile = p; entries = it.entries }) } ∷ []) r.reads it.walk
+-- what is told of the log of a run
+abbrev TellsLog : RecordAsked → Profile → Recorded → SetupView → Outcome → Type 0
+TellsLog r p it s o = o ≡ outcome_of (record { name = r.log; content = log_text (record { setup = s; profile = p; entries = it.entries }) } ∷ []) r.reads it.walk
 
-told_of : (r : RecordAsked) (p : Profile) (w : Analysed) (input : List ℕ) (it : Recorded) (f : Result Outcome AllocError) (res : Result Outcome Stop) → IsRunOf w (setup_of r input) (formula_of r.reads) it → IfOk f (TellsLog r p (setup_of r input) it) → MatchResult res (λ o. f ≡ Ok o) (λ end. end ≡ stop.OutOfMemory) → IfOk res (IsRecorded r p w input)
-told_of r p w input it f (Ok o) run told is = record { recorded = it; run = run; told = subst (λ g. IfOk g (TellsLog r p (setup_of r input) it)) is told }
-told_of r p w input it f (Err s) run told is = tt
-
-pub recorded_of : (r : RecordAsked) (p : Profile) (w : Analysed) (input : List ℕ) (it : Recorded) (s : SetupView) (formula : Formula) (f : Result Outcome AllocError) (res : Result Outcome Stop) → s ≡ setup_of r input → formula ≡ formula_of r.reads → IsRunOf w s formula it → IfOk f (λ o. o ≡ outcome_of (record { name = r.log; content = log_text (record { setup = s; profile = p; entries = it.entries }) } ∷ []) r.reads it.walk) → MatchResult res (λ o. f ≡ Ok o) (λ end. end ≡ stop.OutOfMemory) → IfOk res (IsRecorded r p w input)
-recorded_of r p w input it s formula f res e g run told is =
-    told_of r p w input it f res (subst (λ x. IsRunOf w x (formula_of r.reads) it) e (subst (λ x. IsRunOf w s x it) g run)) (subst (λ x. IfOk f (TellsLog r p x it)) e told) is
-
--- memory was wanting, and the crew has not failed
-pub memory_of_crew : (f : Result Outcome AllocError) (res : Result Outcome Stop) (old new : ℕ) → new ≡ old → MatchResult res (λ o. f ≡ Ok o) (λ end. end ≡ stop.OutOfMemory) → MatchResult res (λ _. new ≡ old) (λ s. CrewStops s old new)
-memory_of_crew f (Ok o) old new e is = e
-memory_of_crew f (Err s) old new e is = subst (λ y. CrewStops y old new) (sym is) e
+pub logged_of : (r : RecordAsked) (p : Profile) (w : Analysed) (input : List ℕ) (it : Recorded) (s : SetupView) (formula : Formula) (log : LogView) (o : Outcome) → s ≡ setup_of r input → formula ≡ formula_of r.reads → IsRunOf w s formula it → log ≡ record { setup = s; profile = p; entries = it.entries } → o ≡ outcome_of (record { name = r.log; content = log_text (record { setup = s; profile = p; entries = it.entries }) } ∷ []) r.reads it.walk → IsLogged r p w input log o
+logged_of r p w input it s formula log o e g run is told =
+    record {
+      is = record {
+        recorded = it;
+        run = subst (λ x. IsRunOf w x (formula_of r.reads) it) e (subst (λ x. IsRunOf w s x it) g run);
+        told = subst (λ x. TellsLog r p it x o) e told;
+      };
+      log_is = is ∙ ap (λ (x : SetupView). record { setup = x; profile = p; entries = it.entries }) e;
+    }
 
 -- a crew refuses nothing
-pub crew_gives : (IsStep : Result (List ℕ) Answer → Type 0) (Next : List ℕ → Outcome → Type 0) (x : List ℕ) (res : Result Outcome Stop) (same : Type 0) (old new : ℕ) → IsStep (Ok x) → IfOk res (Next x) → MatchResult res (λ _. same) (λ s. CrewStops s old new) → Gives (Comes IsStep Next) res
-crew_gives IsStep Next x (Ok o) same old new is h f = record { step = Ok x; is = is; next = h }
-crew_gives IsStep Next x (Err (stop.Refused a)) same old new is h f = absurd f
-crew_gives IsStep Next x (Err stop.ShelfFailed) same old new is h f = tt
-crew_gives IsStep Next x (Err stop.InputFailed) same old new is h f = tt
-crew_gives IsStep Next x (Err stop.CrewFailed) same old new is h f = tt
-crew_gives IsStep Next x (Err stop.OutOfMemory) same old new is h f = tt
+pub crew_gives : (MayHave : Outcome → Type 0) (s : Stop) (old new : ℕ) → CrewStops s old new → Gives MayHave (Err s)
+crew_gives MayHave (stop.Refused a) old new h = absurd h
+crew_gives MayHave stop.ShelfFailed old new h = tt
+crew_gives MayHave stop.InputFailed old new h = tt
+crew_gives MayHave stop.CrewFailed old new h = tt
+crew_gives MayHave stop.OutOfMemory old new h = tt
 
 -- nothing was run of what is not compiled
 pub runs_nothing : (source : List ℕ) (p : Profile) (s : Stop) (input crew : ℕ) → Compiles source p (Err s) → RunStops s input input crew crew
@@ -159,7 +159,3 @@ crew_stops stop.ShelfFailed input_old input_new crew_old crew_new e h = absurd h
 crew_stops stop.InputFailed input_old input_new crew_old crew_new e h = absurd h
 crew_stops stop.CrewFailed input_old input_new crew_old crew_new e h = (e, h)
 crew_stops stop.OutOfMemory input_old input_new crew_old crew_new e h = (e, h)
-
-pub crew_faults : (res : Result Outcome Stop) (input_old input_new crew_old crew_new : ℕ) → input_new ≡ input_old → MatchResult res (λ _. crew_new ≡ crew_old) (λ s. CrewStops s crew_old crew_new) → MatchResult res (λ _. (input_new ≡ input_old) × (crew_new ≡ crew_old)) (λ s. RunStops s input_old input_new crew_old crew_new)
-crew_faults (Ok o) input_old input_new crew_old crew_new e h = (e, h)
-crew_faults (Err s) input_old input_new crew_old crew_new e h = crew_stops s input_old input_new crew_old crew_new e h

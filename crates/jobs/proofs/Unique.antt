@@ -174,4 +174,4 @@ one_outcome files left (Some (Weaken source name)) o p none h g = of_weaken file
 one_outcome files left (Some (Record r)) o p none h g = absurd (none tt)
 one_outcome files left (Some (Replay source log reads)) o p none h g = of_replay files source log reads o p h g
 one_outcome files left (Some (Profile source log name)) o p none h g = of_profile files source log name o p h g
-one_outcome files left (Some (Make count name)) o p none h g = h ∙ sym g
+one_outcome files left (Some (Make count name)) o p none h g = absurd (none tt)

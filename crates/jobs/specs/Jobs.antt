@@ -1,16 +1,18 @@
 -- The outcomes that each job may have on the files of a shelf and an input, where these tell what they hold: step by step, in the
 -- order in which a refusal comes.
-use Rattle.std.specs.Prelude.{◌≡◌, ℕ, Bool, nat_le, List, Option, Some, None}
+use Rattle.std.specs.Prelude.{◌≡◌, ℕ, Bool, nat_le, List, [], Option, Some, None}
 use Rattle.answers.specs.Jobs.{Asked, RecordAsked}
 use Rattle.answers.specs.Jobs.Asked.{Races, Weaken, Record, Replay, Profile, Make}
 use Rattle.answers.specs.declared.answer.Answer.TheVariants as answer
 use Rattle.answers.specs.declared.answer.Part.TheVariants as part
 use Rattle.outcomes.specs.Outcomes.{answers}
+use Rattle.outcomes.specs.Puts.{Put}
 use Rattle.outcomes.specs.Steps.{Comes, IsFile, IsInput}
 use Rattle.outcomes.specs.declared.outcome.Outcome.{Outcome}
 use Rattle.rr_base.specs.Files.{Files}
 use Rattle.jobs.specs.Listings.{ListsRaces, ListsWeakLocks}
 use Rattle.job_profiles.specs.Profiles.{IsProfile, named}
+use Rattle.jobs.specs.Makings.{IsMaking, IsPutInMaking}
 use Rattle.jobs.specs.Profilings.{ShowsLog}
 use Rattle.jobs.specs.Recordings.{IsRecording}
 use Rattle.jobs.specs.Replays.{IsLogIn, Replays}
@@ -51,7 +53,7 @@ IsRecord files left r o =
     Comes (IsInput left 1048576 part.Input) (λ input.
     IsRecording r (named p) os input)))) o
 
--- words that are no job, and jobs that the program doesn't do yet, are answered by `usage`
+-- words that are no job are answered by `usage`
 abbrev pub IsOutcome : Option Files → (left : Option (List ℕ)) → Option Asked → Outcome → Type 0
 IsOutcome files left None o = o ≡ answers answer.Usage
 IsOutcome files left (Some (Races source)) o = IsRaces files source o
@@ -59,13 +61,12 @@ IsOutcome files left (Some (Weaken source profile)) o = IsWeaken files source pr
 IsOutcome files left (Some (Record r)) o = IsRecord files left r o
 IsOutcome files left (Some (Replay source log reads)) o = IsReplay files source log reads o
 IsOutcome files left (Some (Profile source log name)) o = IsProfiling files source log name o
-IsOutcome files left (Some (Make count name)) o = o ≡ answers answer.Usage
+IsOutcome files left (Some (Make count name)) o = IsMaking count name o
 
 -- ---- what a job touches
 
 abbrev pub UsesShelf : Option Asked → Type 0
 UsesShelf None = ⊥
-UsesShelf (Some (Make count name)) = ⊥
 UsesShelf _ = Unit {0}
 
 abbrev pub ReadsInput : Option Asked → Type 0
@@ -75,7 +76,19 @@ ReadsInput _ = ⊥
 abbrev pub RunsThreads : Option Asked → Type 0
 RunsThreads (Some (Record r)) = Unit {0}
 RunsThreads (Some (Replay source log reads)) = Unit {0}
+RunsThreads (Some (Make count name)) = Unit {0}
 RunsThreads _ = ⊥
+
+-- it records a run, of whose logs files and words don't tell which
+abbrev pub RecordsRun : Option Asked → Type 0
+RecordsRun (Some (Record r)) = Unit {0}
+RecordsRun (Some (Make count name)) = Unit {0}
+RecordsRun _ = ⊥
+
+-- the files that a job puts before it has an outcome: a made source, and its log
+abbrev pub PutsBefore : Option Asked → List Put → Type 0
+PutsBefore (Some (Make count name)) puts = IsPutInMaking count name puts
+PutsBefore _ puts = puts ≡ []
 
 -- the statuses with which the program ends
 abbrev pub is_status : ℕ → Bool

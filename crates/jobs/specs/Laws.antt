@@ -3,8 +3,8 @@ use Rattle.std.specs.Prelude.{◌≡◌, ℕ, List, Option, Some}
 use Rattle.answers.specs.Jobs.{Asked}
 use Rattle.outcomes.specs.declared.outcome.Outcome.{Outcome}
 use Rattle.rr_base.specs.Files.{Files}
-use Rattle.jobs.specs.Jobs.{IsOutcome, ReadsInput}
+use Rattle.jobs.specs.Jobs.{IsOutcome, RecordsRun}
 
--- where the shelf tells its files, a job that reads no input has one outcome
+-- where the shelf tells its files, a job that records no run has one outcome
 abbrev pub OneOutcome : Type 0
-OneOutcome = (files : Files) (left : Option (List ℕ)) (job : Option Asked) (o x : Outcome) → (ReadsInput job → ⊥) → IsOutcome (Some files) left job o → IsOutcome (Some files) left job x → o ≡ x
+OneOutcome = (files : Files) (left : Option (List ℕ)) (job : Option Asked) (o x : Outcome) → (RecordsRun job → ⊥) → IsOutcome (Some files) left job o → IsOutcome (Some files) left job x → o ≡ x

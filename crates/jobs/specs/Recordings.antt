@@ -56,3 +56,8 @@ pub record IsRecorded (r : RecordAsked) (p : Profile) (found : Analysed) (input 
   pub recorded : Recorded
   pub run : IsRunOf found (setup_of r input) (formula_of r.reads) recorded
   pub told : o ≡ outcome_of (log_put r p input recorded.entries ∷ []) r.reads recorded.walk
+
+-- .. with its log
+pub record IsLogged (r : RecordAsked) (p : Profile) (found : Analysed) (input : List ℕ) (log : LogView) (o : Outcome) : Type 0 where
+  pub is : IsRecorded r p found input o
+  pub log_is : log ≡ log_of r p input is.recorded.entries

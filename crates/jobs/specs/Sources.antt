@@ -4,10 +4,12 @@ use Rattle.answers.specs.declared.answer.Answer.{Answer}
 use Rattle.answers.specs.declared.answer.Answer.TheVariants as answer
 use Rattle.c_elaborate.specs.Whole.{core_of_source}
 use Rattle.c_tree.specs.Tree.{Outer}
+use Rattle.core_run.specs.Histories.{HaveEnded, entries_in, lists_of, run_of}
 use Rattle.core_run.specs.Machine.{Told, machine, start_state}
 use Rattle.core_run.specs.Walks.{out_of, walk_of}
 use Rattle.erasure.specs.Erased.{erased_walk, IsAnywhere}
 use Rattle.facts.specs.declared.profile.Profile.{Profile}
+use Rattle.facts.specs.declared.profile.Profile.TheVariants as profile
 use Rattle.flow_code.specs.declared.code.Code.{Code}
 use Rattle.front.specs.Plain.{plain_code}
 use Rattle.front.specs.Readings.{sound, refused, IsReading}
@@ -17,10 +19,11 @@ use Rattle.outcomes.specs.declared.stop.Stop.{Stop}
 use Rattle.outcomes.specs.declared.stop.Stop.TheVariants as stop
 use Rattle.runs.specs.Labels.{Label}
 use Rattle.runs.specs.Laws.{Conflict}
+use Rattle.runs.specs.Merge.{written_merge}
 use Rattle.runs.specs.Ordered.{Event, event_access, event_at, event_thread, Ordered}
 use Rattle.runs.specs.Steps.{State}
 use Rattle.source_runs.specs.SourceRuns.{IsSourceRun, bytes_of}
-use Rattle.sync_objects.specs.Setup.{SetupView}
+use Rattle.sync_objects.specs.Setup.{IsWithinLimits, SetupView}
 use Rattle.sync_objects.specs.declared.entry.Entry.{Entry}
 
 -- reading a source: its tree, or its first fault
@@ -63,3 +66,11 @@ Compiles source p (Err stop.ShelfFailed) = ⊥
 Compiles source p (Err stop.InputFailed) = ⊥
 Compiles source p (Err stop.CrewFailed) = ⊥
 Compiles source p (Err stop.OutOfMemory) = Unit {0}
+
+-- in each run of the source's code for the profile All to the end of all threads, and for each list of entries: their walk is a run of the source
+pub record RunsAsSource (source : List ℕ) (found : Analysed) : Type 0 where
+  pub os : List Outer
+  pub tree : IsTree source (Ok os)
+  pub is : IsFound os profile.All found
+  pub logs : (s : SetupView) (labels : List Label) (end : State Told) → IsWithinLimits s → run_of found.weak s labels ≡ Some end → HaveEnded found.weak s end → IsSourceWalk os found.weak s (entries_in (written_merge (lists_of end)))
+  pub walks : (s : SetupView) (entries : List Entry) → IsWithinLimits s → WalksAsSource os found.weak s entries

@@ -2,7 +2,7 @@
 
 ghost use Rattle.jobs.specs.Laws.{OneOutcome};
 
-/// A job that isn't a recording has one outcome on files.
+/// A job that records no run has one outcome on files.
 pub fn law_one_outcome()
     ensures { OneOutcome }
 {}

@@ -1,8 +1,10 @@
-//! The jobs of the program: the listings of a source, a recorded run, a run by a log, and the profile of a log. It joins the crates below, and
+//! The jobs of the program: the listings of a source, a recorded run, a run by a log, the profile of a log, and a made source, which is
+//! recorded and replayed. It joins the crates below, and
 //! promises for each job what its outcome is, which is its answer, the files that it puts, and what is known of its run.
 #![tactic(auto)]
 
 mod laws;
+mod making;
 mod profiling;
 mod races;
 mod recording;

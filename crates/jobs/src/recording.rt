@@ -4,7 +4,7 @@ ghost use Rattle.std.specs.Prelude.{◌≡◌, ◌≤◌, ◌^◌, ◌∷◌, []
 ghost use Rattle.answers.specs.Jobs.{HasRecordLimits, record_told};
 ghost use Rattle.answers.specs.declared.answer.Part.TheVariants as part;
 ghost use Rattle.jobs.specs.Jobs.{IsRecord};
-ghost use Rattle.jobs.specs.Recordings.{IsRecorded, IsRecording, IsRunOf, log_put};
+ghost use Rattle.jobs.specs.Recordings.{IsLogged, IsRecorded, IsRecording, IsRunOf};
 ghost use Rattle.jobs.specs.Sources.{IsTree};
 ghost use Rattle.walk_answers.specs.Walking.{outcome_of as outcome_by};
 ghost use Rattle.order_log.specs.Log.{AreWithin, HasNames};
@@ -14,7 +14,7 @@ ghost use Rattle.outcomes.specs.Steps.{Comes, Gives, IsInput};
 ghost use Rattle.std.specs.List.{AllByRecursion};
 ghost use Rattle.sync_objects.specs.Names.{Fits};
 
-use crate::sources::{SOURCE_BYTES, compiled, or_stop};
+use crate::sources::{SOURCE_BYTES, compiled};
 use access_order::law_ordered;
 use answers::{Part, RecordJob};
 use core_run::Formula;
@@ -64,28 +64,37 @@ fn run<R: Threads + Wait + Sync, C: Crew>(
     }
 }
 
-// What a recording puts and tells.
+/// A recording: its log, and what it puts and tells.
+#[derive(Debug, Drop)]
+pub(crate) struct Recording<'a> {
+    pub(crate) log: Log,
+    pub(crate) outcome: Outcome<'a>,
+}
+
+// What a run leaves, with the profile of its code: its log, which is put, and what is told.
 fn told<'a>(
     alloc: Global,
     recorded: Recorded,
     setup: Setup,
     profile: Profile,
     job: &RecordJob<'a>,
-) -> Result<Outcome<'a>, AllocError>
+) -> Result<Recording<'a>, AllocError>
     requires names { HasNames profile }
     requires fitting { AllByRecursion (λ e. Fits e.op e.obj) recorded.entries }
     requires within { AreWithin setup recorded.entries }
-    ensures { IfOk result (λ o. o ≡ outcome_by (record { name = job.now.log.now; content = log_text (record { setup = setup; profile = profile; entries = recorded.entries }) } ∷ []) (option_map (λ n. n.now) job.now.reads) recorded.walk) }
+    ensures log { IfOk result (λ it. it.log ≡ record { setup = setup; profile = profile; entries = recorded.entries }) }
+    ensures outcome { IfOk result (λ it. it.outcome ≡ outcome_by (record { name = job.now.log.now; content = log_text (record { setup = setup; profile = profile; entries = recorded.entries }) } ∷ []) (option_map (λ n. n.now) job.now.reads) recorded.walk) }
 {
     let Recorded { entries, walk } = recorded;
     let log = Log::new(setup, profile, entries);
     let mut puts = List::new(alloc);
     puts.push(Put::new(job.log, write_log(alloc, &log)?))?;
-    outcome_of(alloc, puts, job.reads, walk)
+    let outcome = outcome_of(alloc, puts, job.reads, walk)?;
+    Ok(Recording { log, outcome })
 }
 
-// The recording of weakened code on an input.
-fn recorded_on<'a, R: Threads + Wait + Sync, C: Crew>(
+/// The recording of weakened code on an input.
+pub(crate) fn recorded_on<'a, R: Threads + Wait + Sync, C: Crew>(
     rt: &R,
     alloc: Global,
     weakened: &Weakened,
@@ -93,17 +102,17 @@ fn recorded_on<'a, R: Threads + Wait + Sync, C: Crew>(
     input: Bytes,
     job: &RecordJob<'a>,
     crew: &mut C,
-) -> Result<Outcome<'a>, Stop>
+) -> Result<Recording<'a>, Stop>
     requires limits { HasRecordLimits (record_told job.now) }
     requires short { length input ≤ 1048576 }
     requires names { HasNames profile }
-    ensures outcome { IfOk result (IsRecorded (record_told job.now) profile weakened.now input) }
+    ensures outcome { IfOk result (λ it. IsLogged (record_told job.now) profile weakened.now input it.log it.outcome) }
     ensures faults { MatchResult result (λ _. C.faults crew.new ≡ C.faults crew.old) (λ stop. CrewStops stop (C.faults crew.old) (C.faults crew.new)) }
 {
     let setup = Setup::new(job.slots, job.cells, job.limit, input);
     let formula = formula_of(job.reads);
     match run(rt, alloc, weakened, &setup, job.budget, &formula, crew) {
-        Ok(recorded) => or_stop(told(alloc, recorded, setup, profile, job)),
+        Ok(recorded) => Ok(told(alloc, recorded, setup, profile, job)?),
         Err(stop) => Err(stop),
     }
 }
@@ -124,7 +133,10 @@ fn recorded_code<'a, R: Threads + Wait + Sync, I: Source, C: Crew>(
     ensures faults { MatchResult result (λ _. (I.faults input.new ≡ I.faults input.old) × (C.faults crew.new ≡ C.faults crew.old)) (λ stop. RunStops stop (I.faults input.old) (I.faults input.new) (C.faults crew.old) (C.faults crew.new)) }
 {
     let bytes = whole_input(alloc, input, INPUT_BYTES, Part::Input)?;
-    recorded_on(rt, alloc, weakened, profile, bytes, job, crew)
+    match recorded_on(rt, alloc, weakened, profile, bytes, job, crew) {
+        Ok(recording) => Ok(recording.outcome),
+        Err(stop) => Err(stop),
+    }
 }
 
 // The outcome of a source's bytes for this profile.

@@ -72,8 +72,8 @@ fn walked<R: Threads + Wait + Sync, C: Crew>(
     }
 }
 
-// What is told of that walk.
-fn told_walk<'a, R: Threads + Wait + Sync, C: Crew>(
+/// What is told of that walk.
+pub(crate) fn told_walk<'a, R: Threads + Wait + Sync, C: Crew>(
     rt: &R,
     alloc: Global,
     weakened: &Weakened,

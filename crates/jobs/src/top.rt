@@ -2,12 +2,12 @@
 
 ghost use Rattle.std.specs.Prelude.{◌≡◌, map, string_bytes, IfErr, IsTrue, MatchResult, Some};
 ghost use Rattle.answers.specs.Jobs.{HasLimits, job_of as job_by, told};
-ghost use Rattle.jobs.specs.Jobs.{IsOutcome, ReadsInput, RunsThreads, UsesShelf, is_status};
-ghost use Rattle.outcomes.specs.Endings.{Ends, MayStop};
+ghost use Rattle.jobs.specs.Jobs.{IsOutcome, PutsBefore, ReadsInput, RunsThreads, UsesShelf, is_status};
+ghost use Rattle.outcomes.specs.Endings.{ComesTo, Ends, MayStop};
 ghost use Rattle.outcomes.specs.Faults.{StopCounts};
-ghost use Rattle.outcomes.specs.Steps.{Gives};
 ghost use Rattle.rr_base.specs.Faults.{Rose};
 
+use crate::making::make;
 use crate::profiling::profile_log;
 use crate::races::races;
 use crate::recording::record_source;
@@ -31,8 +31,7 @@ fn outcome_of_job<'a, R: Threads + Wait + Sync, I: Source, S: Shelf, C: Crew>(
     crew: &mut C,
 ) -> Result<Outcome<'a>, Stop>
     requires { HasLimits (told job) }
-    ensures outcome { Gives (IsOutcome (S.files shelf.old) (I.left input.old) (Some (told job.entry))) result }
-    ensures files { S.files shelf.new ≡ S.files shelf.old }
+    ensures outcome { ComesTo (IsOutcome (S.files shelf.old) (I.left input.old) (Some (told job.entry))) (PutsBefore (Some (told job.entry))) (S.files shelf.old) (S.files shelf.new) result }
     ensures faults { MatchResult result (λ _. (S.faults shelf.new ≡ S.faults shelf.old) × (I.faults input.new ≡ I.faults input.old) × (C.faults crew.new ≡ C.faults crew.old)) (λ stop. StopCounts stop (record { shelf = S.faults shelf.old; input = I.faults input.old; crew = C.faults crew.old }) (record { shelf = S.faults shelf.new; input = I.faults input.new; crew = C.faults crew.new })) }
     ensures causes { IfErr result (MayStop (UsesShelf (Some (told job.entry))) (ReadsInput (Some (told job.entry))) (RunsThreads (Some (told job.entry)))) }
     ensures input { (ReadsInput (Some (told job.entry)) → ⊥) → input.new ≡ input.old }
@@ -43,7 +42,7 @@ fn outcome_of_job<'a, R: Threads + Wait + Sync, I: Source, S: Shelf, C: Crew>(
         Job::Replay { source, log, reads } => { replay(rt, alloc, source, log, reads, shelf, crew) }
         Job::Record(job) => record_source(rt, alloc, &job, input, shelf, crew),
         Job::Profile { source, log, name } => profile_log(alloc, source, log, name, shelf),
-        Job::Make { .. } => Ok(Outcome::answers(alloc, Answer::Usage)),
+        Job::Make { count, name } => make(rt, alloc, count, name, shelf, crew),
     }
 }
 
@@ -51,7 +50,8 @@ fn outcome_of_job<'a, R: Threads + Wait + Sync, I: Source, S: Shelf, C: Crew>(
 /// profile was written, 1 where the words are no job, 2 where the source is refused, 3 where a thread trapped, 4 where the log is refused, 5
 /// where it isn't one of this program, 6 where the profile is refused, 7 where the input failed, 8 where the sink did, 9 where the
 /// shelf did, 10 where the crew did, 11 where a file or the input has too many bytes, 12 without memory. Nothing is put but where
-/// the run ended or a thread trapped. Only a recording touches `input`, and only a recording and a replay have the crew run threads.
+/// the run ended or a thread trapped, and a made source and its log, which are put on the way. Only a recording touches `input`, and
+/// only a recording, a replay and the making of a source have the crew run threads.
 pub fn chimera<R: Threads + Wait + Sync, I: Source, O: Sink, S: Shelf, C: Crew>(
     rt: &R,
     alloc: Global,
@@ -61,7 +61,7 @@ pub fn chimera<R: Threads + Wait + Sync, I: Source, O: Sink, S: Shelf, C: Crew>(
     shelf: &mut S,
     crew: &mut C,
 ) -> u8
-    ensures ends { let job = job_by (map string_bytes words.now) in Ends (IsOutcome (S.files shelf.old) (I.left input.old) job) (UsesShelf job) (ReadsInput job) (RunsThreads job) (record { files = S.files shelf.old; counts = record { shelf = S.faults shelf.old; input = I.faults input.old; crew = C.faults crew.old }; out = record { held = O.held out.old; faults = O.faults out.old } }) (record { files = S.files shelf.new; counts = record { shelf = S.faults shelf.new; input = I.faults input.new; crew = C.faults crew.new }; out = record { held = O.held out.new; faults = O.faults out.new } }) result }
+    ensures ends { let job = job_by (map string_bytes words.now) in Ends (IsOutcome (S.files shelf.old) (I.left input.old) job) (PutsBefore job) (UsesShelf job) (ReadsInput job) (RunsThreads job) (record { files = S.files shelf.old; counts = record { shelf = S.faults shelf.old; input = I.faults input.old; crew = C.faults crew.old }; out = record { held = O.held out.old; faults = O.faults out.old } }) (record { files = S.files shelf.new; counts = record { shelf = S.faults shelf.new; input = I.faults input.new; crew = C.faults crew.new }; out = record { held = O.held out.new; faults = O.faults out.new } }) result }
     ensures status { IsTrue (is_status result) }
     // Each of these comes only from a fault of its object.
     ensures read_fault { result ≡ 7 → Rose (I.faults input.old) (I.faults input.new) }

@@ -1,6 +1,11 @@
+use Rattle.std.proofs.Common.{Ok}
 use Rattle.std.proofs.lemmas.Result.{err_from_is_err_and}
+use Rattle.answers.specs.Jobs.{record_told}
+use Rattle.answers.specs.declared.answer.Part.TheVariants as part
 use Rattle.outcomes.proofs.InRow.{gives_stop}
-use Rattle.jobs.proofs.Recorded.{crew_faults, crew_gives, input_stops}
+use Rattle.outcomes.specs.Steps.{Comes, IsInput}
+use Rattle.jobs.specs.Recordings.{IsRecorded}
+use Rattle.jobs.proofs.Recorded.{crew_gives, crew_stops, input_stops}
 use Rattle.jobs.proofs.recording.recorded_code.Goals as goal
 
 pub returns-in_err-bytes-clause-outcome : goal.returns-in_err-bytes-clause-outcome
@@ -13,8 +18,11 @@ returns-in_err-bytes-clause-faults g c =
     let p = err_from_is_err_and c.from_residual.result c.from_residual.ensures.1 in
     rw (p.1, p.2) (input_stops c.in_err-bytes.field-0.0 _ _ _ c.in_err-bytes.ensures.faults)
 
-pub returns-clause-outcome : goal.returns-clause-outcome
-returns-clause-outcome g c = crew_gives _ _ c.in_ok-bytes.bytes c.recorded_on.result _ _ _ c.in_ok-bytes.ensures.content c.recorded_on.ensures.outcome c.recorded_on.ensures.faults
+pub returns-in-Ok-clause-outcome : goal.returns-in-Ok-clause-outcome
+returns-in-Ok-clause-outcome g c = record { step = Ok c.in_ok-bytes.bytes; is = c.in_ok-bytes.ensures.content; next = c.in-Ok.ensures.outcome.is }
 
-pub returns-clause-faults : goal.returns-clause-faults
-returns-clause-faults g c = crew_faults c.recorded_on.result _ _ _ _ c.in_ok-bytes.ensures.faults c.recorded_on.ensures.faults
+pub returns-in-Err-clause-outcome : goal.returns-in-Err-clause-outcome
+returns-in-Err-clause-outcome g c = crew_gives (Comes (IsInput (g.I.Source.left c.args.input.now) 1048576 part.Input) (IsRecorded (record_told c.args.job.now) c.args.profile c.args.weakened.now)) c.in-Err.stop _ _ c.in-Err.ensures.faults
+
+pub returns-in-Err-clause-faults : goal.returns-in-Err-clause-faults
+returns-in-Err-clause-faults g c = crew_stops c.in-Err.stop _ _ _ _ c.in_ok-bytes.ensures.faults c.in-Err.ensures.faults

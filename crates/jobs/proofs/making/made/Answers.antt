@@ -1,0 +1,29 @@
+use Rattle.std.proofs.Common.{refl, sym, subst, [], length, ◌≤◌, arith}
+use Rattle.answers.specs.Jobs.{HasRecordLimits, record_told}
+use Rattle.facts.specs.declared.profile.Profile.TheVariants as profile
+use Rattle.jobs.specs.Makings.{recording_of}
+use Rattle.jobs.proofs.Made.{crew_ends, default_limits, later_ends, making, not_recorded, same_logged}
+use Rattle.jobs.proofs.making.made.Goals as goal
+
+pub recorded_on-requires-clause-limits : goal.recorded_on-requires-clause-limits
+recorded_on-requires-clause-limits g c = λ κs within. subst HasRecordLimits (sym c.requires.job) (default_limits c.args.job.now.source.now)
+
+pub recorded_on-requires-clause-short : goal.recorded_on-requires-clause-short
+recorded_on-requires-clause-short g c = λ κs within. subst (λ xs. length xs ≤ 1048576) (sym c.new-input.ensures) (omega arith)
+
+pub returns-in-Ok-clause-outcome : goal.returns-in-Ok-clause-outcome
+returns-in-Ok-clause-outcome g c = λ old put.
+    let name = c.args.job.now.source.now in
+    let it = c.in-Ok.recording in
+    making c.args.count name old _ _ c.args.weakened.now it.log it.outcome c.requires.code
+    (same_logged (record_told c.args.job.now) (recording_of name) profile.All c.args.weakened.now c.new-input.result [] it.log it.outcome c.requires.job c.new-input.ensures c.in-Ok.ensures.outcome)
+    put c.args.bytes c.requires.bytes c.replayed_log.result _ _ _ _ _ c.replayed_log.ensures.outcome c.replayed_log.ensures.faults
+
+pub returns-in-Ok-clause-faults : goal.returns-in-Ok-clause-faults
+returns-in-Ok-clause-faults g c = later_ends c.replayed_log.result _ _ _ _ _ _ c.replayed_log.ensures.faults refl c.in-Ok.ensures.faults
+
+pub returns-in-Err-clause-outcome : goal.returns-in-Err-clause-outcome
+returns-in-Err-clause-outcome g c = λ old put. not_recorded c.args.count c.args.job.now.source.now old _ put c.in-Err.stop _ _ c.in-Err.ensures.faults
+
+pub returns-in-Err-clause-faults : goal.returns-in-Err-clause-faults
+returns-in-Err-clause-faults g c = crew_ends _ _ _ _ c.in-Err.stop c.in-Err.ensures.faults refl

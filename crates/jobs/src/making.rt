@@ -1,0 +1,178 @@
+// A large source is made, put, recorded and replayed.
+
+ghost use Rattle.std.specs.Prelude.{◌≡◌, ◌≤◌, ◌^◌, [], ◌∷◌, ◌++◌, codes, length, string_bytes, Option, IfOk, MatchResult};
+ghost use Rattle.answers.specs.Jobs.{record_told};
+ghost use Rattle.jobs.specs.Makings as spec;
+ghost use Rattle.facts.specs.declared.profile.Profile.TheVariants as profile;
+ghost use Rattle.jobs.specs.Sources.{Compiles, RunsAsSource};
+ghost use Rattle.outcomes.specs.Endings.{ComesTo};
+ghost use Rattle.outcomes.specs.Faults.{CrewShelfStops};
+ghost use Rattle.outcomes.specs.Puts.{ArePut};
+ghost use Rattle.rr_base.specs.Files.{Files};
+ghost use Rattle.workload.specs.Program.{program_text};
+
+use crate::recording::{Recording, recorded_on};
+use crate::replaying::told_walk;
+use crate::sources::compiled;
+use answers::{Answer, RecordJob, summary_text};
+use crew::Crew;
+use facts::Profile;
+use lock_sound::Weakened;
+use outcomes::{Outcome, Stop, put_all};
+use rr_base::{Bytes, List, Shelf};
+use std::alloc::{AllocError, Global};
+use std::sync::Wait;
+use std::thread::Threads;
+use text_runs::{law_text_erased_walk, law_text_log};
+use workload::program_of;
+
+// The name of a made source's log.
+fn log_name(alloc: Global, name: &str) -> Result<String, AllocError>
+    ensures { IfOk result (λ log. string_bytes log ≡ name.now ++ codes ".log") }
+{
+    format!(in alloc; "{name}.log")
+}
+
+// The recording of a made source, with the defaults of a recording.
+fn recording_job<'a>(source: &'a str, log: &'a str) -> RecordJob<'a>
+    ensures name { result.source.now ≡ source.now }
+    ensures told { log.now ≡ source.now ++ codes ".log" → record_told result ≡ spec.recording_of source.now }
+{
+    RecordJob {
+        source,
+        log,
+        profile: None,
+        slots: 8,
+        cells: 16_384,
+        limit: 16_777_216,
+        budget: 1_000,
+        reads: None,
+    }
+}
+
+// What was printed.
+fn printed(answer: &Answer) -> &[u8]
+    ensures { result.now ≡ spec.printed answer.now }
+{
+    match answer {
+        Answer::Done { out } | Answer::Trapped { out, .. } => out.as_slice(),
+        _ => &[],
+    }
+}
+
+// The same answer, where these bytes were printed.
+fn with_printed(out: Bytes, answer: Answer) -> Answer
+    ensures { result ≡ spec.with_printed out answer }
+{
+    match answer {
+        Answer::Done { .. } => Answer::Done { out },
+        Answer::Trapped {
+            kind,
+            thread,
+            line,
+            ..
+        } => Answer::Trapped {
+            out,
+            kind,
+            thread,
+            line,
+        },
+        other => other,
+    }
+}
+
+// What is told of a source with so many functions and bytes, its recording and its replay.
+fn summary(
+    alloc: Global,
+    count: u32,
+    bytes: u32,
+    recorded: Answer,
+    replayed: &Answer,
+) -> Result<Answer, AllocError>
+    ensures { IfOk result (λ answer. answer ≡ spec.summary_told count bytes recorded replayed.now) }
+{
+    let text = summary_text(alloc, count, bytes, printed(&recorded), printed(replayed))?;
+    Ok(with_printed(text, recorded))
+}
+
+// The log of a recording is put and replayed, and both are told.
+fn replayed_log<'a, R: Threads + Wait + Sync, S: Shelf, C: Crew>(
+    rt: &R,
+    alloc: Global,
+    weakened: &Weakened,
+    count: u32,
+    bytes: u32,
+    recording: Recording<'_>,
+    shelf: &mut S,
+    crew: &mut C,
+) -> Result<Outcome<'a>, Stop>
+    ensures outcome { ComesTo (spec.IsReplayed count bytes weakened.now recording.entry.log recording.entry.outcome) (λ puts. puts ≡ recording.entry.outcome.puts) (S.files shelf.old) (S.files shelf.new) result }
+    ensures faults { MatchResult result (λ _. (S.faults shelf.new ≡ S.faults shelf.old) × (C.faults crew.new ≡ C.faults crew.old)) (λ stop. CrewShelfStops stop (S.faults shelf.old) (S.faults shelf.new) (C.faults crew.old) (C.faults crew.new)) }
+{
+    let Recording { log, outcome } = recording;
+    let Outcome { puts, answer } = outcome;
+    put_all(alloc, shelf, puts.as_slice())?;
+    let replayed = told_walk(rt, alloc, weakened, &log, None, crew)?;
+    let answer = summary(alloc, count, bytes, answer, &replayed.answer)?;
+    Ok(Outcome::answers(alloc, answer))
+}
+
+// The code of a made source, of which each run and each log's walk is one of the source.
+fn made_code(alloc: Global, source: &[u8]) -> Result<Weakened, Stop>
+    requires { length source.now ≤ 2 ^ 20 }
+    ensures code { Compiles source.now profile.All result }
+    ensures runs { IfOk result (RunsAsSource source.now) }
+{
+    law_text_log();
+    law_text_erased_walk();
+    compiled(alloc, source, &Profile::All)
+}
+
+// The code of a source that was put is recorded without input, and its log is put and replayed.
+fn made<'a, R: Threads + Wait + Sync, S: Shelf, C: Crew>(
+    rt: &R,
+    alloc: Global,
+    weakened: &Weakened,
+    count: u32,
+    bytes: u32,
+    job: &RecordJob<'_>,
+    shelf: &mut S,
+    crew: &mut C,
+) -> Result<Outcome<'a>, Stop>
+    requires job { record_told job.now ≡ spec.recording_of job.now.source.now }
+    requires code { RunsAsSource (program_text count) weakened.now }
+    requires bytes { bytes ≡ length (program_text count) }
+    ensures outcome { (old : Option Files) → ArePut (spec.source_put count job.now.source.now ∷ []) old (S.files shelf.old) → ComesTo (spec.IsMaking count job.now.source.now) (spec.IsPutInMaking count job.now.source.now) old (S.files shelf.new) result }
+    ensures faults { MatchResult result (λ _. (S.faults shelf.new ≡ S.faults shelf.old) × (C.faults crew.new ≡ C.faults crew.old)) (λ stop. CrewShelfStops stop (S.faults shelf.old) (S.faults shelf.new) (C.faults crew.old) (C.faults crew.new)) }
+{
+    let input = List::new(alloc);
+    match recorded_on(rt, alloc, weakened, Profile::All, input, job, crew) {
+        Ok(recording) => replayed_log(rt, alloc, weakened, count, bytes, recording, shelf, crew),
+        Err(stop) => Err(stop),
+    }
+}
+
+/// The outcome of making a source with so many functions, under this name, which is recorded and replayed. The source and its log are
+/// put on the way, and stay where a later step fails.
+pub(crate) fn make<'a, R: Threads + Wait + Sync, S: Shelf, C: Crew>(
+    rt: &R,
+    alloc: Global,
+    count: u32,
+    name: &str,
+    shelf: &mut S,
+    crew: &mut C,
+) -> Result<Outcome<'a>, Stop>
+    requires from { 1 ≤ count }
+    requires to { count ≤ 1000 }
+    ensures outcome { ComesTo (spec.IsMaking count name.now) (spec.IsPutInMaking count name.now) (S.files shelf.old) (S.files shelf.new) result }
+    ensures faults { MatchResult result (λ _. (S.faults shelf.new ≡ S.faults shelf.old) × (C.faults crew.new ≡ C.faults crew.old)) (λ stop. CrewShelfStops stop (S.faults shelf.old) (S.faults shelf.new) (C.faults crew.old) (C.faults crew.new)) }
+{
+    let source = program_of(alloc, count)?;
+    let log = log_name(alloc, name)?;
+    let text = source.as_slice();
+    shelf.put(alloc, name, text)?;
+    let weakened = made_code(alloc, text)?;
+    let job = recording_job(name, log.as_str());
+    let bytes = text.len() as u32;
+    made(rt, alloc, &weakened, count, bytes, &job, shelf, crew)
+}
