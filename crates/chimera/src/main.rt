@@ -3,6 +3,8 @@
 #![tactic(auto)]
 
 #[cfg(test)]
+mod make_tests;
+#[cfg(test)]
 mod order_tests;
 #[cfg(test)]
 mod outside_tests;

@@ -1,0 +1,85 @@
+use crate::tests::{Outside, SOUND, call, check, shelf_of};
+use rr_base::{List, MemShelf};
+use std::alloc::Global;
+use std::process::Abort;
+use std::sync::Wait;
+use std::test::Fail;
+use std::thread::Threads;
+use workload::program_of;
+
+fn holds_source(rt: &impl Abort, alloc: Global, shelf: &MemShelf) -> Result<(), Fail> {
+    let want = program_of(alloc, 1)?;
+    let found = shelf.content("n.c").map(|held| held.as_slice());
+    assert_eq!(rt; found, Some(want.as_slice()));
+    Ok(())
+}
+
+// What is made is told, and its log is told once more.
+#[test]
+fn makes_a_source(rt: HostRuntime) -> Result<(), Fail> {
+    let alloc = rt.alloc();
+    let mut shelf = MemShelf::new(List::new(alloc), List::new(alloc));
+    let made = ("made 1 bytes 496 slots 8\n112\n112\n", 0);
+    check(&rt, alloc, &["make", "1", "n.c"], &[], &mut shelf, made)?;
+    holds_source(&rt, alloc, &shelf)?;
+    let replay = ["replay", "n.c", "n.c.log"];
+    check(&rt, alloc, &replay, &[], &mut shelf, ("112\n", 0))
+}
+
+// Words that are no job.
+static NO_MAKES: [&[&str]; 4] = [
+    &["make", "0", "a"],
+    &["make", "1001", "a"],
+    &["make", "01", "a"],
+    &["make", "1", "a", "b"],
+];
+
+#[test]
+fn makes_none_of_other_sizes(rt: HostRuntime) -> Result<(), Fail> {
+    let alloc = rt.alloc();
+    for words in NO_MAKES {
+        let mut shelf = shelf_of(alloc, List::new(alloc), List::new(alloc))?;
+        check(&rt, alloc, words, &[], &mut shelf, ("usage\n", 1))?;
+        let kept = shelf.content("a").map(|held| held.is_empty());
+        assert_eq!(rt; kept, Some(true));
+    }
+    Ok(())
+}
+
+// The calls of the shelf and of the sink that fail, the turns of each run of the crew, what is told, and whether the source and the log are put.
+static FAULTS: [(&[u64], &[u64], u64, &str, u8, bool, bool); 5] = [
+    (&[0], &[], u64::MAX, "shelf fault\n", 9, false, false),
+    (&[1], &[], u64::MAX, "shelf fault\n", 9, true, false),
+    (&[], &[1], u64::MAX, "m", 8, true, true),
+    (&[], &[], 0, "crew fault\n", 10, true, false),
+    (&[], &[], 24, "crew fault\n", 10, true, false),
+];
+
+fn check_fault(
+    rt: &(impl Abort + Threads + Wait + Sync),
+    alloc: Global,
+    row: (&[u64], &[u64], u64, &str, u8, bool, bool),
+) -> Result<(), Fail> {
+    let (shelf_fails, write_fails, turns, text, status, has_source, has_log) = row;
+    let mut shelf = MemShelf::new(List::new(alloc), List::from_slice(alloc, shelf_fails)?);
+    let outside = Outside {
+        write_fails,
+        turns,
+        ..SOUND
+    };
+    let (told, found) = call(rt, alloc, &["make", "1", "n.c"], &outside, &mut shelf)?;
+    assert_eq!(rt; told.as_slice(), text.as_bytes());
+    assert_eq!(rt; found, status, "{text}");
+    assert_eq!(rt; shelf.content("n.c").is_some(), has_source, "{text}");
+    assert_eq!(rt; shelf.content("n.c.log").is_some(), has_log, "{text}");
+    Ok(())
+}
+
+#[test]
+fn keeps_what_was_put(rt: HostRuntime) -> Result<(), Fail> {
+    let alloc = rt.alloc();
+    for row in FAULTS {
+        check_fault(&rt, alloc, row)?;
+    }
+    Ok(())
+}
