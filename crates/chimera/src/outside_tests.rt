@@ -26,11 +26,13 @@ const RACES: &[&str] = &["races", "bank"];
 
 const WEAKEN: &[&str] = &["weaken", "held", "--profile", "p"];
 
+const PROFILE: &[&str] = &["profile", "bank", "log", "r"];
+
 const LOCKS: &str =
     "lock w0 x+0 stripes 1\naccess 4:18 store function h\naccess 6:3 store function f\n";
 
-// Words, what fails, what is told with which status, and whether the log and the reads are put.
-static ROWS: [(&[&str], Failing, &str, u8, (bool, bool)); 22] = [
+// Words, what fails, what is told with which status, and whether `l` and `r` are put.
+static ROWS: [(&[&str], Failing, &str, u8, (bool, bool)); 26] = [
     (RECORD, Nothing, "20\n", 0, (true, true)),
     (RECORD, Shelf(0), "shelf fault\n", 9, (false, false)),
     (RECORD, Shelf(1), "shelf fault\n", 9, (false, false)),
@@ -53,6 +55,10 @@ static ROWS: [(&[&str], Failing, &str, u8, (bool, bool)); 22] = [
     (WEAKEN, Shelf(0), "shelf fault\n", 9, (false, false)),
     (WEAKEN, Shelf(1), "shelf fault\n", 9, (false, false)),
     (WEAKEN, Write(0), "", 8, (false, false)),
+    (PROFILE, Nothing, "", 0, (false, true)),
+    (PROFILE, Shelf(0), "shelf fault\n", 9, (false, false)),
+    (PROFILE, Shelf(1), "shelf fault\n", 9, (false, false)),
+    (PROFILE, Shelf(2), "shelf fault\n", 9, (false, false)),
 ];
 
 fn shelf_with(alloc: Global, fails: &[u64]) -> Result<MemShelf, AllocError> {
