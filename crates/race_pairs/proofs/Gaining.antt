@@ -8,6 +8,17 @@ use Rattle.race_pairs.specs.Gains.{Gains, Below}
 pub none : {X : Type 0} (P : X → Type 0) (xs : List X) → ((x : X) → P x → ⊥) → Gains P xs xs
 none P xs never = record { kept = λ x h. h; gained = λ x p. absurd (never x p); alone = λ x h. inl h }
 
+pub nothing : {X : Type 0} (x : X) → Contains [] x → ⊥
+nothing x h = let lt : h.0 < 0 = h.1 in omega arith
+
+-- what a list has that began with nothing
+pub only : {X : Type 0} (P : X → Type 0) (xs : List X) → Gains P [] xs → (x : X) → Contains xs x → P x
+only P xs g x h = ⊎_elim (λ o. absurd (nothing x o)) (λ p. p) (g.alone x h)
+
+-- another list with the same elements
+pub gains_too : {X : Type 0} (P : X → Type 0) (xs ys : List X) → ((x : X) → Contains xs x → Contains ys x) → ((x : X) → Contains ys x → Contains xs x) → Gains P [] xs → Gains P [] ys
+gains_too P xs ys f b g = record { kept = λ x h. absurd (nothing x h); gained = λ x p. f x (g.gained x p); alone = λ x h. inr (only P xs g x (b x h)) }
+
 pub pushed : {X : Type 0} (xs : List X) (y : X) → Gains (λ x. x ≡ y) xs (xs ++ y ∷ [])
 pushed xs y = record {
   kept = λ x h. Contains-append_left xs (y ∷ []) x h;

@@ -2,8 +2,8 @@ pub mod Elements
 pub mod Gaining
 pub mod Orders
 pub mod Touching
-pub mod Inserting
+pub mod Cells
+pub mod Parts
 pub mod Pairing
-pub mod Sorting
 pub mod Racing
 pub mod Rows

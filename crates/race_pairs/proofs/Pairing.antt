@@ -1,71 +1,171 @@
--- Pairs of accesses that stand in order, as two loops find them.
-use Rattle.std.proofs.Common.{◌≡◌, ℕ, ◌+◌, ◌<◌, ◌≤◌, Bool, true, false, not, List, length, ap, subst, ◌∙◌, ⊎_elim, Some}
-use Rattle.std.specs.Prelude.{slice_get}
+-- Pairs of groups that stand in order, as loops find them.
+use Rattle.std.proofs.Common.{◌≡◌, ℕ, ◌+◌, ◌<◌, ◌≤◌, Bool, true, false, not, List, [], ◌∷◌, ◌++◌, length, get_or, refl, sym, ap, subst, ◌∙◌, arith, ◌⊎◌, inl, inr, ⊎_elim, Some}
+use Rattle.std.specs.Prelude.{slice_get, if◌then◌else◌}
 use Rattle.std.proofs.lemmas.Bool.{cases_lt}
 use Rattle.rr_base.specs.declared.layout.Place.{Place}
-use Rattle.facts.specs.declared.locks.Summary.{Summary}
+use Rattle.facts.specs.declared.pair.AccessAt.{AccessAt}
 use Rattle.facts.specs.declared.pair.Pair.{Pair}
 use Rattle.facts.specs.Pairs.{place_less, place_same, access_less}
-use Rattle.race_pairs.specs.declared.touch.Touch.{Touch}
+use Rattle.facts.proofs.TotalOrders.{orders_places}
+use Rattle.race_pairs.specs.declared.touch.Group.{Group}
 use Rattle.race_pairs.specs.Gains.{Gains, Below}
-use Rattle.race_pairs.specs.Races.{may_race, IsPairOf, PairAt, PairsFrom, PairsOf, touch_less, AreSorted}
-use Rattle.race_pairs.proofs.Elements.{got}
-use Rattle.race_pairs.proofs.Gaining.{alike, more, all_below}
-use Rattle.facts.proofs.TotalOrders.{orders_places, or_none}
+use Rattle.race_pairs.specs.Races.{AreRacing, IsPairOf, IsRacingPair, pair_of, first_of, RowAt, RowFrom, PairAt, PairsFrom, PairsOf}
+use Rattle.race_pairs.specs.Groups.{HasPlacesInOrder}
+use Rattle.race_pairs.proofs.Elements.{got, gets, gets_at, held, holds}
+use Rattle.race_pairs.proofs.Gaining.{none, alike, more, all_below, pushed}
+use Rattle.race_pairs.proofs.Orders.{orders_accesses}
 
-abbrev pub pair_of : Touch → Touch → Pair
-pair_of v w = record { place = v.place; first = v.access.at; second = w.access.at }
+-- ---- a pair, either way round
 
-pub pair_is : (ss : List Summary) (v w : Touch) (xs ys : List Pair) → w.place ≡ v.place → may_race ss v.access w.access ≡ true → Gains (λ p. p ≡ pair_of v w) xs ys → Gains (IsPairOf ss v w) xs ys
-pair_is ss v w xs ys e r g = alike (λ p. p ≡ pair_of v w) (IsPairOf ss v w) xs ys (λ p h. record { same = e; race = r; is = h }) (λ p h. h.is) g
+pub either : (b : Bool) → (b ≡ true) ⊎ (b ≡ false)
+either true = inl refl
+either false = inr refl
 
-pub from_more : (ss : List Summary) (ws : List Touch) (i j : ℕ) (v w : Touch) (xs ys zs : List Pair) → slice_get ws i ≡ Some v → slice_get ws j ≡ Some w → i ≤ j → Gains (Below j (PairAt ss ws i)) xs ys → Gains (IsPairOf ss v w) ys zs → Gains (Below (j + 1) (PairAt ss ws i)) xs zs
-from_more ss ws i j v w xs ys zs gv gw le g h =
-    more (PairAt ss ws i) j xs ys zs g
-    (alike (IsPairOf ss v w) (PairAt ss ws i j) ys zs (λ p pr. (v, w, gv, gw, le, pr)) back h)
+-- an order is one way at most
+pub one_way : (a b : AccessAt) → access_less a b ≡ true → access_less b a ≡ false
+one_way a b h = ⊎_elim (λ t. let s = orders_accesses.along a b a h t in let n = orders_accesses.self a in cc) (λ f. f) (either (access_less b a))
+
+abbrev pub turned_if : Bool → Place → AccessAt → AccessAt → Pair
+turned_if c p a b = if c then record { place = p; first = b; second = a } else record { place = p; first = a; second = b }
+
+pub pair_swap : (p : Place) (a b : AccessAt) → pair_of p a b ≡ pair_of p b a
+pair_swap p a b = go (access_less b a) (access_less a b) refl refl
   where
-    back : (p : Pair) → PairAt ss ws i j p → IsPairOf ss v w p
-    back p (a, b, ga, gb, l, pr) =
-        let e : a ≡ v = cc in
-        let f : b ≡ w = cc in
-        subst (λ z. IsPairOf ss v z p) f (subst (λ z. IsPairOf ss z b p) e pr)
+    go : (c d : Bool) → access_less b a ≡ c → access_less a b ≡ d → turned_if c p a b ≡ turned_if d p b a
+    go true true e f = let n = one_way b a e in cc
+    go true false e f = refl
+    go false true e f = refl
+    go false false e f = let s : a ≡ b = orders_accesses.total a b f e in let u : b ≡ a = sym s in λ i. record { place = p; first = s i; second = u i }
 
-pub from_all : (ss : List Summary) (ws : List Touch) (i : ℕ) (xs ys : List Pair) → Gains (Below (length ws) (PairAt ss ws i)) xs ys → Gains (PairsFrom ss ws i) xs ys
-from_all ss ws i xs ys g = all_below (PairAt ss ws i) (length ws) xs ys inside g
+-- ---- the pairs of two groups
+
+pub row_none : (p : Place) (a : AccessAt) (bs : List AccessAt) (from : ℕ) (xs : List Pair) → Gains (Below from (RowAt p a bs from)) xs xs
+row_none p a bs from xs = none (Below from (RowAt p a bs from)) xs (λ v h. never h)
   where
-    inside : (k : ℕ) (p : Pair) → PairAt ss ws i k p → k < length ws
-    inside k p (v, w, gv, gw, le, pr) = (got ws k w gw).0
+    never : {v : Pair} → Below from (RowAt p a bs from) v → ⊥
+    never (k, lt, (le, b, gb, e)) = omega arith
 
--- behind an access of another place there is none of this one
-pub from_closed : (ss : List Summary) (ws : List Touch) (i j : ℕ) (v u : Touch) (xs ys : List Pair) → AreSorted ws → slice_get ws i ≡ Some v → slice_get ws j ≡ Some u → i ≤ j → (u.place ≡ v.place → ⊥) → Gains (Below j (PairAt ss ws i)) xs ys → Gains (PairsFrom ss ws i) xs ys
-from_closed ss ws i j v u xs ys up gv gu le apart g = all_below (PairAt ss ws i) j xs ys before g
+pub row_more : (p : Place) (a : AccessAt) (bs : List AccessAt) (from k : ℕ) (d : AccessAt) (xs ys zs : List Pair) → from ≤ k → k < length bs → Gains (Below k (RowAt p a bs from)) xs ys → zs ≡ ys ++ pair_of p a (get_or bs k d) ∷ [] → Gains (Below (k + 1) (RowAt p a bs from)) xs zs
+row_more p a bs from k d xs ys zs le lt g e =
+    let at = gets bs k d lt in
+    more (RowAt p a bs from) k xs ys zs g
+    (subst (Gains (RowAt p a bs from k) ys) (sym e)
+    (alike (λ v. v ≡ pair_of p a (get_or bs k d)) (RowAt p a bs from k) ys (ys ++ pair_of p a (get_or bs k d) ∷ [])
+    (λ v h. (le, get_or bs k d, at, h))
+    (λ v h. let s : h.1 ≡ get_or bs k d = cc in h.3 ∙ ap (pair_of p a) s)
+    (pushed ys (pair_of p a (get_or bs k d)))))
+
+pub row_all : (p : Place) (a : AccessAt) (bs : List AccessAt) (from k : ℕ) (xs ys : List Pair) → length bs ≤ k → Gains (Below k (RowAt p a bs from)) xs ys → Gains (RowFrom p a bs from) xs ys
+row_all p a bs from k xs ys le g = all_below (RowAt p a bs from) k xs ys inside g
   where
-    place_up : (a b : Touch) → touch_less a b ≡ false → place_less a.place b.place ≡ false
-    place_up a b h = (or_none (place_less a.place b.place) (place_same a.place b.place) (access_less a.access.at b.access.at) h).0
+    inside : (j : ℕ) (v : Pair) → RowAt p a bs from j v → j < k
+    inside j v (l, b, gb, e) = let h = (got bs j b gb).0 in omega arith
 
-    behind : (k : ℕ) (p : Pair) → PairAt ss ws i k p → j ≤ k → ⊥
-    behind k p (a, w, ga, gw, l, pr) far =
-        let e : a ≡ v = cc in
-        let s : w.place ≡ v.place = pr.same ∙ ap (λ (z : Touch). z.place) e in
-        let first : place_less u.place v.place ≡ false = place_up u v (up i j v u le gv gu) in
-        let second : place_less w.place u.place ≡ false = place_up w u (up j k u w far gu gw) in
-        apart (orders_places.total u.place v.place first (subst (λ z. place_less z u.place ≡ false) s second))
+-- the pairs of the k-th access of the first
+abbrev pub RowOf : Group → Group → Bool → ℕ → Pair → Type 0
+RowOf g h same k v = (a : AccessAt) × (slice_get g.accesses k ≡ Some a) × RowFrom g.place a h.accesses (first_of same k) v
 
-    before : (k : ℕ) (p : Pair) → PairAt ss ws i k p → k < j
-    before k p h = ⊎_elim (λ l. l) (λ (l : j ≤ k). absurd (behind k p h l)) (cases_lt k j)
+pub first_within : (g h : Group) (same : Bool) (k : ℕ) → (same ≡ true → h ≡ g) → k < length g.accesses → first_of same k ≤ length h.accesses
+first_within g h true k e lt = let s = ap (λ (z : Group). length z.accesses) (e refl) in omega arith
+first_within g h false k e lt = omega arith
 
-pub pairs_all : (ss : List Summary) (ws : List Touch) (xs ys : List Pair) → Gains (Below (length ws) (PairsFrom ss ws)) xs ys → Gains (PairsOf ss ws) xs ys
-pairs_all ss ws xs ys g = all_below (PairsFrom ss ws) (length ws) xs ys inside g
+pub rows_more : (g h : Group) (same : Bool) (k : ℕ) (a : AccessAt) (xs ys zs : List Pair) → slice_get g.accesses k ≡ Some a → Gains (Below k (RowOf g h same)) xs ys → Gains (RowFrom g.place a h.accesses (first_of same k)) ys zs → Gains (Below (k + 1) (RowOf g h same)) xs zs
+rows_more g h same k a xs ys zs at m r =
+    more (RowOf g h same) k xs ys zs m
+    (alike (RowFrom g.place a h.accesses (first_of same k)) (RowOf g h same k) ys zs
+    (λ v p. (a, at, p))
+    (λ v p. let s : p.0 ≡ a = cc in subst (λ b. RowFrom g.place b h.accesses (first_of same k) v) s p.2)
+    r)
+
+pub rows_more_as : (g h : Group) (same : Bool) (k : ℕ) (a : AccessAt) (n : ℕ) (bs : List AccessAt) (xs ys zs : List Pair) → slice_get g.accesses k ≡ Some a → n ≡ first_of same k → bs ≡ h.accesses → Gains (Below k (RowOf g h same)) xs ys → Gains (RowFrom g.place a bs n) ys zs → Gains (Below (k + 1) (RowOf g h same)) xs zs
+rows_more_as g h same k a n bs xs ys zs at e f m r =
+    rows_more g h same k a xs ys zs at m
+    (subst (λ j. Gains (RowFrom g.place a h.accesses j) ys zs) e (subst (λ (cs : List AccessAt). Gains (RowFrom g.place a cs n) ys zs) f r))
+
+pub rows_all : (g h : Group) (same : Bool) (k : ℕ) (xs ys : List Pair) → (same ≡ true → h ≡ g) → length g.accesses ≤ k → Gains (Below k (RowOf g h same)) xs ys → Gains (IsPairOf g h) xs ys
+rows_all g h same k xs ys is le m =
+    alike (λ v. (j : ℕ) × RowOf g h same j v) (IsPairOf g h) xs ys (λ v p. found p) (λ v p. row same is v p)
+    (all_below (RowOf g h same) k xs ys (λ j v p. let l = (got g.accesses j p.0 p.1).0 in omega arith) m)
   where
-    inside : (k : ℕ) (p : Pair) → PairsFrom ss ws k p → k < length ws
-    inside k p (j, (v, w, gv, gw, le, pr)) = (got ws k v gv).0
+    found : {v : Pair} → (j : ℕ) × RowOf g h same j v → IsPairOf g h v
+    found (j, (a, ga, (i, (l, b, gb, e)))) = record { a = a; b = b; of_g = held g.accesses j a ga; of_h = held h.accesses i b gb; is = e }
 
-pub pair_ends : (At : ℕ → Pair → Type 0) (k n : ℕ) (xs ys : List Pair) → k ≡ n → Gains (Below k At) xs ys → Gains (Below n At) xs ys
-pair_ends At k n xs ys e g = subst (λ j. Gains (Below j At) xs ys) e g
+    row : (same : Bool) → (same ≡ true → h ≡ g) → (v : Pair) → IsPairOf g h v → (j : ℕ) × RowOf g h same j v
+    row false is v p =
+        let i = holds g.accesses p.a p.of_g in
+        let j = holds h.accesses p.b p.of_h in
+        (i.0, (p.a, i.1, (j.0, (omega arith, p.b, j.1, p.is))))
+    row true is v p =
+        let i = holds g.accesses p.a p.of_g in
+        let e : h.accesses ≡ g.accesses = ap (λ (z : Group). z.accesses) (is refl) in
+        let j = holds h.accesses p.b p.of_h in
+        ⊎_elim
+        (λ (lt : j.0 < i.0). (j.0, (p.b, subst (λ (zs : List AccessAt). slice_get zs j.0 ≡ Some p.b) e j.1, (i.0, (omega arith, p.a, subst (λ (zs : List AccessAt). slice_get zs i.0 ≡ Some p.a) (sym e) i.1, p.is ∙ pair_swap g.place p.a p.b)))))
+        (λ (le : i.0 ≤ j.0). (i.0, (p.a, i.1, (j.0, (le, p.b, j.1, p.is)))))
+        (cases_lt j.0 i.0)
 
--- what an index gives where there is nothing
-abbrev pub blank : Touch
-blank = record { place = record { site = 0; class = 0 }; access = record { at = record { function = 0; instr = 0 }; root = 0; is_main = false; index = 0 } }
+pub racing : (g h : Group) (xs ys : List Pair) → AreRacing g h → Gains (IsPairOf g h) xs ys → Gains (IsRacingPair g h) xs ys
+racing g h xs ys r m = alike (IsPairOf g h) (IsRacingPair g h) xs ys (λ v p. (r, p)) (λ v p. p.1) m
+
+pub not_racing : (g h : Group) (xs : List Pair) → (AreRacing g h → ⊥) → Gains (IsRacingPair g h) xs xs
+not_racing g h xs never = none (IsRacingPair g h) xs (λ v p. never p.0)
+
+-- ---- group by group
+
+pub from_none : (gs : List Group) (i : ℕ) (xs : List Pair) → Gains (Below i (PairAt gs i)) xs xs
+from_none gs i xs = none (Below i (PairAt gs i)) xs (λ v h. never h)
+  where
+    never : {v : Pair} → Below i (PairAt gs i) v → ⊥
+    never (k, lt, (g, h, gg, gh, le, e, p)) = omega arith
+
+pub from_more : (gs : List Group) (i j : ℕ) (g h : Group) (xs ys zs : List Pair) → slice_get gs i ≡ Some g → slice_get gs j ≡ Some h → i ≤ j → h.place ≡ g.place → Gains (Below j (PairAt gs i)) xs ys → Gains (IsRacingPair g h) ys zs → Gains (Below (j + 1) (PairAt gs i)) xs zs
+from_more gs i j g h xs ys zs gg gh le e m r =
+    more (PairAt gs i) j xs ys zs m
+    (alike (IsRacingPair g h) (PairAt gs i j) ys zs (λ v p. (g, h, gg, gh, le, e, p)) back r)
+  where
+    back : (v : Pair) → PairAt gs i j v → IsRacingPair g h v
+    back v (a, b, ga, gb, l, s, p) =
+        let e : a ≡ g = cc in
+        let f : b ≡ h = cc in
+        subst (λ z. IsRacingPair g z v) f (subst (λ z. IsRacingPair z b v) e p)
+
+pub from_all : (gs : List Group) (i j : ℕ) (xs ys : List Pair) → length gs ≤ j → Gains (Below j (PairAt gs i)) xs ys → Gains (PairsFrom gs i) xs ys
+from_all gs i j xs ys far m = all_below (PairAt gs i) j xs ys inside m
+  where
+    inside : (k : ℕ) (v : Pair) → PairAt gs i k v → k < j
+    inside k v (g, h, gg, gh, le, s, p) = let l = (got gs k h gh).0 in omega arith
+
+-- behind a group of another place there is none of this one
+pub from_closed : (gs : List Group) (i j : ℕ) (g u : Group) (xs ys : List Pair) → HasPlacesInOrder gs → slice_get gs i ≡ Some g → slice_get gs j ≡ Some u → i ≤ j → (u.place ≡ g.place → ⊥) → Gains (Below j (PairAt gs i)) xs ys → Gains (PairsFrom gs i) xs ys
+from_closed gs i j g u xs ys up gg gu le apart m = all_below (PairAt gs i) j xs ys before m
+  where
+    behind : (k : ℕ) (v : Pair) → PairAt gs i k v → j ≤ k → ⊥
+    behind k v (a, h, ga, gh, l, e, p) far =
+        let s : a ≡ g = cc in
+        let same : h.place ≡ g.place = e ∙ ap (λ (z : Group). z.place) s in
+        let first : place_less u.place g.place ≡ false = up i j g u le gg gu in
+        let second : place_less h.place u.place ≡ false = up j k u h far gu gh in
+        apart (orders_places.total u.place g.place first (subst (λ z. place_less z u.place ≡ false) same second))
+
+    before : (k : ℕ) (v : Pair) → PairAt gs i k v → k < j
+    before k v h = ⊎_elim (λ l. l) (λ (l : j ≤ k). absurd (behind k v h l)) (cases_lt k j)
+
+pub pairs_all : (gs : List Group) (k : ℕ) (xs ys : List Pair) → length gs ≤ k → Gains (Below k (PairsFrom gs)) xs ys → Gains (PairsOf gs) xs ys
+pairs_all gs k xs ys far m = all_below (PairsFrom gs) k xs ys inside m
+  where
+    inside : (i : ℕ) (v : Pair) → PairsFrom gs i v → i < k
+    inside i v (j, (g, h, gg, gh, le, s, p)) = let l = (got gs i g gg).0 in omega arith
 
 pub places_differ : (p q : Place) (b : Bool) → b ≡ not (place_same p q) → b ≡ true → p ≡ q → ⊥
 places_differ p q b e f h = let s : place_same p q ≡ true = subst (λ z. place_same p z ≡ true) h (orders_places.same_self p) in let n : not (place_same p q) ≡ false = ap not s in cc
+
+-- what stands at one place, as two reads give it
+pub same_at : (gs : List Group) (k : ℕ) (g h : Group) → k < length gs → g ≡ get_or gs k g → h ≡ get_or gs k h → g ≡ h
+same_at gs k g h lt e f = let a = gets_at gs k g lt e in let b = gets_at gs k h lt f in cc
+
+pub places_same : (p q : Place) (b : Bool) → b ≡ not (place_same p q) → b ≡ false → p ≡ q
+places_same p q b e f = orders_places.same_is p q (not_false (place_same p q) (sym e ∙ f))
+  where
+    not_false : (b : Bool) → not b ≡ false → b ≡ true
+    not_false true h = refl
+    not_false false h = cc

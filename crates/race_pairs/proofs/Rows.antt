@@ -1,4 +1,4 @@
--- Worked rows of roots, places, locks and the order of pairs.
+-- Worked rows of roots, places, locks, pairs and their order.
 use Rattle.std.proofs.Common.{◌≡◌, ℕ, true, false, List, [], ◌∷◌, Some, None, refl, codes}
 use Rattle.rr_base.specs.declared.layout.Place.{Place}
 use Rattle.flow_code.specs.declared.act.Act.{Act}
@@ -12,16 +12,14 @@ use Rattle.facts.specs.declared.locks.Guarded.{Guarded}
 use Rattle.facts.specs.declared.locks.LockPath.{LockPath}
 use Rattle.facts.specs.declared.locks.LockPath.TheVariants.{Cell, Formal}
 use Rattle.facts.specs.declared.locks.Minus.TheVariants as minus
-use Rattle.facts.specs.declared.locks.Summary.{Summary}
 use Rattle.facts.specs.declared.pair.AccessAt.{AccessAt}
 use Rattle.facts.specs.declared.pair.Pair.{Pair}
 use Rattle.facts.specs.PointsTo.{Tables}
 use Rattle.facts.specs.Pairs.{is_root, places_of, share_lock, pair_less, pairs_ascend}
 use Rattle.facts.specs.Pairs as facts_pairs
-use Rattle.race_pairs.specs.declared.touch.Reached.{Reached}
 use Rattle.facts.specs.Accesses.{through_of}
 use Rattle.race_pairs.specs.Touches.{reached}
-use Rattle.race_pairs.specs.Races.{may_race, touch_less}
+use Rattle.race_pairs.specs.Races.{alone, may_meet, pair_of}
 
 abbrev instr : Act → Instr
 instr a = record { line = 1; column = 1; act = a }
@@ -100,47 +98,32 @@ other_lock_row = refl
 
 -- ---- pairs
 
-abbrev summary : List Guarded → Summary
-summary xs = record { exit = record { plus = []; minus = minus.All }; guarded = xs }
-
 abbrev load : List LockPath → Guarded
 load plus = record { function = 0; instr = 0; store = false; plus = plus; minus = minus.All }
-
-abbrev store : List LockPath → Guarded
-store plus = record { function = 0; instr = 1; store = true; plus = plus; minus = minus.All }
 
 abbrev read : List LockPath → Guarded
 read plus = record { function = 1; instr = 1; store = false; plus = plus; minus = minus.All }
 
-abbrev summaries : List LockPath → List Summary
-summaries plus = summary (load plus ∷ store plus ∷ []) ∷ summary (read plus ∷ []) ∷ summary [] ∷ []
+pub any_thread_row : alone (reached code 0 0 (load [])) ≡ None
+any_thread_row = refl
 
-abbrev load_reached : Reached
-load_reached = reached code 0 0 (load [])
+pub one_thread_row : alone (reached code 1 0 (read [])) ≡ Some 1
+one_thread_row = refl
 
-abbrev store_reached : Reached
-store_reached = reached code 0 1 (store [])
+pub main_main_row : may_meet (Some 1) (Some 1) ≡ false
+main_main_row = refl
 
-abbrev read_reached : Reached
-read_reached = reached code 1 0 (read [])
+pub main_other_row : may_meet (Some 1) None ≡ true
+main_other_row = refl
 
-pub store_store_row : may_race (summaries []) store_reached store_reached ≡ true
-store_store_row = refl
+pub other_other_row : may_meet None None ≡ true
+other_other_row = refl
 
-pub load_store_row : may_race (summaries []) load_reached store_reached ≡ true
-load_store_row = refl
+pub turned_row : pair_of x (at 1 1) (at 0 1) ≡ record { place = x; first = at 0 1; second = at 1 1 }
+turned_row = refl
 
-pub store_read_row : may_race (summaries []) store_reached read_reached ≡ true
-store_read_row = refl
-
-pub load_load_row : may_race (summaries []) load_reached load_reached ≡ false
-load_load_row = refl
-
-pub read_read_row : may_race (summaries []) read_reached read_reached ≡ false
-read_read_row = refl
-
-pub locked_row : may_race (summaries (Cell 7 ∷ [])) store_reached read_reached ≡ false
-locked_row = refl
+pub straight_row : pair_of x (at 0 1) (at 1 1) ≡ record { place = x; first = at 0 1; second = at 1 1 }
+straight_row = refl
 
 -- ---- order
 
@@ -155,6 +138,3 @@ ascend_row = refl
 
 pub twice_row : pairs_ascend (pair 0 (at 0 0) (at 0 1) ∷ pair 0 (at 0 0) (at 0 1) ∷ []) ≡ false
 twice_row = refl
-
-pub touch_row : touch_less (record { place = x; access = store_reached }) (record { place = x; access = read_reached }) ≡ true
-touch_row = refl

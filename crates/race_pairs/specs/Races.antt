@@ -1,48 +1,73 @@
--- When two accesses of roots that may touch one place make a pair.
-use Rattle.std.specs.Prelude.{◌≡◌, ℕ, ◌≤◌, ◌==◌, ◌&&◌, ◌||◌, Bool, true, false, not, List, Option, Some, slice_get}
+-- When the accesses of two groups may race, and their pairs.
+use Rattle.std.specs.Prelude.{◌≡◌, ℕ, ◌≤◌, ◌==◌, ◌||◌, Bool, true, false, not, if◌then◌else◌, List, Option, Some, None, slice_get}
+use Rattle.std.specs.List.{Contains}
+use Rattle.rr_base.specs.declared.layout.Place.{Place}
 use Rattle.facts.specs.declared.locks.Guarded.{Guarded}
 use Rattle.facts.specs.declared.locks.Summary.{Summary}
+use Rattle.facts.specs.declared.pair.AccessAt.{AccessAt}
 use Rattle.facts.specs.declared.pair.Pair.{Pair}
-use Rattle.facts.specs.Pairs.{guarded_in, share_lock, place_less, place_same, access_less}
+use Rattle.facts.specs.Pairs.{guarded_in, access_less}
 use Rattle.race_pairs.specs.declared.touch.Reached.{Reached}
-use Rattle.race_pairs.specs.declared.touch.Touch.{Touch}
+use Rattle.race_pairs.specs.declared.touch.Group.{Group}
 
+-- the access in the summary of its root
 abbrev pub guarded_at : List Summary → Reached → Option Guarded
 guarded_at ss a = slice_get (guarded_in (slice_get ss a.root)) a.index
 
--- two threads may have begun with their roots at once
-abbrev pub may_meet : Reached → Reached → Bool
-may_meet a b = not (a.root == b.root) || not a.is_main
+-- its root, if no two threads begin with it
+abbrev pub alone : Reached → Option ℕ
+alone a = if a.is_main then Some a.root else None
 
-abbrev pub race_in : Bool → Option Guarded → Option Guarded → Bool
-race_in meet (Some x) (Some y) = meet && (x.store || y.store) && not (share_lock x.plus y.plus)
-race_in meet _ _ = false
+-- two threads may have begun with these at once
+abbrev pub may_meet : Option ℕ → Option ℕ → Bool
+may_meet None o = true
+may_meet (Some r) None = true
+may_meet (Some r) (Some s) = not (r == s)
 
--- one is a store, and they hold no common lock
-abbrev pub may_race : List Summary → Reached → Reached → Bool
-may_race ss a b = race_in (may_meet a b) (guarded_at ss a) (guarded_at ss b)
+-- the lists have a common number
+abbrev pub Meet : List ℕ → List ℕ → Type 0
+Meet ms ns = (n : ℕ) × Contains ms n × Contains ns n
 
--- the pair of two accesses of one place
-pub record IsPairOf (ss : List Summary) (v w : Touch) (p : Pair) : Type 0 where
-  pub same : w.place ≡ v.place
-  pub race : may_race ss v.access w.access ≡ true
-  pub is : p ≡ record { place = v.place; first = v.access.at; second = w.access.at }
+-- accesses of the two may be at work at once, one of them a store, with no common lock
+pub record AreRacing (g h : Group) : Type 0 where
+  pub meet : may_meet g.alone h.alone ≡ true
+  pub stores : g.store || h.store ≡ true
+  pub apart : Meet g.locks h.locks → ⊥
 
--- that of the i-th and the j-th
-abbrev pub PairAt : List Summary → List Touch → (i j : ℕ) → Pair → Type 0
-PairAt ss ws i j p = (v : Touch) × (w : Touch) × (slice_get ws i ≡ Some v) × (slice_get ws j ≡ Some w) × (i ≤ j) × IsPairOf ss v w p
+-- the pair of two accesses, either way round
+abbrev pub pair_of : Place → AccessAt → AccessAt → Pair
+pair_of p a b = if access_less b a then record { place = p; first = b; second = a } else record { place = p; first = a; second = b }
+
+-- that of an access with the k-th, if that is from a place on
+abbrev pub RowAt : Place → AccessAt → List AccessAt → (from k : ℕ) → Pair → Type 0
+RowAt p a bs from k v = (from ≤ k) × (b : AccessAt) × (slice_get bs k ≡ Some b) × (v ≡ pair_of p a b)
+
+abbrev pub RowFrom : Place → AccessAt → List AccessAt → (from : ℕ) → Pair → Type 0
+RowFrom p a bs from v = (k : ℕ) × RowAt p a bs from k v
+
+-- in one group an access is paired with itself and those behind it
+abbrev pub first_of : Bool → ℕ → ℕ
+first_of true k = k
+first_of false k = 0
+
+-- the pair of an access of each
+pub record IsPairOf (g h : Group) (v : Pair) : Type 0 where
+  pub a : AccessAt
+  pub b : AccessAt
+  pub of_g : Contains g.accesses a
+  pub of_h : Contains h.accesses b
+  pub is : v ≡ pair_of g.place a b
+
+abbrev pub IsRacingPair : Group → Group → Pair → Type 0
+IsRacingPair g h v = AreRacing g h × IsPairOf g h v
+
+-- that of the i-th and the j-th group
+abbrev pub PairAt : List Group → (i j : ℕ) → Pair → Type 0
+PairAt gs i j v = (g : Group) × (h : Group) × (slice_get gs i ≡ Some g) × (slice_get gs j ≡ Some h) × (i ≤ j) × (h.place ≡ g.place) × IsRacingPair g h v
 
 -- that of the i-th with any from it on
-abbrev pub PairsFrom : List Summary → List Touch → (i : ℕ) → Pair → Type 0
-PairsFrom ss ws i p = (j : ℕ) × PairAt ss ws i j p
+abbrev pub PairsFrom : List Group → (i : ℕ) → Pair → Type 0
+PairsFrom gs i v = (j : ℕ) × PairAt gs i j v
 
-abbrev pub PairsOf : List Summary → List Touch → Pair → Type 0
-PairsOf ss ws p = (i : ℕ) × PairsFrom ss ws i p
-
--- by place, then by where they stand
-abbrev pub touch_less : Touch → Touch → Bool
-touch_less v w = place_less v.place w.place || (place_same v.place w.place && access_less v.access.at w.access.at)
-
--- none comes before an earlier one
-abbrev pub AreSorted : List Touch → Type 0
-AreSorted ws = (i j : ℕ) (v w : Touch) → i ≤ j → slice_get ws i ≡ Some v → slice_get ws j ≡ Some w → touch_less w v ≡ false
+abbrev pub PairsOf : List Group → Pair → Type 0
+PairsOf gs v = (i : ℕ) × PairsFrom gs i v

@@ -1,8 +1,7 @@
 -- The accesses of the roots' summaries, each at the places that it may touch.
-use Rattle.std.specs.Prelude.{◌≡◌, ℕ, true, List, [], length, Option, Some, None, slice_get, slice_index_or}
+use Rattle.std.specs.Prelude.{◌≡◌, ℕ, true, List, Some, slice_get}
 use Rattle.std.specs.List.{Contains}
 use Rattle.flow_code.specs.declared.code.Code.{Code}
-use Rattle.flow_code.specs.declared.code.Function.{Function}
 use Rattle.flow_code.specs.Threads.{is_main}
 use Rattle.facts.specs.declared.locks.Guarded.{Guarded}
 use Rattle.facts.specs.declared.locks.Summary.{Summary}

@@ -3,9 +3,11 @@
 #![tactic(auto)]
 
 mod access;
+mod alike;
+mod grouping;
 mod meeting;
-mod placing;
 mod race;
+mod ranks;
 mod roots;
 mod touch;
 

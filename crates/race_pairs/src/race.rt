@@ -1,82 +1,144 @@
 // The pairs that may race.
-ghost use Rattle.std.specs.Prelude.{◌≡◌, ◌<◌, length, [], true, IfOk, OnOk};
+ghost use Rattle.std.specs.Prelude.{◌≡◌, ◌↔◌, ◌<◌, ◌≤◌, ℕ, length, [], true, slice_get, Some, IfOk, OnOk};
+ghost use Rattle.std.specs.List.{Contains};
+ghost use Rattle.std.specs.List.Sorted.{IsNonDecreasing};
+ghost use Rattle.facts.specs.declared.pair.Pair.{Pair};
 ghost use Rattle.facts.specs.Pairs.{ArePairs, pairs_ascend};
-ghost use Rattle.race_pairs.specs.Gains.{Gains};
 ghost use Rattle.facts.specs.PointsTo.{HasRegisters};
-ghost use Rattle.race_pairs.specs.Touches.{IsTouch};
-ghost use Rattle.race_pairs.specs.Races.{IsPairOf, PairsFrom, PairsOf, AreSorted};
+ghost use Rattle.race_pairs.specs.declared.touch.Group.{Group};
+ghost use Rattle.race_pairs.specs.Gains.{Gains};
+ghost use Rattle.race_pairs.specs.Races as races;
+ghost use Rattle.race_pairs.specs.Groups.{HasLocksInOrder, HasPlacesInOrder};
 
 use crate::access::touches;
+use crate::grouping::{groups, put_in_order};
 use crate::meeting::may_race;
-use crate::placing::put;
-use crate::touch::Touch;
-use facts::{Pair, PointsTo, Summary};
+use crate::touch::Group;
+use facts::{AccessAt, Pair, PointsTo, Summary};
 use flow_code::Code;
-use rr_base::List;
+use rr_base::{List, Place};
 use std::alloc::{AllocError, Global};
 
-/// Puts the pair of two accesses of a place, if they may race.
-fn put_pair(
-    summaries: &[Summary],
-    touch: &Touch,
-    other: &Touch,
-    found: &mut List<Pair>,
-) -> Result<(), AllocError>
-    requires place { other.now.place ≡ touch.now.place }
-    requires ascending { pairs_ascend found.old ≡ true }
-    ensures ascending { pairs_ascend found.new ≡ true }
-    ensures gains { OnOk result (Gains (IsPairOf summaries.now touch.now other.now) found.old found.new) }
+/// The pair of two accesses of a place, either way round.
+fn pair_of(place: Place, access: AccessAt, other: AccessAt) -> Pair
+    ensures { result ≡ races.pair_of place access other }
 {
-    if may_race(summaries, &touch.access, &other.access) {
-        put(
+    if other.cmp(&access).is_lt() {
+        Pair {
+            place,
+            first: other,
+            second: access,
+        }
+    } else {
+        Pair {
+            place,
+            first: access,
+            second: other,
+        }
+    }
+}
+
+/// Adds the pairs of an access with those from a place on.
+fn add_row(
+    place: Place,
+    access: AccessAt,
+    others: &[AccessAt],
+    from: usize,
+    found: &mut Vec<Pair>,
+) -> Result<(), AllocError>
+    requires { from ≤ length others.now }
+    ensures { OnOk result (Gains (races.RowFrom place access others.now from) found.old.items found.new.items) }
+{
+    for at in from..others.len() {
+        found.push(pair_of(place, access, others[at]))?;
+    }
+    Ok(())
+}
+
+/// With which of the second group's accesses an access of the first begins: in the group itself with itself.
+fn first_of(is_same: bool, at: usize) -> usize
+    ensures { result ≡ races.first_of is_same at }
+{
+    if is_same { at } else { 0 }
+}
+
+/// Adds the pairs of all accesses of two groups.
+fn add_all(
+    group: &Group,
+    other: &Group,
+    is_same: bool,
+    found: &mut Vec<Pair>,
+) -> Result<(), AllocError>
+    requires { is_same ≡ true → other.now ≡ group.now }
+    ensures { OnOk result (Gains (races.IsPairOf group.now other.now) found.old.items found.new.items) }
+{
+    for at in 0..group.accesses.len() {
+        add_row(
+            group.place,
+            *group.accesses.at(at),
+            other.accesses.as_slice(),
+            first_of(is_same, at),
             found,
-            Pair {
-                place: touch.place,
-                first: touch.access.at,
-                second: other.access.at,
-            },
         )?;
     }
     Ok(())
 }
 
-/// Puts the pairs of an access with those from it on.
-fn put_pairs(
-    summaries: &[Summary],
-    touches: &[Touch],
-    from: usize,
-    found: &mut List<Pair>,
+/// Adds the pairs of two groups, if they may race.
+fn add_racing(
+    group: &Group,
+    other: &Group,
+    is_same: bool,
+    found: &mut Vec<Pair>,
 ) -> Result<(), AllocError>
-    requires from { from < length touches.now }
-    requires sorted { AreSorted touches.now }
-    requires ascending { pairs_ascend found.old ≡ true }
-    ensures ascending { pairs_ascend found.new ≡ true }
-    ensures gains { OnOk result (Gains (PairsFrom summaries.now touches.now from) found.old found.new) }
+    requires same { is_same ≡ true → other.now ≡ group.now }
+    requires locks { IsNonDecreasing other.now.locks }
+    ensures { OnOk result (Gains (races.IsRacingPair group.now other.now) found.old.items found.new.items) }
 {
-    for other in from..touches.len() {
-        if touches[other].place != touches[from].place {
-            return Ok(());
-        }
-        put_pair(summaries, &touches[from], &touches[other], found)?;
+    if may_race(group, other) {
+        add_all(group, other, is_same, found)?;
     }
     Ok(())
 }
 
-/// The pairs of accesses that stand in order.
-fn pairs_of(
-    alloc: Global,
-    summaries: &[Summary],
-    touches: &[Touch],
-) -> Result<List<Pair>, AllocError>
-    requires { AreSorted touches.now }
-    ensures ascending { IfOk result (λ vs. pairs_ascend vs ≡ true) }
-    ensures gains { IfOk result (λ vs. Gains (PairsOf summaries.now touches.now) [] vs) }
+/// Adds the pairs of a group with those from it on.
+fn add_from(groups: &[Group], from: usize, found: &mut Vec<Pair>) -> Result<(), AllocError>
+    requires from { from < length groups.now }
+    requires places { HasPlacesInOrder groups.now }
+    requires locks { HasLocksInOrder groups.now }
+    ensures { OnOk result (Gains (races.PairsFrom groups.now from) found.old.items found.new.items) }
 {
-    let mut found = List::new(alloc);
-    for from in 0..touches.len() {
-        put_pairs(summaries, touches, from, &mut found)?;
+    for other in from..groups.len() {
+        if groups[other].place != groups[from].place {
+            return Ok(());
+        }
+        add_racing(&groups[from], &groups[other], other == from, found)?;
+    }
+    Ok(())
+}
+
+/// The pairs of all groups, in no order.
+fn pairs_of(alloc: Global, groups: &[Group]) -> Result<Vec<Pair>, AllocError>
+    requires places { HasPlacesInOrder groups.now }
+    requires locks { HasLocksInOrder groups.now }
+    ensures { IfOk result (λ vs. Gains (races.PairsOf groups.now) [] vs.items) }
+{
+    let mut found = Vec::new(alloc);
+    for from in 0..groups.len() {
+        add_from(groups, from, &mut found)?;
     }
     Ok(found)
+}
+
+/// Each of the pairs once, in order.
+fn each_once(found: Vec<Pair>) -> Result<List<Pair>, AllocError>
+    ensures ascending { IfOk result (λ vs. pairs_ascend vs ≡ true) }
+    ensures same { IfOk result (λ vs. (p : Pair) → Contains vs p ↔ Contains found.items p) }
+{
+    let mut found = found;
+    found.sort_by_key(|pair| (pair.place, pair.first, pair.second))?;
+    found.dedup();
+    Ok(List::from_vec(found))
 }
 
 /// The pairs of accesses that may race, each once, in order: for two functions with which two threads may have begun,
@@ -91,7 +153,10 @@ pub fn pairs(
     requires { HasRegisters code.now points.now }
     ensures { IfOk result (λ vs. ArePairs code.now points.now summaries.now vs) }
 {
-    let mut all = touches(alloc, code, points, summaries.as_slice())?;
-    all.sort_unstable();
-    pairs_of(alloc, summaries.as_slice(), &all)
+    let known = summaries.as_slice();
+    let mut all = touches(alloc, code, points, known)?;
+    put_in_order(known, &mut all)?;
+    let grouped = groups(alloc, known, &all)?;
+    let found = pairs_of(alloc, &grouped)?;
+    each_once(found)
 }

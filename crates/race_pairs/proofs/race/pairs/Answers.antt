@@ -1,12 +1,18 @@
 use Rattle.std.proofs.Common.{sym, subst, List}
 use Rattle.race_pairs.specs.declared.touch.Touch.{Touch}
-use Rattle.race_pairs.specs.Races.{AreSorted}
-use Rattle.race_pairs.proofs.Sorting.{sorted}
+use Rattle.race_pairs.specs.declared.touch.Group.{Group}
+use Rattle.race_pairs.specs.Groups.{AreSorted, HasPlacesInOrder, HasLocksInOrder}
 use Rattle.race_pairs.proofs.Racing.{are_pairs}
 use Rattle.race_pairs.proofs.race.pairs.Goals as goal
 
-pub pairs_of-requires : goal.pairs_of-requires
-pairs_of-requires c = subst (λ (ws : List Touch). AreSorted ws) (sym c.deref.ensures.value) (sorted c.sort_unstable.new.self.items c.sort_unstable.ensures.sorted)
+pub groups-requires : goal.groups-requires
+groups-requires c = subst (λ (ws : List Touch). AreSorted ws) (sym c.deref.ensures.value) c.in_ok-put_in_order.ensures.sorted
+
+pub pairs_of-requires-clause-places : goal.pairs_of-requires-clause-places
+pairs_of-requires-clause-places c = subst (λ (gs : List Group). HasPlacesInOrder gs) (sym c.deref-2.ensures.value) c.in_ok-grouped.ensures.places
+
+pub pairs_of-requires-clause-locks : goal.pairs_of-requires-clause-locks
+pairs_of-requires-clause-locks c = subst (λ (gs : List Group). HasLocksInOrder gs) (sym c.deref-2.ensures.value) c.in_ok-grouped.ensures.locks
 
 pub returns : goal.returns
-returns c = are_pairs c.args.code.now c.args.points.now c.args.summaries.now c.as_slice.result.now c.as_slice-2.result.now c.in_ok-all.all.items c.sort_unstable.new.self.items c.deref.result.now c.pairs_of.result c.as_slice.ensures c.as_slice-2.ensures c.deref.ensures.value c.in_ok-all.ensures c.sort_unstable.ensures.permutation (sorted c.sort_unstable.new.self.items c.sort_unstable.ensures.sorted) c.pairs_of.ensures.ascending c.pairs_of.ensures.gains
+returns c = are_pairs c.args.code.now c.args.points.now c.args.summaries.now c.as_slice-known.result.now c.as_slice-known.result.now c.in_ok-all.all.items c.put_in_order.new.touches.items c.deref.result.now c.in_ok-grouped.grouped.items c.deref-2.result.now c.in_ok-found.found.items c.each_once.result c.as_slice-known.ensures c.as_slice-known.ensures c.deref.ensures.value c.deref-2.ensures.value c.in_ok-all.ensures c.in_ok-put_in_order.ensures.same c.in_ok-grouped.ensures c.in_ok-found.ensures c.each_once.ensures.ascending c.each_once.ensures.same
