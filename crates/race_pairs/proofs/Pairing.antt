@@ -1,6 +1,7 @@
 -- Pairs of groups that stand in order, as loops find them.
 use Rattle.std.proofs.Common.{◌≡◌, ℕ, ◌+◌, ◌<◌, ◌≤◌, Bool, true, false, not, List, [], ◌∷◌, ◌++◌, length, get_or, refl, sym, ap, subst, ◌∙◌, arith, ◌⊎◌, inl, inr, ⊎_elim, Some}
-use Rattle.std.specs.Prelude.{slice_get, if◌then◌else◌}
+use Rattle.std.specs.Prelude.{slice_get, if◌then◌else◌, ◌↔◌}
+use Rattle.std.specs.List.{Contains}
 use Rattle.std.proofs.lemmas.Bool.{cases_lt}
 use Rattle.rr_base.specs.declared.layout.Place.{Place}
 use Rattle.facts.specs.declared.pair.AccessAt.{AccessAt}
@@ -37,6 +38,17 @@ pair_swap p a b = go (access_less b a) (access_less a b) refl refl
     go false true e f = refl
     go false false e f = let s : a ≡ b = orders_accesses.total a b f e in let u : b ≡ a = sym s in λ i. record { place = p; first = s i; second = u i }
 
+-- a pair put to others that were put in order
+pub pushed_on : (xs ys zs : List Pair) (v : Pair) → ((p : Pair) → Contains ys p ↔ Contains xs p) → zs ≡ ys ++ v ∷ [] → Gains (λ p. p ≡ v) xs zs
+pushed_on xs ys zs v same e =
+    let g = pushed ys v in
+    subst (Gains (λ p. p ≡ v) xs) (sym e)
+    (record {
+      kept = λ p h. g.kept p ((same p).1 h);
+      gained = g.gained;
+      alone = λ p h. ⊎_elim (λ k. inl ((same p).0 k)) (λ q. inr q) (g.alone p h);
+    })
+
 -- ---- the pairs of two groups
 
 pub row_none : (p : Place) (a : AccessAt) (bs : List AccessAt) (from : ℕ) (xs : List Pair) → Gains (Below from (RowAt p a bs from)) xs xs
@@ -45,15 +57,14 @@ row_none p a bs from xs = none (Below from (RowAt p a bs from)) xs (λ v h. neve
     never : {v : Pair} → Below from (RowAt p a bs from) v → ⊥
     never (k, lt, (le, b, gb, e)) = omega arith
 
-pub row_more : (p : Place) (a : AccessAt) (bs : List AccessAt) (from k : ℕ) (d : AccessAt) (xs ys zs : List Pair) → from ≤ k → k < length bs → Gains (Below k (RowAt p a bs from)) xs ys → zs ≡ ys ++ pair_of p a (get_or bs k d) ∷ [] → Gains (Below (k + 1) (RowAt p a bs from)) xs zs
-row_more p a bs from k d xs ys zs le lt g e =
+pub row_more : (p : Place) (a : AccessAt) (bs : List AccessAt) (from k : ℕ) (d : AccessAt) (v : Pair) (xs ys zs : List Pair) → from ≤ k → k < length bs → Gains (Below k (RowAt p a bs from)) xs ys → v ≡ pair_of p a (get_or bs k d) → Gains (λ w. w ≡ v) ys zs → Gains (Below (k + 1) (RowAt p a bs from)) xs zs
+row_more p a bs from k d v xs ys zs le lt g e m =
     let at = gets bs k d lt in
     more (RowAt p a bs from) k xs ys zs g
-    (subst (Gains (RowAt p a bs from k) ys) (sym e)
-    (alike (λ v. v ≡ pair_of p a (get_or bs k d)) (RowAt p a bs from k) ys (ys ++ pair_of p a (get_or bs k d) ∷ [])
-    (λ v h. (le, get_or bs k d, at, h))
-    (λ v h. let s : h.1 ≡ get_or bs k d = cc in h.3 ∙ ap (pair_of p a) s)
-    (pushed ys (pair_of p a (get_or bs k d)))))
+    (alike (λ w. w ≡ v) (RowAt p a bs from k) ys zs
+    (λ w h. (le, get_or bs k d, at, h ∙ e))
+    (λ w h. let s : h.1 ≡ get_or bs k d = cc in h.3 ∙ ap (pair_of p a) s ∙ sym e)
+    m)
 
 pub row_all : (p : Place) (a : AccessAt) (bs : List AccessAt) (from k : ℕ) (xs ys : List Pair) → length bs ≤ k → Gains (Below k (RowAt p a bs from)) xs ys → Gains (RowFrom p a bs from) xs ys
 row_all p a bs from k xs ys le g = all_below (RowAt p a bs from) k xs ys inside g

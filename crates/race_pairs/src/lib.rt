@@ -4,6 +4,7 @@
 
 mod access;
 mod alike;
+mod found;
 mod grouping;
 mod meeting;
 mod race;

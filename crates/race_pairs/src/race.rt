@@ -11,6 +11,7 @@ ghost use Rattle.race_pairs.specs.Races as races;
 ghost use Rattle.race_pairs.specs.Groups.{HasLocksInOrder, HasPlacesInOrder};
 
 use crate::access::touches;
+use crate::found::{add_pair, each_once};
 use crate::grouping::{groups, put_in_order};
 use crate::meeting::may_race;
 use crate::touch::Group;
@@ -50,7 +51,7 @@ fn add_row(
     ensures { OnOk result (Gains (races.RowFrom place access others.now from) found.old.items found.new.items) }
 {
     for at in from..others.len() {
-        found.push(pair_of(place, access, others[at]))?;
+        add_pair(found, pair_of(place, access, others[at]))?;
     }
     Ok(())
 }
@@ -128,17 +129,6 @@ fn pairs_of(alloc: Global, groups: &[Group]) -> Result<Vec<Pair>, AllocError>
         add_from(groups, from, &mut found)?;
     }
     Ok(found)
-}
-
-/// Each of the pairs once, in order.
-fn each_once(found: Vec<Pair>) -> Result<List<Pair>, AllocError>
-    ensures ascending { IfOk result (λ vs. pairs_ascend vs ≡ true) }
-    ensures same { IfOk result (λ vs. (p : Pair) → Contains vs p ↔ Contains found.items p) }
-{
-    let mut found = found;
-    found.sort_by_key(|pair| (pair.place, pair.first, pair.second))?;
-    found.dedup();
-    Ok(List::from_vec(found))
 }
 
 /// The pairs of accesses that may race, each once, in order: for two functions with which two threads may have begun,
