@@ -8,11 +8,12 @@ ghost use Rattle.points_to.specs.Ascending.{widths, rooms};
 ghost use Rattle.points_to.specs.Nodes.{number_of as number_for, place_from, node_row, Has, widths_of, IsNode, IsPlace, AreThere};
 ghost use Rattle.points_to.specs.Filling.{Fine, AreFine, Adds, GivesAll, ForAll, ForFirst, ForOne, Holds, number_on, Reaches, IsSwept, Meets, MeetsAll};
 
+use crate::agenda::Agenda;
 use crate::nodes::{classes_of, element_of, moved, number_of, place_at, spot_of};
 use crate::sets::Sets;
 use facts::{Constraint, Node};
 use flow_code::Code;
-use std::alloc::AllocError;
+use std::alloc::{AllocError, Global};
 
 /// A number of elements of so many cells, forwards or back.
 #[derive(Clone, Copy, Debug)]
@@ -292,6 +293,97 @@ fn apply(code: &Code, sets: &mut Sets, constraint: Constraint) -> Result<bool, A
     }
 }
 
+/// Does what the k-th constraint asks, and lets those wait that read what it adds to.
+fn apply_waiting(
+    code: &Code,
+    constraints: &[Constraint],
+    sets: &mut Sets,
+    agenda: &mut Agenda,
+    k: usize,
+) -> Result<(), AllocError>
+    requires there { AreThere code.now }
+    requires all { constraints.now ≡ constraints_of code.now }
+    requires wide { widths sets.old ≡ widths_of code.now }
+    requires fine { AreFine code.now sets.old }
+    requires within { k < length constraints.now }
+    ensures wide { OnOk result (widths sets.new ≡ widths_of code.now) }
+    ensures fine { OnOk result (AreFine code.now sets.new) }
+{
+    let constraint = constraints[k];
+    agenda.begin(code, &*sets, constraint, k)?;
+    let added = apply(code, sets, constraint)?;
+    agenda.applied(code, &*sets, constraint, added)?;
+    Ok(())
+}
+
+/// Does so where there is such a constraint.
+fn apply_number(
+    code: &Code,
+    constraints: &[Constraint],
+    sets: &mut Sets,
+    agenda: &mut Agenda,
+    k: usize,
+) -> Result<(), AllocError>
+    requires there { AreThere code.now }
+    requires all { constraints.now ≡ constraints_of code.now }
+    requires wide { widths sets.old ≡ widths_of code.now }
+    requires fine { AreFine code.now sets.old }
+    ensures wide { OnOk result (widths sets.new ≡ widths_of code.now) }
+    ensures fine { OnOk result (AreFine code.now sets.new) }
+{
+    if k < constraints.len() {
+        apply_waiting(code, constraints, sets, agenda, k)
+    } else {
+        Ok(())
+    }
+}
+
+/// Does what these constraints ask.
+fn apply_all(
+    code: &Code,
+    constraints: &[Constraint],
+    sets: &mut Sets,
+    agenda: &mut Agenda,
+    numbers: &[usize],
+) -> Result<(), AllocError>
+    requires there { AreThere code.now }
+    requires all { constraints.now ≡ constraints_of code.now }
+    requires wide { widths sets.old ≡ widths_of code.now }
+    requires fine { AreFine code.now sets.old }
+    ensures wide { OnOk result (widths sets.new ≡ widths_of code.now) }
+    ensures fine { OnOk result (AreFine code.now sets.new) }
+{
+    for j in 0..numbers.len() {
+        apply_number(code, constraints, sets, agenda, numbers[j])?;
+    }
+    Ok(())
+}
+
+/// Does what the constraints that wait ask, until none does. It ends, since a set grows each time that some are let wait.
+fn spread(
+    alloc: Global,
+    code: &Code,
+    constraints: &[Constraint],
+    sets: &mut Sets,
+) -> Result<(), AllocError>
+    requires there { AreThere code.now }
+    requires all { constraints.now ≡ constraints_of code.now }
+    requires wide { widths sets.old ≡ widths_of code.now }
+    requires fine { AreFine code.now sets.old }
+    ensures wide { OnOk result (widths sets.new ≡ widths_of code.now) }
+    ensures fine { OnOk result (AreFine code.now sets.new) }
+{
+    let mut agenda = Agenda::new(alloc, code, constraints, &*sets)?;
+    for _turn in 0..u64::MAX {
+        let numbers = agenda.take(alloc);
+        if numbers.is_empty() {
+            return Ok(());
+        }
+        apply_all(code, constraints, sets, &mut agenda, numbers.as_slice())?;
+    }
+    Ok(())
+}
+
 /// Goes over all constraints once.
 fn round(code: &Code, constraints: &[Constraint], sets: &mut Sets) -> Result<bool, AllocError>
     requires there { AreThere code.now }
@@ -307,8 +399,14 @@ fn round(code: &Code, constraints: &[Constraint], sets: &mut Sets) -> Result<boo
     Ok(added)
 }
 
-/// Rounds, until nothing is added.
-pub fn fill(code: &Code, constraints: &[Constraint], sets: &mut Sets) -> Result<(), AllocError>
+/// What the constraints ask spreads along those that read what was added to. Then rounds over all of them, until one adds
+/// nothing: mostly the first, which shows that all are met.
+pub fn fill(
+    alloc: Global,
+    code: &Code,
+    constraints: &[Constraint],
+    sets: &mut Sets,
+) -> Result<(), AllocError>
     requires there { AreThere code.now }
     requires all { constraints.now ≡ constraints_of code.now }
     requires wide { widths sets.old ≡ widths_of code.now }
@@ -317,6 +415,7 @@ pub fn fill(code: &Code, constraints: &[Constraint], sets: &mut Sets) -> Result<
     ensures fine { OnOk result (AreFine code.now sets.new) }
     ensures met { OnOk result (MeetsAll code.now sets.new) }
 {
+    spread(alloc, code, constraints, sets)?;
     let mut more = true;
     while more {
         more = round(code, constraints, sets)?;

@@ -59,7 +59,7 @@ pub fn solve(alloc: Global, code: &Code) -> Result<PointsTo, AllocError>
 {
     let constraints = constraints_of(alloc, code)?;
     let mut sets = empty_sets(alloc, code)?;
-    fill(code, constraints.as_slice(), &mut sets)?;
+    fill(alloc, code, constraints.as_slice(), &mut sets)?;
     let functions = code.functions.len();
     let registers = table_of(alloc, &sets, 1, functions)?;
     let cells = table_of(alloc, &sets, functions + 1, code.sites.len())?;

@@ -2,6 +2,7 @@
 //! `flow_code` and `facts`.
 #![tactic(auto)]
 
+mod agenda;
 mod ascending;
 mod constraints;
 mod filling;

@@ -69,6 +69,12 @@ impl Sets {
         }
     }
 
+    pub fn blocks(&self) -> usize
+        ensures { result ≡ length self.now }
+    {
+        self.blocks.len()
+    }
+
     /// How many rows a block has.
     pub fn count(&self, block: usize) -> usize
         ensures { result ≡ length (block_of self.now block) }

@@ -1,0 +1,11 @@
+use Rattle.std.proofs.Common.{◌≡◌}
+use Rattle.points_to.specs.Ascending.{widths}
+use Rattle.points_to.specs.Nodes.{widths_of}
+use Rattle.points_to.specs.Filling.{AreFine}
+use Rattle.points_to.proofs.filling.apply_all.Given as goal
+
+abbrev pub invariant-loop-j : goal.invariant-loop-j
+invariant-loop-j l = record {
+  wide : widths l.sets ≡ widths_of l.code;
+  fine : AreFine l.code l.sets;
+}
