@@ -11,4 +11,6 @@ pub mod Naming
 pub mod Compared
 pub mod Making
 pub mod Nearing
+pub mod Visiting
+pub mod Falling
 mod Worked

@@ -17,7 +17,7 @@ use Rattle.facts.specs.Locks.{Points, actuals_at, locks_are_small}
 use Rattle.facts.specs.Summaries.{Guards, own, called, StandsAt, guarded_by, seen_by, locks_of}
 use Rattle.lockset_summary.specs.Exits.{AreLocksKnown}
 use Rattle.lockset_summary.specs.Rounds.{ForEach, ForThe, room}
-use Rattle.lockset_summary.specs.Guarding.{IsPut, InRow, AreMade, AreReady, IsMet, IsMetAt, AreAllMetAt, AreAllMet, Makes, accesses_of, IsSeenAccess, store_of}
+use Rattle.lockset_summary.specs.Guarding.{IsPut, InRow, AreMade, AreReady, IsMet, IsMetAt, AreAllMetAt, Makes, accesses_of, IsSeenAccess, store_of}
 use Rattle.lockset_summary.proofs.Insertion.{put_makes, got_in, in_got}
 use Rattle.lockset_summary.proofs.Narrow.{through_known}
 use Rattle.lockset_summary.proofs.Rounds.{weaker}
@@ -119,12 +119,8 @@ module _ (code : Code) (xs : List Points) (rows new : List (List Guarded)) (f : 
     pub own_is_made : (o : Option Guarded) (a : Guarded) → f < length xs → o ≡ option_map (λ store. guarded_by f k store l) (store_of (access_of i.act)) → o ≡ Some a → Guards code xs f a
     own_is_made o a lt = let x = slice_get_inside xs f lt in own_made o a x.0 x.1
 
--- ---- all instructions of a function, and all functions
+-- ---- all instructions of a function
 
 pub all_at : (code : Code) (xs : List Points) (rows new : List (List Guarded)) (f k : ℕ) (fn : Function) (added : Bool) → slice_get code.functions f ≡ Some fn → length fn.instrs ≤ k → Makes code xs (λ r. (j : ℕ) → j < k → IsMetAt code xs f j r) rows new added → Makes code xs (AreAllMetAt code xs f) rows new added
 all_at code xs rows new f k fn added is le s = weaker (List (List Guarded)) (room Guarded) (AreMade code xs) (λ r. (j : ℕ) → j < k → IsMetAt code xs f j r) (AreAllMetAt code xs f) rows new added
     (λ m j fn2 i x l at. m j (omega (arith, slice_get_within fn.instrs j i (ap (λ (z : Function). slice_get z.instrs j) (same_Some fn fn2 (sym is ∙ at.function)) ∙ at.instr))) fn2 i x l at) s
-
-pub all_met : (code : Code) (xs : List Points) (rows new : List (List Guarded)) (k : ℕ) (added : Bool) → length code.functions ≤ k → Makes code xs (λ r. (f : ℕ) → f < k → AreAllMetAt code xs f r) rows new added → Makes code xs (AreAllMet code xs) rows new added
-all_met code xs rows new k added le s = weaker (List (List Guarded)) (room Guarded) (AreMade code xs) (λ r. (f : ℕ) → f < k → AreAllMetAt code xs f r) (AreAllMet code xs) rows new added
-    (λ m f j fn i x l at. m f (omega (arith, slice_get_within code.functions f fn at.function)) j fn i x l at) s

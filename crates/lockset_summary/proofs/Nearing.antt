@@ -26,7 +26,7 @@ use Rattle.lockset_summary.proofs.Narrow.{point_within, exit_within, locks_known
 use Rattle.lockset_summary.proofs.Order.{same_exits, exits_itself}
 use Rattle.lockset_summary.proofs.Sets.{has_first, has_later}
 use Rattle.lockset_summary.proofs.Small.{IsModest, knows_modest}
-use Rattle.lockset_summary.proofs.Whole.{exit_from, long_exits, top_at, long_tops, next_above, next_lower, first_above, first_lower, exits_ascend, whole, exits_fall}
+use Rattle.lockset_summary.proofs.Whole.{exit_from, long_exits, top_at, long_tops, next_above, first_above, exits_ascend, whole, exits_fall}
 
 -- ---- sizes
 
@@ -101,19 +101,6 @@ module _ (code : Code) (tops : List (List LockPath)) (tops_known : AllListsKnown
     ascending = exits_ascend code tops tops_known.0 exits xs n.each;
     known = exit_known exits xs n.from n.each;
   }
-
-  pub starts : (exits : List RelLocks) (xs : List Points) → exits ≡ topmost_exits tops → AreEachGreatest code tops exits xs → AreNearing code tops exits xs
-  starts exits xs e each = record { from = subst (AreAbove code tops) (sym e) starts_above; each = each; lower = subst (ExitsBelow (exits_of xs)) (sym e) (first_lower code tops tops_known.0 exits xs each) }
-
-  pub goes_on : (exits next : List RelLocks) (xs zs : List Points) → AreNearing code tops exits xs → next ≡ exits_of xs → AreEachGreatest code tops next zs → AreNearing code tops next zs
-  goes_on exits next xs zs n e each = record {
-    from = subst (AreAbove code tops) (sym e) (next_exits exits xs n);
-    each = each;
-    lower = subst (ExitsBelow (exits_of zs)) (sym e) (next_lower code tops tops_known.0 exits xs zs n.each n.lower (subst (λ z. AreEachGreatest code tops z zs) e each));
-  }
-
-  pub next_known : (exits next : List RelLocks) (xs : List Points) → AreNearing code tops exits xs → next ≡ exits_of xs → (g : ℕ) (l : RelLocks) → slice_get next g ≡ Some l → AreLocksKnown code g l
-  next_known exits next xs n e g l at = (next_exits exits xs n).known g l (ap (λ z. slice_get z g) (sym e) ∙ at)
 
   pub falls : (exits next : List RelLocks) (xs : List Points) → AreNearing code tops exits xs → next ≡ exits_of xs → AreSmall next → all_same exits (exits_of xs) ≡ false → weights next < weights exits
   falls exits next xs n e small differ = ⊎_elim

@@ -73,18 +73,6 @@ module _ (code : Code) (tops : List (List LockPath)) (same : length tops ≡ len
         subst (λ z. Below z t) y.2 (subst (Below y.0.exit) x.2 (solution_above exits xs ys g s h f x.0 y.0 x.1 y.1).exit);
   }
 
-  pub next_lower : (exits : List RelLocks) (xs zs : List Points) → AreEachGreatest code tops exits xs → ExitsBelow (exits_of xs) exits → AreEachGreatest code tops (exits_of xs) zs → ExitsBelow (exits_of zs) (exits_of xs)
-  next_lower exits xs zs g h n = record {
-    long = long_exits zs ∙ n.long ∙ sym g.long ∙ sym (long_exits xs);
-    each = λ f e t i j.
-        let z = exit_from zs f e i in
-        let x = exit_from xs f t j in
-        let lt : f < length code.functions = omega (arith, slice_get_within zs f z.0 z.1, n.long) in
-        let fn = slice_get_inside code.functions f lt in
-        let top = slice_get_inside tops f (omega (arith, same)) in
-        subst (λ a. Below a t) z.2 (subst (Below z.0.exit) x.2 ((g.each f fn.0 top.0 x.0 fn.1 top.1 x.1).most z.0 (solution_rises (exits_of xs) exits fn.0 top.0 z.0 h (n.each f fn.0 top.0 z.0 fn.1 top.1 z.1).solves)).exit);
-  }
-
   pub first_above : (ys : List Points) → AreSolution code tops ys → ExitsBelow (exits_of ys) (topmost_exits tops)
   first_above ys s = record {
     long = long_exits ys ∙ s.long ∙ sym same ∙ sym (long_tops tops);
@@ -94,17 +82,6 @@ module _ (code : Code) (tops : List (List LockPath)) (same : length tops ≡ len
         let lt : f < length code.functions = omega (arith, slice_get_within ys f y.0 y.1, s.long) in
         let fn = slice_get_inside code.functions f lt in
         subst (λ a. Below a t) y.2 (subst (Below y.0.exit) top.2 (s.each f fn.0 top.0 y.0 fn.1 top.1 y.1).exit_within);
-  }
-
-  pub first_lower : (exits : List RelLocks) (xs : List Points) → AreEachGreatest code tops exits xs → ExitsBelow (exits_of xs) (topmost_exits tops)
-  first_lower exits xs g = record {
-    long = long_exits xs ∙ g.long ∙ sym same ∙ sym (long_tops tops);
-    each = λ f e t i j.
-        let x = exit_from xs f e i in
-        let top = top_at tops f t j in
-        let lt : f < length code.functions = omega (arith, slice_get_within xs f x.0 x.1, g.long) in
-        let fn = slice_get_inside code.functions f lt in
-        subst (λ a. Below a t) x.2 (subst (Below x.0.exit) top.2 (g.each f fn.0 top.0 x.0 fn.1 top.1 x.1).solves.exit_within);
   }
 
   each_ordered : (exits : List RelLocks) (xs : List Points) → AreEachGreatest code tops exits xs → (f : ℕ) (x : Points) → slice_get xs f ≡ Some x → in_order x ≡ true

@@ -8,7 +8,7 @@ use Rattle.facts.specs.declared.locks.LockPath.{LockPath}
 use Rattle.facts.specs.declared.locks.Minus.{Minus}
 use Rattle.facts.specs.declared.locks.Minus.TheVariants.{All, Listed}
 use Rattle.facts.specs.declared.locks.RelLocks.{RelLocks}
-use Rattle.facts.specs.Locks.{has, ascends, topmost, Points, Below, IsGreatest}
+use Rattle.facts.specs.Locks.{has, ascends, topmost, Points, Below, IsGreatest, IsSolution}
 use Rattle.facts.specs.Summaries.{exits_of, AreSolution, Knows, paths_same}
 
 -- each function's points are the greatest where the functions have these exits
@@ -67,6 +67,13 @@ IsSmallMinus (Listed ps) = length ps < 2 ^ 64
 abbrev pub AreSmall : List RelLocks → Type 0
 AreSmall [] = Unit {0}
 AreSmall (l ∷ ls) = IsSmallMinus l.minus × AreSmall ls
+
+-- exits that no solution exceeds, each of them no less than that of any solution of its function where those called have
+-- these exits
+pub record AreFalling (code : Code) (tops : List (List LockPath)) (exits : List RelLocks) : Type 0 where
+  pub from : AreAbove code tops exits
+  pub falling : (f : ℕ) (fn : Function) (top : List LockPath) (x : Points) (e : RelLocks) → slice_get code.functions f ≡ Some fn → slice_get tops f ≡ Some top → slice_get exits f ≡ Some e → IsSolution exits fn top x → Below x.exit e
+  pub small : AreSmall exits
 
 -- ---- whether exits are the same
 

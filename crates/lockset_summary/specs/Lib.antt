@@ -4,3 +4,4 @@ pub mod Known
 pub mod Guarding
 pub mod Names
 pub mod Collecting
+pub mod Visits

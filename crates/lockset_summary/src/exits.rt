@@ -1,6 +1,7 @@
 // The locks at all points of all functions: rounds over the functions' exits, from the most that they may know downwards,
-// until each round's exits are those with which it began.
-ghost use Rattle.std.specs.Prelude.{◌≡◌, ◌<◌, ℕ, true, List as Listed, length, map, slice_get, IfOk, Some};
+// until each round's exits are those with which it began. Before each round every exit falls to that of its function's own
+// points, in an order in which called functions come first: where none calls itself, the first round is the last.
+ghost use Rattle.std.specs.Prelude.{◌≡◌, ◌<◌, ◌≤◌, ℕ, true, List as Listed, length, map, slice_get, IfOk, OnOk, Some};
 ghost use Rattle.flow_code.specs.Valid.{is_valid};
 ghost use Rattle.flow_code.specs.declared.code.Function.{Function as Routine};
 ghost use Rattle.facts.specs.Locks as locks;
@@ -9,11 +10,13 @@ ghost use Rattle.facts.specs.Paths.{argument_namings};
 ghost use Rattle.facts.specs.Summaries.{AllListsKnown, AreGreatest, exits_of as exits_in};
 ghost use Rattle.facts.specs.declared.locks.LockPath.{LockPath as Path};
 ghost use Rattle.facts.specs.declared.locks.RelLocks.{RelLocks as Locks};
-ghost use Rattle.lockset_summary.specs.Exits.{AreEachGreatest, AreLocksKnown, AreSmall, IsSmallMinus, topmost_exits, all_same};
+ghost use Rattle.lockset_summary.specs.Exits.{AreEachGreatest, AreFalling, AreLocksKnown, AreSmall, IsSmallMinus, topmost_exits, all_same, weights};
 ghost use Rattle.lockset_summary.specs.Guarding.{AreReady};
+ghost use Rattle.lockset_summary.specs.Visits.{IsOrder};
 
 use crate::compare::locks_same;
 use crate::names::names_of;
+use crate::visits::function_at;
 use facts::{LockPath, Minus, Naming, RelLocks};
 use flow_code::Code;
 use lockset_flow::{FlowFacts, flow_function};
@@ -156,23 +159,73 @@ fn flow_all(
     Ok(points)
 }
 
-/// The locks at all points of all functions, which know these paths: the greatest solution.
-pub fn all_points(
+// The exit of the f-th function falls to that of its points.
+fn lower(
     alloc: Global,
     code: &Code,
     names: &[List<List<Naming>>],
     tops: &[List<LockPath>],
+    exits: &mut List<RelLocks>,
+    f: usize,
+) -> Result<(), AllocError>
+    requires valid { is_valid code.now ≡ true }
+    requires names { names.now ≡ map argument_namings code.now.functions }
+    requires tops { AllListsKnown code.now tops.now }
+    requires falling { AreFalling code.now tops.now exits.old }
+    requires within { f < length code.now.functions }
+    ensures falling { OnOk result (AreFalling code.now tops.now exits.new) }
+    ensures lower { OnOk result (weights exits.new ≤ weights exits.old) }
+{
+    let points = flow_at(alloc, code, names, tops, exits.as_slice(), f)?;
+    let exit = exit_of(alloc, &points)?;
+    exits.set(f, exit);
+    Ok(())
+}
+
+// All exits fall, in this order.
+fn lower_all(
+    alloc: Global,
+    code: &Code,
+    order: &[usize],
+    names: &[List<List<Naming>>],
+    tops: &[List<LockPath>],
+    exits: &mut List<RelLocks>,
+) -> Result<(), AllocError>
+    requires valid { is_valid code.now ≡ true }
+    requires order { IsOrder (length code.now.functions) order.now }
+    requires names { names.now ≡ map argument_namings code.now.functions }
+    requires tops { AllListsKnown code.now tops.now }
+    requires falling { AreFalling code.now tops.now exits.old }
+    ensures falling { OnOk result (AreFalling code.now tops.now exits.new) }
+    ensures lower { OnOk result (weights exits.new ≤ weights exits.old) }
+{
+    for k in 0..order.len() {
+        lower(alloc, code, names, tops, exits, function_at(code, order, k))?;
+    }
+    Ok(())
+}
+
+/// The locks at all points of all functions, which know these paths: the greatest solution.
+pub fn all_points(
+    alloc: Global,
+    code: &Code,
+    order: &[usize],
+    names: &[List<List<Naming>>],
+    tops: &[List<LockPath>],
 ) -> Result<List<FlowFacts>, AllocError>
     requires valid { is_valid code.now ≡ true }
+    requires order { IsOrder (length code.now.functions) order.now }
     requires names { names.now ≡ map argument_namings code.now.functions }
     requires tops { AllListsKnown code.now tops.now }
     ensures greatest { IfOk result (λ points. AreGreatest code.now tops.now points) }
     ensures ready { IfOk result (λ points. AreReady code.now points) }
 {
     let mut exits = start(alloc, tops)?;
+    lower_all(alloc, code, order, names, tops, &mut exits)?;
     let mut points = flow_all(alloc, code, names, tops, exits.as_slice())?;
     while !are_exits(exits.as_slice(), points.as_slice()) {
         exits = exits_of(alloc, points.as_slice())?;
+        lower_all(alloc, code, order, names, tops, &mut exits)?;
         points = flow_all(alloc, code, names, tops, exits.as_slice())?;
     }
     Ok(points)

@@ -8,9 +8,11 @@ ghost use Rattle.facts.specs.Summaries.{Guards, guarded_by as guarded_by_of, see
 ghost use Rattle.facts.specs.declared.locks.Guarded.{Guarded as Entry};
 ghost use Rattle.lockset_summary.specs.Rounds.{ForEach};
 ghost use Rattle.lockset_summary.specs.Guarding.{InRow, AreMade, AreReady, IsMetAt, AreAllMetAt, AreAllMet, Makes, accesses_of, IsSeenAccess, store_of as store_in};
+ghost use Rattle.lockset_summary.specs.Visits.{IsOrder};
 
 use crate::names::{names_at, names_of};
 use crate::rows::insert;
+use crate::visits::function_at;
 use abstract_machine::LibraryCall;
 use facts::{Guarded, LockPath, Naming, RelLocks};
 use flow_code::{Act, Code};
@@ -282,21 +284,24 @@ fn meet_all(
     Ok(added)
 }
 
-// Goes once over all functions.
+// Goes once over all functions, in this order.
 fn round(
     alloc: Global,
     code: &Code,
+    order: &[usize],
     names: &[List<List<Naming>>],
     points: &[FlowFacts],
     rows: &mut Vec<List<Guarded>>,
 ) -> Result<bool, AllocError>
+    requires order { IsOrder (length code.now.functions) order.now }
     requires sound { AreMade code.now points.now rows.old.items }
     requires ready { AreReady code.now points.now }
     requires names { names.now ≡ map argument_namings code.now.functions }
     ensures { IfOk result (λ added. Makes code.now points.now (AreAllMet code.now points.now) rows.old.items rows.new.items added) }
 {
     let mut added = false;
-    for f in 0..code.functions.len() {
+    for k in 0..order.len() {
+        let f = function_at(code, order, k);
         added |= meet_all(alloc, code, names, points, rows, f)?;
     }
     Ok(added)
@@ -306,10 +311,12 @@ fn round(
 fn fill(
     alloc: Global,
     code: &Code,
+    order: &[usize],
     names: &[List<List<Naming>>],
     points: &[FlowFacts],
     rows: &mut Vec<List<Guarded>>,
 ) -> Result<(), AllocError>
+    requires order { IsOrder (length code.now.functions) order.now }
     requires sound { AreMade code.now points.now rows.old.items }
     requires ready { AreReady code.now points.now }
     requires names { names.now ≡ map argument_namings code.now.functions }
@@ -318,7 +325,7 @@ fn fill(
 {
     let mut more = true;
     while more {
-        more = round(alloc, code, names, points, rows)?;
+        more = round(alloc, code, order, names, points, rows)?;
     }
     Ok(())
 }
@@ -338,15 +345,17 @@ fn empty_rows(alloc: Global, code: &Code) -> Result<Vec<List<Guarded>>, AllocErr
 pub fn guarded(
     alloc: Global,
     code: &Code,
+    order: &[usize],
     names: &[List<List<Naming>>],
     points: &[FlowFacts],
 ) -> Result<Vec<List<Guarded>>, AllocError>
+    requires order { IsOrder (length code.now.functions) order.now }
     requires ready { AreReady code.now points.now }
     requires names { names.now ≡ map argument_namings code.now.functions }
     ensures sound { IfOk result (λ rows. AreMade code.now points.now rows.items) }
     ensures met { IfOk result (λ rows. AreAllMet code.now points.now rows.items) }
 {
     let mut rows = empty_rows(alloc, code)?;
-    fill(alloc, code, names, points, &mut rows)?;
+    fill(alloc, code, order, names, points, &mut rows)?;
     Ok(rows)
 }

@@ -9,5 +9,6 @@ mod names;
 mod rows;
 mod summary;
 mod universe;
+mod visits;
 
 pub use summary::summaries;

@@ -8,6 +8,7 @@ use crate::exits::{all_points, facts_at};
 use crate::guarded::guarded;
 use crate::names::all_names;
 use crate::universe::universe;
+use crate::visits::order_of;
 use facts::{Guarded, Summary};
 use flow_code::Code;
 use lockset_flow::FlowFacts;
@@ -49,8 +50,10 @@ pub fn summaries(alloc: Global, code: &Code) -> Result<List<Summary>, AllocError
     ensures { IfOk result (λ summaries. AreSummaries code.now summaries) }
 {
     let names = all_names(alloc, code)?;
-    let tops = universe(alloc, code, names.as_slice())?;
-    let points = all_points(alloc, code, names.as_slice(), tops.as_slice())?;
-    let mut rows = guarded(alloc, code, names.as_slice(), points.as_slice())?;
+    let order = order_of(alloc, code)?;
+    let order = order.as_slice();
+    let tops = universe(alloc, code, order, names.as_slice())?;
+    let points = all_points(alloc, code, order, names.as_slice(), tops.as_slice())?;
+    let mut rows = guarded(alloc, code, order, names.as_slice(), points.as_slice())?;
     collect(alloc, points.as_slice(), &mut rows)
 }

@@ -9,8 +9,10 @@ ghost use Rattle.facts.specs.declared.locks.LockPath.{LockPath as Path};
 ghost use Rattle.facts.specs.declared.locks.Naming.TheVariants.{Named};
 ghost use Rattle.lockset_summary.specs.Rounds.{ForEach, ForThe, room};
 ghost use Rattle.lockset_summary.specs.Known.{In, AreKnown, IsTold, IsAllTold, AreAllTold, Adds, row_of, IsSeen};
+ghost use Rattle.lockset_summary.specs.Visits.{IsOrder};
 
 use crate::names::{mutex_name, names_at, names_of};
+use crate::visits::function_at;
 use facts::{LockPath, Naming, add_path, substitute};
 use flow_code::{Act, Code, Function};
 use lockset_flow::actuals;
@@ -187,19 +189,22 @@ fn tell_all(
     Ok(added)
 }
 
-// Goes once over all functions.
+// Goes once over all functions, in this order.
 fn round(
     alloc: Global,
     code: &Code,
+    order: &[usize],
     rows: &mut Vec<List<LockPath>>,
     names: &[List<List<Naming>>],
 ) -> Result<bool, AllocError>
+    requires order { IsOrder (length code.now.functions) order.now }
     requires known { AreKnown code.now rows.old.items }
     requires names { names.now ≡ map argument_namings code.now.functions }
     ensures { IfOk result (λ added. Adds code.now (AreAllTold code.now) rows.old.items rows.new.items added) }
 {
     let mut added = false;
-    for f in 0..code.functions.len() {
+    for k in 0..order.len() {
+        let f = function_at(code, order, k);
         added |= tell_all(
             alloc,
             code,
@@ -216,9 +221,11 @@ fn round(
 fn fill(
     alloc: Global,
     code: &Code,
+    order: &[usize],
     rows: &mut Vec<List<LockPath>>,
     names: &[List<List<Naming>>],
 ) -> Result<(), AllocError>
+    requires order { IsOrder (length code.now.functions) order.now }
     requires known { AreKnown code.now rows.old.items }
     requires names { names.now ≡ map argument_namings code.now.functions }
     ensures known { OnOk result (AreKnown code.now rows.new.items) }
@@ -226,7 +233,7 @@ fn fill(
 {
     let mut more = true;
     while more {
-        more = round(alloc, code, rows, names)?;
+        more = round(alloc, code, order, rows, names)?;
     }
     Ok(())
 }
@@ -246,12 +253,14 @@ fn empty_rows(alloc: Global, code: &Code) -> Result<Vec<List<LockPath>>, AllocEr
 pub fn universe(
     alloc: Global,
     code: &Code,
+    order: &[usize],
     names: &[List<List<Naming>>],
 ) -> Result<List<List<LockPath>>, AllocError>
-    requires { names.now ≡ map argument_namings code.now.functions }
+    requires order { IsOrder (length code.now.functions) order.now }
+    requires names { names.now ≡ map argument_namings code.now.functions }
     ensures { IfOk result (λ tops. AllListsKnown code.now tops) }
 {
     let mut rows = empty_rows(alloc, code)?;
-    fill(alloc, code, &mut rows, names)?;
+    fill(alloc, code, order, &mut rows, names)?;
     Ok(List::from_vec(rows))
 }
