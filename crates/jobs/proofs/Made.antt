@@ -1,10 +1,9 @@
 -- Making a source: how long it is, what is put on the way, and what it comes to.
-use Rattle.std.proofs.Common.{◌≡◌, ◌≤◌, ◌<◌, refl, sym, ap, ◌∙◌, subst, ℕ, zero, suc, ◌+◌, ◌*◌, ◌^◌, zero-add, List, [], ◌∷◌, ◌++◌, length, sum_by, Option, Some, None, Result, Ok, Err, arith}
+use Rattle.std.proofs.Common.{◌≡◌, ◌≤◌, refl, sym, ap, ◌∙◌, subst, ℕ, zero, suc, ◌+◌, ◌*◌, zero-add, List, [], ◌∷◌, length, sum_by, Option, Some, None, Result, Ok, Err, arith}
 use Rattle.std.specs.Prelude.{IfOk, MatchResult, decimal, option_map}
 use Rattle.std.proofs.lemmas.Fmt.{length-decimal-le}
 use Rattle.std.proofs.lemmas.List.Sums.{sum_by-append}
 use Rattle.answers.specs.Jobs.{HasRecordLimits, RecordAsked}
-use Rattle.answers.specs.declared.answer.Answer.{Answer}
 use Rattle.core_run.specs.Histories.{run_of, HaveEnded, lists_of, entries_in}
 use Rattle.core_run.specs.Machine.{Told}
 use Rattle.core_run.specs.Walks.{WalkIs}
@@ -20,7 +19,7 @@ use Rattle.outcomes.specs.Endings.IsCutOff.{NonePut, OneFailed}
 use Rattle.outcomes.specs.Ends.{stop_of}
 use Rattle.outcomes.specs.Faults.{CrewShelfStops, CrewStops, IsPure}
 use Rattle.outcomes.specs.Outcomes.{answers, behind}
-use Rattle.outcomes.specs.Puts.{Put, ArePut, ArePartlyPut, PutFailed}
+use Rattle.outcomes.specs.Puts.{Put, ArePut, ArePartlyPut}
 use Rattle.outcomes.specs.declared.outcome.Outcome.{Outcome}
 use Rattle.outcomes.specs.declared.stop.Stop.{Stop}
 use Rattle.outcomes.specs.declared.stop.Stop.TheVariants as stop

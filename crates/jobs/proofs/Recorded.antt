@@ -1,7 +1,6 @@
 -- What a run leaves is a recording of its source.
 use Rattle.std.proofs.Common.{◌≡◌, ◌≤◌, refl, sym, ap, ◌∙◌, subst, ℕ, List, [], ◌∷◌, Result, Ok, Err, Option, Some, length}
 use Rattle.std.specs.List.{AllByRecursion}
-use Rattle.std.specs.Prelude.{IfOk, MatchResult}
 use Rattle.answers.specs.Jobs.{RecordAsked, HasRecordLimits}
 use Rattle.answers.specs.declared.answer.Answer.{Answer}
 use Rattle.answers.specs.declared.answer.Part.TheVariants as part

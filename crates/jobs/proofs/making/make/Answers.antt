@@ -2,8 +2,6 @@ use Rattle.std.proofs.Common.{◌≡◌, ◌≤◌, refl, sym, ◌∙◌, subst,
 use Rattle.std.proofs.lemmas.Result.{err_from_is_err_and}
 use Rattle.facts.specs.declared.profile.Profile.TheVariants as profile
 use Rattle.jobs.specs.Sources.{RunsAsSource}
-use Rattle.outcomes.specs.Ends.{stop_of}
-use Rattle.outcomes.specs.declared.stop.Stop.TheVariants as stop
 use Rattle.workload.specs.Program.{program_text}
 use Rattle.jobs.proofs.Found.{same_compile}
 use Rattle.jobs.proofs.Made.{later_ends, made_short, not_made, nothing_put, once_put, source_is_put, source_not_put}
