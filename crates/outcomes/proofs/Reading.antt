@@ -1,5 +1,5 @@
 -- What is read where it has too many bytes.
-use Rattle.std.proofs.Common.{◌≡◌, ◌<◌, ◌≤◌, ◌+◌, refl, sym, subst, ℕ, List, length, Option, Some, None, Err, IfSome, arith}
+use Rattle.std.proofs.Common.{◌≡◌, ◌<◌, ◌+◌, refl, subst, ℕ, List, length, Option, Some, None, Err, IfSome, arith}
 use Rattle.std.specs.Prelude.{replicate}
 use Rattle.std.proofs.lemmas.List.{length-replicate}
 use Rattle.answers.specs.Contents as contents
