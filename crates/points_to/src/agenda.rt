@@ -115,9 +115,14 @@ impl Agenda {
         Ok(())
     }
 
-    /// Takes all constraints that wait.
-    pub fn take(&mut self, alloc: Global) -> Vec<usize> {
-        mem::replace(&mut self.waiting, Vec::new(alloc))
+    /// Takes all constraints that wait, in the order of the text, or from its end.
+    pub fn take(&mut self, alloc: Global, back: bool) -> Result<Vec<usize>, AllocError> {
+        let mut numbers = mem::replace(&mut self.waiting, Vec::new(alloc));
+        numbers.sort()?;
+        if back {
+            numbers.reverse();
+        }
+        Ok(numbers)
     }
 
     /// A constraint is about to be applied.

@@ -359,7 +359,8 @@ fn apply_all(
     Ok(())
 }
 
-/// Does what the constraints that wait ask, until none does. It ends, since a set grows each time that some are let wait.
+/// Does what the constraints that wait ask, until none does, to and fro, so that what is handed on along the text comes far in
+/// one turn. It ends, since a set grows each time that some are let wait.
 fn spread(
     alloc: Global,
     code: &Code,
@@ -374,12 +375,14 @@ fn spread(
     ensures fine { OnOk result (AreFine code.now sets.new) }
 {
     let mut agenda = Agenda::new(alloc, code, constraints, &*sets)?;
+    let mut back = false;
     for _turn in 0..u64::MAX {
-        let numbers = agenda.take(alloc);
+        let numbers = agenda.take(alloc, back)?;
         if numbers.is_empty() {
             return Ok(());
         }
         apply_all(code, constraints, sets, &mut agenda, numbers.as_slice())?;
+        back = !back;
     }
     Ok(())
 }
