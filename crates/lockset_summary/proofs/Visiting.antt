@@ -1,23 +1,19 @@
 -- The search along calls: what each of its steps keeps, and what an order of all functions gives.
-use Rattle.std.proofs.Common.{◌≡◌, ℕ, zero, suc, ◌+◌, ◌<◌, List, [], ◌∷◌, ◌++◌, length, length-set, refl, sym, ap, ◌∙◌, subst, arith, ⊎_elim, Some, Option}
+use Rattle.std.proofs.Common.{◌≡◌, ℕ, zero, suc, ◌+◌, ◌<◌, List, [], ◌∷◌, ◌++◌, length, length-set, refl, sym, ap, ◌∙◌, subst, arith, ⊎_elim, Some}
 use Rattle.std.specs.Prelude.{slice_get, slice_set, slice_index_or}
 use Rattle.std.specs.List.{All, Contains}
-use Rattle.std.specs.Option.{option_to_list}
 use Rattle.std.proofs.lemmas.Bool.{cases_eq}
-use Rattle.std.proofs.lemmas.List.Elements.{All-nil, All-push, All-pop, All-contains, Contains-push, Contains-append_left}
+use Rattle.std.proofs.lemmas.List.Elements.{All-nil, All-push, Contains-push, Contains-append_left}
 use Rattle.std.proofs.lemmas.Option.{same_Some}
 use Rattle.rr_base.proofs.Lists.{slice_get-set_other, slice_get-set_within}
 use Rattle.lockset_summary.specs.declared.visits.Mark.{Mark}
 use Rattle.lockset_summary.specs.declared.visits.Mark.TheVariants.{Unseen, Open, Listed}
 use Rattle.lockset_summary.specs.declared.visits.Search.{Search}
-use Rattle.lockset_summary.specs.Visits.{IsListed, IsOrder, IsSearch}
+use Rattle.lockset_summary.specs.Visits.{IsListed, IsSearch}
 
 -- no mark of these is that of a listed function
 abbrev pub AreUnseen : List Mark → Type 0
 AreUnseen ms = (f : ℕ) → slice_get ms f ≡ Some Listed → ⊥
-
-pub unseen_none : AreUnseen []
-unseen_none f h = cc
 
 pub unseen_more : (ms : List Mark) → AreUnseen ms → AreUnseen (ms ++ Unseen ∷ [])
 unseen_more [] h zero e = cc
@@ -80,18 +76,6 @@ module _ (n : ℕ) (s t : Search) (f : ℕ) (h : IsSearch n s) (lt : f < n) (mar
         (cases_eq g f));
   }
 
--- the path without its last function
-pub shortened : (n : ℕ) (s t : Search) (f : ℕ) → IsSearch n s → s.path ≡ t.path ++ f ∷ [] → t.marks ≡ s.marks → t.order ≡ s.order → IsSearch n t × (f < n)
-shortened n s t f h path marks order = let p = All-pop (λ g. g < n) s.path t.path (Some f) path h.path in (
-  record {
-    long = ap (λ (z : List Mark). length z) marks ∙ h.long;
-    path = p.0;
-    within = subst (All (λ g. g < n)) (sym order) h.within;
-    listed = λ g e. subst (λ z. Contains z g) (sym order) (h.listed g (ap (λ z. slice_get z g) (sym marks) ∙ e));
-  },
-  p.1,
-)
-
 -- ---- an order of all functions
 
 -- where a function stands in the order
@@ -102,12 +86,3 @@ place_in order f c = (c.0, at order c.0 c.1 c.2)
     at [] k lt e = absurd (omega arith)
     at (x ∷ xs) zero lt e = ap Some e
     at (x ∷ xs) (suc k) lt e = at xs k (omega arith) e
-
--- a function of the order is one of those
-pub is_within : (n : ℕ) (order : List ℕ) (k f : ℕ) → IsOrder n order → slice_get order k ≡ Some f → f < n
-is_within n order k f o at = All-contains (λ g. g < n) order f o.within (found order k at)
-  where
-    found : (xs : List ℕ) (k : ℕ) → slice_get xs k ≡ Some f → Contains xs f
-    found [] k e = cc
-    found (x ∷ xs) zero e = (0, omega arith, same_Some x f e)
-    found (x ∷ xs) (suc k) e = let r = found xs k e in (suc r.0, omega (arith, r.1), r.2)
