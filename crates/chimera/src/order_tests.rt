@@ -1,8 +1,8 @@
 use crate::race_tests::{COUNTER, HELD_BY_CALLER};
-use crate::record_tests::with_source;
+use crate::record_tests::{same_log, with_source};
 use crate::tests::{
-    BANK, BEGIN, FIRST, GOES_ON, LAST, LOCK, Outside, SLOTS_8, SOUND, STARTS, UNLOCK, call, joined,
-    shelf_of,
+    BANK, BEGIN, FIRST, GOES_ON, LAST, LOCK, Outside, SLOTS_8, SOUND, STARTS, UNLOCK, check_in,
+    joined, shelf_of,
 };
 use std::test::Fail;
 
@@ -45,20 +45,12 @@ fn records_by_orders(rt: HostRuntime) -> Result<(), Fail> {
     for (words, source, order, text, log) in RECORDS {
         let mut shelf = with_source(alloc, &[source])?;
         let outside = Outside { order, ..SOUND };
-        let (told, status) = call(&rt, alloc, words, &outside, &mut shelf)?;
-        assert_eq!(rt; told.as_slice(), text.as_bytes());
-        assert_eq!(rt; status, 0);
-        if !log.is_empty() {
-            let want = joined(alloc, log)?;
-            let found = shelf.content("l").map(|held| held.as_slice());
-            assert_eq!(rt; found, Some(want.as_slice()));
-        }
+        check_in(&rt, alloc, words, &outside, &mut shelf, (text, 0))?;
+        same_log(&rt, alloc, &shelf, log)?;
         for order in ORDERS {
             let outside = Outside { order, ..SOUND };
             let words = ["replay", "a", "l"];
-            let (told, status) = call(&rt, alloc, &words, &outside, &mut shelf)?;
-            assert_eq!(rt; told.as_slice(), text.as_bytes());
-            assert_eq!(rt; status, 0);
+            check_in(&rt, alloc, &words, &outside, &mut shelf, (text, 0))?;
         }
     }
     Ok(())
@@ -138,9 +130,7 @@ fn names_the_first_wrong_entry_by_any_order(rt: HostRuntime) -> Result<(), Fail>
         for order in ORDERS {
             let outside = Outside { order, ..SOUND };
             let words = ["replay", "a", "b"];
-            let (told, status) = call(&rt, alloc, &words, &outside, &mut shelf)?;
-            assert_eq!(rt; told.as_slice(), text.as_bytes());
-            assert_eq!(rt; status, wanted, "{text}");
+            check_in(&rt, alloc, &words, &outside, &mut shelf, (text, wanted))?;
         }
     }
     Ok(())
@@ -154,9 +144,14 @@ fn tells_when_the_turns_end(rt: HostRuntime) -> Result<(), Fail> {
     let mut shelf = shelf_of(alloc, joined(alloc, &[BANK])?, joined(alloc, &log)?)?;
     for words in [["replay", "a", "b"], ["record", "a", "l"]] {
         let outside = Outside { turns: 24, ..SOUND };
-        let (told, status) = call(&rt, alloc, &words, &outside, &mut shelf)?;
-        assert_eq!(rt; told.as_slice(), "crew fault\n".as_bytes());
-        assert_eq!(rt; status, 10);
+        check_in(
+            &rt,
+            alloc,
+            &words,
+            &outside,
+            &mut shelf,
+            ("crew fault\n", 10),
+        )?;
     }
     assert!(rt; shelf.content("l").is_none());
     Ok(())

@@ -1,12 +1,13 @@
 use crate::race_tests::HELD_BY_CALLER;
 use crate::tests::{
-    BANK, BEGIN, FIRST, GOES_ON, LAST, LOCK, Outside, SLOTS_8, SOUND, STARTS, UNLOCK, call, joined,
+    BANK, BEGIN, FIRST, GOES_ON, LAST, LOCK, Outside, SLOTS_8, SOUND, STARTS, UNLOCK, check_in,
+    joined,
 };
 use rr_base::{Bytes, List, MemShelf};
 use std::alloc::{AllocError, Global};
 use std::test::Fail;
 
-/// What fails of the outside, by the number of its call; a crew fails when its turns are spent.
+/// What fails of the outside: nothing, the call of this number of one of its objects, or the crew after this number of turns.
 #[derive(Clone, Copy)]
 enum Failing {
     Nothing,
@@ -26,13 +27,11 @@ const RACES: &[&str] = &["races", "bank"];
 
 const WEAKEN: &[&str] = &["weaken", "held", "--profile", "p"];
 
-const PROFILE: &[&str] = &["profile", "bank", "log", "r"];
-
 const LOCKS: &str =
     "lock w0 x+0 stripes 1\naccess 4:18 store function h\naccess 6:3 store function f\n";
 
 // Words, what fails, what is told with which status, and whether `l` and `r` are put.
-static ROWS: [(&[&str], Failing, &str, u8, (bool, bool)); 26] = [
+static ROWS: [(&[&str], Failing, &str, u8, (bool, bool)); 22] = [
     (RECORD, Nothing, "20\n", 0, (true, true)),
     (RECORD, Shelf(0), "shelf fault\n", 9, (false, false)),
     (RECORD, Shelf(1), "shelf fault\n", 9, (false, false)),
@@ -55,10 +54,6 @@ static ROWS: [(&[&str], Failing, &str, u8, (bool, bool)); 26] = [
     (WEAKEN, Shelf(0), "shelf fault\n", 9, (false, false)),
     (WEAKEN, Shelf(1), "shelf fault\n", 9, (false, false)),
     (WEAKEN, Write(0), "", 8, (false, false)),
-    (PROFILE, Nothing, "", 0, (false, true)),
-    (PROFILE, Shelf(0), "shelf fault\n", 9, (false, false)),
-    (PROFILE, Shelf(1), "shelf fault\n", 9, (false, false)),
-    (PROFILE, Shelf(2), "shelf fault\n", 9, (false, false)),
 ];
 
 fn shelf_with(alloc: Global, fails: &[u64]) -> Result<MemShelf, AllocError> {
@@ -76,28 +71,43 @@ fn shelf_with(alloc: Global, fails: &[u64]) -> Result<MemShelf, AllocError> {
     Ok(MemShelf::new(held, List::from_slice(alloc, fails)?))
 }
 
+fn number_of(failing: Failing) -> u64 {
+    match failing {
+        Nothing => 0,
+        Read(number) | Shelf(number) | Write(number) | CrewAfter(number) => number,
+    }
+}
+
+// The outside but for the shelf, where a call of this number fails.
+fn outside_of<'a>(failing: Failing, number: &'a [u64]) -> Outside<'a> {
+    match failing {
+        Nothing | Shelf(_) => SOUND,
+        Read(_) => Outside {
+            read_fails: number,
+            ..SOUND
+        },
+        Write(_) => Outside {
+            write_fails: number,
+            ..SOUND
+        },
+        CrewAfter(turns) => Outside { turns, ..SOUND },
+    }
+}
+
 // Each call that a job makes outside fails in turn: what was put before stays, and nothing is put behind it.
 #[test]
 fn tells_each_fault_of_the_outside(rt: HostRuntime) -> Result<(), Fail> {
     let alloc = rt.alloc();
     for (words, failing, text, wanted, puts) in ROWS {
-        let numbers = match failing {
-            Read(number) | Shelf(number) | Write(number) => [number],
-            Nothing | CrewAfter(_) => [0],
+        let number = [number_of(failing)];
+        let shelf_fails: &[u64] = if matches!(failing, Shelf(_)) {
+            &number
+        } else {
+            &[]
         };
-        let mut outside = SOUND;
-        let mut shelf_fails: &[u64] = &[];
-        match failing {
-            Nothing => {}
-            Read(_) => outside.read_fails = &numbers,
-            Shelf(_) => shelf_fails = &numbers,
-            Write(_) => outside.write_fails = &numbers,
-            CrewAfter(turns) => outside.turns = turns,
-        }
         let mut shelf = shelf_with(alloc, shelf_fails)?;
-        let (told, status) = call(&rt, alloc, words, &outside, &mut shelf)?;
-        assert_eq!(rt; told.as_slice(), text.as_bytes());
-        assert_eq!(rt; status, wanted, "{text}");
+        let outside = outside_of(failing, &number);
+        check_in(&rt, alloc, words, &outside, &mut shelf, (text, wanted))?;
         let held = (shelf.content("l").is_some(), shelf.content("r").is_some());
         assert_eq!(rt; held, puts, "{text}");
     }

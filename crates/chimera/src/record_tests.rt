@@ -1,7 +1,7 @@
 use crate::race_tests::{COUNTER, HELD_BY_CALLER};
 use crate::tests::{
     BANK, DIVIDES, ECHOES, FIRST, IDLE, INPUT_HI, MISUSE, NO_POINTER, NONE_LEFT, Outside, PASSES,
-    SLOTS_1, SLOTS_3, SLOTS_8, SOUND, WAITS, call, joined, shelf_of,
+    SLOTS_1, SLOTS_3, SLOTS_8, SOUND, WAITS, call, check_in, joined, shelf_of,
 };
 use rr_base::{Bytes, MemShelf};
 use std::alloc::Global;
@@ -88,7 +88,12 @@ pub fn with_source(alloc: Global, source: &[&str]) -> Result<MemShelf, Fail> {
     )?)
 }
 
-fn same_log(rt: &impl Abort, alloc: Global, shelf: &MemShelf, log: &[&str]) -> Result<(), Fail> {
+pub fn same_log(
+    rt: &impl Abort,
+    alloc: Global,
+    shelf: &MemShelf,
+    log: &[&str],
+) -> Result<(), Fail> {
     let want = joined(alloc, log)?;
     let found = shelf.content("l").map(|held| held.as_slice());
     if log.is_empty() {
@@ -111,9 +116,7 @@ fn records_and_replays(rt: HostRuntime) -> Result<(), Fail> {
             ..SOUND
         };
         for words in [words, &["replay", "a", "l"]] {
-            let (told, found) = call(&rt, alloc, words, &outside, &mut shelf)?;
-            assert_eq!(rt; told.as_slice(), text.as_bytes());
-            assert_eq!(rt; found, status, "{text}");
+            check_in(&rt, alloc, words, &outside, &mut shelf, (text, status))?;
             same_log(&rt, alloc, &shelf, log)?;
         }
     }

@@ -1,6 +1,6 @@
 use crate::order_tests::ORDERS;
 use crate::record_tests::with_source;
-use crate::tests::{Outside, SOUND, call};
+use crate::tests::{Outside, SOUND, check_in};
 use std::test::Fail;
 
 // Two threads that run `f`, and what `main` does behind them.
@@ -71,13 +71,9 @@ fn keeps_regions_by_any_order(rt: HostRuntime) -> Result<(), Fail> {
         for order in ORDERS {
             let mut shelf = with_source(alloc, &[HEAD, body, MAIN])?;
             let outside = Outside { order, ..SOUND };
-            let (told, status) = call(&rt, alloc, &record, &outside, &mut shelf)?;
-            assert_eq!(rt; told.as_slice(), text.as_bytes());
-            assert_eq!(rt; status, wanted, "{text}");
-            let words = ["replay", "a", "l"];
-            let (told, status) = call(&rt, alloc, &words, &SOUND, &mut shelf)?;
-            assert_eq!(rt; told.as_slice(), text.as_bytes());
-            assert_eq!(rt; status, wanted, "{text}");
+            for words in [&record[..], &["replay", "a", "l"]] {
+                check_in(&rt, alloc, words, &outside, &mut shelf, (text, wanted))?;
+            }
         }
     }
     Ok(())

@@ -525,7 +525,23 @@ pub fn call(
     Ok((out.bytes().copied(alloc)?, status))
 }
 
-/// Calls with these words over a sink that fails at these calls, and compares what is told.
+/// Calls with these words, and compares what is told and the status.
+pub fn check_in(
+    rt: &(impl Abort + Threads + Wait + Sync),
+    alloc: Global,
+    words: &[&str],
+    outside: &Outside,
+    shelf: &mut MemShelf,
+    want: (&str, u8),
+) -> Result<(), Fail> {
+    let (told, status) = call(rt, alloc, words, outside, shelf)?;
+    let (text, wanted) = want;
+    assert_eq!(rt; told.as_slice(), text.as_bytes());
+    assert_eq!(rt; status, wanted, "{text}");
+    Ok(())
+}
+
+/// The same over a sink that fails at these calls.
 pub fn check(
     rt: &(impl Abort + Threads + Wait + Sync),
     alloc: Global,
@@ -538,11 +554,7 @@ pub fn check(
         write_fails: fails,
         ..SOUND
     };
-    let (told, status) = call(rt, alloc, words, &outside, shelf)?;
-    let (text, wanted) = want;
-    assert_eq!(rt; told.as_slice(), text.as_bytes());
-    assert_eq!(rt; status, wanted);
-    Ok(())
+    check_in(rt, alloc, words, &outside, shelf, want)
 }
 
 static REPLAY: [&str; 3] = ["replay", "a", "b"];
