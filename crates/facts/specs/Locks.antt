@@ -1,4 +1,4 @@
--- Relative locksets (RELAY, Voung, Jhala and Lerner 2007): which locks a function holds at each of its points beside those
+-- Relative locksets: which locks a function holds at each of its points beside those
 -- that its caller held at its entry, and which it may have given back.
 use Rattle.std.specs.Prelude.{◌≡◌, ℕ, ◌+◌, nat_lt, ◌==◌, ◌&&◌, ◌||◌, Bool, true, false, not, if◌then◌else◌, List, [], ◌∷◌, map, length, Option, Some, None, slice_get}
 use Rattle.std.specs.List.{list_all, list_any, filter, Contains}

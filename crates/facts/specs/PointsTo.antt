@@ -1,5 +1,5 @@
--- Where pointers may point, whatever the order in which a code's instructions run (inclusion-based points-to analysis,
--- Andersen 1994). Each register, and the cells of each place, have a set of places. The sets are the least ones that meet
+-- Where pointers may point, whatever the order in which a code's instructions run (an inclusion-based points-to analysis).
+-- Each register, and the cells of each place, have a set of places. The sets are the least ones that meet
 -- the constraints of the code.
 use Rattle.std.specs.Prelude.{◌≡◌, ◌↔◌, ℕ, ◌+◌, ◌%◌, ◌<◌, ◌==◌, nat_lt, ◌&&◌, ◌||◌, Bool, true, false, if◌then◌else◌, ℤ, pos, ◌+ℤ◌, ◌*ℤ◌, List, [], ◌∷◌, ◌++◌, length, take, drop, slice_get, slice_index_or, unsigned_abs, Option, Some, None}
 use Rattle.std.specs.Int.{int_rem_euclid}

@@ -1,4 +1,4 @@
-//! Relative locksets (RELAY, Voung, Jhala and Lerner 2007): the locks at all points of a function, where the exits of
+//! Relative locksets: the locks at all points of a function, where the exits of
 //! those that it calls are given. They are the greatest solution, found by rounds over the instructions. It stands on
 //! `rr_base`, `flow_code` and `facts`.
 #![tactic(auto)]
