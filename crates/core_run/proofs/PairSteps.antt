@@ -1,6 +1,6 @@
 -- One step of a Take along the numbers of the stripes that it wants.
 use Rattle.std.proofs.Common.{◌≡◌, ℕ, ◌+◌, ◌-◌, ◌<◌, Bool, true, false, List, [], ◌∷◌, ◌++◌, refl, sym, ap, ◌∙◌}
-use Rattle.flow_code.specs.Stripes.{stripe_of, and_stripe, stripes_from}
+use Rattle.flow_code.specs.Stripes.{and_stripe, stripes_from}
 use Rattle.flow_code.proofs.Counting.{stripes_step}
 
 added : (b : Bool) (xs : List (ℕ × ℕ)) (k : ℕ) (rest : List (ℕ × ℕ)) → (xs ++ and_stripe b k []) ++ rest ≡ xs ++ and_stripe b k rest

@@ -1,4 +1,4 @@
-use Rattle.std.proofs.Common.{◌≡◌, ap, ◌∙◌, filter}
+use Rattle.std.proofs.Common.{ap, ◌∙◌, filter}
 use Rattle.std.specs.Prelude.{slice_get}
 use Rattle.flow_code.specs.Threads.{OpenRegion}
 use Rattle.flow_code.specs.Holding.{number_of_pair, is_listed, with_pairs}
