@@ -1,3 +1,4 @@
 pub mod First
 pub mod Keyed
 pub mod Lengths
+mod LibraryNames
