@@ -1,4 +1,5 @@
 pub mod ByName
+pub mod Counted
 pub mod Parts
 pub mod Starts
 pub mod Tables

@@ -125,13 +125,17 @@ abbrev pub with_fields : Known → Members → List Fields → Members
 with_fields known ms [] = ms
 with_fields known ms (fields s ds at ∷ fs) = with_fields known (with_members known s ms ds) fs
 
--- the cells of members of these types, one after another
-abbrev pub cells_of_all : Known → List (Option ObjectType) → ℕ
-cells_of_all known [] = 0
-cells_of_all known (t ∷ ts) = cells_of_some known t + cells_of_all known ts
+-- the cells of what one specifier declares, also where a name is declared twice
+abbrev pub declared_cells : Known → Specifier → List Declared → ℕ
+declared_cells known s [] = 0
+declared_cells known s (d ∷ ds) = cells_of_some known (declared_type known s d) + declared_cells known s ds
+
+abbrev pub fields_cells : Known → List Fields → ℕ
+fields_cells known [] = 0
+fields_cells known (fields s ds at ∷ fs) = declared_cells known s ds + fields_cells known fs
 
 abbrev pub struct_cells : Known → List Fields → ℕ
-struct_cells known fs = counted_cells (cells_of_all known (members_of (Some (with_fields known [] fs))))
+struct_cells known fs = counted_cells (fields_cells known fs)
 
 abbrev pub is_numbered_below : ℕ → Option ℕ → Bool
 is_numbered_below many None = false

@@ -1,7 +1,7 @@
 //! The definitions of structs (C99 6.7.2.1), and which rules they break.
 #![tactic(auto, using(c_types::proofs::First::first_of_both))]
 
-ghost use Rattle.std.specs.Prelude.{◌≡◌, [], map, OnOk};
+ghost use Rattle.std.specs.Prelude.{◌≡◌, ◌≤◌, ◌+◌, map, OnOk};
 ghost use Rattle.c_tree.specs.View.{declared_of, fields_of};
 ghost use Rattle.c_programs.specs.Declarators as spec;
 ghost use Rattle.c_types.specs.Found.{first_among};
@@ -17,22 +17,43 @@ use c_types::{FaultKind, Found, MAX_CELLS, Names, ObjectType, TypeRef, note};
 use indexmap::IndexMap;
 use std::alloc::{AllocError, Global};
 
+/// What the declarations of a struct come to: its members, and the cells of all that is declared, up to one more than an object may
+/// have.
+#[derive(Drop)]
+pub(crate) struct Content<'a> {
+    pub members: Members<'a>,
+    pub cells: u32,
+}
+
+/// How many cells an object has; none where its type isn't known.
+pub fn cells_of_some<N: Names>(names: &N, of: &Option<ObjectType>) -> u32
+    ensures { result ≡ scopes.cells_of_some (N.known names.now) of.now }
+{
+    match of {
+        Some(of) => names.cells_of(TypeRef::of(of)),
+        None => 0,
+    }
+}
+
 /// Adds a member behind those that are there, and notes what is wrong with it.
 fn note_member<'a, N: Names>(
     alloc: Global,
     names: &N,
     specifier: &Specifier,
-    members: &mut Members<'a>,
+    content: &mut Content<'a>,
     declarator: &'a Declarator,
     first: &mut Option<Found>,
 ) -> Result<(), AllocError>
-    ensures members { OnOk result (shown_members members.new.entries ≡ spec.with_member (N.known names.now) specifier.now (shown_members members.old.entries) (declared_of declarator.now)) }
-    ensures first { OnOk result (first.new ≡ first_among first.old (spec.one_member_faults (N.known names.now) specifier.now (shown_members members.old.entries) (declared_of declarator.now))) }
+    requires { content.old.cells ≤ scopes.most_cells + 1 }
+    ensures members { OnOk result (shown_members content.new.members.entries ≡ spec.with_member (N.known names.now) specifier.now (shown_members content.old.members.entries) (declared_of declarator.now)) }
+    ensures cells { OnOk result (content.new.cells ≡ scopes.counted_cells (content.old.cells + scopes.cells_of_some (N.known names.now) (spec.declared_type (N.known names.now) specifier.now (declared_of declarator.now)))) }
+    ensures first { OnOk result (first.new ≡ first_among first.old (spec.one_member_faults (N.known names.now) specifier.now (shown_members content.old.members.entries) (declared_of declarator.now))) }
 {
     let name = &declarator.name;
     note_declarator(names, specifier, declarator, first);
     let of = declared_type(alloc, names, specifier, declarator)?;
-    let is_there = add_member(members, name.text.as_slice(), of)?;
+    content.cells = (content.cells + cells_of_some(names, &of)).min(MAX_CELLS + 1);
+    let is_there = add_member(&mut content.members, name.text.as_slice(), of)?;
     note(
         first,
         is_there,
@@ -47,15 +68,17 @@ fn note_member<'a, N: Names>(
 fn note_some_members<'a, N: Names>(
     alloc: Global,
     names: &N,
-    members: &mut Members<'a>,
+    content: &mut Content<'a>,
     some: &'a Member,
     first: &mut Option<Found>,
 ) -> Result<(), AllocError>
-    ensures members { OnOk result (shown_members members.new.entries ≡ spec.with_members (N.known names.now) some.now.specifier (shown_members members.old.entries) (map declared_of some.now.declarators)) }
-    ensures first { OnOk result (first.new ≡ first_among first.old (spec.some_members_faults (N.known names.now) some.now.specifier (shown_members members.old.entries) (map declared_of some.now.declarators))) }
+    requires { content.old.cells ≤ scopes.most_cells + 1 }
+    ensures members { OnOk result (shown_members content.new.members.entries ≡ spec.with_members (N.known names.now) some.now.specifier (shown_members content.old.members.entries) (map declared_of some.now.declarators)) }
+    ensures cells { OnOk result (content.new.cells ≡ scopes.counted_cells (content.old.cells + spec.declared_cells (N.known names.now) some.now.specifier (map declared_of some.now.declarators))) }
+    ensures first { OnOk result (first.new ≡ first_among first.old (spec.some_members_faults (N.known names.now) some.now.specifier (shown_members content.old.members.entries) (map declared_of some.now.declarators))) }
 {
     for declarator in some.declarators.as_slice() {
-        note_member(alloc, names, &some.specifier, members, declarator, first)?;
+        note_member(alloc, names, &some.specifier, content, declarator, first)?;
     }
     Ok(())
 }
@@ -64,39 +87,19 @@ fn note_some_members<'a, N: Names>(
 fn note_fields<'a, N: Names>(
     alloc: Global,
     names: &N,
-    members: &mut Members<'a>,
+    content: &mut Content<'a>,
     fields: &'a [Member],
     first: &mut Option<Found>,
 ) -> Result<(), AllocError>
-    ensures members { OnOk result (shown_members members.new.entries ≡ spec.with_fields (N.known names.now) (shown_members members.old.entries) (map fields_of fields.now)) }
-    ensures first { OnOk result (first.new ≡ first_among first.old (spec.fields_faults (N.known names.now) (shown_members members.old.entries) (map fields_of fields.now))) }
+    requires { content.old.cells ≤ scopes.most_cells + 1 }
+    ensures members { OnOk result (shown_members content.new.members.entries ≡ spec.with_fields (N.known names.now) (shown_members content.old.members.entries) (map fields_of fields.now)) }
+    ensures cells { OnOk result (content.new.cells ≡ scopes.counted_cells (content.old.cells + spec.fields_cells (N.known names.now) (map fields_of fields.now))) }
+    ensures first { OnOk result (first.new ≡ first_among first.old (spec.fields_faults (N.known names.now) (shown_members content.old.members.entries) (map fields_of fields.now))) }
 {
     for some in fields {
-        note_some_members(alloc, names, members, some, first)?;
+        note_some_members(alloc, names, content, some, first)?;
     }
     Ok(())
-}
-
-/// How many cells an object has; none where its type isn't known.
-pub fn cells_of_some<N: Names>(names: &N, of: &Option<ObjectType>) -> u32
-    ensures { result ≡ scopes.cells_of_some (N.known names.now) of.now }
-{
-    match of {
-        Some(of) => names.cells_of(TypeRef::of(of)),
-        None => 0,
-    }
-}
-
-/// The cells of a struct with these members.
-fn struct_cells<N: Names>(names: &N, members: &Members) -> u32
-    ensures { result ≡ scopes.counted_cells (spec.cells_of_all (N.known names.now) (scopes.members_of (Some (shown_members members.now.entries)))) }
-{
-    let mut cells = 0;
-    let types = members.values();
-    for of in types.as_slice() {
-        cells = (cells + cells_of_some(names, of)).min(MAX_CELLS + 1);
-    }
-    cells
 }
 
 /// Whether the struct is defined before the place.
@@ -128,9 +131,12 @@ pub fn note_struct<'a>(
         name.line,
         name.column,
     );
-    let mut members = IndexMap::new(alloc);
-    note_fields(alloc, table, &mut members, fields, first)?;
-    let cells = struct_cells(table, &members);
+    let mut content = Content {
+        members: IndexMap::new(alloc),
+        cells: 0,
+    };
+    note_fields(alloc, table, &mut content, fields, first)?;
+    let Content { members, cells } = content;
     note_size(cells, name, first);
     if is_defined {
         return Ok(());

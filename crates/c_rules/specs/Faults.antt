@@ -118,7 +118,7 @@ is_indirect _ = false
 abbrev pub can_be_place : Known → Exp → Bool
 can_be_place known (prefix op a at) = is_indirect op
 can_be_place known (index a b at) = true
-can_be_place known (member a name at) = true
+can_be_place known (member a name at) = can_be_place known a
 can_be_place known (arrow a name at) = true
 can_be_place known (named name at) = name_can_be_place (seen known name) name
 can_be_place known (paren a at) = can_be_place known a

@@ -150,7 +150,8 @@ pub fn can_be_place<N: Names>(names: &N, e: &Expr) -> bool
 {
     match e {
         Expr::Prefix { op, .. } => is_indirect(*op),
-        Expr::Index { .. } | Expr::Member { .. } | Expr::Arrow { .. } => true,
+        Expr::Index { .. } | Expr::Arrow { .. } => true,
+        Expr::Member { base, .. } => can_be_place(names, base),
         Expr::Name { name, .. } => {
             name_can_be_place(names.seen(name.as_slice()), name.as_slice())
         }

@@ -201,7 +201,7 @@ static STRUCTS: [(&[u8], &str); 29] = [
 ];
 
 // Lengths, and the sizes of objects.
-static ARRAYS: [(&[u8], &str); 25] = [
+static ARRAYS: [(&[u8], &str); 26] = [
     (b"int n; int a[n]; int main(void){return 0;}", "19 1:14"),
     (b"int a[3]; int main(void){return 0;}", "sound"),
     (b"int a[0]; int main(void){return 0;}", "11 1:5"),
@@ -233,6 +233,11 @@ static ARRAYS: [(&[u8], &str); 25] = [
     (
         b"struct s {int a[65535];}; int main(void){return 0;}",
         "sound",
+    ),
+    // The cells are those of all that is declared, and the struct's name stands before the doubled member.
+    (
+        b"struct s {int a; int a[65535];}; int main(void){return 0;}",
+        "16 1:8",
     ),
     (b"int main(void){int a[65536]; return 0;}", "16 1:20"),
     (
@@ -401,7 +406,7 @@ static OPERATORS: [(&[u8], &str); 40] = [
 ];
 
 // Assignments, casts, places.
-static ASSIGNMENTS: [(&[u8], &str); 40] = [
+static ASSIGNMENTS: [(&[u8], &str); 42] = [
     (b"p = x ? p : 0", "sound"),
     (b"x = t ? 1 : 2", "11 2:22"),
     (b"x = p", "11 2:18"),
@@ -439,15 +444,18 @@ static ASSIGNMENTS: [(&[u8], &str); 40] = [
     (b"p = &(x)", "sound"),
     (b"p = &a[1]", "sound"),
     (b"p = &f(1)", "12 2:20"),
+    (b"p = &f(1).m", "12 2:20"),
+    (b"p = &(*u).m", "sound"),
     (b"p = &(y + 1)", "12 2:20"),
     (b"x++", "sound"),
     (b"++p", "sound"),
 ];
 
 // Values, names and texts.
-static VALUES: [(&[u8], &str); 39] = [
+static VALUES: [(&[u8], &str); 40] = [
     (b"v++", "11 2:17"),
     (b"++5", "12 2:16"),
+    (b"++f.m", "12 2:16"),
     (b"a++", "11 2:17"),
     (b"5++", "12 2:17"),
     (b"1 = 2", "12 2:18"),

@@ -14,11 +14,11 @@ use Rattle.c_types.specs.Types.{members_kinds, kinds_after, struct_kinds}
 use Rattle.c_types.specs.Found.{where_it_comes}
 use Rattle.c_rules.specs.Faults.{name_place}
 use Rattle.c_types.specs.Scopes.{Known, Members, members_of, with_name, counted_cells, cells_of_type, cells_of_some}
-use Rattle.c_programs.specs.Declarators.{declared_type, declared_name, declarator_faults, has_member, one_member_faults, with_member, some_members_faults, with_members, fields_faults, with_fields, cells_of_all, struct_cells, is_struct_defined, struct_faults, size_faults, is_too_large, after_struct}
+use Rattle.c_programs.specs.Declarators.{declared_type, declared_name, declarator_faults, has_member, one_member_faults, with_member, some_members_faults, with_members, fields_faults, with_fields, declared_cells, fields_cells, struct_cells, is_struct_defined, struct_faults, size_faults, is_too_large, after_struct}
 use Rattle.c_sites.specs.Spots.{types_of_members}
 use Rattle.source_sound.proofs.Environment.{IsFormed}
 use Rattle.source_sound.proofs.FileLists.{append_nil, nil3, where_nil}
-use Rattle.source_sound.proofs.Structs.{IsWithin, small_parts, elements_of, after_parts, after_more, kinds_before, AreSized, cells_are, all_exact}
+use Rattle.source_sound.proofs.Structs.{IsWithin, small_parts, elements_of, after_parts, after_more, kinds_before, AreSized, cells_are, cells_of_all, all_exact}
 use Rattle.source_sound.specs.Members.{HaveMembers}
 use Rattle.source_sound.proofs.DeclaredTypes.{AreDeclarable, declared_known, declared_formed, declared_within}
 
@@ -118,8 +118,8 @@ module _ (known : Known) (sized : AreSized known (kinds_known known)) where
       times (suc m) zero h g = absurd (omega (arith, g))
       times (suc m) (suc n) h g = omega arith
 
-  declared_cells : (s : Specifier) (d : Declared) → declarator_faults known s d ≡ [] → 1 ≤ cells_of_some known (declared_type known s d)
-  declared_cells s d h = let t = declared_known known s d h in subst (λ o. 1 ≤ cells_of_some known o) (sym t.1) (type_cells t.0 (declared_within known t.0 t.2))
+  some_declared : (s : Specifier) (d : Declared) → declarator_faults known s d ≡ [] → 1 ≤ cells_of_some known (declared_type known s d)
+  some_declared s d h = let t = declared_known known s d h in subst (λ o. 1 ≤ cells_of_some known o) (sym t.1) (type_cells t.0 (declared_within known t.0 t.2))
 
   fields_sized : (fs : List Fields) → HaveMembers fs → fields_faults known [] fs ≡ [] → HasSized known (with_fields known [] fs)
   fields_sized [] h e = absurd h
@@ -128,7 +128,41 @@ module _ (known : Known) (sized : AreSized known (kinds_known known)) where
       let a = append_nil (some_members_faults known s [] (d ∷ ds)) (fields_faults known (with_members known s [] (d ∷ ds)) fs) e in
       let b = append_nil (one_member_faults known s [] d) (some_members_faults known s (with_member known s [] d) ds) a.0 in
       let c = append_nil (declarator_faults known s d) (where_it_comes (has_member [] (declared_name d).text) fault.DuplicateName (name_place (declared_name d))) b.0 in
-      fields_kept known (with_members known s [] (d ∷ ds)) fs (some_kept known s (with_member known s [] d) ds (begins known s d (declared_cells s d c.0)))
+      fields_kept known (with_members known s [] (d ∷ ds)) fs (some_kept known s (with_member known s [] d) ds (begins known s d (some_declared s d c.0)))
+
+-- ---- the cells of all that is declared are those of the members, where no name is declared twice
+
+all_parts : (known : Known) (xs ys : List (Option ObjectType)) → cells_of_all known (xs ++ ys) ≡ cells_of_all known xs + cells_of_all known ys
+all_parts known [] ys = omega arith
+all_parts known (t ∷ ts) ys = let more = all_parts known ts ys in omega (arith, more)
+
+-- the cells of the members
+abbrev cells_in : Known → Members → ℕ
+cells_in known ms = cells_of_all known (members_of (Some ms))
+
+one_counted : (known : Known) (s : Specifier) (ms : Members) (d : Declared) → has_member ms (declared_name d).text ≡ false → cells_in known (with_member known s ms d) ≡ cells_in known ms + cells_of_some known (declared_type known s d)
+one_counted known s ms d h =
+    let one : Members = ((declared_name d).text, declared_type known s d) ∷ [] in
+    let is = ap (λ b. cells_in known (if b then ms else ms ++ one)) h in
+    let parts = ap (λ ts. cells_of_all known ts) (map-append (λ (m : Text × Option ObjectType). m.1) ms one) ∙ all_parts known (members_of (Some ms)) (members_of (Some one)) in
+    omega (arith, is, parts)
+
+some_counted : (known : Known) (s : Specifier) (ms : Members) (ds : List Declared) → some_members_faults known s ms ds ≡ [] → cells_in known (with_members known s ms ds) ≡ cells_in known ms + declared_cells known s ds
+some_counted known s ms [] h = omega arith
+some_counted known s ms (d ∷ ds) h =
+    let a = append_nil (one_member_faults known s ms d) (some_members_faults known s (with_member known s ms d) ds) h in
+    let b = append_nil (declarator_faults known s d) (where_it_comes (has_member ms (declared_name d).text) fault.DuplicateName (name_place (declared_name d))) a.0 in
+    let one = one_counted known s ms d (where_nil _ _ _ b.1) in
+    let more = some_counted known s (with_member known s ms d) ds a.1 in
+    omega (arith, one, more)
+
+fields_counted : (known : Known) (ms : Members) (fs : List Fields) → fields_faults known ms fs ≡ [] → cells_in known (with_fields known ms fs) ≡ cells_in known ms + fields_cells known fs
+fields_counted known ms [] h = omega arith
+fields_counted known ms (fields s ds at ∷ fs) h =
+    let a = append_nil (some_members_faults known s ms ds) (fields_faults known (with_members known s ms ds) fs) h in
+    let some = some_counted known s ms ds a.0 in
+    let more = fields_counted known (with_members known s ms ds) fs a.1 in
+    omega (arith, some, more)
 
 -- ---- one struct more
 
@@ -180,11 +214,12 @@ struct_known known name fs some h g =
     let a = nil3 (where_it_comes (is_struct_defined known name.text) fault.DuplicateName (name_place name)) (fields_faults known [] fs) (size_faults (struct_cells known fs) name) h in
     let few = small_enough (struct_cells known fs) (where_nil _ _ _ a.2) in
     let ms = with_fields known [] fs in
-    let count = exact_count (cells_of_all known (members_of (Some ms))) few in
-    let exact = all_exact known (kinds_known known) g.sized (members_of (Some ms)) (omega (arith, count, few)) in
+    let count = exact_count (fields_cells known fs) few in
+    let all : fields_cells known fs ≡ cells_in known ms = (let it = fields_counted known [] fs a.1 in omega (arith, it)) in
+    let exact = all_exact known (kinds_known known) g.sized (members_of (Some ms)) (omega (arith, count, all, few)) in
     let any = some_cells known ms (fields_sized known g.sized fs some a.1) in
     let made : AreStructs (with_struct known ms (struct_cells known fs)) = record {
-      sized = struct_sized known ms (struct_cells known fs) g.sized (count ∙ exact) (omega (arith, any, count)) few;
+      sized = struct_sized known ms (struct_cells known fs) g.sized (count ∙ all ∙ exact) (omega (arith, any, count, all)) few;
       members = let e : 0 + length known.structs ≡ length known.structs = omega arith in one_more (length known.struct_names) 0 known.structs ms g.members (subst (λ i. AreMembers (length known.struct_names) i ms) (sym e) (fields_with known [] fs a.1 tt));
     } in
     subst (λ k. AreStructs k) (sym (struct_defined known name fs h).1) made

@@ -11,8 +11,7 @@ use Rattle.c_types.specs.declared.types.Layer.{Layer}
 use Rattle.c_types.specs.declared.types.Layer.TheVariants as layer
 use Rattle.c_types.specs.declared.types.ObjectType.{ObjectType}
 use Rattle.c_types.specs.Types.{repeated, base_kinds, layered_kinds, kinds_of_type, layered_element, layout_of_type, members_kinds, kinds_after, base_size, layered_size, size_of_type}
-use Rattle.c_types.specs.Scopes.{Known, cells_of_type}
-use Rattle.c_programs.specs.Declarators.{cells_of_all}
+use Rattle.c_types.specs.Scopes.{Known, cells_of_type, cells_of_some}
 use Rattle.c_sites.specs.Spots.{known_types, is_laid_out, layout_by, empty_layout}
 use Rattle.source_sound.proofs.Environment.{IsFormedBase, IsFormedLayered}
 
@@ -197,6 +196,11 @@ pub record AreSized (known : Known) (ks : List (List CellKind)) : Type 0 where
   pub sizes : known.sizes ≡ map (λ x. length x) ks
   pub small : AreSmall ks
   pub many : length ks ≡ length known.structs
+
+-- the cells of objects of these types, one after another
+abbrev pub cells_of_all : Known → List (Option ObjectType) → ℕ
+cells_of_all known [] = 0
+cells_of_all known (t ∷ ts) = cells_of_some known t + cells_of_all known ts
 
 module _ (known : Known) (ks : List (List CellKind)) (sized : AreSized known ks) where
   pub size_is : (t : ObjectType) → size_of_type known.sizes t ≡ length (kinds_of_type ks t)
