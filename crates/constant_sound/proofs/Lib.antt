@@ -1,0 +1,6 @@
+mod Arithmetic
+mod Operands
+mod Trees
+mod Expressions
+mod Once
+mod Rows

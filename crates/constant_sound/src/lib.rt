@@ -1,0 +1,8 @@
+//! The value of a constant expression is what its core tree gives when it runs. Numbers stand twice below: `c_types` folds
+//! constants of a source over whole numbers, and `abstract_machine` computes on words. This crate joins the two. It stands on
+//! `c_elaborate`.
+#![tactic(auto)]
+
+mod laws;
+
+pub use laws::{law_constant, law_one_value, law_operator, law_prefix};
