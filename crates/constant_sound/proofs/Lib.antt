@@ -3,4 +3,5 @@ mod Operands
 mod Trees
 mod Expressions
 mod Once
+mod Refused
 mod Rows

@@ -8,7 +8,7 @@ use Rattle.c_types.specs.Numbers.{Computed}
 use Rattle.c_core.specs.Core as core
 use Rattle.c_core.specs.Core.{Program}
 use Rattle.c_core.specs.Meaning.{Calls, start}
-use Rattle.c_core.specs.Runs.{M, Run, traps, ends, result_at}
+use Rattle.c_core.specs.Runs.{M, Run, traps, ends, pure, result_at}
 use Rattle.constant_sound.specs.Running.{worded, fit, Computes}
 use Rattle.constant_sound.proofs.Arithmetic.{number_word}
 
@@ -35,6 +35,11 @@ module _ (p : Program) (s : SetupView) (t : ℕ) (calls : Calls) where
   one (Ok m) (Err k) l l' hc hd e = no_end k l' (ap over e)
   one (Err k) (Ok n) l l' hc hd e = no_end k l (sym (ap over e))
   one (Err k) (Err k') l l' hc hd e = ap Err (same_kind k k' l l' (ap over e))
+
+  -- a word is no trap
+  pub never_traps : {A : Type 0} (w : ℕ) (kind : Trap) (line : ℕ) → pure w ≡ result_at line (Err kind) → A
+  unfolding over
+  never_traps w kind line e = no_end kind line (ap over e)
 
   pub one_value : (e : core.Exp) (c d : Computed) → fit c ≡ true → fit d ≡ true → Computes p s t calls e c → Computes p s t calls e d → c ≡ d
   one_value e c d hc hd h i = one c d h.0 i.0 hc hd (sym h.1 ∙ i.1)

@@ -1,5 +1,5 @@
 //! The laws of constants.
-ghost use Rattle.std.specs.Prelude.{◌≡◌, ℕ, ℤ, true, false, Ok};
+ghost use Rattle.std.specs.Prelude.{◌≡◌, ◌↔◌, ℕ, ℤ, true, false, [], Ok};
 ghost use Rattle.sync_objects.specs.Setup.{SetupView};
 ghost use Rattle.abstract_machine.specs.Values.{word, binary_of};
 ghost use Rattle.c_tree.specs.Tree.{Exp};
@@ -8,10 +8,11 @@ ghost use Rattle.c_tree.specs.declared.expr.PrefixOp.TheVariants as prefix_op;
 ghost use Rattle.c_types.specs.Numbers.{Computed, fits, computed, prefixed};
 ghost use Rattle.c_types.specs.Constants.{is_constant};
 ghost use Rattle.c_types.specs.Scopes.{Known};
-ghost use Rattle.c_rules.specs.Sizes.{value_here};
+ghost use Rattle.c_rules.specs.Sizes.{value_here, is_sound, constant_faults};
 ghost use Rattle.c_core.specs.Core as core;
 ghost use Rattle.c_core.specs.Core.{Program};
-ghost use Rattle.c_core.specs.Meaning.{Calls, unary_of};
+ghost use Rattle.c_core.specs.Meaning.{Calls, unary_of, value};
+ghost use Rattle.c_core.specs.Runs.{pure};
 ghost use Rattle.c_core.specs.declared.value.UnaryOp.TheVariants as unary_op;
 ghost use Rattle.c_elaborate.specs.Here.{Here};
 ghost use Rattle.c_elaborate.specs.Operators.{flow_operator};
@@ -59,4 +60,15 @@ pub fn law_constant()
         literals_fit e ≡ true →
         Computes p setup t calls (value_of h e) (value_here h.known e) }
     ensures fits { (known : Known) (e : Exp) → is_constant e ≡ true → literals_fit e ≡ true → fit (value_here known e) ≡ true }
+{}
+
+/// Where a source must have a constant, as for the length of an array, one that breaks no other rule is refused just where its
+/// core tree as it is written would trap.
+pub fn law_refused()
+    ensures { (p : Program) (setup : SetupView) (t : ℕ) (calls : Calls) (h : Here) (e : Exp) →
+        HidesNoConstant h.known →
+        is_constant e ≡ true →
+        literals_fit e ≡ true →
+        is_sound h.known e ≡ true →
+        (constant_faults h.known e ≡ []) ↔ ((w : ℕ) × (value p setup t calls (written_of h e) ≡ pure w)) }
 {}

@@ -5,4 +5,4 @@
 
 mod laws;
 
-pub use laws::{law_constant, law_one_value, law_operator, law_prefix};
+pub use laws::{law_constant, law_one_value, law_operator, law_prefix, law_refused};
