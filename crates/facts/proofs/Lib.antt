@@ -5,6 +5,6 @@ pub mod Tables
 pub mod Marked
 pub mod PathSets
 pub mod SeenPaths
-pub mod Followed
+pub mod Carrying
 pub mod Rows
 pub mod TotalOrders

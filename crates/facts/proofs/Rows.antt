@@ -4,13 +4,14 @@ use Rattle.flow_code.specs.declared.act.Act.TheVariants as act
 use Rattle.flow_code.specs.declared.work.Work.TheVariants as work
 use Rattle.abstract_machine.specs.declared.library_call.LibraryCall.TheVariants as call
 use Rattle.flow_code.specs.declared.code.Function.{Function}
+use Rattle.facts.specs.declared.known.Reach.TheVariants as reach
 use Rattle.facts.specs.declared.locks.LockPath.TheVariants.{Cell, Formal}
 use Rattle.facts.specs.declared.locks.Minus.TheVariants.{All, Listed}
 use Rattle.facts.specs.declared.locks.Naming.TheVariants.{Unknown, Named}
-use Rattle.facts.specs.declared.trail.Source.TheVariants as source
 use Rattle.facts.specs.Paths.{global, formal, are_small, are_small_actuals, argument_namings}
 use Rattle.facts.specs.Locks.{with, union, through, locks_are_small, locks_are_sized, unlocked}
-use Rattle.facts.specs.Trails.{known_from, on_way, root_of}
+use Rattle.facts.specs.Blocks.{amount_by}
+use Rattle.facts.specs.Carried.{put_or_formal}
 
 -- sets of paths
 with_row : with (Cell 3) (Cell 1 ∷ Formal 0 2 ∷ []) ≡ Cell 1 ∷ Cell 3 ∷ Formal 0 2 ∷ []
@@ -40,15 +41,19 @@ locks_row = refl
 sized_row : locks_are_sized (record { plus = Cell 70000 ∷ []; minus = Listed (Formal 0 65536 ∷ []) }) ≡ false
 sized_row = refl
 
--- what is followed back: a cell back from a register, and then 1 back and 2 on
-from_row : known_from (λ r. Some (record { root = formal r; cells = 4 })) (source.Moved 2 (negsuc 0)) ≡ Some (record { root = formal 2; cells = 3 })
-from_row = refl
+-- what is known of a register that the block has put something into, and of a formal
+put_row : put_or_formal (true ∷ []) 0 (Some (Some (reach.Formal 2 3))) ≡ Some (record { root = formal 2; cells = 3 })
+put_row = refl
 
-way_row : on_way 1 2 (Some (record { root = global 9; cells = 3 })) ≡ Some (record { root = global 9; cells = 4 })
-way_row = refl
+lost_row : put_or_formal (true ∷ []) 0 (Some None) ≡ None
+lost_row = refl
 
-root_row : root_of (Formal 1 0) ≡ formal 1
-root_row = refl
+formal_row : put_or_formal (true ∷ []) 0 None ≡ Some (record { root = formal 0; cells = 0 })
+formal_row = refl
+
+-- the constant by which a pointer is moved
+amount_row : amount_by (λ r. Some (negsuc r)) (Some (act.Compute 2 (work.Move 0 1 4 false))) ≡ Some (negsuc 1)
+amount_row = refl
 
 -- a function that locks the mutex 2 cells behind its formal
 locking : Function

@@ -76,3 +76,24 @@ constant_at is zero r = None
 constant_at is (suc k) r =
     if begins_block is (suc k) then None
     else if assigns r (act_in (slice_get is k)) then constant_of (act_in (slice_get is k)) else constant_at is k r
+
+-- the register that tells how far an instruction moves a pointer, or how much it adds or subtracts
+abbrev pub amount_register : Option Act → Option ℕ
+amount_register (Some (act.Compute into (work.Move r by element back))) = Some by
+amount_register (Some (act.Compute into (work.Binary op left right))) = Some right
+amount_register _ = None
+
+abbrev pub constant_of_register : (ℕ → Option ℤ) → Option ℕ → Option ℤ
+constant_of_register constant None = None
+constant_of_register constant (Some r) = constant r
+
+-- how far or how much, where that is a constant
+abbrev pub amount_by : (ℕ → Option ℤ) → Option Act → Option ℤ
+amount_by constant a = constant_of_register constant (amount_register a)
+
+abbrev pub amount_at : List Instr → ℕ → Option ℤ
+amount_at is k = amount_by (constant_at is k) (act_in (slice_get is k))
+
+-- each is the constant by which the instruction in its place moves a pointer, or that it adds or subtracts
+abbrev pub AreAmounts : List Instr → List (Option ℤ) → Type 0
+AreAmounts is amounts = (k : ℕ) → k < length is → slice_get amounts k ≡ Some (amount_at is k)

@@ -1,9 +1,9 @@
 pub mod Accesses
 pub mod Blocks
+pub mod Carried
 pub mod Locks
 pub mod Pairs
 pub mod Paths
 pub mod PointsTo
 pub mod Profile
 pub mod Summaries
-pub mod Trails

@@ -76,21 +76,21 @@ pub fn block_starts(alloc: Global, instrs: &[Instr]) -> Result<Vec<bool>, AllocE
     Ok(starts)
 }
 
-/// Whether the instruction assigns the register.
-pub fn assigns(register: u32, act: &Act) -> bool
-    ensures { result ≡ spec.assigns register (Some act.now) }
+/// The register that the instruction assigns, if it assigns one.
+pub fn assigned(act: &Act) -> Option<u32>
+    ensures { result ≡ spec.assigned act.now }
 {
     match act {
         Act::Compute { into, .. } | Act::Alloc { into, .. } | Act::LoadCell { into, .. } => {
-            *into == register
+            Some(*into)
         }
-        Act::Call { into, .. } | Act::Library { into, .. } => *into == Some(register),
-        _ => false,
+        Act::Call { into, .. } | Act::Library { into, .. } => *into,
+        _ => None,
     }
 }
 
-// The constant that the instruction computes.
-fn constant_of(act: &Act) -> Option<i64>
+/// The constant that the instruction computes.
+pub fn constant_of(act: &Act) -> Option<i64>
     ensures { result ≡ spec.constant_of (Some act.now) }
 {
     match act {
@@ -117,7 +117,7 @@ pub fn constant_at(instrs: &[Instr], starts: &[bool], at: usize, register: u32) 
         }
         place -= 1;
         let act = &instrs[place].act;
-        if assigns(register, act) {
+        if assigned(act) == Some(register) {
             return constant_of(act);
         }
     }

@@ -7,21 +7,23 @@
 mod access;
 mod blocks;
 mod constraint;
+mod known;
 mod laws;
 mod locks;
+mod moves;
 mod names;
 mod pair;
 mod paths;
 mod points;
 mod profile;
 mod relative;
-mod trail;
 
 pub use access::{places_of, through};
-pub use blocks::{assigns, block_starts, constant_at};
+pub use blocks::{block_starts, constant_at};
 pub use constraint::{Constraint, Node};
 pub use laws::{law_one_list_of_pairs, law_one_points_to, law_one_summaries};
 pub use locks::{Guarded, LockPath, Minus, Naming, RelLocks, Summary};
+pub use moves::amounts;
 pub use names::argument_names;
 pub use pair::{AccessAt, Pair};
 pub use paths::{add_path, add_paths, has_path, substitute};
