@@ -1,14 +1,15 @@
 //! The constraints of a code, instruction by instruction, and of the start words of its globals.
-ghost use Rattle.std.specs.Prelude.{◌≡◌, ◌≤◌, ◌<◌, ◌+◌, ◌^◌, ◌++◌, [], ◌∷◌, ℕ, drop, length, IfOk, OnOk};
+ghost use Rattle.std.specs.Prelude.{◌≡◌, ◌≤◌, ◌<◌, ◌+◌, ◌^◌, ◌++◌, [], ◌∷◌, ℕ, Some, drop, length, IfOk, OnOk};
 ghost use Rattle.abstract_machine.specs.declared.library_call.LibraryCall.TheVariants as call;
 ghost use Rattle.facts.specs.declared.constraint.Node.TheVariants as node;
 ghost use Rattle.facts.specs.declared.constraint.Constraint.TheVariants as constraint;
-ghost use Rattle.facts.specs.Blocks.{AreStarts};
+ghost use Rattle.facts.specs.Blocks.{AreAmounts, amount_by, constant_at};
+ghost use Rattle.flow_code.specs.declared.act.Act.TheVariants as act;
 ghost use Rattle.facts.specs.PointsTo as spec;
 
 use crate::globals::push_sites;
 use abstract_machine::LibraryCall;
-use facts::{Constraint, Node, block_starts, constant_at};
+use facts::{Constraint, Node, amounts, block_starts};
 use flow_code::{Act, Code, Function, Instr, Work};
 use rr_base::{List, Place};
 use std::alloc::{AllocError, Global};
@@ -49,15 +50,13 @@ fn move_constraint(from: Node, to: Node, by: Option<i64>, element: u32, back: bo
 fn push_work(
     function: u32,
     instrs: &[Instr],
-    starts: &[bool],
+    amount: Option<i64>,
     at: usize,
     into: u32,
     work: &Work,
     out: &mut List<Constraint>,
 ) -> Result<(), AllocError>
-    requires starts { AreStarts instrs.now starts.now }
-    requires length { length starts.now ≡ length instrs.now }
-    requires at { at < length instrs.now }
+    requires { amount ≡ amount_by (constant_at instrs.now at) (Some (act.Compute into work.now)) }
     ensures { OnOk result (out.new ≡ out.old ++ spec.work_constraints function instrs.now at into work.now) }
 {
     let to = register_of(function, into);
@@ -69,13 +68,12 @@ fn push_work(
         }),
         Work::Move {
             pointer,
-            by,
+            by: _,
             element,
             back,
         } => {
             let from = register_of(function, *pointer);
-            let constant = constant_at(instrs, starts, at, *by);
-            out.push(move_constraint(from, to, constant, *element, *back))
+            out.push(move_constraint(from, to, amount, *element, *back))
         }
         Work::Member { pointer, by } => {
             let from = register_of(function, *pointer);
@@ -230,18 +228,16 @@ fn push_return(
 fn push_act(
     function: u32,
     instrs: &[Instr],
-    starts: &[bool],
+    amount: Option<i64>,
     at: usize,
     act: &Act,
     out: &mut List<Constraint>,
 ) -> Result<(), AllocError>
-    requires starts { AreStarts instrs.now starts.now }
-    requires length { length starts.now ≡ length instrs.now }
-    requires at { at < length instrs.now }
+    requires { amount ≡ amount_by (constant_at instrs.now at) (Some act.now) }
     ensures { OnOk result (out.new ≡ out.old ++ spec.act_constraints function instrs.now at act.now) }
 {
     match act {
-        Act::Compute { into, work } => { push_work(function, instrs, starts, at, *into, work, out) }
+        Act::Compute { into, work } => { push_work(function, instrs, amount, at, *into, work, out) }
         Act::Alloc { into, site, .. } => out.push(given(register_of(function, *into), *site)),
         Act::LoadCell { into, through } => out.push(Constraint::Loaded {
             through: register_of(function, *through),
@@ -270,15 +266,15 @@ fn push_act(
 fn push_instrs(
     function: u32,
     instrs: &[Instr],
-    starts: &[bool],
+    amounts: &[Option<i64>],
     out: &mut List<Constraint>,
 ) -> Result<(), AllocError>
-    requires starts { AreStarts instrs.now starts.now }
-    requires length { length starts.now ≡ length instrs.now }
+    requires amounts { AreAmounts instrs.now amounts.now }
+    requires length { length amounts.now ≡ length instrs.now }
     ensures { OnOk result (out.new ≡ out.old ++ spec.instrs_constraints function instrs.now 0 instrs.now) }
 {
     for at in 0..instrs.len() {
-        push_act(function, instrs, starts, at, &instrs[at].act, out)?;
+        push_act(function, instrs, amounts[at], at, &instrs[at].act, out)?;
     }
     Ok(())
 }
@@ -293,7 +289,8 @@ fn push_function(
 {
     let instrs = function.instrs.as_slice();
     let starts = block_starts(alloc, instrs)?;
-    push_instrs(number, instrs, starts.as_slice(), out)
+    let amounts = amounts(alloc, instrs, starts.as_slice())?;
+    push_instrs(number, instrs, amounts.as_slice(), out)
 }
 
 fn push_functions(
