@@ -1,4 +1,5 @@
 pub mod Borne
+pub mod Innermost
 pub mod Making
 pub mod Marks
 pub mod Pointing

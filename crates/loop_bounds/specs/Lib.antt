@@ -1,2 +1,3 @@
 pub mod Forms
+pub mod Tables
 pub mod Turns

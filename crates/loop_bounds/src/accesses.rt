@@ -1,17 +1,20 @@
 //! The accesses of a code whose elements are known where their loop is entered.
-ghost use Rattle.std.specs.Prelude.{◌≡◌, ◌<◌, ◌+◌, ◌^◌, ◌++◌, Some, slice_get, length, option_to_list, IfOk, OnOk};
+ghost use Rattle.std.specs.Prelude.{◌≡◌, ◌<◌, ◌+◌, ◌^◌, ◌++◌, List as Items, Some, slice_get, length, option_to_list, IfOk, OnOk};
 ghost use Rattle.std.specs.Option.{option_copied};
 ghost use Rattle.facts.specs.Blocks.{AreStarts};
 ghost use Rattle.facts.specs.PointsTo.{list_at};
 ghost use Rattle.weak_facts.specs.Loops as loops;
+ghost use Rattle.flow_code.specs.declared.act.Instr.{Instr as Step};
+ghost use Rattle.loop_bounds.specs.Tables.{AreRounds, AreCalm, calm_loops};
 ghost use Rattle.weak_facts.specs.Ranges.{HasRegisters};
 ghost use Rattle.weak_facts.specs.Ranges as spec;
 
-use crate::acts::{is_mark, nth, pointer_of};
+use crate::acts::pointer_of;
 use crate::loops::{counted_of, following};
 use crate::makers::only_maker;
+use crate::rounds::rounds_of;
 use crate::shifts::moved_shift;
-use crate::spans::{behind, calls_nothing, is_target, loop_code};
+use crate::spans::{calls_nothing, loop_code};
 use abstract_machine::site_at;
 use facts::{PointsTo, block_starts};
 use flow_code::{Act, Code, Function, Instr, LoopInfo};
@@ -19,47 +22,44 @@ use rr_base::{List, Place};
 use std::alloc::{AllocError, Global};
 use weak_facts::Range;
 
-// Whether a loop round an instruction begins with another.
-fn begins_round(instrs: &[Instr], at: usize, mark: usize) -> bool
-    ensures { result ≡ spec.begins_round instrs.now at mark }
+// Whether the loop is the innermost one of any kind round the instruction, whose innermost loop begins with this Mark.
+fn is_innermost(round: Option<usize>, at: usize, counted: &LoopInfo) -> bool
+    ensures { (is : Items Step) → round ≡ spec.mark_before is at at → result ≡ spec.is_innermost is at counted.now }
 {
-    is_mark(nth(instrs, mark)) && is_target(behind(instrs, at), mark)
+    at <= counted.last as usize && round == Some(counted.at as usize)
 }
 
-/// The last instruction before one with which a loop round it begins.
-fn mark_before(instrs: &[Instr], at: usize) -> Option<usize>
-    requires { at < length instrs.now }
-    ensures { result ≡ spec.mark_before instrs.now at at }
-{
-    let mut place = at;
-    while place > 0 {
-        place -= 1;
-        if begins_round(instrs, at, place) {
-            return Some(place);
-        }
-    }
-    None
-}
-
-// Whether the loop is the innermost one of any kind round the instruction.
-fn is_innermost(instrs: &[Instr], at: usize, counted: &LoopInfo) -> bool
-    requires { at < length instrs.now }
-    ensures { result ≡ spec.is_innermost instrs.now at counted.now }
-{
-    at <= counted.last as usize && mark_before(instrs, at) == Some(counted.at as usize)
-}
-
-/// The first of the loops that is the innermost one round the instruction and calls nothing.
-fn loop_round<'a>(instrs: &[Instr], at: usize, loops: &'a [LoopInfo]) -> Option<&'a LoopInfo>
-    requires { at < length instrs.now }
+/// The first of these loops, which call nothing, that is the innermost one round the instruction.
+fn loop_round<'a>(
+    instrs: &[Instr],
+    rounds: &[Option<usize>],
+    at: usize,
+    loops: &'a [LoopInfo],
+) -> Option<&'a LoopInfo>
+    requires rounds { AreRounds instrs.now rounds.now }
+    requires length { length rounds.now ≡ length instrs.now }
+    requires calm { AreCalm instrs.now loops.now }
+    requires at { at < length instrs.now }
     ensures { option_copied result ≡ spec.loop_round instrs.now at loops.now }
 {
+    let round = rounds[at];
     for counted in loops {
-        if is_innermost(instrs, at, counted) && calls_nothing(loop_code(instrs, counted)) {
+        if is_innermost(round, at, counted) {
             return Some(counted);
         }
     }
     None
+}
+
+// The loops that call nothing.
+fn calm_of(alloc: Global, instrs: &[Instr], loops: &[LoopInfo]) -> Result<Vec<LoopInfo>, AllocError>
+    ensures { IfOk result (λ calm. calm.items ≡ calm_loops instrs.now loops.now) }
+{
+    loops
+        .iter()
+        .copied()
+        .filter(|counted| calls_nothing(loop_code(instrs, counted)))
+        .collect(alloc)
 }
 
 fn has_single_cells(code: &Code, place: Place) -> bool
@@ -77,12 +77,14 @@ fn have_single_cells(code: &Code, places: &[Place]) -> bool
     places.iter().all(|place| has_single_cells(code, *place))
 }
 
-/// A function, with its number, the places where its blocks begin, and its counted loops.
+/// A function, with its number, the places where its blocks begin, the innermost loop round each of its instructions, and
+/// its counted loops that call nothing.
 #[derive(Clone, Copy)]
 struct Body<'a> {
     number: u32,
     function: &'a Function,
     starts: &'a [bool],
+    rounds: &'a [Option<usize>],
     loops: &'a [LoopInfo],
 }
 
@@ -137,13 +139,16 @@ fn range_at(code: &Code, points: &PointsTo, body: &Body<'_>, at: usize, act: &Ac
     requires function { slice_get code.now.functions body.now.number ≡ Some body.now.function.now }
     requires starts { AreStarts body.now.function.now.instrs body.now.starts.now }
     requires length { length body.now.starts.now ≡ length body.now.function.now.instrs }
+    requires rounds { AreRounds body.now.function.now.instrs body.now.rounds.now }
+    requires rounds_length { length body.now.rounds.now ≡ length body.now.function.now.instrs }
+    requires calm { AreCalm body.now.function.now.instrs body.now.loops.now }
     requires at { at < length body.now.function.now.instrs }
     requires number { at < 2 ^ 32 }
     ensures { result ≡ spec.range_at code.now points.now body.now.number body.now.function.now.instrs body.now.loops.now at act.now }
 {
     let instrs = body.function.instrs.as_slice();
     let register = pointer_of(act)?;
-    let counted = loop_round(instrs, at, body.loops)?;
+    let counted = loop_round(instrs, body.rounds, at, body.loops)?;
     range_in(code, points, body, at, register, counted)
 }
 
@@ -167,6 +172,9 @@ fn push_ranges(
     requires function { slice_get code.now.functions body.now.number ≡ Some body.now.function.now }
     requires starts { AreStarts body.now.function.now.instrs body.now.starts.now }
     requires length { length body.now.starts.now ≡ length body.now.function.now.instrs }
+    requires rounds { AreRounds body.now.function.now.instrs body.now.rounds.now }
+    requires rounds_length { length body.now.rounds.now ≡ length body.now.function.now.instrs }
+    requires calm { AreCalm body.now.function.now.instrs body.now.loops.now }
     ensures { OnOk result (out.new ≡ out.old ++ spec.ranges_in code.now points.now body.now.number body.now.function.now.instrs body.now.loops.now 0 body.now.function.now.instrs) }
 {
     let instrs = body.function.instrs.as_slice();
@@ -196,13 +204,17 @@ fn push_function(
     requires function { slice_get code.now.functions number ≡ Some function.now }
     ensures { OnOk result (out.new ≡ out.old ++ spec.ranges_in code.now points.now number function.now.instrs (loops.counted_of function.now) 0 function.now.instrs) }
 {
+    let instrs = function.instrs.as_slice();
     let counted = counted_of(alloc, function)?;
-    let starts = block_starts(alloc, function.instrs.as_slice())?;
+    let calm = calm_of(alloc, instrs, counted.as_slice())?;
+    let starts = block_starts(alloc, instrs)?;
+    let rounds = rounds_of(alloc, instrs)?;
     let body = Body {
         number,
         function,
         starts: starts.as_slice(),
-        loops: counted.as_slice(),
+        rounds: rounds.as_slice(),
+        loops: calm.as_slice(),
     };
     push_ranges(code, points, &body, out)
 }

@@ -1,6 +1,5 @@
 //! Parts of a function's instructions: what they assign and call, and where one enters them.
 ghost use Rattle.std.specs.Prelude.{◌≡◌, ◌+◌, ◌<◌, ◌^◌, take, drop, slice_range, length, IsTrue};
-ghost use Rattle.facts.specs.Blocks as blocks;
 ghost use Rattle.facts.specs.Paths as paths;
 ghost use Rattle.weak_facts.specs.Loops as loops;
 ghost use Rattle.weak_facts.specs.Ranges as ranges;
@@ -64,27 +63,6 @@ pub fn calls_nothing(instrs: &[Instr]) -> bool
     ensures { result ≡ ranges.calls_nothing instrs.now }
 {
     instrs.iter().all(|instr| !is_call(&instr.act))
-}
-
-fn goes_to(target: usize, act: &Act) -> bool
-    ensures { result ≡ blocks.goes_to target act.now }
-{
-    match act {
-        Act::Jump { to } => *to as usize == target,
-        Act::Branch {
-            on: _,
-            then_at,
-            else_at,
-        } => *then_at as usize == target || *else_at as usize == target,
-        _ => false,
-    }
-}
-
-/// Whether a jump or branch goes there.
-pub fn is_target(instrs: &[Instr], target: usize) -> bool
-    ensures { result ≡ blocks.is_target instrs.now target }
-{
-    instrs.iter().any(|instr| goes_to(target, &instr.act))
 }
 
 fn is_within(from: usize, to: usize, at: u32) -> bool

@@ -1,0 +1,118 @@
+//! The innermost loop round each instruction of a function.
+ghost use Rattle.std.specs.Prelude.{◌≡◌, ◌<◌, ◌^◌, ◌==◌, ℕ, if◌then◌else◌, length, slice_index_or, IfOk};
+ghost use Rattle.facts.specs.Blocks.{goes_to};
+ghost use Rattle.loop_bounds.specs.Tables as tables;
+ghost use Rattle.loop_bounds.specs.Tables.{AreEnds, AreRounds};
+ghost use Rattle.weak_facts.specs.Ranges as spec;
+
+use crate::acts::{is_mark, nth};
+use flow_code::{Act, Instr};
+use std::alloc::{AllocError, Global};
+
+// Something goes to the instruction in front of this place.
+fn put(ends: &mut Vec<usize>, to: u32, end: usize)
+    ensures length { length ends.new.items ≡ length ends.old.items }
+    ensures each { (m : ℕ) → m < length ends.old.items → slice_index_or ends.new.items m 0 ≡ (if to == m then end else slice_index_or ends.old.items m 0) }
+{
+    let to = to as usize;
+    if to < ends.len() {
+        ends[to] = end;
+    }
+}
+
+fn put_targets(ends: &mut Vec<usize>, act: &Act, end: usize)
+    ensures length { length ends.new.items ≡ length ends.old.items }
+    ensures each { (m : ℕ) → m < length ends.old.items → slice_index_or ends.new.items m 0 ≡ (if goes_to m act.now then end else slice_index_or ends.old.items m 0) }
+{
+    match act {
+        Act::Jump { to } => put(ends, *to, end),
+        Act::Branch {
+            on: _,
+            then_at,
+            else_at,
+        } => {
+            put(ends, *then_at, end);
+            put(ends, *else_at, end);
+        }
+        _ => {}
+    }
+}
+
+// The place behind the last jump or branch to each instruction.
+fn ends_of(alloc: Global, instrs: &[Instr]) -> Result<Vec<usize>, AllocError>
+    ensures length { IfOk result (λ v. length v.items ≡ length instrs.now) }
+    ensures each { IfOk result (λ v. AreEnds instrs.now v.items) }
+{
+    let mut ends = vec![in alloc; 0; instrs.len()]?;
+    for at in 0..instrs.len() {
+        put_targets(&mut ends, &instrs[at].act, at + 1);
+    }
+    Ok(ends)
+}
+
+// Whether a loop round an instruction begins with another.
+fn begins_round(instrs: &[Instr], ends: &[usize], at: usize, mark: usize) -> bool
+    requires ends { AreEnds instrs.now ends.now }
+    requires length { length ends.now ≡ length instrs.now }
+    requires mark { mark < length instrs.now }
+    ensures { result ≡ spec.begins_round instrs.now at mark }
+{
+    is_mark(nth(instrs, mark)) && at < ends[mark]
+}
+
+fn behind(place: Option<usize>) -> usize
+    requires { tables.behind place < 2 ^ 64 }
+    ensures { result ≡ tables.behind place }
+{
+    match place {
+        Some(place) => place + 1,
+        None => 0,
+    }
+}
+
+// The Mark of the innermost loop round an instruction: that of one in front of it, or of a loop round that one, and so on.
+fn round_of(instrs: &[Instr], ends: &[usize], rounds: &[Option<usize>], at: usize) -> Option<usize>
+    requires ends { AreEnds instrs.now ends.now }
+    requires length { length ends.now ≡ length instrs.now }
+    requires rounds { AreRounds instrs.now rounds.now }
+    requires so_far { length rounds.now ≡ at }
+    requires at { at < length instrs.now }
+    ensures { result ≡ spec.mark_before instrs.now at at }
+{
+    let mut front = at;
+    while front > 0 {
+        let mark = front - 1;
+        if begins_round(instrs, ends, at, mark) {
+            return Some(mark);
+        }
+        front = behind(rounds[mark]);
+    }
+    None
+}
+
+fn all_rounds(
+    alloc: Global,
+    instrs: &[Instr],
+    ends: &[usize],
+) -> Result<Vec<Option<usize>>, AllocError>
+    requires ends { AreEnds instrs.now ends.now }
+    requires length { length ends.now ≡ length instrs.now }
+    ensures length { IfOk result (λ v. length v.items ≡ length instrs.now) }
+    ensures each { IfOk result (λ v. AreRounds instrs.now v.items) }
+{
+    let mut rounds = Vec::new(alloc);
+    for at in 0..instrs.len() {
+        let round = round_of(instrs, ends, &rounds, at);
+        rounds.push(round)?;
+    }
+    Ok(rounds)
+}
+
+/// The Mark of the innermost loop round each instruction.
+pub fn rounds_of(alloc: Global, instrs: &[Instr]) -> Result<Vec<Option<usize>>, AllocError>
+    ensures length { IfOk result (λ v. length v.items ≡ length instrs.now) }
+    ensures each { IfOk result (λ v. AreRounds instrs.now v.items) }
+{
+    let ends = ends_of(alloc, instrs)?;
+    all_rounds(alloc, instrs, &ends)
+}
