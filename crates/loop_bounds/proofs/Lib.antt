@@ -1,10 +1,12 @@
 pub mod Borne
+pub mod Entered
 pub mod Innermost
 pub mod Making
 pub mod Marks
 pub mod Pointing
 pub mod Raising
 pub mod Regions
+pub mod Soles
 pub mod Steps
 pub mod Touched
 pub mod Turning

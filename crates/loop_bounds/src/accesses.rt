@@ -5,16 +5,17 @@ ghost use Rattle.facts.specs.Blocks.{AreStarts};
 ghost use Rattle.facts.specs.PointsTo.{list_at};
 ghost use Rattle.weak_facts.specs.Loops as loops;
 ghost use Rattle.flow_code.specs.declared.act.Instr.{Instr as Step};
-ghost use Rattle.loop_bounds.specs.Tables.{AreRounds, AreCalm, calm_loops};
+ghost use Rattle.loop_bounds.specs.Tables.{AreWays, AreMakers, AreRounds, AreCalm, calm_loops};
 ghost use Rattle.weak_facts.specs.Ranges.{HasRegisters};
 ghost use Rattle.weak_facts.specs.Ranges as spec;
 
 use crate::acts::pointer_of;
 use crate::loops::{counted_of, following};
-use crate::makers::only_maker;
+use crate::makers::{Makers, makers_of, only_maker};
 use crate::rounds::rounds_of;
 use crate::shifts::moved_shift;
 use crate::spans::{calls_nothing, loop_code};
+use crate::ways::{Ways, ways_of};
 use abstract_machine::site_at;
 use facts::{PointsTo, block_starts};
 use flow_code::{Act, Code, Function, Instr, LoopInfo};
@@ -77,13 +78,15 @@ fn have_single_cells(code: &Code, places: &[Place]) -> bool
     places.iter().all(|place| has_single_cells(code, *place))
 }
 
-/// A function, with its number, the places where its blocks begin, the innermost loop round each of its instructions, and
-/// its counted loops that call nothing.
+/// A function, with its number, the places where its blocks begin, the ways to its instructions, the makers of its registers,
+/// the innermost loop round each instruction, and its counted loops that call nothing.
 #[derive(Clone, Copy)]
 struct Body<'a> {
     number: u32,
     function: &'a Function,
     starts: &'a [bool],
+    ways: &'a Ways,
+    makers: &'a Makers,
     rounds: &'a [Option<usize>],
     loops: &'a [LoopInfo],
 }
@@ -113,13 +116,15 @@ fn range_in(
     requires lists { HasRegisters code.now points.now }
     requires function { slice_get code.now.functions body.now.number ≡ Some body.now.function.now }
     requires starts { AreStarts body.now.function.now.instrs body.now.starts.now }
+    requires ways { AreWays body.now.function.now.instrs body.now.ways.now }
+    requires makers { AreMakers body.now.function.now.instrs body.now.makers.now }
     requires length { length body.now.starts.now ≡ length body.now.function.now.instrs }
     requires at { at < length body.now.function.now.instrs }
     requires number { at < 2 ^ 32 }
     ensures { result ≡ spec.range_in code.now points.now body.now.number body.now.function.now.instrs at register counted.now }
 {
     let instrs = body.function.instrs.as_slice();
-    let maker = only_maker(instrs, counted, at, register)?;
+    let maker = only_maker(instrs, body.ways, body.makers, counted, at, register)?;
     let shift = moved_shift(instrs, body.starts, counted, maker)?;
     if have_single_cells(code, places_of(code, points, body, register)) {
         Some(Range {
@@ -138,6 +143,8 @@ fn range_at(code: &Code, points: &PointsTo, body: &Body<'_>, at: usize, act: &Ac
     requires lists { HasRegisters code.now points.now }
     requires function { slice_get code.now.functions body.now.number ≡ Some body.now.function.now }
     requires starts { AreStarts body.now.function.now.instrs body.now.starts.now }
+    requires ways { AreWays body.now.function.now.instrs body.now.ways.now }
+    requires makers { AreMakers body.now.function.now.instrs body.now.makers.now }
     requires length { length body.now.starts.now ≡ length body.now.function.now.instrs }
     requires rounds { AreRounds body.now.function.now.instrs body.now.rounds.now }
     requires rounds_length { length body.now.rounds.now ≡ length body.now.function.now.instrs }
@@ -171,6 +178,8 @@ fn push_ranges(
     requires lists { HasRegisters code.now points.now }
     requires function { slice_get code.now.functions body.now.number ≡ Some body.now.function.now }
     requires starts { AreStarts body.now.function.now.instrs body.now.starts.now }
+    requires ways { AreWays body.now.function.now.instrs body.now.ways.now }
+    requires makers { AreMakers body.now.function.now.instrs body.now.makers.now }
     requires length { length body.now.starts.now ≡ length body.now.function.now.instrs }
     requires rounds { AreRounds body.now.function.now.instrs body.now.rounds.now }
     requires rounds_length { length body.now.rounds.now ≡ length body.now.function.now.instrs }
@@ -205,14 +214,18 @@ fn push_function(
     ensures { OnOk result (out.new ≡ out.old ++ spec.ranges_in code.now points.now number function.now.instrs (loops.counted_of function.now) 0 function.now.instrs) }
 {
     let instrs = function.instrs.as_slice();
-    let counted = counted_of(alloc, function)?;
+    let ways = ways_of(alloc, instrs)?;
+    let counted = counted_of(alloc, function, &ways)?;
     let calm = calm_of(alloc, instrs, counted.as_slice())?;
     let starts = block_starts(alloc, instrs)?;
-    let rounds = rounds_of(alloc, instrs)?;
+    let rounds = rounds_of(alloc, instrs, &ways.ends)?;
+    let makers = makers_of(alloc, instrs)?;
     let body = Body {
         number,
         function,
         starts: starts.as_slice(),
+        ways: &ways,
+        makers: &makers,
         rounds: rounds.as_slice(),
         loops: calm.as_slice(),
     };

@@ -20,6 +20,19 @@ pub fn nth(instrs: &[Instr], at: usize) -> Option<&Act>
     }
 }
 
+/// The register that the instruction assigns, if it assigns one.
+pub fn assigned(act: &Act) -> Option<u32>
+    ensures { result ≡ blocks.assigned act.now }
+{
+    match act {
+        Act::Compute { into, .. } | Act::Alloc { into, .. } | Act::LoadCell { into, .. } => {
+            Some(*into)
+        }
+        Act::Call { into, .. } | Act::Library { into, .. } => *into,
+        _ => None,
+    }
+}
+
 /// Whether the instruction assigns the register.
 pub fn assigns(register: u32, act: &Act) -> bool
     ensures { result ≡ blocks.assigns register (Some act.now) }

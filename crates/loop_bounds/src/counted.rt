@@ -2,13 +2,15 @@
 ghost use Rattle.std.specs.Prelude.{◌≡◌, ◌+◌, ◌<◌, ◌^◌, true};
 ghost use Rattle.flow_code.specs.Kinds as kinds;
 ghost use Rattle.flow_code.specs.Regions as regions;
+ghost use Rattle.loop_bounds.specs.Tables.{AreWays};
 ghost use Rattle.weak_facts.specs.Loops as spec;
 
 use crate::acts::{
     bound_into, bound_size, copy_into, is_any_copy, is_branch, is_copy, is_jump, is_mark,
     is_sum_of, less_into, nth, number_into, sum_into,
 };
-use crate::spans::{is_entered_at, is_never_assigned, keeps_bound, part};
+use crate::spans::{is_never_assigned, keeps_bound, part};
+use crate::ways::{Ways, is_entered_at};
 use flow_code::{Bound, Function, Instr, LoopInfo, is_pointer};
 
 fn has_whole(function: &Function, register: u32) -> bool
@@ -156,23 +158,26 @@ fn keeps_numbers(instrs: &[Instr], counted: &LoopInfo) -> bool
 }
 
 // Whether the loop is entered at its Mark, as its condition is, and its last part where it begins.
-fn is_entered_so(instrs: &[Instr], counted: &LoopInfo) -> bool
+fn is_entered_so(instrs: &[Instr], ways: &Ways, counted: &LoopInfo) -> bool
+    requires ways { AreWays instrs.now ways.now }
+    requires form { spec.has_form instrs.now counted.now ≡ true }
     ensures { result ≡ spec.is_entered_so instrs.now counted.now }
 {
     let mark = counted.at as usize;
     let last = counted.last as usize;
-    is_entered_at(instrs, mark, last + 1)
-        && is_entered_at(instrs, mark, condition_end(counted))
-        && is_entered_at(instrs, last_part_at(instrs, counted), last + 1)
+    is_entered_at(instrs, ways, mark, last + 1)
+        && is_entered_at(instrs, ways, mark, condition_end(counted))
+        && is_entered_at(instrs, ways, last_part_at(instrs, counted), last + 1)
 }
 
 /// Whether the function's instructions bear the loop out.
-pub fn is_counted(function: &Function, counted: &LoopInfo) -> bool
+pub fn is_counted(function: &Function, ways: &Ways, counted: &LoopInfo) -> bool
+    requires { AreWays function.now.instrs ways.now }
     ensures { result ≡ spec.is_counted function.now counted.now }
 {
     let instrs = function.instrs.as_slice();
     are_numbers(function, counted)
         && has_form(instrs, counted)
         && keeps_numbers(instrs, counted)
-        && is_entered_so(instrs, counted)
+        && is_entered_so(instrs, ways, counted)
 }

@@ -11,6 +11,7 @@ mod makers;
 mod rounds;
 mod shifts;
 mod spans;
+mod ways;
 
 pub use accesses::ranges;
 pub use laws::{law_counter, law_element, law_form, law_kept, law_step};

@@ -1,20 +1,27 @@
 //! The counted loops of a code.
 ghost use Rattle.std.specs.Prelude.{◌≡◌, ◌+◌, ◌++◌, map, IfOk, OnOk};
+ghost use Rattle.loop_bounds.specs.Tables.{AreWays};
 ghost use Rattle.weak_facts.specs.Loops as spec;
 
 use crate::counted::is_counted;
+use crate::ways::{Ways, ways_of};
 use flow_code::{Code, Function, LoopInfo};
 use rr_base::List;
 use std::alloc::{AllocError, Global};
 use weak_facts::LoopAt;
 
 /// The counted loops of a function.
-pub fn counted_of(alloc: Global, function: &Function) -> Result<List<LoopInfo>, AllocError>
+pub fn counted_of(
+    alloc: Global,
+    function: &Function,
+    ways: &Ways,
+) -> Result<List<LoopInfo>, AllocError>
+    requires { AreWays function.now.instrs ways.now }
     ensures { IfOk result (λ ls. ls ≡ spec.counted_of function.now) }
 {
     let mut found = List::new(alloc);
     for counted in function.loops.as_slice() {
-        if is_counted(function, counted) {
+        if is_counted(function, ways, counted) {
             found.push(*counted)?;
         }
     }
@@ -41,7 +48,8 @@ fn push_function(
 ) -> Result<(), AllocError>
     ensures { OnOk result (out.new ≡ out.old ++ map (spec.loop_in number) (spec.counted_of function.now)) }
 {
-    let loops = counted_of(alloc, function)?;
+    let ways = ways_of(alloc, function.instrs.as_slice())?;
+    let loops = counted_of(alloc, function, &ways)?;
     push_loops(number, loops.as_slice(), out)
 }
 

@@ -1,54 +1,12 @@
 //! The innermost loop round each instruction of a function.
-ghost use Rattle.std.specs.Prelude.{◌≡◌, ◌<◌, ◌^◌, ◌==◌, ℕ, if◌then◌else◌, length, slice_index_or, IfOk};
-ghost use Rattle.facts.specs.Blocks.{goes_to};
+ghost use Rattle.std.specs.Prelude.{◌≡◌, ◌<◌, ◌^◌, length, IfOk};
 ghost use Rattle.loop_bounds.specs.Tables as tables;
 ghost use Rattle.loop_bounds.specs.Tables.{AreEnds, AreRounds};
 ghost use Rattle.weak_facts.specs.Ranges as spec;
 
 use crate::acts::{is_mark, nth};
-use flow_code::{Act, Instr};
+use flow_code::Instr;
 use std::alloc::{AllocError, Global};
-
-// Something goes to the instruction in front of this place.
-fn put(ends: &mut Vec<usize>, to: u32, end: usize)
-    ensures length { length ends.new.items ≡ length ends.old.items }
-    ensures each { (m : ℕ) → m < length ends.old.items → slice_index_or ends.new.items m 0 ≡ (if to == m then end else slice_index_or ends.old.items m 0) }
-{
-    let to = to as usize;
-    if to < ends.len() {
-        ends[to] = end;
-    }
-}
-
-fn put_targets(ends: &mut Vec<usize>, act: &Act, end: usize)
-    ensures length { length ends.new.items ≡ length ends.old.items }
-    ensures each { (m : ℕ) → m < length ends.old.items → slice_index_or ends.new.items m 0 ≡ (if goes_to m act.now then end else slice_index_or ends.old.items m 0) }
-{
-    match act {
-        Act::Jump { to } => put(ends, *to, end),
-        Act::Branch {
-            on: _,
-            then_at,
-            else_at,
-        } => {
-            put(ends, *then_at, end);
-            put(ends, *else_at, end);
-        }
-        _ => {}
-    }
-}
-
-// The place behind the last jump or branch to each instruction.
-fn ends_of(alloc: Global, instrs: &[Instr]) -> Result<Vec<usize>, AllocError>
-    ensures length { IfOk result (λ v. length v.items ≡ length instrs.now) }
-    ensures each { IfOk result (λ v. AreEnds instrs.now v.items) }
-{
-    let mut ends = vec![in alloc; 0; instrs.len()]?;
-    for at in 0..instrs.len() {
-        put_targets(&mut ends, &instrs[at].act, at + 1);
-    }
-    Ok(ends)
-}
 
 // Whether a loop round an instruction begins with another.
 fn begins_round(instrs: &[Instr], ends: &[usize], at: usize, mark: usize) -> bool
@@ -90,7 +48,8 @@ fn round_of(instrs: &[Instr], ends: &[usize], rounds: &[Option<usize>], at: usiz
     None
 }
 
-fn all_rounds(
+/// The Mark of the innermost loop round each instruction.
+pub fn rounds_of(
     alloc: Global,
     instrs: &[Instr],
     ends: &[usize],
@@ -106,13 +65,4 @@ fn all_rounds(
         rounds.push(round)?;
     }
     Ok(rounds)
-}
-
-/// The Mark of the innermost loop round each instruction.
-pub fn rounds_of(alloc: Global, instrs: &[Instr]) -> Result<Vec<Option<usize>>, AllocError>
-    ensures length { IfOk result (λ v. length v.items ≡ length instrs.now) }
-    ensures each { IfOk result (λ v. AreRounds instrs.now v.items) }
-{
-    let ends = ends_of(alloc, instrs)?;
-    all_rounds(alloc, instrs, &ends)
 }

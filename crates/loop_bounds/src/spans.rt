@@ -48,57 +48,10 @@ pub fn is_never_assigned(instrs: &[Instr], register: u32) -> bool
     instrs.iter().all(|instr| !assigns(register, &instr.act))
 }
 
-/// Whether one instruction alone assigns the register.
-pub fn has_one_maker(instrs: &[Instr], register: u32) -> bool
-    ensures { result ≡ ranges.has_one_maker instrs.now register }
-{
-    instrs
-        .iter()
-        .filter(|instr| assigns(register, &instr.act))
-        .count()
-        == 1
-}
-
 pub fn calls_nothing(instrs: &[Instr]) -> bool
     ensures { result ≡ ranges.calls_nothing instrs.now }
 {
     instrs.iter().all(|instr| !is_call(&instr.act))
-}
-
-fn is_within(from: usize, to: usize, at: u32) -> bool
-    ensures { result ≡ loops.is_within from to at }
-{
-    from < at as usize && at as usize <= to
-}
-
-// Whether a jump or branch goes to an instruction behind the one and not behind the other.
-fn goes_into(from: usize, to: usize, act: &Act) -> bool
-    ensures { result ≡ loops.goes_into from to act.now }
-{
-    match act {
-        Act::Jump { to: target } => is_within(from, to, *target),
-        Act::Branch {
-            on: _,
-            then_at,
-            else_at,
-        } => is_within(from, to, *then_at) || is_within(from, to, *else_at),
-        _ => false,
-    }
-}
-
-fn none_goes_into(from: usize, to: usize, instrs: &[Instr]) -> bool
-    ensures { result ≡ loops.none_goes_into from to instrs.now }
-{
-    instrs.iter().all(|instr| !goes_into(from, to, &instr.act))
-}
-
-/// Whether jumps and branches of others go only to the first of the instructions from the one to the other.
-pub fn is_entered_at(instrs: &[Instr], from: usize, to: usize) -> bool
-    requires { to + 1 < 2 ^ 64 }
-    ensures { result ≡ loops.is_entered_at instrs.now from to }
-{
-    none_goes_into(from, to, front(instrs, from))
-        && none_goes_into(from, to, behind(instrs, to + 1))
 }
 
 /// Whether nothing of the loop assigns the register.

@@ -1,6 +1,6 @@
 use Rattle.std.proofs.Common.{◌≡◌, length}
 use Rattle.loop_bounds.specs.Tables.{AreRounds}
-use Rattle.loop_bounds.proofs.rounds.all_rounds.Given as goal
+use Rattle.loop_bounds.proofs.rounds.rounds_of.Given as goal
 
 abbrev pub invariant-loop-at : goal.invariant-loop-at
 invariant-loop-at l = record {

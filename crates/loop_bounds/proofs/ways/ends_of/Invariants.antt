@@ -1,7 +1,7 @@
 use Rattle.std.proofs.Common.{◌≡◌, ◌<◌, ℕ, length, take, drop}
 use Rattle.std.specs.Prelude.{nat_lt, slice_index_or}
 use Rattle.facts.specs.Blocks.{is_target}
-use Rattle.loop_bounds.proofs.rounds.ends_of.Given as goal
+use Rattle.loop_bounds.proofs.ways.ends_of.Given as goal
 
 abbrev pub invariant-loop-at : goal.invariant-loop-at
 invariant-loop-at l = record {
