@@ -4,4 +4,5 @@ pub mod Meets
 pub mod Relaxed
 pub mod Rows
 pub mod Sizes
+pub mod Walking
 pub mod Within

@@ -1,14 +1,83 @@
 //! Meets: what two sets of locks both know.
 ghost use Rattle.std.specs.Prelude.{◌≡◌, ◌<◌, ◌≤◌, true, false, length, IfOk, OnOk};
 ghost use Rattle.std.specs.List.{filter};
-ghost use Rattle.facts.specs.Locks.{has, both};
+ghost use Rattle.facts.specs.Locks.{has, both, are_ascending};
+ghost use Rattle.lockset_flow.specs.Meeting.{starts_behind, from_path, begins_with_path};
 ghost use Rattle.lockset_flow.specs.Rounds.{meet_of, minus_weight, weight, grows as grows_of};
 
 use facts::{LockPath, Minus, RelLocks, has_path};
 use rr_base::List;
 use std::alloc::{AllocError, Global};
 
-// The paths that the others have too.
+// Whether the paths ascend.
+fn ascend(paths: &[LockPath]) -> bool
+    ensures { result ≡ are_ascending paths.now }
+{
+    let mut rest = paths;
+    while let [first, more @ ..] = rest {
+        if !comes_first(*first, more) {
+            return false;
+        }
+        rest = more;
+    }
+    true
+}
+
+// Whether the path comes before the first of the others, if there is one.
+fn comes_first(path: LockPath, others: &[LockPath]) -> bool
+    ensures { result ≡ starts_behind path others.now }
+{
+    match others {
+        [first, ..] => path.is_less(*first),
+        [] => true,
+    }
+}
+
+// The paths from the first on that doesn't come before this one.
+fn from<'a>(paths: &'a [LockPath], path: LockPath) -> &'a [LockPath]
+    ensures { result.now ≡ from_path path paths.now }
+{
+    let mut rest = paths;
+    while let [first, more @ ..] = rest {
+        if !first.is_less(path) {
+            return rest;
+        }
+        rest = more;
+    }
+    rest
+}
+
+fn begins_with(paths: &[LockPath], path: LockPath) -> bool
+    ensures { result ≡ begins_with_path path paths.now }
+{
+    match paths {
+        [first, ..] => path.is_same(*first),
+        [] => false,
+    }
+}
+
+// The paths that the others have too, where both ascend, by one walk through both.
+fn kept_in_order(
+    alloc: Global,
+    paths: &[LockPath],
+    others: &[LockPath],
+) -> Result<List<LockPath>, AllocError>
+    requires paths { are_ascending paths.now ≡ true }
+    requires others { are_ascending others.now ≡ true }
+    ensures { IfOk result (λ kept. kept ≡ filter (λ p. has p others.now) paths.now) }
+{
+    let mut kept = List::new(alloc);
+    let mut rest = others;
+    for path in paths {
+        rest = from(rest, *path);
+        if begins_with(rest, *path) {
+            kept.push(*path)?;
+        }
+    }
+    Ok(kept)
+}
+
+// The paths that the others have too. The analyses' paths ascend; any others are looked up one by one.
 fn kept(
     alloc: Global,
     paths: &[LockPath],
@@ -16,6 +85,9 @@ fn kept(
 ) -> Result<List<LockPath>, AllocError>
     ensures { IfOk result (λ kept. kept ≡ filter (λ p. has p others.now) paths.now) }
 {
+    if ascend(paths) && ascend(others) {
+        return kept_in_order(alloc, paths, others);
+    }
     let kept: Vec<LockPath> = paths
         .iter()
         .copied()

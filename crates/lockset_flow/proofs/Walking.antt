@@ -1,0 +1,110 @@
+-- Two lists of paths that ascend, walked through together.
+use Rattle.std.proofs.Common.{◌≡◌, ℕ, zero, suc, ◌+◌, ◌<◌, Bool, true, false, List, [], ◌∷◌, ◌++◌, length, get_or, drop, refl, sym, ap, ◌∙◌, subst, ⊎_elim, append_assoc}
+use Rattle.std.specs.Prelude.{◌||◌, ◌&&◌, if◌then◌else◌}
+use Rattle.std.specs.List.{filter}
+use Rattle.std.proofs.lemmas.Bool.{true≢false}
+use Rattle.std.proofs.lemmas.List.{drop_more}
+use Rattle.facts.specs.declared.locks.LockPath.{LockPath}
+use Rattle.facts.specs.Locks.{is_less, is_same, has, are_ascending}
+use Rattle.facts.proofs.PathSets.{same_is, same_self, less_trans, less_other}
+use Rattle.facts.proofs.Orders.{path_irr}
+use Rattle.lockset_flow.specs.Meeting.{starts_behind, from_path, begins_with_path}
+use Rattle.lockset_flow.proofs.Meets.{and_both, or_cases}
+
+-- ---- what ascends
+
+pub ascending_step : (p : LockPath) (ps : List LockPath) → are_ascending (p ∷ ps) ≡ (starts_behind p ps && are_ascending ps)
+ascending_step p [] = refl
+ascending_step p (q ∷ ps) = refl
+
+parts : (p : LockPath) (ps : List LockPath) → are_ascending (p ∷ ps) ≡ true → (starts_behind p ps ≡ true) × (are_ascending ps ≡ true)
+parts p ps h = and_both (starts_behind p ps) (are_ascending ps) (sym (ascending_step p ps) ∙ h)
+
+pub ascending_drop : (ps : List LockPath) (n : ℕ) → are_ascending ps ≡ true → are_ascending (drop n ps) ≡ true
+ascending_drop ps zero h = h
+ascending_drop [] (suc n) h = h
+ascending_drop (p ∷ ps) (suc n) h = ascending_drop ps n (parts p ps h).1
+
+-- all behind the first come after it
+later : (p q : LockPath) (ps : List LockPath) → are_ascending (p ∷ ps) ≡ true → has q ps ≡ true → is_less p q ≡ true
+later p q [] h i = absurd (true≢false (sym i))
+later p q (x ∷ ps) h i =
+    let a = parts p (x ∷ ps) h in
+    let rest = later x q ps a.1 in
+    ⊎_elim (λ same. subst (λ z. is_less p z ≡ true) (sym (same_is q x same)) a.0) (λ more. less_trans p x q a.0 (rest more)) (or_cases (is_same q x) (has q ps) i)
+
+less_apart : (p q : LockPath) → is_less p q ≡ true → is_same p q ≡ false
+less_apart p q h = by (is_same p q) refl
+  where
+    by : (b : Bool) → is_same p q ≡ b → is_same p q ≡ false
+    by true e = absurd (path_irr q (subst (λ z. is_less z q ≡ true) (same_is p q e) h))
+    by false e = e
+
+less_apart_back : (p q : LockPath) → is_less q p ≡ true → is_same p q ≡ false
+less_apart_back p q h = by (is_same p q) refl
+  where
+    by : (b : Bool) → is_same p q ≡ b → is_same p q ≡ false
+    by true e = absurd (path_irr q (subst (λ z. is_less q z ≡ true) (same_is p q e) h))
+    by false e = e
+
+-- a path that comes before the first isn't there
+before_all : (p q : LockPath) (qs : List LockPath) → are_ascending (q ∷ qs) ≡ true → is_less p q ≡ true → has p qs ≡ false
+before_all p q qs h lt = by (has p qs) refl
+  where
+    by : (b : Bool) → has p qs ≡ b → has p qs ≡ false
+    by true e = absurd (path_irr p (less_trans p q p lt (later q p qs h e)))
+    by false e = e
+
+-- ---- the walk
+
+-- the path is there if the rest begins with it
+pub found_first : (p : LockPath) (qs : List LockPath) → are_ascending qs ≡ true → begins_with_path p (from_path p qs) ≡ has p qs
+found_first p [] h = refl
+found_first p (q ∷ qs) h = by (found_first p qs (parts q qs h).1) (is_less q p) refl
+  where
+    behind : (s : Bool) → is_same p q ≡ s → is_less q p ≡ false → is_same p q ≡ (is_same p q || has p qs)
+    behind true e n = e ∙ ap (λ b. b || has p qs) (sym e)
+    behind false e n =
+        let other : is_same q p ≡ false = apart (is_same q p) refl in
+        let lt = less_other q p n other in
+        e ∙ sym (ap (λ b. b || has p qs) e ∙ before_all p q qs h lt)
+      where
+        apart : (b : Bool) → is_same q p ≡ b → is_same q p ≡ false
+        apart true g = absurd (true≢false (sym (subst (λ z. is_same p z ≡ true) (sym (same_is q p g)) (same_self p)) ∙ e))
+        apart false g = g
+
+    by : begins_with_path p (from_path p qs) ≡ has p qs → (b : Bool) → is_less q p ≡ b → begins_with_path p (if b then from_path p qs else q ∷ qs) ≡ (is_same p q || has p qs)
+    by rest true e = rest ∙ sym (ap (λ b. b || has p qs) (less_apart_back p q e))
+    by rest false e = behind (is_same p q) refl e
+
+-- what comes before a path comes before a later one
+pub from_later : (p r : LockPath) (qs : List LockPath) → is_less p r ≡ true → from_path r (from_path p qs) ≡ from_path r qs
+from_later p r [] lt = refl
+from_later p r (q ∷ qs) lt = by (from_later p r qs lt) (is_less q p) refl
+  where
+    by : from_path r (from_path p qs) ≡ from_path r qs → (b : Bool) → is_less q p ≡ b → from_path r (if b then from_path p qs else q ∷ qs) ≡ from_path r (q ∷ qs)
+    by rest true e = rest ∙ sym (ap (λ b. if b then from_path r qs else q ∷ qs) (less_trans q p r e lt))
+    by rest false e = refl
+
+-- the walk has come as far as the paths that are left need
+abbrev pub Walked : (left rest others : List LockPath) → Type 0
+Walked left rest others = (p : LockPath) → has p left ≡ true → from_path p rest ≡ from_path p others
+
+first_there : (p : LockPath) (ps : List LockPath) → has p (p ∷ ps) ≡ true
+first_there p ps = ap (λ b. b || has p ps) (same_self p)
+
+pub walked_here : (p : LockPath) (ps rest others next : List LockPath) → are_ascending others ≡ true → Walked (p ∷ ps) rest others → next ≡ from_path p rest → begins_with_path p next ≡ has p others
+walked_here p ps rest others next h was is = ap (begins_with_path p) (is ∙ was p (first_there p ps)) ∙ found_first p others h
+
+pub walked_on : (p : LockPath) (ps rest others next : List LockPath) → are_ascending (p ∷ ps) ≡ true → Walked (p ∷ ps) rest others → next ≡ from_path p rest → Walked ps next others
+walked_on p ps rest others next h was is r there =
+    ap (from_path r) is ∙ from_later p r rest (later p r ps h there) ∙ was r (or_there (is_same r p) there)
+  where
+    or_there : (a : Bool) {b : Bool} → b ≡ true → (a || b) ≡ true
+    or_there true e = refl
+    or_there false e = e
+
+-- what is kept and the rest make the whole
+pub kept_on : (t : LockPath → Bool) (p : LockPath) (ps kept next left whole : List LockPath) (b : Bool) → left ≡ p ∷ ps → t p ≡ b → next ≡ (if b then kept ++ p ∷ [] else kept) → kept ++ filter t left ≡ whole → next ++ filter t ps ≡ whole
+kept_on t p ps kept next left whole true split e is was = ap (λ z. z ++ filter t ps) is ∙ append_assoc kept (p ∷ []) (filter t ps) ∙ ap (λ b. kept ++ (if b then p ∷ filter t ps else filter t ps)) (sym e) ∙ ap (λ z. kept ++ filter t z) (sym split) ∙ was
+kept_on t p ps kept next left whole false split e is was = ap (λ z. z ++ filter t ps) is ∙ ap (λ b. kept ++ (if b then p ∷ filter t ps else filter t ps)) (sym e) ∙ ap (λ z. kept ++ filter t z) (sym split) ∙ was
