@@ -14,24 +14,25 @@ use Rattle.outcomes.specs.declared.stop.Stop.{Stop}
 use Rattle.outcomes.specs.declared.stop.Stop.TheVariants as stop
 use Rattle.rr_base.specs.Files.{Files}
 use Rattle.jobs.specs.Jobs.{IsOutcome, PutsBefore, ReadsInput, RunsThreads, UsesShelf}
+use Rattle.jobs.specs.Works.{Work}
 
-module _ (files : Option Files) (left : Option (List ℕ)) (found : Option Job) (asked : Option Asked) (old new : Outside) (result : ℕ) (is : option_map told found ≡ asked) where
+module _ (a b : Work) (files : Option Files) (left : Option (List ℕ)) (found : Option Job) (asked : Option Asked) (old new : Outside) (result : ℕ) (is : option_map told found ≡ asked) where
   -- how the call of these words ends
   abbrev EndsFor : Option Asked → Type 0
-  EndsFor job = Ends (IsOutcome files left job) (PutsBefore job) (UsesShelf job) (ReadsInput job) (RunsThreads job) old new result
+  EndsFor job = Ends (IsOutcome a b files left job) (PutsBefore job) (UsesShelf job) (ReadsInput job) (RunsThreads job) old new result
 
   -- the job that was found is that of the words
   for_found : (job : Option Job) → found ≡ job → EndsFor (option_map told job) → EndsFor asked
   for_found job e h = subst EndsFor (sym (ap (option_map told) e) ∙ is) h
 
-  pub usage_ends : found ≡ None → new.files ≡ old.files → new.counts ≡ old.counts → Writes (text_of answer.Usage) (status_of answer.Usage) old.out new.out result → EndsFor asked
-  usage_ends e same counts w =
+  pub usage_ends : found ≡ None → b ≡ a → new.files ≡ old.files → new.counts ≡ old.counts → Writes (text_of answer.Usage) (status_of answer.Usage) old.out new.out result → EndsFor asked
+  usage_ends e idle same counts w =
       let usage = stop.Refused answer.Usage in
-      let comes = comes_at_once (IsOutcome files left None) (PutsBefore None) old.files new.files (Err usage) refl refl same in
-      for_found None e (stopped (IsOutcome files left None) (PutsBefore None) (UsesShelf None) (ReadsInput None) (RunsThreads None) old new result usage comes counts tt w)
+      let comes = comes_at_once (IsOutcome a b files left None) (PutsBefore None) old.files new.files (Err usage) refl (record { is = refl; idle = λ _. idle }) same in
+      for_found None e (stopped (IsOutcome a b files left None) (PutsBefore None) (UsesShelf None) (ReadsInput None) (RunsThreads None) old new result usage comes counts tt w)
 
-  pub found_ends : (job : Job) (o : Outcome) (between : ShelfSight) → found ≡ Some job → IsFoundSo (IsOutcome files left (Some (told job))) old.files between.files o → between.faults ≡ old.counts.shelf → new.counts.input ≡ old.counts.input → new.counts.crew ≡ old.counts.crew → Finishes o between (shelf_of new) old.out new.out result → EndsFor asked
-  found_ends job o between e h faults input crew f = for_found (Some job) e (finished (IsOutcome files left (Some (told job))) (PutsBefore (Some (told job))) (UsesShelf (Some (told job))) (ReadsInput (Some (told job))) (RunsThreads (Some (told job))) old new result o between h faults input crew f)
+  pub found_ends : (job : Job) (o : Outcome) (between : ShelfSight) → found ≡ Some job → IsFoundSo (IsOutcome a b files left (Some (told job))) old.files between.files o → between.faults ≡ old.counts.shelf → new.counts.input ≡ old.counts.input → new.counts.crew ≡ old.counts.crew → Finishes o between (shelf_of new) old.out new.out result → EndsFor asked
+  found_ends job o between e h faults input crew f = for_found (Some job) e (finished (IsOutcome a b files left (Some (told job))) (PutsBefore (Some (told job))) (UsesShelf (Some (told job))) (ReadsInput (Some (told job))) (RunsThreads (Some (told job))) old new result o between h faults input crew f)
 
-  pub stopped_ends : (job : Job) (s : Stop) → found ≡ Some job → ComesTo (IsOutcome files left (Some (told job))) (PutsBefore (Some (told job))) old.files new.files (Err s) → StopCounts s old.counts new.counts → MayStop (UsesShelf (Some (told job))) (ReadsInput (Some (told job))) (RunsThreads (Some (told job))) s → TellsStop s old.out new.out result → EndsFor asked
-  stopped_ends job s e h counts may tells = for_found (Some job) e (stopped (IsOutcome files left (Some (told job))) (PutsBefore (Some (told job))) (UsesShelf (Some (told job))) (ReadsInput (Some (told job))) (RunsThreads (Some (told job))) old new result s h counts may tells)
+  pub stopped_ends : (job : Job) (s : Stop) → found ≡ Some job → ComesTo (IsOutcome a b files left (Some (told job))) (PutsBefore (Some (told job))) old.files new.files (Err s) → StopCounts s old.counts new.counts → MayStop (UsesShelf (Some (told job))) (ReadsInput (Some (told job))) (RunsThreads (Some (told job))) s → TellsStop s old.out new.out result → EndsFor asked
+  stopped_ends job s e h counts may tells = for_found (Some job) e (stopped (IsOutcome a b files left (Some (told job))) (PutsBefore (Some (told job))) (UsesShelf (Some (told job))) (ReadsInput (Some (told job))) (RunsThreads (Some (told job))) old new result s h counts may tells)

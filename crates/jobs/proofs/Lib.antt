@@ -6,3 +6,4 @@ pub mod Profiled
 pub mod Recorded
 pub mod Replayed
 pub mod Unique
+pub mod Worked

@@ -23,6 +23,7 @@ use Rattle.outcomes.specs.Puts.{Put, ArePut, ArePartlyPut}
 use Rattle.outcomes.specs.declared.outcome.Outcome.{Outcome}
 use Rattle.outcomes.specs.declared.stop.Stop.{Stop}
 use Rattle.outcomes.specs.declared.stop.Stop.TheVariants as stop
+use Rattle.replayer.specs.Replays.{entries_taken}
 use Rattle.rr_base.specs.Faults.{ShelfFaults}
 use Rattle.rr_base.specs.Files.{Files, LeavesOthers, with_file}
 use Rattle.rr_base.specs.declared.shelf.ShelfEnd.{ShelfEnd}
@@ -40,6 +41,8 @@ use Rattle.jobs.specs.Makings.IsPutInMaking.{Source, SourceAndLog}
 use Rattle.jobs.specs.Recordings.{IsLogged, IsRecording, setup_of}
 use Rattle.jobs.specs.Replays.{Replays}
 use Rattle.jobs.specs.Sources.{Compiles, IsSourceWalk, RunsAsSource, WalksAsSource}
+use Rattle.jobs.specs.Works.{HasRun, IsIdle, IsOfRun, Work}
+use Rattle.jobs.proofs.Worked.{ran, summary_is_of_run, told_of_run}
 
 -- ---- how long it is
 
@@ -65,8 +68,8 @@ default_limits name = record { slots_low = omega arith; slots_high = omega arith
 pub setup_is_within : (name : List ℕ) → IsWithinLimits (setup_of (recording_of name) [])
 setup_is_within name = setup_within (recording_of name) [] (default_limits name) (omega arith)
 
-pub same_logged : (r q : RecordAsked) (p : Profile) (w : Analysed) (xs ys : List ℕ) (log : LogView) (o : Outcome) → r ≡ q → xs ≡ ys → IsLogged r p w xs log o → IsLogged q p w ys log o
-same_logged r q p w xs ys log o e f h = subst (λ x. IsLogged q p w x log o) f (subst (λ x. IsLogged x p w xs log o) e h)
+pub same_logged : (a b : Work) (r q : RecordAsked) (p : Profile) (w : Analysed) (xs ys : List ℕ) (log : LogView) (o : Outcome) → r ≡ q → xs ≡ ys → IsLogged a b r p w xs log o → IsLogged a b q p w ys log o
+same_logged a b r q p w xs ys log o e f h = subst (λ x. IsLogged a b q p w x log o) f (subst (λ x. IsLogged a b x p w xs log o) e h)
 
 -- ---- its code
 
@@ -84,17 +87,17 @@ source_is_put count name text None new is e = e
 source_is_put count name text (Some files) new is e = subst (λ x. new ≡ Some (with_file name x files)) is e
 
 -- what comes of a source that was put
-pub once_put : (count : ℕ) (name other : List ℕ) (old between new : Option Files) (r : Result Outcome Stop) → other ≡ name
-    → ((first : Option Files) → ArePut (source_put count other ∷ []) first between → ComesTo (IsMaking count other) (IsPutInMaking count other) first new r)
-    → ArePut (source_put count name ∷ []) old between → ComesTo (IsMaking count name) (IsPutInMaking count name) old new r
-once_put count name other old between new r e h put = subst (λ x. (first : Option Files) → ArePut (source_put count x ∷ []) first between → ComesTo (IsMaking count x) (IsPutInMaking count x) first new r) e h old put
+pub once_put : (a b : Work) (count : ℕ) (name other : List ℕ) (old between new : Option Files) (r : Result Outcome Stop) → other ≡ name
+    → ((first : Option Files) → ArePut (source_put count other ∷ []) first between → ComesTo (IsMaking a b count other) (IsPutInMaking count other) first new r)
+    → ArePut (source_put count name ∷ []) old between → ComesTo (IsMaking a b count name) (IsPutInMaking count name) old new r
+once_put a b count name other old between new r e h put = subst (λ x. (first : Option Files) → ArePut (source_put count x ∷ []) first between → ComesTo (IsMaking a b count x) (IsPutInMaking count x) first new r) e h old put
 
-module _ (count : ℕ) (name : List ℕ) (old : Option Files) where
+module _ (a b : Work) (count : ℕ) (name : List ℕ) (old : Option Files) where
   abbrev source : Put
   source = source_put count name
 
   abbrev ComesSo : Option Files → Result Outcome Stop → Type 0
-  ComesSo new r = ComesTo (IsMaking count name) (IsPutInMaking count name) old new r
+  ComesSo new r = ComesTo (IsMaking a b count name) (IsPutInMaking count name) old new r
 
   pub nothing_put : (new : Option Files) (s : Stop) → s ≡ stop.OutOfMemory → new ≡ old → ComesSo new (Err s)
   nothing_put new s is e = subst (λ x. ComesSo new (Err x)) (sym is) (source ∷ [], Source refl, record { made = []; rest = source ∷ []; split = refl; files = no_puts old new e })
@@ -108,14 +111,14 @@ module _ (count : ℕ) (name : List ℕ) (old : Option Files) where
     source_alone = record { made = source ∷ []; rest = []; split = refl; files = put }
 
     pub not_made : (s : Stop) → Compiles (program_text count) profile.All (Err s) → ComesSo new (Err s)
-    not_made (stop.Refused a) h = record { before = source ∷ []; put = put; has = record { rest = answers a; comes = record { step = Err a; is = h; next = refl }; told = refl } }
+    not_made (stop.Refused refusal) h = record { before = source ∷ []; put = put; has = record { rest = answers refusal; comes = record { step = Err refusal; is = h; next = refl }; told = refl } }
     not_made stop.ShelfFailed h = absurd h
     not_made stop.InputFailed h = absurd h
     not_made stop.CrewFailed h = absurd h
     not_made stop.OutOfMemory h = (source ∷ [], Source refl, source_alone)
 
     pub not_recorded : (s : Stop) (crew_old crew_new : ℕ) → CrewStops s crew_old crew_new → ComesSo new (Err s)
-    not_recorded (stop.Refused a) crew_old crew_new h = absurd h
+    not_recorded (stop.Refused refusal) crew_old crew_new h = absurd h
     not_recorded stop.ShelfFailed crew_old crew_new h = absurd h
     not_recorded stop.InputFailed crew_old crew_new h = absurd h
     not_recorded stop.CrewFailed crew_old crew_new h = (source ∷ [], Source refl, put)
@@ -123,32 +126,32 @@ module _ (count : ℕ) (name : List ℕ) (old : Option Files) where
 
 -- ---- from the source to its summary
 
-module _ (count : ℕ) (name : List ℕ) (old between new : Option Files) (w : Analysed) (log : LogView) (recorded : Outcome)
-    (runs : RunsAsSource (program_text count) w) (logged : IsLogged (recording_of name) profile.All w [] log recorded)
+module _ (a work b : Work) (count : ℕ) (name : List ℕ) (old between new : Option Files) (w : Analysed) (log : LogView) (recorded : Outcome)
+    (runs : RunsAsSource (program_text count) w) (logged : IsLogged a work (recording_of name) profile.All w [] log recorded)
     (put : ArePut (source_put count name ∷ []) old between) where
-  abbrev logs_walk : LogsWalk (recording_of name) profile.All runs.os w []
+  abbrev logs_walk : LogsWalk a work (recording_of name) profile.All runs.os w []
   logs_walk labels end = runs.logs (setup_of (recording_of name) []) labels end (setup_is_within name)
 
-  abbrev recording_is : IsRecording (recording_of name) profile.All runs.os [] recorded
-  recording_is = recording (recording_of name) profile.All runs.os w [] recorded runs.is logs_walk logged.is
+  abbrev recording_is : IsRecording a work (recording_of name) profile.All runs.os [] recorded
+  recording_is = recording a work (recording_of name) profile.All runs.os w [] recorded runs.is logs_walk logged.is
 
-  replaying_is : (walk : Walk) → WalkIs w.weak log.setup log.entries no_reads walk → Replays (made_log name recording_is.entries) None runs.os (outcome_of [] None walk)
-  replaying_is walk is =
-      let entries : recording_is.entries ≡ logged.is.recorded.entries = recording_entries (recording_of name) profile.All runs.os w [] recorded runs.is logs_walk logged.is in
+  replaying_is : (walk : Walk) → WalkIs w.weak log.setup log.entries no_reads walk → HasRun log.setup.slots (entries_taken log.entries walk) work b → Replays work b (made_log name recording_is.entries) None runs.os (outcome_of [] None walk)
+  replaying_is walk is worked =
+      let entries : recording_is.entries ≡ logged.is.recorded.entries = recording_entries a work (recording_of name) profile.All runs.os w [] recorded runs.is logs_walk logged.is in
       let same : log ≡ made_log name recording_is.entries = logged.log_is ∙ ap (made_log name) (sym entries) in
-      record { found = w; is = runs.is; walk = walk; walks = subst (λ (l : LogView). WalkIs w.weak l.setup l.entries no_reads walk) same is; source = runs.walks (setup_of (recording_of name) []) recording_is.entries (setup_is_within name); told = refl }
+      record { found = w; is = runs.is; walk = walk; walks = subst (λ (l : LogView). WalkIs w.weak l.setup l.entries no_reads walk) same is; source = runs.walks (setup_of (recording_of name) []) recording_is.entries (setup_is_within name); crew = subst (λ (l : LogView). HasRun l.setup.slots (entries_taken l.entries walk) work b) same worked; told = refl }
 
   module _ (bytes : ℕ) (long : bytes ≡ length (program_text count)) where
-    is_made : (o : Outcome) → IsReplayed count bytes w log recorded o → IsMade count name runs.os o
-    is_made o h = record { recorded = recorded; recording = recording_is; replayed = outcome_of [] None h.walk; replaying = replaying_is h.walk h.walks; told = subst (λ n. o ≡ record { puts = recorded.puts; answer = summary_told count n recorded.answer (answer_of h.walk) }) long h.told }
+    is_made : (o : Outcome) → IsReplayed work b count bytes w log recorded o → IsMade a b count name runs.os o
+    is_made o h = record { between = work; recorded = recorded; recording = recording_is; replayed = outcome_of [] None h.walk; replaying = replaying_is h.walk h.walks h.crew; told = subst (λ n. o ≡ record { puts = recorded.puts; answer = summary_told count n recorded.answer (answer_of h.walk) }) long h.told }
 
-    is_making : (left : Outcome) → IsFoundSo (IsReplayed count bytes w log recorded) between new left → IsFoundSo (IsMaking count name) old new left
+    is_making : (left : Outcome) → IsFoundSo (IsReplayed work b count bytes w log recorded) between new left → IsFoundSo (IsMaking a b count name) old new left
     is_making left h =
         let rest = behind h.before left in
         record { before = source_put count name ∷ h.before; put = put_both (source_put count name ∷ []) h.before old between new put h.put; has = record { rest = rest; comes = record { step = Ok runs.os; is = runs.tree; next = is_made rest h.has }; told = refl } }
 
     with_source : (puts : List Put) → puts ≡ recorded.puts → IsPutInMaking count name (source_put count name ∷ puts)
-    with_source puts e = SourceAndLog runs.os recorded runs.tree recording_is (ap (λ (xs : List Put). source_put count name ∷ xs) e)
+    with_source puts e = SourceAndLog a work runs.os recorded runs.tree recording_is (ap (λ (xs : List Put). source_put count name ∷ xs) e)
 
     -- a recording puts something
     some_put : (puts : List Put) → puts ≡ recorded.puts → puts ≡ [] → ⊥
@@ -158,13 +161,26 @@ module _ (count : ℕ) (name : List ℕ) (old between new : Option Files) (w : A
     cut_off puts e (NonePut none same) = absurd (some_put puts e none)
     cut_off puts e (OneFailed h) = OneFailed (failed_behind (source_put count name ∷ []) puts old between new put h)
 
-    pub making : (r : Result Outcome Stop) (same : Type 0) (shelf_old shelf_new crew_old crew_new : ℕ) → ComesTo (IsReplayed count bytes w log recorded) (λ puts. puts ≡ recorded.puts) between new r → MatchResult r (λ _. same) (λ s. CrewShelfStops s shelf_old shelf_new crew_old crew_new) → ComesTo (IsMaking count name) (IsPutInMaking count name) old new r
+    pub making : (r : Result Outcome Stop) (same : Type 0) (shelf_old shelf_new crew_old crew_new : ℕ) → ComesTo (IsReplayed work b count bytes w log recorded) (λ puts. puts ≡ recorded.puts) between new r → MatchResult r (λ _. same) (λ s. CrewShelfStops s shelf_old shelf_new crew_old crew_new) → ComesTo (IsMaking a b count name) (IsPutInMaking count name) old new r
     making (Ok left) same shelf_old shelf_new crew_old crew_new h f = is_making left h
-    making (Err (stop.Refused a)) same shelf_old shelf_new crew_old crew_new h f = is_making (answers a) h
+    making (Err (stop.Refused refusal)) same shelf_old shelf_new crew_old crew_new h f = is_making (answers refusal) h
     making (Err stop.ShelfFailed) same shelf_old shelf_new crew_old crew_new h f = (source_put count name ∷ h.0, with_source h.0 h.1, cut_off h.0 h.1 h.2)
     making (Err stop.InputFailed) same shelf_old shelf_new crew_old crew_new h f = absurd f
     making (Err stop.CrewFailed) same shelf_old shelf_new crew_old crew_new h f = (source_put count name ∷ h.0, with_source h.0 h.1, put_both (source_put count name ∷ []) h.0 old between new put h.2)
     making (Err stop.OutOfMemory) same shelf_old shelf_new crew_old crew_new h f = (source_put count name ∷ h.0, with_source h.0 h.1, partly_behind (source_put count name ∷ []) h.0 old between new put h.2)
+
+-- what is told of a run that was recorded and replayed is of that run
+module _ (a work b : Work) (count bytes : ℕ) (r : RecordAsked) (w : Analysed) (log : LogView) (recorded : Outcome) (logged : IsLogged a work r profile.All w [] log recorded) (between new : Option Files) where
+  of_run : (left : Outcome) → IsFoundSo (IsReplayed work b count bytes w log recorded) between new left → IsOfRun left.answer
+  of_run left h = subst IsOfRun (sym (ap (λ (o : Outcome). o.answer) h.has.told)) (summary_is_of_run count bytes recorded.answer (answer_of h.has.walk) (told_of_run recorded _ logged.is.recorded.walk logged.is.told refl))
+
+  pub making_is_idle : (res : Result Outcome Stop) → ComesTo (IsReplayed work b count bytes w log recorded) (λ puts. puts ≡ recorded.puts) between new res → IsIdle res a b
+  making_is_idle (Ok left) h = ran a b left (of_run left h)
+  making_is_idle (Err (stop.Refused refusal)) h = ran a b (answers refusal) (of_run (answers refusal) h)
+  making_is_idle (Err stop.ShelfFailed) h = tt
+  making_is_idle (Err stop.InputFailed) h = tt
+  making_is_idle (Err stop.CrewFailed) h = tt
+  making_is_idle (Err stop.OutOfMemory) h = tt
 
 -- ---- faults
 

@@ -30,6 +30,7 @@ use Rattle.sync_objects.specs.declared.entry.Entry.{Entry}
 use Rattle.walk_answers.specs.Walking.{formula_of, outcome_of}
 use Rattle.jobs.specs.Recordings.{setup_of, IsLogged, IsRecorded, IsRecording, IsRunOf}
 use Rattle.jobs.specs.Sources.{AreOrdered, Compiles, IsFound, IsSourceWalk, IsTree}
+use Rattle.jobs.specs.Works.{HasRun, Work}
 
 -- the log of a run in which all threads have ended
 abbrev log_of : State Told → List Entry
@@ -37,12 +38,12 @@ log_of end = entries_in (written_merge (lists_of end))
 
 -- ---- the run
 
-module _ (a : Analysed) (s : SetupView) where
+module _ (old new : Work) (a : Analysed) (s : SetupView) where
   pub left_of_run : (code : Code) (f : Formula) (it : Recorded) → code ≡ a.weak
       → ((labels : List Label) (end : State Told) → run_of a.weak s labels ≡ Some end → AreOrdered a.weak s labels)
       → ((labels : List Label) (end : State Told) → run_of a.weak s labels ≡ Some end → AreWithin s (log_of end) × AllByRecursion (λ (e : Entry). Fits e.op e.obj) (log_of end))
-      → Records code s f it.entries it.walk → IsRunOf a s f it
-  left_of_run code f it e ordered within h =
+      → Records code s f it.entries it.walk → HasRun s.slots (length it.entries) old new → IsRunOf old new a s f it
+  left_of_run code f it e ordered within h worked =
       let r : Records a.weak s f it.entries it.walk = subst (λ (c : Code). Records c s f it.entries it.walk) e h in
       let w = within r.labels r.end r.ran in
       record {
@@ -50,6 +51,7 @@ module _ (a : Analysed) (s : SetupView) where
         ordered = ordered r.labels r.end r.ran;
         within = subst (AreWithin s) (sym r.log) w.0;
         fitting = subst (AllByRecursion (λ (e : Entry). Fits e.op e.obj)) (sym r.log) w.1;
+        crew = worked;
       }
 
 -- ---- limits
@@ -59,12 +61,12 @@ setup_within r input h short = record { some_slot = h.slots_low; few_slots = h.s
 
 -- ---- the source
 
-module _ (r : RecordAsked) (p : Profile) (os : List Outer) (w : Analysed) where
+module _ (old new : Work) (r : RecordAsked) (p : Profile) (os : List Outer) (w : Analysed) where
   -- the log of each run is a walk of the source
   abbrev pub LogsWalk : (input : List ℕ) → Type 0
   LogsWalk input = (labels : List Label) (end : State Told) → run_of w.weak (setup_of r input) labels ≡ Some end → HaveEnded w.weak (setup_of r input) end → IsSourceWalk os w.weak (setup_of r input) (log_of end)
 
-  pub recording : (input : List ℕ) (o : Outcome) → IsFound os p w → LogsWalk input → IsRecorded r p w input o → IsRecording r p os input o
+  pub recording : (input : List ℕ) (o : Outcome) → IsFound os p w → LogsWalk input → IsRecorded old new r p w input o → IsRecording old new r p os input o
   recording input o found walks h =
       let run = h.run.records in
       record {
@@ -75,34 +77,35 @@ module _ (r : RecordAsked) (p : Profile) (os : List Outer) (w : Analysed) where
         records = run;
         source = subst (IsSourceWalk os w.weak (setup_of r input)) (sym run.log) (walks run.labels run.end run.ran run.ended);
         ordered = h.run.ordered;
+        crew = h.run.crew;
         told = h.told;
       }
 
-  pub recording_entries : (input : List ℕ) (o : Outcome) (found : IsFound os p w) (walks : LogsWalk input) (h : IsRecorded r p w input o) → (recording input o found walks h).entries ≡ h.recorded.entries
+  pub recording_entries : (input : List ℕ) (o : Outcome) (found : IsFound os p w) (walks : LogsWalk input) (h : IsRecorded old new r p w input o) → (recording input o found walks h).entries ≡ h.recorded.entries
   unfolding recording
   recording_entries input o found walks h = refl
 
   module _ (IsStep : Result (List ℕ) Answer → Type 0) (found : IsFound os p w) (walks : (input : List ℕ) → IsStep (Ok input) → LogsWalk input) where
-    then_recording : (step : Result (List ℕ) Answer) (o : Outcome) → IsStep step → Then (IsRecorded r p w) step o → Then (IsRecording r p os) step o
+    then_recording : (step : Result (List ℕ) Answer) (o : Outcome) → IsStep step → Then (IsRecorded old new r p w) step o → Then (IsRecording old new r p os) step o
     then_recording (Ok input) o is h = recording input o found (walks input is) h
     then_recording (Err a) o is h = h
 
-    comes_recording : (o : Outcome) → Comes IsStep (IsRecorded r p w) o → Comes IsStep (IsRecording r p os) o
+    comes_recording : (o : Outcome) → Comes IsStep (IsRecorded old new r p w) o → Comes IsStep (IsRecording old new r p os) o
     comes_recording o h = record { step = h.step; is = h.is; next = then_recording h.step o h.is h.next }
 
 -- ---- the outcome
 
-module _ (source : List ℕ) (left : Option (List ℕ)) (r : RecordAsked) (p : Profile) (w : Analysed) (limits : HasRecordLimits r) (compiles : Compiles source p (Ok w)) where
+module _ (old new : Work) (source : List ℕ) (left : Option (List ℕ)) (r : RecordAsked) (p : Profile) (w : Analysed) (limits : HasRecordLimits r) (compiles : Compiles source p (Ok w)) where
   -- each log of a run is a walk of the source, whatever the setup is
   abbrev LawOfLogs : Type 0
   LawOfLogs = (s : SetupView) (labels : List Label) (end : State Told) → IsWithinLimits s → run_of w.weak s labels ≡ Some end → HaveEnded w.weak s end → IsSourceWalk compiles.0 w.weak s (log_of end)
 
-  of_source : (o : Outcome) → LawOfLogs → Comes (IsInput left 1048576 part.Input) (IsRecorded r p w) o → Comes (IsTree source) (λ os. Comes (IsInput left 1048576 part.Input) (IsRecording r p os)) o
+  of_source : (o : Outcome) → LawOfLogs → Comes (IsInput left 1048576 part.Input) (IsRecorded old new r p w) o → Comes (IsTree source) (λ os. Comes (IsInput left 1048576 part.Input) (IsRecording old new r p os)) o
   of_source o law h =
       let walks = λ (input : List ℕ) (is : IsInput left 1048576 part.Input (Ok input)). λ (labels : List Label) (end : State Told). law (setup_of r input) labels end (setup_within r input limits (subst (λ (xs : List ℕ). length xs ≤ 1048576) (sym is.within.0) is.within.1)) in
-      record { step = Ok compiles.0; is = compiles.1; next = comes_recording r p compiles.0 w (IsInput left 1048576 part.Input) compiles.2 walks o h }
+      record { step = Ok compiles.0; is = compiles.1; next = comes_recording old new r p compiles.0 w (IsInput left 1048576 part.Input) compiles.2 walks o h }
 
-  pub recorded_gives : (res : Result Outcome Stop) → LawOfLogs → Gives (Comes (IsInput left 1048576 part.Input) (IsRecorded r p w)) res → Gives (Comes (IsTree source) (λ os. Comes (IsInput left 1048576 part.Input) (IsRecording r p os))) res
+  pub recorded_gives : (res : Result Outcome Stop) → LawOfLogs → Gives (Comes (IsInput left 1048576 part.Input) (IsRecorded old new r p w)) res → Gives (Comes (IsTree source) (λ os. Comes (IsInput left 1048576 part.Input) (IsRecording old new r p os))) res
   recorded_gives (Ok o) law h = of_source o law h
   recorded_gives (Err (stop.Refused a)) law h = of_source (answers a) law h
   recorded_gives (Err stop.ShelfFailed) law h = tt
@@ -116,12 +119,12 @@ module _ (source : List ℕ) (left : Option (List ℕ)) (r : RecordAsked) (p : P
 abbrev TellsLog : RecordAsked → Profile → Recorded → SetupView → Outcome → Type 0
 TellsLog r p it s o = o ≡ outcome_of (record { name = r.log; content = log_text (record { setup = s; profile = p; entries = it.entries }) } ∷ []) r.reads it.walk
 
-pub logged_of : (r : RecordAsked) (p : Profile) (w : Analysed) (input : List ℕ) (it : Recorded) (s : SetupView) (formula : Formula) (log : LogView) (o : Outcome) → s ≡ setup_of r input → formula ≡ formula_of r.reads → IsRunOf w s formula it → log ≡ record { setup = s; profile = p; entries = it.entries } → o ≡ outcome_of (record { name = r.log; content = log_text (record { setup = s; profile = p; entries = it.entries }) } ∷ []) r.reads it.walk → IsLogged r p w input log o
-logged_of r p w input it s formula log o e g run is told =
+pub logged_of : (old new : Work) (r : RecordAsked) (p : Profile) (w : Analysed) (input : List ℕ) (it : Recorded) (s : SetupView) (formula : Formula) (log : LogView) (o : Outcome) → s ≡ setup_of r input → formula ≡ formula_of r.reads → IsRunOf old new w s formula it → log ≡ record { setup = s; profile = p; entries = it.entries } → o ≡ outcome_of (record { name = r.log; content = log_text (record { setup = s; profile = p; entries = it.entries }) } ∷ []) r.reads it.walk → IsLogged old new r p w input log o
+logged_of old new r p w input it s formula log o e g run is told =
     record {
       is = record {
         recorded = it;
-        run = subst (λ x. IsRunOf w x (formula_of r.reads) it) e (subst (λ x. IsRunOf w s x it) g run);
+        run = subst (λ x. IsRunOf old new w x (formula_of r.reads) it) e (subst (λ x. IsRunOf old new w s x it) g run);
         told = subst (λ x. TellsLog r p it x o) e told;
       };
       log_is = is ∙ ap (λ (x : SetupView). record { setup = x; profile = p; entries = it.entries }) e;

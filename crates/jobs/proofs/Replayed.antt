@@ -13,7 +13,7 @@ use Rattle.front.specs.Plain.{plain_code}
 use Rattle.lock_sound.specs.Weakened.{Analysed, IsAnalysed}
 use Rattle.order_log.specs.Log.{IsEntryWithin, LogView}
 use Rattle.outcomes.specs.Faults.{CrewStops, IsPure, RefusingCrewStops}
-use Rattle.replayer.specs.Replays.{AreThreads}
+use Rattle.replayer.specs.Replays.{AreThreads, entries_taken}
 use Rattle.outcomes.specs.Steps.{Comes, Gives}
 use Rattle.outcomes.specs.declared.outcome.Outcome.{Outcome}
 use Rattle.outcomes.specs.declared.stop.Stop.{Stop}
@@ -27,6 +27,8 @@ use Rattle.weak_facts.specs.Ranges.{ranges_of}
 use Rattle.walk_answers.specs.Walking.{formula_of, outcome_of}
 use Rattle.jobs.specs.Replays.{Replays}
 use Rattle.jobs.specs.Sources.{Compiles, IsSourceWalk, IsTree, WalksAsSource}
+use Rattle.jobs.specs.Works.{HasRun, IsIdle, Work}
+use Rattle.jobs.proofs.Worked.{crew_is_idle, ran, told_of_run}
 
 -- ---- the source
 
@@ -45,17 +47,23 @@ module _ (os : List Outer) (s : SetupView) (es : List Entry) where
 
 -- ---- the outcome
 
--- what is told of some walk
-abbrev TellsWalk : LogView → Option (List ℕ) → Analysed → Outcome → Type 0
-TellsWalk log reads w o = (walk : Walk) × WalkIs w.weak log.setup log.entries (formula_of reads) walk × (o ≡ outcome_of [] reads walk)
+-- what is told of some walk, which the crew has run
+abbrev pub TellsWalk : (old new : Work) → LogView → Option (List ℕ) → Analysed → Outcome → Type 0
+TellsWalk old new log reads w o = (walk : Walk) × WalkIs w.weak log.setup log.entries (formula_of reads) walk × HasRun log.setup.slots (entries_taken log.entries walk) old new × (o ≡ outcome_of [] reads walk)
 
-pub replayed_gives : (source : List ℕ) (log : LogView) (reads : Option (List ℕ)) (w : Analysed) (r : Result Outcome Stop) (old new : ℕ) (compiles : Compiles source log.profile (Ok w)) → WalksAsSource compiles.0 w.weak log.setup log.entries → IfOk r (TellsWalk log reads w) → MatchResult r (λ _. new ≡ old) (λ end. CrewStops end old new) → Gives (Comes (IsTree source) (Replays log reads)) r
-replayed_gives source log reads w (Ok o) old new h walks is stops = record { step = Ok h.0; is = h.1; next = record { found = w; is = h.2; walk = is.0; walks = is.1; source = walks; told = is.2 } }
-replayed_gives source log reads w (Err (stop.Refused a)) old new h walks is stops = absurd stops
-replayed_gives source log reads w (Err stop.ShelfFailed) old new h walks is stops = tt
-replayed_gives source log reads w (Err stop.InputFailed) old new h walks is stops = tt
-replayed_gives source log reads w (Err stop.CrewFailed) old new h walks is stops = tt
-replayed_gives source log reads w (Err stop.OutOfMemory) old new h walks is stops = tt
+module _ (a b : Work) where
+  pub replayed_gives : (source : List ℕ) (log : LogView) (reads : Option (List ℕ)) (w : Analysed) (r : Result Outcome Stop) (old new : ℕ) (compiles : Compiles source log.profile (Ok w)) → WalksAsSource compiles.0 w.weak log.setup log.entries → IfOk r (TellsWalk a b log reads w) → MatchResult r (λ _. new ≡ old) (λ end. CrewStops end old new) → Gives (Comes (IsTree source) (Replays a b log reads)) r
+  replayed_gives source log reads w (Ok o) old new h walks is stops = record { step = Ok h.0; is = h.1; next = record { found = w; is = h.2; walk = is.0; walks = is.1; source = walks; crew = is.2; told = is.3 } }
+  replayed_gives source log reads w (Err (stop.Refused refusal)) old new h walks is stops = absurd stops
+  replayed_gives source log reads w (Err stop.ShelfFailed) old new h walks is stops = tt
+  replayed_gives source log reads w (Err stop.InputFailed) old new h walks is stops = tt
+  replayed_gives source log reads w (Err stop.CrewFailed) old new h walks is stops = tt
+  replayed_gives source log reads w (Err stop.OutOfMemory) old new h walks is stops = tt
+
+  -- a walk is that of a run, and nothing is refused
+  pub replayed_is_idle : (log : LogView) (reads : Option (List ℕ)) (w : Analysed) (r : Result Outcome Stop) (old new : ℕ) → IfOk r (TellsWalk a b log reads w) → MatchResult r (λ _. new ≡ old) (λ end. CrewStops end old new) → IsIdle r a b
+  replayed_is_idle log reads w (Ok o) old new is stops = ran a b o (told_of_run o _ is.0 is.3 refl)
+  replayed_is_idle log reads w (Err s) old new is stops = crew_is_idle a b s old new stops
 
 -- what stops a crew's run stops a job that may refuse, too
 pub may_refuse : (r : Result Outcome Stop) (old new : ℕ) → MatchResult r (λ _. new ≡ old) (λ end. CrewStops end old new) → MatchResult r (λ _. new ≡ old) (λ end. RefusingCrewStops end old new)

@@ -35,16 +35,17 @@ use Rattle.job_profiles.specs.Profiles.{IsProfile, IsSpelled}
 use Rattle.jobs.specs.Profilings.{ShowsLog}
 use Rattle.jobs.specs.Replays.{IsLogIn, IsRefusal, Replays}
 use Rattle.jobs.specs.Sources.{IsFound, IsTree}
+use Rattle.jobs.specs.Works.{Work}
 use Rattle.walk_answers.specs.Walking.{formula_of, put_of}
 
 -- ---- steps
 
-module _ {X : Type 0} (IsStep : Result X Answer → Type 0) (Next : X → Outcome → Type 0) (o p : Outcome) where
-  then_once : (r : Result X Answer) → ((x : X) → Next x o → Next x p → o ≡ p) → Then Next r o → Then Next r p → o ≡ p
+module _ {X : Type 0} (IsStep : Result X Answer → Type 0) (Next Other : X → Outcome → Type 0) (o p : Outcome) where
+  then_once : (r : Result X Answer) → ((x : X) → Next x o → Other x p → o ≡ p) → Then Next r o → Then Other r p → o ≡ p
   then_once (Ok x) next h g = next x h g
   then_once (Err a) next h g = h ∙ sym g
 
-  pub comes_once : ((r s : Result X Answer) → IsStep r → IsStep s → r ≡ s) → ((x : X) → Next x o → Next x p → o ≡ p) → Comes IsStep Next o → Comes IsStep Next p → o ≡ p
+  pub comes_once : ((r s : Result X Answer) → IsStep r → IsStep s → r ≡ s) → ((x : X) → Next x o → Other x p → o ≡ p) → Comes IsStep Next o → Comes IsStep Other p → o ≡ p
   comes_once one next h g = then_once g.step next (subst (λ r. Then Next r o) (one h.step g.step h.is g.is) h.next) g.next
 
 same_some : {A : Type 0} (x y : A) → Some x ≡ Some y → x ≡ y
@@ -121,8 +122,8 @@ locks_once q os o p h g =
     let same : h.found ≡ g.found = found_once os q h.found g.found h.is g.is in
     h.told ∙ ap (λ (w : Analysed). answers (answer.Done (weak_text_of w.plain w.weak.locks w.grains.rows))) same ∙ sym g.told
 
-replays_once : (log : LogView) (reads : Option (List ℕ)) (os : List Outer) (o p : Outcome) → Replays log reads os o → Replays log reads os p → o ≡ p
-replays_once log reads os o p h g =
+replays_once : (a b c d : Work) (log : LogView) (reads : Option (List ℕ)) (os : List Outer) (o p : Outcome) → Replays a b log reads os o → Replays c d log reads os p → o ≡ p
+replays_once a b c d log reads os o p h g =
     let same : h.found ≡ g.found = found_once os log.profile h.found g.found h.is g.is in
     let walks : WalkIs g.found.weak log.setup log.entries (formula_of reads) h.walk = subst (λ (w : Analysed). WalkIs w.weak log.setup log.entries (formula_of reads) h.walk) same h.walks in
     let one = one_walk g.found.weak log.setup log.entries (formula_of reads) h.walk g.walk walks g.walks in
@@ -136,42 +137,54 @@ shows_once log name os o p h g =
 -- ---- jobs
 
 -- the source of every job
-source_once : (files : Files) (source : List ℕ) (Next : List ℕ → Outcome → Type 0) (o p : Outcome) → ((text : List ℕ) → Next text o → Next text p → o ≡ p) → Comes (IsFile (Some files) 1048576 part.Source source) Next o → Comes (IsFile (Some files) 1048576 part.Source source) Next p → o ≡ p
-source_once files source Next o p next h g = comes_once (IsFile (Some files) 1048576 part.Source source) Next o p (file_once files 1048576 part.Source source) next h g
+source_once : (files : Files) (source : List ℕ) (Next Other : List ℕ → Outcome → Type 0) (o p : Outcome) → ((text : List ℕ) → Next text o → Other text p → o ≡ p) → Comes (IsFile (Some files) 1048576 part.Source source) Next o → Comes (IsFile (Some files) 1048576 part.Source source) Other p → o ≡ p
+source_once files source Next Other o p next h g = comes_once (IsFile (Some files) 1048576 part.Source source) Next Other o p (file_once files 1048576 part.Source source) next h g
 
-by_tree : (text : List ℕ) (Next : List Outer → Outcome → Type 0) (o p : Outcome) → ((os : List Outer) → Next os o → Next os p → o ≡ p) → Comes (IsTree text) Next o → Comes (IsTree text) Next p → o ≡ p
-by_tree text Next o p next h g = comes_once (IsTree text) Next o p (tree_once text) next h g
+by_tree : (text : List ℕ) (Next Other : List Outer → Outcome → Type 0) (o p : Outcome) → ((os : List Outer) → Next os o → Other os p → o ≡ p) → Comes (IsTree text) Next o → Comes (IsTree text) Other p → o ≡ p
+by_tree text Next Other o p next h g = comes_once (IsTree text) Next Other o p (tree_once text) next h g
 
 of_races : (files : Files) (source : List ℕ) (o p : Outcome) → IsRaces (Some files) source o → IsRaces (Some files) source p → o ≡ p
-of_races files source o p h g = source_once files source (λ text. Comes (IsTree text) ListsRaces) o p (λ text. by_tree text ListsRaces o p (λ os. races_once os o p)) h g
+of_races files source o p h g =
+    let Next = λ (text : List ℕ). Comes (IsTree text) ListsRaces in
+    source_once files source Next Next o p (λ text. by_tree text ListsRaces ListsRaces o p (λ os. races_once os o p)) h g
 
 of_weaken : (files : Files) (source : List ℕ) (name : Option (List ℕ)) (o p : Outcome) → IsWeaken (Some files) source name o → IsWeaken (Some files) source name p → o ≡ p
 of_weaken files source name o p h g =
-    source_once files source (λ text. Comes (IsProfile (Some files) name) (λ q. Comes (IsTree text) (ListsWeakLocks q))) o p
-    (λ text. comes_once (IsProfile (Some files) name) (λ q. Comes (IsTree text) (ListsWeakLocks q)) o p (profile_once files name)
-    (λ q. by_tree text (ListsWeakLocks q) o p (λ os. locks_once q os o p))) h g
+    let Lists = λ (text : List ℕ) (q : ProfileOf). Comes (IsTree text) (ListsWeakLocks q) in
+    let Next = λ (text : List ℕ). Comes (IsProfile (Some files) name) (Lists text) in
+    source_once files source Next Next o p
+    (λ text. comes_once (IsProfile (Some files) name) (Lists text) (Lists text) o p (profile_once files name)
+    (λ q. by_tree text (ListsWeakLocks q) (ListsWeakLocks q) o p (λ os. locks_once q os o p))) h g
 
--- the source and the log of a job
-by_log : (files : Files) (source log : List ℕ) (Next : LogView → List Outer → Outcome → Type 0) (o p : Outcome) → ((view : LogView) (os : List Outer) → Next view os o → Next view os p → o ≡ p)
-    → Comes (IsFile (Some files) 1048576 part.Source source) (λ text. Comes (IsFile (Some files) 536870912 part.Log log) (λ bytes. Comes (IsLogIn bytes) (λ view. Comes (IsTree text) (Next view)))) o
-    → Comes (IsFile (Some files) 1048576 part.Source source) (λ text. Comes (IsFile (Some files) 536870912 part.Log log) (λ bytes. Comes (IsLogIn bytes) (λ view. Comes (IsTree text) (Next view)))) p → o ≡ p
-by_log files source log Next o p once h g =
-    source_once files source (λ text. Comes (IsFile (Some files) 536870912 part.Log log) (λ bytes. Comes (IsLogIn bytes) (λ view. Comes (IsTree text) (Next view)))) o p
-    (λ text. comes_once (IsFile (Some files) 536870912 part.Log log) (λ bytes. Comes (IsLogIn bytes) (λ view. Comes (IsTree text) (Next view))) o p (file_once files 536870912 part.Log log)
-    (λ bytes. comes_once (IsLogIn bytes) (λ view. Comes (IsTree text) (Next view)) o p (log_once bytes)
-    (λ view. by_tree text (Next view) o p (once view)))) h g
+-- what comes of a source and a log
+abbrev OfLog : (LogView → List Outer → Outcome → Type 0) → (text : List ℕ) → LogView → Outcome → Type 0
+OfLog Next text view = Comes (IsTree text) (Next view)
 
-of_replay : (files : Files) (source log : List ℕ) (reads : Option (List ℕ)) (o p : Outcome) → IsReplay (Some files) source log reads o → IsReplay (Some files) source log reads p → o ≡ p
-of_replay files source log reads o p h g = by_log files source log (λ view. Replays view reads) o p (λ view os. replays_once view reads os o p) h g
+abbrev OfBytes : (LogView → List Outer → Outcome → Type 0) → (text bytes : List ℕ) → Outcome → Type 0
+OfBytes Next text bytes = Comes (IsLogIn bytes) (OfLog Next text)
+
+abbrev OfFile : (files : Files) (log : List ℕ) → (LogView → List Outer → Outcome → Type 0) → (text : List ℕ) → Outcome → Type 0
+OfFile files log Next text = Comes (IsFile (Some files) 536870912 part.Log log) (OfBytes Next text)
+
+by_log : (files : Files) (source log : List ℕ) (Next Other : LogView → List Outer → Outcome → Type 0) (o p : Outcome) → ((view : LogView) (os : List Outer) → Next view os o → Other view os p → o ≡ p)
+    → Comes (IsFile (Some files) 1048576 part.Source source) (OfFile files log Next) o → Comes (IsFile (Some files) 1048576 part.Source source) (OfFile files log Other) p → o ≡ p
+by_log files source log Next Other o p once h g =
+    source_once files source (OfFile files log Next) (OfFile files log Other) o p
+    (λ text. comes_once (IsFile (Some files) 536870912 part.Log log) (OfBytes Next text) (OfBytes Other text) o p (file_once files 536870912 part.Log log)
+    (λ bytes. comes_once (IsLogIn bytes) (OfLog Next text) (OfLog Other text) o p (log_once bytes)
+    (λ view. by_tree text (Next view) (Other view) o p (once view)))) h g
+
+of_replay : (a b c d : Work) (files : Files) (source log : List ℕ) (reads : Option (List ℕ)) (o p : Outcome) → IsReplay a b (Some files) source log reads o → IsReplay c d (Some files) source log reads p → o ≡ p
+of_replay a b c d files source log reads o p h g = by_log files source log (λ view. Replays a b view reads) (λ view. Replays c d view reads) o p (λ view os. replays_once a b c d view reads os o p) h g
 
 of_profile : (files : Files) (source log name : List ℕ) (o p : Outcome) → IsProfiling (Some files) source log name o → IsProfiling (Some files) source log name p → o ≡ p
-of_profile files source log name o p h g = by_log files source log (λ view. ShowsLog view name) o p (λ view os. shows_once view name os o p) h g
+of_profile files source log name o p h g = by_log files source log (λ view. ShowsLog view name) (λ view. ShowsLog view name) o p (λ view os. shows_once view name os o p) h g
 
 pub one_outcome : OneOutcome
-one_outcome files left None o p none h g = h ∙ sym g
-one_outcome files left (Some (Races source)) o p none h g = of_races files source o p h g
-one_outcome files left (Some (Weaken source name)) o p none h g = of_weaken files source name o p h g
-one_outcome files left (Some (Record r)) o p none h g = absurd (none tt)
-one_outcome files left (Some (Replay source log reads)) o p none h g = of_replay files source log reads o p h g
-one_outcome files left (Some (Profile source log name)) o p none h g = of_profile files source log name o p h g
-one_outcome files left (Some (Make count name)) o p none h g = absurd (none tt)
+one_outcome a b c d files left None o p none h g = h.is ∙ sym g.is
+one_outcome a b c d files left (Some (Races source)) o p none h g = of_races files source o p h.is g.is
+one_outcome a b c d files left (Some (Weaken source name)) o p none h g = of_weaken files source name o p h.is g.is
+one_outcome a b c d files left (Some (Record r)) o p none h g = absurd (none tt)
+one_outcome a b c d files left (Some (Replay source log reads)) o p none h g = of_replay a b c d files source log reads o p h.is g.is
+one_outcome a b c d files left (Some (Profile source log name)) o p none h g = of_profile files source log name o p h.is g.is
+one_outcome a b c d files left (Some (Make count name)) o p none h g = absurd (none tt)

@@ -17,6 +17,7 @@ use Rattle.jobs.specs.Profilings.{ShowsLog}
 use Rattle.jobs.specs.Recordings.{IsRecording}
 use Rattle.jobs.specs.Replays.{IsLogIn, Replays}
 use Rattle.jobs.specs.Sources.{IsTree}
+use Rattle.jobs.specs.Works.{IsOfRun, Work}
 
 -- the source of this name
 abbrev pub IsSource : Option Files → List ℕ → (List ℕ → Outcome → Type 0) → Outcome → Type 0
@@ -31,12 +32,12 @@ IsWeaken files source profile o =
     Comes (IsProfile files profile) (λ p.
     Comes (IsTree text) (ListsWeakLocks p))) o
 
-abbrev pub IsReplay : Option Files → (source log : List ℕ) → (reads : Option (List ℕ)) → Outcome → Type 0
-IsReplay files source log reads o =
+abbrev pub IsReplay : (old new : Work) → Option Files → (source log : List ℕ) → (reads : Option (List ℕ)) → Outcome → Type 0
+IsReplay old new files source log reads o =
     IsSource files source (λ text.
     Comes (IsFile files 536870912 part.Log log) (λ bytes.
     Comes (IsLogIn bytes) (λ view.
-    Comes (IsTree text) (Replays view reads)))) o
+    Comes (IsTree text) (Replays old new view reads)))) o
 
 abbrev pub IsProfiling : Option Files → (source log name : List ℕ) → Outcome → Type 0
 IsProfiling files source log name o =
@@ -45,23 +46,13 @@ IsProfiling files source log name o =
     Comes (IsLogIn bytes) (λ view.
     Comes (IsTree text) (ShowsLog view name)))) o
 
-abbrev pub IsRecord : Option Files → (left : Option (List ℕ)) → RecordAsked → Outcome → Type 0
-IsRecord files left r o =
+abbrev pub IsRecord : (old new : Work) → Option Files → (left : Option (List ℕ)) → RecordAsked → Outcome → Type 0
+IsRecord old new files left r o =
     IsSource files r.source (λ text.
     Comes (IsProfile files r.profile) (λ p.
     Comes (IsTree text) (λ os.
     Comes (IsInput left 1048576 part.Input) (λ input.
-    IsRecording r (named p) os input)))) o
-
--- words that are no job are answered by `usage`
-abbrev pub IsOutcome : Option Files → (left : Option (List ℕ)) → Option Asked → Outcome → Type 0
-IsOutcome files left None o = o ≡ answers answer.Usage
-IsOutcome files left (Some (Races source)) o = IsRaces files source o
-IsOutcome files left (Some (Weaken source profile)) o = IsWeaken files source profile o
-IsOutcome files left (Some (Record r)) o = IsRecord files left r o
-IsOutcome files left (Some (Replay source log reads)) o = IsReplay files source log reads o
-IsOutcome files left (Some (Profile source log name)) o = IsProfiling files source log name o
-IsOutcome files left (Some (Make count name)) o = IsMaking count name o
+    IsRecording old new r (named p) os input)))) o
 
 -- ---- what a job touches
 
@@ -84,6 +75,23 @@ abbrev pub RecordsRun : Option Asked → Type 0
 RecordsRun (Some (Record r)) = Unit {0}
 RecordsRun (Some (Make count name)) = Unit {0}
 RecordsRun _ = ⊥
+
+-- ---- the outcomes
+
+-- the crew has done its work for the job between these; words that are no job are answered by `usage`
+abbrev pub IsOutcomeOf : (old new : Work) → Option Files → (left : Option (List ℕ)) → Option Asked → Outcome → Type 0
+IsOutcomeOf old new files left None o = o ≡ answers answer.Usage
+IsOutcomeOf old new files left (Some (Races source)) o = IsRaces files source o
+IsOutcomeOf old new files left (Some (Weaken source profile)) o = IsWeaken files source profile o
+IsOutcomeOf old new files left (Some (Record r)) o = IsRecord old new files left r o
+IsOutcomeOf old new files left (Some (Replay source log reads)) o = IsReplay old new files source log reads o
+IsOutcomeOf old new files left (Some (Profile source log name)) o = IsProfiling files source log name o
+IsOutcomeOf old new files left (Some (Make count name)) o = IsMaking old new count name o
+
+-- .. and has done nothing but where the job has threads run, and the answer is of their run
+pub record IsOutcome (old new : Work) (files : Option Files) (left : Option (List ℕ)) (job : Option Asked) (o : Outcome) : Type 0 where
+  pub is : IsOutcomeOf old new files left job o
+  pub idle : (RunsThreads job → IsOfRun o.answer → ⊥) → new ≡ old
 
 -- the files that a job puts before it has an outcome: a made source, and its log
 abbrev pub PutsBefore : Option Asked → List Put → Type 0

@@ -1,3 +1,4 @@
+pub mod Works
 pub mod Sources
 pub mod Listings
 pub mod Replays

@@ -14,12 +14,14 @@ use Rattle.outcomes.specs.Outcomes.{behind}
 use Rattle.outcomes.specs.Puts.{Put}
 use Rattle.outcomes.specs.Steps.{Comes}
 use Rattle.outcomes.specs.declared.outcome.Outcome.{Outcome}
+use Rattle.replayer.specs.Replays.{entries_taken}
 use Rattle.sync_objects.specs.declared.entry.Entry.{Entry}
 use Rattle.walk_answers.specs.Walking.{answer_of, no_reads}
 use Rattle.workload.specs.Program.{program_text}
 use Rattle.jobs.specs.Recordings.{IsRecording, log_of}
 use Rattle.jobs.specs.Replays.{Replays}
 use Rattle.jobs.specs.Sources.{IsTree}
+use Rattle.jobs.specs.Works.{HasRun, Work}
 
 -- ---- what is put
 
@@ -55,28 +57,30 @@ summary_told count bytes recorded replayed = with_printed (summary_of count byte
 -- ---- the outcomes
 
 -- The tree is recorded, for which any two functions may be at work at once, and it has no input; then that log is replayed.
-pub record IsMade (count : ℕ) (name : List ℕ) (os : List Outer) (o : Outcome) : Type 0 where
+pub record IsMade (old new : Work) (count : ℕ) (name : List ℕ) (os : List Outer) (o : Outcome) : Type 0 where
+  pub between : Work
   pub recorded : Outcome
-  pub recording : IsRecording (recording_of name) profile.All os [] recorded
+  pub recording : IsRecording old between (recording_of name) profile.All os [] recorded
   pub replayed : Outcome
-  pub replaying : Replays (made_log name recording.entries) None os replayed
+  pub replaying : Replays between new (made_log name recording.entries) None os replayed
   pub told : o ≡ record { puts = recorded.puts; answer = summary_told count (length (program_text count)) recorded.answer replayed.answer }
 
 -- The source is put before anything else.
-pub record IsMaking (count : ℕ) (name : List ℕ) (o : Outcome) : Type 0 where
+pub record IsMaking (old new : Work) (count : ℕ) (name : List ℕ) (o : Outcome) : Type 0 where
   pub rest : Outcome
-  pub comes : Comes (IsTree (program_text count)) (IsMade count name) rest
+  pub comes : Comes (IsTree (program_text count)) (IsMade old new count name) rest
   pub told : o ≡ behind (source_put count name ∷ []) rest
 
 -- what is put before the outcome is found: the source; or then the log of a recording, too
 pub data IsPutInMaking (count : ℕ) (name : List ℕ) (puts : List Put) : Type 0 where
   Source : puts ≡ source_put count name ∷ [] → IsPutInMaking count name puts
-  SourceAndLog : (os : List Outer) (recorded : Outcome) → IsTree (program_text count) (Ok os) → IsRecording (recording_of name) profile.All os [] recorded → puts ≡ source_put count name ∷ recorded.puts → IsPutInMaking count name puts
+  SourceAndLog : (old new : Work) (os : List Outer) (recorded : Outcome) → IsTree (program_text count) (Ok os) → IsRecording old new (recording_of name) profile.All os [] recorded → puts ≡ source_put count name ∷ recorded.puts → IsPutInMaking count name puts
 
 -- ---- for private clauses
 
 -- what is made of a recording by its replay
-pub record IsReplayed (count bytes : ℕ) (found : Analysed) (log : LogView) (recorded o : Outcome) : Type 0 where
+pub record IsReplayed (old new : Work) (count bytes : ℕ) (found : Analysed) (log : LogView) (recorded o : Outcome) : Type 0 where
   pub walk : Walk
   pub walks : WalkIs found.weak log.setup log.entries no_reads walk
+  pub crew : HasRun log.setup.slots (entries_taken log.entries walk) old new
   pub told : o ≡ record { puts = recorded.puts; answer = summary_told count bytes recorded.answer (answer_of walk) }

@@ -11,7 +11,9 @@ use Rattle.order_log.specs.Reading as log_text
 use Rattle.order_log.specs.declared.fault.LogFault.{LogFault}
 use Rattle.order_log.specs.declared.fault.LogFault.TheVariants.{LogSyntax, LogLimit, OutOfMemory}
 use Rattle.outcomes.specs.declared.outcome.Outcome.{Outcome}
+use Rattle.replayer.specs.Replays.{entries_taken}
 use Rattle.jobs.specs.Sources.{IsFound, WalksAsSource}
+use Rattle.jobs.specs.Works.{HasRun, Work}
 use Rattle.walk_answers.specs.Walking.{formula_of, outcome_of}
 
 -- how a log is refused
@@ -26,11 +28,12 @@ IsLogIn bytes (Ok log) = log_text.IsAnswer bytes (Ok log)
 IsLogIn bytes (Err a) = (fault : LogFault) × log_text.IsAnswer bytes (Err fault) × IsRefusal fault a
 
 -- the walk of the log on the code with the weak locks that it has for the log's profile. As far as the entries have a walk it is a
--- run of the source
-pub record Replays (log : LogView) (reads : Option (List ℕ)) (os : List Outer) (o : Outcome) : Type 0 where
+-- run of the source. The crew has run a job for each slot, with a turn for each entry that the walk takes or more
+pub record Replays (old new : Work) (log : LogView) (reads : Option (List ℕ)) (os : List Outer) (o : Outcome) : Type 0 where
   pub found : Analysed
   pub is : IsFound os log.profile found
   pub walk : Walk
   pub walks : WalkIs found.weak log.setup log.entries (formula_of reads) walk
   pub source : WalksAsSource os found.weak log.setup log.entries
+  pub crew : HasRun log.setup.slots (entries_taken log.entries walk) old new
   pub told : o ≡ outcome_of [] reads walk

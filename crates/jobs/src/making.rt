@@ -5,6 +5,7 @@ ghost use Rattle.answers.specs.Jobs.{record_told};
 ghost use Rattle.jobs.specs.Makings as spec;
 ghost use Rattle.facts.specs.declared.profile.Profile.TheVariants as profile;
 ghost use Rattle.jobs.specs.Sources.{Compiles, RunsAsSource};
+ghost use Rattle.jobs.specs.Works.{IsIdle, work_of};
 ghost use Rattle.outcomes.specs.Endings.{ComesTo};
 ghost use Rattle.outcomes.specs.Faults.{CrewShelfStops};
 ghost use Rattle.outcomes.specs.Puts.{ArePut};
@@ -106,7 +107,7 @@ fn replayed_log<'a, R: Threads + Wait + Sync, S: Shelf, C: Crew>(
     shelf: &mut S,
     crew: &mut C,
 ) -> Result<Outcome<'a>, Stop>
-    ensures outcome { ComesTo (spec.IsReplayed count bytes weakened.now recording.entry.log recording.entry.outcome) (λ puts. puts ≡ recording.entry.outcome.puts) (S.files shelf.old) (S.files shelf.new) result }
+    ensures outcome { ComesTo (spec.IsReplayed (work_of C.Crew crew.old) (work_of C.Crew crew.new) count bytes weakened.now recording.entry.log recording.entry.outcome) (λ puts. puts ≡ recording.entry.outcome.puts) (S.files shelf.old) (S.files shelf.new) result }
     ensures faults { MatchResult result (λ _. (S.faults shelf.new ≡ S.faults shelf.old) × (C.faults crew.new ≡ C.faults crew.old)) (λ stop. CrewShelfStops stop (S.faults shelf.old) (S.faults shelf.new) (C.faults crew.old) (C.faults crew.new)) }
 {
     let Recording { log, outcome } = recording;
@@ -142,7 +143,8 @@ fn made<'a, R: Threads + Wait + Sync, S: Shelf, C: Crew>(
     requires job { record_told job.now ≡ spec.recording_of job.now.source.now }
     requires code { RunsAsSource (program_text count) weakened.now }
     requires bytes { bytes ≡ length (program_text count) }
-    ensures outcome { (old : Option Files) → ArePut (spec.source_put count job.now.source.now ∷ []) old (S.files shelf.old) → ComesTo (spec.IsMaking count job.now.source.now) (spec.IsPutInMaking count job.now.source.now) old (S.files shelf.new) result }
+    ensures outcome { (old : Option Files) → ArePut (spec.source_put count job.now.source.now ∷ []) old (S.files shelf.old) → ComesTo (spec.IsMaking (work_of C.Crew crew.old) (work_of C.Crew crew.new) count job.now.source.now) (spec.IsPutInMaking count job.now.source.now) old (S.files shelf.new) result }
+    ensures idle { IsIdle result (work_of C.Crew crew.old) (work_of C.Crew crew.new) }
     ensures faults { MatchResult result (λ _. (S.faults shelf.new ≡ S.faults shelf.old) × (C.faults crew.new ≡ C.faults crew.old)) (λ stop. CrewShelfStops stop (S.faults shelf.old) (S.faults shelf.new) (C.faults crew.old) (C.faults crew.new)) }
 {
     let input = List::new(alloc);
@@ -164,7 +166,8 @@ pub(crate) fn make<'a, R: Threads + Wait + Sync, S: Shelf, C: Crew>(
 ) -> Result<Outcome<'a>, Stop>
     requires from { 1 ≤ count }
     requires to { count ≤ 1000 }
-    ensures outcome { ComesTo (spec.IsMaking count name.now) (spec.IsPutInMaking count name.now) (S.files shelf.old) (S.files shelf.new) result }
+    ensures outcome { ComesTo (spec.IsMaking (work_of C.Crew crew.old) (work_of C.Crew crew.new) count name.now) (spec.IsPutInMaking count name.now) (S.files shelf.old) (S.files shelf.new) result }
+    ensures idle { IsIdle result (work_of C.Crew crew.old) (work_of C.Crew crew.new) }
     ensures faults { MatchResult result (λ _. (S.faults shelf.new ≡ S.faults shelf.old) × (C.faults crew.new ≡ C.faults crew.old)) (λ stop. CrewShelfStops stop (S.faults shelf.old) (S.faults shelf.new) (C.faults crew.old) (C.faults crew.new)) }
 {
     let source = program_of(alloc, count)?;

@@ -6,6 +6,7 @@ ghost use Rattle.answers.specs.declared.answer.Part.TheVariants as part;
 ghost use Rattle.jobs.specs.Jobs.{IsRecord};
 ghost use Rattle.jobs.specs.Recordings.{IsLogged, IsRecorded, IsRecording, IsRunOf};
 ghost use Rattle.jobs.specs.Sources.{IsTree};
+ghost use Rattle.jobs.specs.Works.{IsIdle, work_of};
 ghost use Rattle.walk_answers.specs.Walking.{outcome_of as outcome_by};
 ghost use Rattle.order_log.specs.Log.{AreWithin, HasNames};
 ghost use Rattle.order_log.specs.Text.{log_text};
@@ -48,7 +49,7 @@ fn run<R: Threads + Wait + Sync, C: Crew>(
     formula: &Formula,
     crew: &mut C,
 ) -> Result<Recorded, Stop>
-    ensures run { IfOk result (IsRunOf weakened.now setup.now formula.now) }
+    ensures run { IfOk result (IsRunOf (work_of C.Crew crew.old) (work_of C.Crew crew.new) weakened.now setup.now formula.now) }
     ensures faults { MatchResult result (λ _. C.faults crew.new ≡ C.faults crew.old) (λ stop. CrewStops stop (C.faults crew.old) (C.faults crew.new)) }
 {
     let code = weakened.code();
@@ -106,7 +107,7 @@ pub(crate) fn recorded_on<'a, R: Threads + Wait + Sync, C: Crew>(
     requires limits { HasRecordLimits (record_told job.now) }
     requires short { length input ≤ 1048576 }
     requires names { HasNames profile }
-    ensures outcome { IfOk result (λ it. IsLogged (record_told job.now) profile weakened.now input it.log it.outcome) }
+    ensures outcome { IfOk result (λ it. IsLogged (work_of C.Crew crew.old) (work_of C.Crew crew.new) (record_told job.now) profile weakened.now input it.log it.outcome) }
     ensures faults { MatchResult result (λ _. C.faults crew.new ≡ C.faults crew.old) (λ stop. CrewStops stop (C.faults crew.old) (C.faults crew.new)) }
 {
     let setup = Setup::new(job.slots, job.cells, job.limit, input);
@@ -129,7 +130,8 @@ fn recorded_code<'a, R: Threads + Wait + Sync, I: Source, C: Crew>(
 ) -> Result<Outcome<'a>, Stop>
     requires limits { HasRecordLimits (record_told job.now) }
     requires names { HasNames profile }
-    ensures outcome { Gives (Comes (IsInput (I.left input.old) 1048576 part.Input) (IsRecorded (record_told job.now) profile weakened.now)) result }
+    ensures outcome { Gives (Comes (IsInput (I.left input.old) 1048576 part.Input) (IsRecorded (work_of C.Crew crew.old) (work_of C.Crew crew.new) (record_told job.now) profile weakened.now)) result }
+    ensures idle { IsIdle result (work_of C.Crew crew.old) (work_of C.Crew crew.new) }
     ensures faults { MatchResult result (λ _. (I.faults input.new ≡ I.faults input.old) × (C.faults crew.new ≡ C.faults crew.old)) (λ stop. RunStops stop (I.faults input.old) (I.faults input.new) (C.faults crew.old) (C.faults crew.new)) }
 {
     let bytes = whole_input(alloc, input, INPUT_BYTES, Part::Input)?;
@@ -152,7 +154,8 @@ fn recorded<'a, R: Threads + Wait + Sync, I: Source, C: Crew>(
     requires limits { HasRecordLimits (record_told job.now) }
     requires short { length source.now ≤ 2 ^ 20 }
     requires names { HasNames profile }
-    ensures outcome { Gives (Comes (IsTree source.now) (λ os. Comes (IsInput (I.left input.old) 1048576 part.Input) (λ bytes. IsRecording (record_told job.now) profile os bytes))) result }
+    ensures outcome { Gives (Comes (IsTree source.now) (λ os. Comes (IsInput (I.left input.old) 1048576 part.Input) (λ bytes. IsRecording (work_of C.Crew crew.old) (work_of C.Crew crew.new) (record_told job.now) profile os bytes))) result }
+    ensures idle { IsIdle result (work_of C.Crew crew.old) (work_of C.Crew crew.new) }
     ensures faults { MatchResult result (λ _. (I.faults input.new ≡ I.faults input.old) × (C.faults crew.new ≡ C.faults crew.old)) (λ stop. RunStops stop (I.faults input.old) (I.faults input.new) (C.faults crew.old) (C.faults crew.new)) }
 {
     law_text_log();
@@ -172,7 +175,8 @@ pub(crate) fn record_source<'a, R: Threads + Wait + Sync, I: Source, S: Shelf, C
     crew: &mut C,
 ) -> Result<Outcome<'a>, Stop>
     requires limits { HasRecordLimits (record_told job.now) }
-    ensures outcome { Gives (IsRecord (S.files shelf.old) (I.left input.old) (record_told job.now)) result }
+    ensures outcome { Gives (IsRecord (work_of C.Crew crew.old) (work_of C.Crew crew.new) (S.files shelf.old) (I.left input.old) (record_told job.now)) result }
+    ensures idle { IsIdle result (work_of C.Crew crew.old) (work_of C.Crew crew.new) }
     ensures files { S.files shelf.new ≡ S.files shelf.old }
     ensures faults { MatchResult result (λ _. (S.faults shelf.new ≡ S.faults shelf.old) × (I.faults input.new ≡ I.faults input.old) × (C.faults crew.new ≡ C.faults crew.old)) (λ stop. StopCounts stop (record { shelf = S.faults shelf.old; input = I.faults input.old; crew = C.faults crew.old }) (record { shelf = S.faults shelf.new; input = I.faults input.new; crew = C.faults crew.new })) }
 {

@@ -6,9 +6,11 @@ ghost use Rattle.core_run.specs.Walks.{WalkIs};
 ghost use Rattle.jobs.specs.Jobs.{IsReplay};
 ghost use Rattle.jobs.specs.Replays.{IsLogIn, Replays};
 ghost use Rattle.jobs.specs.Sources.{IsTree};
+ghost use Rattle.jobs.specs.Works.{HasRun, IsIdle, work_of};
 ghost use Rattle.walk_answers.specs.Walking.{formula_of as formula_by, outcome_of as outcome_by};
 ghost use Rattle.outcomes.specs.Faults.{CrewShelfStops, CrewStops, IsPure, RefusingCrewStops};
 ghost use Rattle.outcomes.specs.Steps.{Comes, Finds, Gives};
+ghost use Rattle.replayer.specs.Replays.{entries_taken};
 
 use crate::sources::{SOURCE_BYTES, compiled, or_stop};
 use answers::{Answer, Part};
@@ -58,6 +60,7 @@ fn walked<R: Threads + Wait + Sync, C: Crew>(
     crew: &mut C,
 ) -> Result<Walk, Stop>
     ensures walk { IfOk result (WalkIs weakened.now.weak log.now.setup log.now.entries formula.now) }
+    ensures crew { IfOk result (λ it. HasRun log.now.setup.slots (entries_taken log.now.entries it) (work_of C.Crew crew.old) (work_of C.Crew crew.new)) }
     ensures faults { MatchResult result (λ _. C.faults crew.new ≡ C.faults crew.old) (λ stop. CrewStops stop (C.faults crew.old) (C.faults crew.new)) }
 {
     let code = weakened.code();
@@ -81,7 +84,7 @@ pub(crate) fn told_walk<'a, R: Threads + Wait + Sync, C: Crew>(
     reads: Option<&'a str>,
     crew: &mut C,
 ) -> Result<Outcome<'a>, Stop>
-    ensures outcome { IfOk result (λ o. (walk : WalkOf) × WalkIs weakened.now.weak log.now.setup log.now.entries (formula_by (option_map (λ n. n.now) reads.entry)) walk × (o ≡ outcome_by [] (option_map (λ n. n.now) reads.entry) walk)) }
+    ensures outcome { IfOk result (λ o. (walk : WalkOf) × WalkIs weakened.now.weak log.now.setup log.now.entries (formula_by (option_map (λ n. n.now) reads.entry)) walk × HasRun log.now.setup.slots (entries_taken log.now.entries walk) (work_of C.Crew crew.old) (work_of C.Crew crew.new) × (o ≡ outcome_by [] (option_map (λ n. n.now) reads.entry) walk)) }
     ensures faults { MatchResult result (λ _. C.faults crew.new ≡ C.faults crew.old) (λ stop. CrewStops stop (C.faults crew.old) (C.faults crew.new)) }
 {
     let formula = formula_of(reads);
@@ -101,7 +104,8 @@ fn replayed<'a, R: Threads + Wait + Sync, C: Crew>(
     crew: &mut C,
 ) -> Result<Outcome<'a>, Stop>
     requires { length source.now ≤ 2 ^ 20 }
-    ensures outcome { Gives (Comes (IsTree source.now) (Replays log.now (option_map (λ n. n.now) reads.entry))) result }
+    ensures outcome { Gives (Comes (IsTree source.now) (Replays (work_of C.Crew crew.old) (work_of C.Crew crew.new) log.now (option_map (λ n. n.now) reads.entry))) result }
+    ensures idle { IsIdle result (work_of C.Crew crew.old) (work_of C.Crew crew.new) }
     ensures faults { MatchResult result (λ _. C.faults crew.new ≡ C.faults crew.old) (λ stop. RefusingCrewStops stop (C.faults crew.old) (C.faults crew.new)) }
 {
     let _slots = log.setup().slots();
@@ -122,7 +126,8 @@ pub(crate) fn replay<'a, R: Threads + Wait + Sync, S: Shelf, C: Crew>(
     shelf: &mut S,
     crew: &mut C,
 ) -> Result<Outcome<'a>, Stop>
-    ensures outcome { Gives (IsReplay (S.files shelf.old) source.now log.now (option_map (λ n. n.now) reads.entry)) result }
+    ensures outcome { Gives (IsReplay (work_of C.Crew crew.old) (work_of C.Crew crew.new) (S.files shelf.old) source.now log.now (option_map (λ n. n.now) reads.entry)) result }
+    ensures idle { IsIdle result (work_of C.Crew crew.old) (work_of C.Crew crew.new) }
     ensures files { S.files shelf.new ≡ S.files shelf.old }
     ensures faults { MatchResult result (λ _. (S.faults shelf.new ≡ S.faults shelf.old) × (C.faults crew.new ≡ C.faults crew.old)) (λ stop. CrewShelfStops stop (S.faults shelf.old) (S.faults shelf.new) (C.faults crew.old) (C.faults crew.new)) }
 {

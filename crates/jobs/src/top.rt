@@ -3,6 +3,7 @@
 ghost use Rattle.std.specs.Prelude.{◌≡◌, map, string_bytes, IfErr, IsTrue, MatchResult, Some};
 ghost use Rattle.answers.specs.Jobs.{HasLimits, job_of as job_by, told};
 ghost use Rattle.jobs.specs.Jobs.{IsOutcome, PutsBefore, ReadsInput, RunsThreads, UsesShelf, is_status};
+ghost use Rattle.jobs.specs.Works.{work_of};
 ghost use Rattle.outcomes.specs.Endings.{ComesTo, Ends, MayStop};
 ghost use Rattle.outcomes.specs.Faults.{StopCounts};
 ghost use Rattle.rr_base.specs.Faults.{Rose};
@@ -31,10 +32,11 @@ fn outcome_of_job<'a, R: Threads + Wait + Sync, I: Source, S: Shelf, C: Crew>(
     crew: &mut C,
 ) -> Result<Outcome<'a>, Stop>
     requires { HasLimits (told job) }
-    ensures outcome { ComesTo (IsOutcome (S.files shelf.old) (I.left input.old) (Some (told job.entry))) (PutsBefore (Some (told job.entry))) (S.files shelf.old) (S.files shelf.new) result }
+    ensures outcome { ComesTo (IsOutcome (work_of C.Crew crew.old) (work_of C.Crew crew.new) (S.files shelf.old) (I.left input.old) (Some (told job.entry))) (PutsBefore (Some (told job.entry))) (S.files shelf.old) (S.files shelf.new) result }
     ensures faults { MatchResult result (λ _. (S.faults shelf.new ≡ S.faults shelf.old) × (I.faults input.new ≡ I.faults input.old) × (C.faults crew.new ≡ C.faults crew.old)) (λ stop. StopCounts stop (record { shelf = S.faults shelf.old; input = I.faults input.old; crew = C.faults crew.old }) (record { shelf = S.faults shelf.new; input = I.faults input.new; crew = C.faults crew.new })) }
     ensures causes { IfErr result (MayStop (UsesShelf (Some (told job.entry))) (ReadsInput (Some (told job.entry))) (RunsThreads (Some (told job.entry)))) }
     ensures input { (ReadsInput (Some (told job.entry)) → ⊥) → input.new ≡ input.old }
+    ensures crew { (RunsThreads (Some (told job.entry)) → ⊥) → crew.new ≡ crew.old }
 {
     match job {
         Job::Races { source } => races(alloc, source, shelf),
@@ -51,7 +53,8 @@ fn outcome_of_job<'a, R: Threads + Wait + Sync, I: Source, S: Shelf, C: Crew>(
 /// where it isn't one of this program, 6 where the profile is refused, 7 where the input failed, 8 where the sink did, 9 where the
 /// shelf did, 10 where the crew did, 11 where a file or the input has too many bytes, 12 without memory. Nothing is put but where
 /// the run ended or a thread trapped, and a made source and its log, which are put on the way. Only a recording touches `input`, and
-/// only a recording, a replay and the making of a source have the crew run threads.
+/// only a recording, a replay and the making of a source have the crew run threads: a job for each slot, with a turn for each
+/// entry of the log, or more; a refusal comes before that.
 pub fn chimera<R: Threads + Wait + Sync, I: Source, O: Sink, S: Shelf, C: Crew>(
     rt: &R,
     alloc: Global,
@@ -61,7 +64,7 @@ pub fn chimera<R: Threads + Wait + Sync, I: Source, O: Sink, S: Shelf, C: Crew>(
     shelf: &mut S,
     crew: &mut C,
 ) -> u8
-    ensures ends { let job = job_by (map string_bytes words.now) in Ends (IsOutcome (S.files shelf.old) (I.left input.old) job) (PutsBefore job) (UsesShelf job) (ReadsInput job) (RunsThreads job) (record { files = S.files shelf.old; counts = record { shelf = S.faults shelf.old; input = I.faults input.old; crew = C.faults crew.old }; out = record { held = O.held out.old; faults = O.faults out.old } }) (record { files = S.files shelf.new; counts = record { shelf = S.faults shelf.new; input = I.faults input.new; crew = C.faults crew.new }; out = record { held = O.held out.new; faults = O.faults out.new } }) result }
+    ensures ends { let job = job_by (map string_bytes words.now) in Ends (IsOutcome (work_of C.Crew crew.old) (work_of C.Crew crew.new) (S.files shelf.old) (I.left input.old) job) (PutsBefore job) (UsesShelf job) (ReadsInput job) (RunsThreads job) (record { files = S.files shelf.old; counts = record { shelf = S.faults shelf.old; input = I.faults input.old; crew = C.faults crew.old }; out = record { held = O.held out.old; faults = O.faults out.old } }) (record { files = S.files shelf.new; counts = record { shelf = S.faults shelf.new; input = I.faults input.new; crew = C.faults crew.new }; out = record { held = O.held out.new; faults = O.faults out.new } }) result }
     ensures status { IsTrue (is_status result) }
     // Each of these comes only from a fault of its object.
     ensures read_fault { result ≡ 7 → Rose (I.faults input.old) (I.faults input.new) }
@@ -69,6 +72,7 @@ pub fn chimera<R: Threads + Wait + Sync, I: Source, O: Sink, S: Shelf, C: Crew>(
     ensures shelf_fault { result ≡ 9 → Rose (S.faults shelf.old) (S.faults shelf.new) }
     ensures crew_fault { result ≡ 10 → Rose (C.faults crew.old) (C.faults crew.new) }
     ensures input { (ReadsInput (job_by (map string_bytes words.now)) → ⊥) → input.new ≡ input.old }
+    ensures crew { (RunsThreads (job_by (map string_bytes words.now)) → ⊥) → crew.new ≡ crew.old }
 {
     let Some(job) = job_of(words) else {
         return tell_answer(alloc, out, Answer::Usage);

@@ -1,13 +1,15 @@
 use Rattle.answers.specs.Jobs.{record_told}
 use Rattle.jobs.proofs.Found.{not_compiled}
+use Rattle.std.proofs.Common.{refl, Err}
 use Rattle.jobs.proofs.Recorded.{recorded_gives, runs_nothing}
+use Rattle.jobs.proofs.Worked.{all_is_idle}
 use Rattle.jobs.proofs.recording.recorded.Goals as goal
 
 pub returns-in-Ok-clause-outcome : goal.returns-in-Ok-clause-outcome
 returns-in-Ok-clause-outcome g c =
     let w = c.in-Ok.weakened in
     let h = c.in-Ok.ensures in
-    recorded_gives c.args.source.now (g.I.Source.left c.args.input.now) (record_told c.args.job.now) c.args.profile w c.requires.limits h c.recorded_code.result
+    recorded_gives _ _ c.args.source.now (g.I.Source.left c.args.input.now) (record_told c.args.job.now) c.args.profile w c.requires.limits h c.recorded_code.result
     (λ s labels end within ran ended. let t = c.law_text_log.ensures c.args.source.now h.0 w s labels end c.requires.short h.1 h.2.is h.2.of within ran ended in record { runs = t.1; prints = t.2 })
     c.recorded_code.ensures.outcome
 
@@ -22,3 +24,9 @@ compiled-requires g c = c.requires.short
 
 pub returns-in-Ok-clause-faults : goal.returns-in-Ok-clause-faults
 returns-in-Ok-clause-faults g c = c.recorded_code.ensures.faults
+
+pub returns-in-Ok-clause-idle : goal.returns-in-Ok-clause-idle
+returns-in-Ok-clause-idle g c = c.recorded_code.ensures.idle
+
+pub returns-clause-idle : goal.returns-clause-idle
+returns-clause-idle g c = all_is_idle _ _ (Err c.in-Err.stop) refl

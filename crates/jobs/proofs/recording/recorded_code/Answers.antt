@@ -1,4 +1,4 @@
-use Rattle.std.proofs.Common.{Ok}
+use Rattle.std.proofs.Common.{refl, Ok}
 use Rattle.std.proofs.lemmas.Result.{err_from_is_err_and}
 use Rattle.answers.specs.Jobs.{record_told}
 use Rattle.answers.specs.declared.answer.Part.TheVariants as part
@@ -6,6 +6,7 @@ use Rattle.outcomes.proofs.InRow.{gives_stop}
 use Rattle.outcomes.specs.Steps.{Comes, IsInput}
 use Rattle.jobs.specs.Recordings.{IsRecorded}
 use Rattle.jobs.proofs.Recorded.{crew_gives, crew_stops, input_stops}
+use Rattle.jobs.proofs.Worked.{all_is_idle, crew_is_idle, ran, told_of_run}
 use Rattle.jobs.proofs.recording.recorded_code.Goals as goal
 
 pub returns-in_err-bytes-clause-outcome : goal.returns-in_err-bytes-clause-outcome
@@ -22,7 +23,16 @@ pub returns-in-Ok-clause-outcome : goal.returns-in-Ok-clause-outcome
 returns-in-Ok-clause-outcome g c = record { step = Ok c.in_ok-bytes.bytes; is = c.in_ok-bytes.ensures.content; next = c.in-Ok.ensures.outcome.is }
 
 pub returns-in-Err-clause-outcome : goal.returns-in-Err-clause-outcome
-returns-in-Err-clause-outcome g c = crew_gives (Comes (IsInput (g.I.Source.left c.args.input.now) 1048576 part.Input) (IsRecorded (record_told c.args.job.now) c.args.profile c.args.weakened.now)) c.in-Err.stop _ _ c.in-Err.ensures.faults
+returns-in-Err-clause-outcome g c = crew_gives (Comes (IsInput (g.I.Source.left c.args.input.now) 1048576 part.Input) (IsRecorded _ _ (record_told c.args.job.now) c.args.profile c.args.weakened.now)) c.in-Err.stop _ _ c.in-Err.ensures.faults
 
 pub returns-in-Err-clause-faults : goal.returns-in-Err-clause-faults
 returns-in-Err-clause-faults g c = crew_stops c.in-Err.stop _ _ _ _ c.in_ok-bytes.ensures.faults c.in-Err.ensures.faults
+
+pub returns-in_err-bytes-clause-idle : goal.returns-in_err-bytes-clause-idle
+returns-in_err-bytes-clause-idle g c = all_is_idle _ _ _ refl
+
+pub returns-in-Ok-clause-idle : goal.returns-in-Ok-clause-idle
+returns-in-Ok-clause-idle g c = ran _ _ c.in-Ok.recording.outcome (told_of_run c.in-Ok.recording.outcome _ c.in-Ok.ensures.outcome.is.recorded.walk c.in-Ok.ensures.outcome.is.told refl)
+
+pub returns-in-Err-clause-idle : goal.returns-in-Err-clause-idle
+returns-in-Err-clause-idle g c = crew_is_idle _ _ c.in-Err.stop _ _ c.in-Err.ensures.faults

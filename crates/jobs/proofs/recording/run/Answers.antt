@@ -16,7 +16,7 @@ returns-in-Ok-clause-run g c =
     let s = c.args.setup.now in
     let kept = c.code-code.ensures.kept in
     let within = c.slots-slots.ensures.within in
-    left_of_run w s c.code-code.result.now c.args.formula.now c.in-Ok.recorded c.code-code.ensures.value
+    left_of_run _ _ w s c.code-code.result.now c.args.formula.now c.in-Ok.recorded c.code-code.ensures.value
     (λ labels end ran. λ i j first second lt x y ne conflict. c.law_ordered.ensures w s labels i j first second end kept within ran lt x y ne conflict)
     (λ labels end ran. c.law_log_is_within.ensures w s labels end kept within ran)
-    c.in-Ok.ensures.records
+    c.in-Ok.ensures.records (record { jobs = c.in-Ok.ensures.jobs_run; turns = c.in-Ok.ensures.turns })

@@ -10,9 +10,9 @@ pub returns-in_err-log-clause-outcome : goal.returns-in_err-log-clause-outcome
 returns-in_err-log-clause-outcome g c =
     let p = err_from_is_err_and c.from_residual-in_err-log.result c.from_residual-in_err-log.ensures.1 in
     let files = g.S.Shelf.files c.args.shelf.now in
-    rw (p.1, p.2) (log_stops files c.args.source.now c.args.log.now (λ view. Replays view _) c.in_ok-text.text c.in_ok-bytes.bytes c.in_err-log.field-0.0 c.in_ok-text.ensures.content (subst (λ f. IsFile f 536870912 part.Log c.args.log.now (Ok c.in_ok-bytes.bytes)) c.in_ok-text.ensures.files c.in_ok-bytes.ensures.content) (subst (λ b. Finds (IsLogIn b) (Err c.in_err-log.field-0.0)) c.as_slice.ensures c.in_err-log.ensures.log))
+    rw (p.1, p.2) (log_stops files c.args.source.now c.args.log.now (λ view. Replays _ _ view _) c.in_ok-text.text c.in_ok-bytes.bytes c.in_err-log.field-0.0 c.in_ok-text.ensures.content (subst (λ f. IsFile f 536870912 part.Log c.args.log.now (Ok c.in_ok-bytes.bytes)) c.in_ok-text.ensures.files c.in_ok-bytes.ensures.content) (subst (λ b. Finds (IsLogIn b) (Err c.in_err-log.field-0.0)) c.as_slice.ensures c.in_err-log.ensures.log))
 
 pub returns-clause-outcome : goal.returns-clause-outcome
 returns-clause-outcome g c =
     let files = g.S.Shelf.files c.args.shelf.now in
-    log_gives files c.args.source.now c.args.log.now (λ view. Replays view _) c.in_ok-text.text c.in_ok-bytes.bytes c.in_ok-log.log c.replayed.result c.in_ok-text.ensures.content (subst (λ f. IsFile f 536870912 part.Log c.args.log.now (Ok c.in_ok-bytes.bytes)) c.in_ok-text.ensures.files c.in_ok-bytes.ensures.content) (subst (λ b. IsLogIn b (Ok c.in_ok-log.log)) c.as_slice.ensures c.in_ok-log.ensures.log) c.replayed.ensures.outcome
+    log_gives files c.args.source.now c.args.log.now (λ view. Replays _ _ view _) c.in_ok-text.text c.in_ok-bytes.bytes c.in_ok-log.log c.replayed.result c.in_ok-text.ensures.content (subst (λ f. IsFile f 536870912 part.Log c.args.log.now (Ok c.in_ok-bytes.bytes)) c.in_ok-text.ensures.files c.in_ok-bytes.ensures.content) (subst (λ b. IsLogIn b (Ok c.in_ok-log.log)) c.as_slice.ensures c.in_ok-log.ensures.log) c.replayed.ensures.outcome

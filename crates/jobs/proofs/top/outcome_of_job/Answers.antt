@@ -1,28 +1,68 @@
-use Rattle.std.proofs.Common.{◌≡◌, refl, sym, subst, List, [], Some}
-use Rattle.std.specs.Prelude.{option_map}
+use Rattle.std.proofs.Common.{inl, inr, refl, sym, subst, Some}
 use Rattle.answers.specs.Jobs.{told}
 use Rattle.answers.specs.declared.job.Job.{Job}
-use Rattle.jobs.specs.Jobs.{IsOutcome, IsProfiling, IsReplay, PutsBefore}
-use Rattle.outcomes.proofs.Endings.{comes_at_once}
+use Rattle.jobs.specs.Jobs.{IsOutcome, PutsBefore}
+use Rattle.jobs.specs.Works.{work_of}
 use Rattle.outcomes.specs.Endings.{ComesTo}
-use Rattle.outcomes.specs.Puts.{Put}
+use Rattle.jobs.proofs.Worked.{all_is_idle, at_once, with_work}
 use Rattle.jobs.proofs.top.outcome_of_job.Goals as goal
+
+pub returns-in-Races-clause-outcome : goal.returns-in-Races-clause-outcome
+returns-in-Races-clause-outcome g c =
+    let files = g.S.Shelf.files c.args.shelf.now in
+    let left = g.I.Source.left c.args.input.now in
+    let old = work_of g.C.Crew c.args.crew.now in
+    let new = old in
+    let last = g.S.Shelf.files c.races.new.shelf in
+    subst (λ (j : Job). ComesTo (IsOutcome old new files left (Some (told j))) (PutsBefore (Some (told j))) files last c.races.result) (sym c.in-Races.is)
+    (at_once old new files left _ files last c.races.result refl c.races.ensures.outcome c.races.ensures.files (inr refl) (all_is_idle old new c.races.result refl))
+
+pub returns-in-Weaken-clause-outcome : goal.returns-in-Weaken-clause-outcome
+returns-in-Weaken-clause-outcome g c =
+    let files = g.S.Shelf.files c.args.shelf.now in
+    let left = g.I.Source.left c.args.input.now in
+    let old = work_of g.C.Crew c.args.crew.now in
+    let new = old in
+    let last = g.S.Shelf.files c.weak_locks.new.shelf in
+    subst (λ (j : Job). ComesTo (IsOutcome old new files left (Some (told j))) (PutsBefore (Some (told j))) files last c.weak_locks.result) (sym c.in-Weaken.is)
+    (at_once old new files left _ files last c.weak_locks.result refl c.weak_locks.ensures.outcome c.weak_locks.ensures.files (inr refl) (all_is_idle old new c.weak_locks.result refl))
+
+pub returns-in-Record-clause-outcome : goal.returns-in-Record-clause-outcome
+returns-in-Record-clause-outcome g c =
+    let files = g.S.Shelf.files c.args.shelf.now in
+    let left = g.I.Source.left c.args.input.now in
+    let old = work_of g.C.Crew c.args.crew.now in
+    let new = work_of g.C.Crew c.record_source.new.crew in
+    let last = g.S.Shelf.files c.record_source.new.shelf in
+    subst (λ (j : Job). ComesTo (IsOutcome old new files left (Some (told j))) (PutsBefore (Some (told j))) files last c.record_source.result) (sym c.in-Record.is)
+    (at_once old new files left _ files last c.record_source.result refl c.record_source.ensures.outcome c.record_source.ensures.files (inl tt) c.record_source.ensures.idle)
 
 pub returns-in-Replay-clause-outcome : goal.returns-in-Replay-clause-outcome
 returns-in-Replay-clause-outcome g c =
     let files = g.S.Shelf.files c.args.shelf.now in
-    let it = c.in-Replay in
-    subst (λ (j : Job). ComesTo (IsOutcome files (g.I.Source.left c.args.input.now) (Some (told j))) (PutsBefore (Some (told j))) files (g.S.Shelf.files c.replay.new.shelf) c.replay.result) (sym it.is)
-    (comes_at_once (IsReplay files it.source.now it.log.now (option_map (λ n. n.now) it.reads)) (λ (puts : List Put). puts ≡ []) files (g.S.Shelf.files c.replay.new.shelf) c.replay.result refl c.replay.ensures.outcome c.replay.ensures.files)
-
-pub returns-in-Make-clause-outcome : goal.returns-in-Make-clause-outcome
-returns-in-Make-clause-outcome g c =
-    let files = g.S.Shelf.files c.args.shelf.now in
-    subst (λ (j : Job). ComesTo (IsOutcome files (g.I.Source.left c.args.input.now) (Some (told j))) (PutsBefore (Some (told j))) files (g.S.Shelf.files c.make.new.shelf) c.make.result) (sym c.in-Make.is) c.make.ensures.outcome
+    let left = g.I.Source.left c.args.input.now in
+    let old = work_of g.C.Crew c.args.crew.now in
+    let new = work_of g.C.Crew c.replay.new.crew in
+    let last = g.S.Shelf.files c.replay.new.shelf in
+    subst (λ (j : Job). ComesTo (IsOutcome old new files left (Some (told j))) (PutsBefore (Some (told j))) files last c.replay.result) (sym c.in-Replay.is)
+    (at_once old new files left _ files last c.replay.result refl c.replay.ensures.outcome c.replay.ensures.files (inl tt) c.replay.ensures.idle)
 
 pub returns-in-Profile-clause-outcome : goal.returns-in-Profile-clause-outcome
 returns-in-Profile-clause-outcome g c =
     let files = g.S.Shelf.files c.args.shelf.now in
-    let it = c.in-Profile in
-    subst (λ (j : Job). ComesTo (IsOutcome files (g.I.Source.left c.args.input.now) (Some (told j))) (PutsBefore (Some (told j))) files (g.S.Shelf.files c.profile_log.new.shelf) c.profile_log.result) (sym it.is)
-    (comes_at_once (IsProfiling files it.source.now it.log.now it.name.now) (λ (puts : List Put). puts ≡ []) files (g.S.Shelf.files c.profile_log.new.shelf) c.profile_log.result refl c.profile_log.ensures.outcome c.profile_log.ensures.files)
+    let left = g.I.Source.left c.args.input.now in
+    let old = work_of g.C.Crew c.args.crew.now in
+    let new = old in
+    let last = g.S.Shelf.files c.profile_log.new.shelf in
+    subst (λ (j : Job). ComesTo (IsOutcome old new files left (Some (told j))) (PutsBefore (Some (told j))) files last c.profile_log.result) (sym c.in-Profile.is)
+    (at_once old new files left _ files last c.profile_log.result refl c.profile_log.ensures.outcome c.profile_log.ensures.files (inr refl) (all_is_idle old new c.profile_log.result refl))
+
+pub returns-in-Make-clause-outcome : goal.returns-in-Make-clause-outcome
+returns-in-Make-clause-outcome g c =
+    let files = g.S.Shelf.files c.args.shelf.now in
+    let left = g.I.Source.left c.args.input.now in
+    let old = work_of g.C.Crew c.args.crew.now in
+    let new = work_of g.C.Crew c.make.new.crew in
+    let last = g.S.Shelf.files c.make.new.shelf in
+    subst (λ (j : Job). ComesTo (IsOutcome old new files left (Some (told j))) (PutsBefore (Some (told j))) files last c.make.result) (sym c.in-Make.is)
+    (with_work old new files left _ _ files last c.make.result c.make.ensures.outcome (inl tt) c.make.ensures.idle)

@@ -1,0 +1,86 @@
+-- When the crew has done nothing.
+use Rattle.std.proofs.Common.{◌≡◌, ◌⊎◌, inl, inr, sym, ◌∙◌, ap, subst, ℕ, List, [], Option, Some, Result, Ok, Err}
+use Rattle.answers.specs.declared.answer.Answer.{Answer}
+use Rattle.answers.specs.declared.answer.Answer.TheVariants as answer
+use Rattle.answers.specs.Jobs.{Asked}
+use Rattle.core_run.specs.declared.outcome.Walk.{Walk}
+use Rattle.core_run.specs.declared.outcome.Walk.TheVariants as walk
+use Rattle.outcomes.proofs.Endings.{comes_at_once}
+use Rattle.outcomes.specs.Endings.{ComesTo, IsFoundSo}
+use Rattle.outcomes.specs.Faults.{CrewStops}
+use Rattle.outcomes.specs.Outcomes.{answers}
+use Rattle.outcomes.specs.Puts.{Put}
+use Rattle.outcomes.specs.Steps.{Gives}
+use Rattle.outcomes.specs.declared.outcome.Outcome.{Outcome}
+use Rattle.outcomes.specs.declared.stop.Stop.{Stop}
+use Rattle.outcomes.specs.declared.stop.Stop.TheVariants as stop
+use Rattle.rr_base.specs.Files.{Files}
+use Rattle.walk_answers.specs.Walking.{answer_of}
+use Rattle.jobs.specs.Jobs.{IsOutcome, IsOutcomeOf, PutsBefore, RunsThreads}
+use Rattle.jobs.specs.Makings.{summary_told}
+use Rattle.jobs.specs.Works.{IsIdle, IsOfRun, Work}
+
+-- ---- answers of a run
+
+walk_is_of_run : (w : Walk) → IsOfRun (answer_of w)
+walk_is_of_run (walk.Done out reads ends) = tt
+walk_is_of_run (walk.Trapped kind thread line out reads ends) = tt
+walk_is_of_run (walk.Wrong at) = tt
+
+pub told_of_run : (o x : Outcome) (w : Walk) → o ≡ x → x.answer ≡ answer_of w → IsOfRun o.answer
+told_of_run o x w e is = subst IsOfRun (sym (ap (λ (y : Outcome). y.answer) e ∙ is)) (walk_is_of_run w)
+
+pub summary_is_of_run : (count bytes : ℕ) (a b : Answer) → IsOfRun a → IsOfRun (summary_told count bytes a b)
+summary_is_of_run count bytes (answer.Done out) b h = tt
+summary_is_of_run count bytes (answer.Trapped out kind thread line) b h = tt
+summary_is_of_run count bytes (answer.WrongEntry at) b h = tt
+summary_is_of_run count bytes answer.Usage b h = absurd h
+summary_is_of_run count bytes (answer.SourceRefused number line column) b h = absurd h
+summary_is_of_run count bytes (answer.LogRefused number line) b h = absurd h
+summary_is_of_run count bytes (answer.ProfileRefused number) b h = absurd h
+summary_is_of_run count bytes (answer.TooLarge what) b h = absurd h
+
+-- ---- results
+
+module _ (old new : Work) where
+  pub ran : (o : Outcome) → IsOfRun o.answer → IsIdle (Ok o) old new
+  ran o h none = absurd (none h)
+
+  -- a crew refuses nothing
+  pub crew_is_idle : (s : Stop) (faults_old faults_new : ℕ) → CrewStops s faults_old faults_new → IsIdle (Err s) old new
+  crew_is_idle (stop.Refused a) faults_old faults_new h = absurd h
+  crew_is_idle stop.ShelfFailed faults_old faults_new h = tt
+  crew_is_idle stop.InputFailed faults_old faults_new h = tt
+  crew_is_idle stop.CrewFailed faults_old faults_new h = tt
+  crew_is_idle stop.OutOfMemory faults_old faults_new h = tt
+
+  pub all_is_idle : (r : Result Outcome Stop) → new ≡ old → IsIdle r old new
+  all_is_idle (Ok o) e = λ none. e
+  all_is_idle (Err (stop.Refused a)) e = λ none. e
+  all_is_idle (Err stop.ShelfFailed) e = tt
+  all_is_idle (Err stop.InputFailed) e = tt
+  all_is_idle (Err stop.CrewFailed) e = tt
+  all_is_idle (Err stop.OutOfMemory) e = tt
+
+-- ---- the outcome of a job
+
+module _ (old new : Work) (files : Option Files) (left : Option (List ℕ)) (job : Option Asked) where
+  idle_by : (a : Answer) → RunsThreads job ⊎ (new ≡ old) → ((IsOfRun a → ⊥) → new ≡ old) → (RunsThreads job → IsOfRun a → ⊥) → new ≡ old
+  idle_by a (inl runs) h none = h (none runs)
+  idle_by a (inr e) h none = e
+
+  found_with_work : (first last : Option Files) (o : Outcome) → IsFoundSo (IsOutcomeOf old new files left job) first last o → RunsThreads job ⊎ (new ≡ old) → ((IsOfRun o.answer → ⊥) → new ≡ old) → IsFoundSo (IsOutcome old new files left job) first last o
+  found_with_work first last o h by idle = record { before = h.before; put = h.put; has = record { is = h.has; idle = idle_by o.answer by idle } }
+
+  -- an outcome, with what the crew has done
+  pub with_work : (Before : List Put → Type 0) (first last : Option Files) (r : Result Outcome Stop) → ComesTo (IsOutcomeOf old new files left job) Before first last r → RunsThreads job ⊎ (new ≡ old) → IsIdle r old new → ComesTo (IsOutcome old new files left job) Before first last r
+  with_work Before first last (Ok o) h by idle = found_with_work first last o h by idle
+  with_work Before first last (Err (stop.Refused a)) h by idle = found_with_work first last (answers a) h by idle
+  with_work Before first last (Err stop.ShelfFailed) h by idle = h
+  with_work Before first last (Err stop.InputFailed) h by idle = h
+  with_work Before first last (Err stop.CrewFailed) h by idle = h
+  with_work Before first last (Err stop.OutOfMemory) h by idle = h
+
+-- .. of a job that puts nothing on the way
+pub at_once : (old new : Work) (files : Option Files) (left : Option (List ℕ)) (job : Asked) (first last : Option Files) (r : Result Outcome Stop) → PutsBefore (Some job) [] → Gives (IsOutcomeOf old new files left (Some job)) r → last ≡ first → RunsThreads (Some job) ⊎ (new ≡ old) → IsIdle r old new → ComesTo (IsOutcome old new files left (Some job)) (PutsBefore (Some job)) first last r
+at_once old new files left job first last r none gives same by idle = with_work old new files left (Some job) (PutsBefore (Some job)) first last r (comes_at_once (IsOutcomeOf old new files left (Some job)) (PutsBefore (Some job)) first last r none gives same) by idle
