@@ -1,3 +1,4 @@
+pub mod Caused
 pub mod Ending
 pub mod Found
 pub mod Made

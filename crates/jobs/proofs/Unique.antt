@@ -1,5 +1,6 @@
 -- Files and words have one outcome.
-use Rattle.std.proofs.Common.{◌≡◌, ℕ, List, [], ◌++◌, Option, Some, None, Result, Ok, Err, sym, ◌∙◌, ap, subst, arith}
+use Rattle.std.proofs.Common.{◌≡◌, ℕ, List, [], ◌∷◌, ◌++◌, Option, Some, None, Result, Ok, Err, refl, sym, ◌∙◌, ap, subst, arith}
+use Rattle.answers.specs.Jobs.{RecordAsked}
 use Rattle.answers.specs.Jobs.Asked.{Races, Weaken, Record, Replay, Profile, Make}
 use Rattle.answers.specs.declared.answer.Answer.{Answer}
 use Rattle.answers.specs.declared.answer.Answer.TheVariants as answer
@@ -20,23 +21,27 @@ use Rattle.order_log.proofs.Only.{log_at-only}
 use Rattle.order_log.specs.Log.{LogView}
 use Rattle.order_log.specs.declared.fault.LogFault.{LogFault}
 use Rattle.order_log.specs.declared.fault.LogFault.TheVariants.{LogSyntax, LogLimit, OutOfMemory}
-use Rattle.outcomes.specs.Outcomes.{answers}
-use Rattle.outcomes.specs.Steps.{Comes, IsFile, IsWithin, Then}
+use Rattle.outcomes.specs.Outcomes.{answers, behind}
+use Rattle.outcomes.specs.Steps.{Comes, IsFile, IsInput, IsWithin, Then}
 use Rattle.outcomes.specs.declared.outcome.Outcome.{Outcome}
 use Rattle.profile_book.proofs.OneAnswer.{one_answer}
 use Rattle.rr_base.specs.Files.{Files}
 use Rattle.walk_answers.proofs.OneWalk.{one_walk}
 use Rattle.walk_profiles.proofs.One.{one_profile}
 use Rattle.walk_profiles.specs.Profiling.{ShowsProfile}
-use Rattle.jobs.specs.Jobs.{IsProfiling, IsRaces, IsReplay, IsWeaken}
-use Rattle.jobs.specs.Laws.{OneOutcome}
+use Rattle.jobs.specs.Jobs.{IsProfiling, IsRaces, IsRecord, IsReplay, IsWeaken}
+use Rattle.jobs.specs.Laws.{OneOutcome, OneRefusal}
 use Rattle.jobs.specs.Listings.{ListsRaces, ListsWeakLocks}
-use Rattle.job_profiles.specs.Profiles.{IsProfile, IsSpelled}
+use Rattle.job_profiles.specs.Profiles.{IsProfile, IsSpelled, named}
+use Rattle.jobs.specs.Makings.{IsMade, IsMaking, source_put}
 use Rattle.jobs.specs.Profilings.{ShowsLog}
+use Rattle.jobs.specs.Recordings.{IsRecording}
 use Rattle.jobs.specs.Replays.{IsLogIn, IsRefusal, Replays}
 use Rattle.jobs.specs.Sources.{IsFound, IsTree}
-use Rattle.jobs.specs.Works.{Work}
+use Rattle.jobs.specs.Works.{IsOfRun, Work}
+use Rattle.jobs.proofs.Worked.{made_is_of_run, told_of_run}
 use Rattle.walk_answers.specs.Walking.{formula_of, put_of}
+use Rattle.workload.specs.Program.{program_text}
 
 -- ---- steps
 
@@ -57,9 +62,14 @@ within_once most what content (Ok x) (Err b) h g = absurd (omega (arith, h.1, g.
 within_once most what content (Err a) (Ok y) h g = absurd (omega (arith, h.0, g.1))
 within_once most what content (Err a) (Err b) h g = ap Err (h.1 ∙ sym g.1)
 
-file_once : (files : Files) (most : ℕ) (what : Part) (name : List ℕ) (r s : Result (List ℕ) Answer) → IsFile (Some files) most what name r → IsFile (Some files) most what name s → r ≡ s
+pub file_once : (files : Files) (most : ℕ) (what : Part) (name : List ℕ) (r s : Result (List ℕ) Answer) → IsFile (Some files) most what name r → IsFile (Some files) most what name s → r ≡ s
 file_once files most what name r s h g =
     let same : h.content ≡ g.content = same_some h.content g.content (sym h.held ∙ g.held) in
+    within_once most what g.content r s (subst (λ c. IsWithin most what c r) same h.within) g.within
+
+pub input_once : (left : List ℕ) (most : ℕ) (what : Part) (r s : Result (List ℕ) Answer) → IsInput (Some left) most what r → IsInput (Some left) most what s → r ≡ s
+input_once left most what r s h g =
+    let same : h.content ≡ g.content = h.had ∙ sym g.had in
     within_once most what g.content r s (subst (λ c. IsWithin most what c r) same h.within) g.within
 
 -- ---- sources
@@ -67,7 +77,7 @@ file_once files most what name r s h g =
 same_refusal : (f g : SourceFault) → f ≡ g → answer.SourceRefused f.number f.line f.column ≡ answer.SourceRefused g.number g.line g.column
 same_refusal f g e = ap (λ (x : SourceFault). answer.SourceRefused x.number x.line x.column) e
 
-tree_once : (source : List ℕ) (r s : Result (List Outer) Answer) → IsTree source r → IsTree source s → r ≡ s
+pub tree_once : (source : List ℕ) (r s : Result (List Outer) Answer) → IsTree source r → IsTree source s → r ≡ s
 tree_once source (Ok os) (Ok xs) h g = cc (one_reading source (sound os) (sound xs) h g)
 tree_once source (Ok os) (Err b) h g = absurd (cc (one_reading source (sound os) (refused g.0) h g.1))
 tree_once source (Err a) (Ok xs) h g = absurd (cc (one_reading source (refused h.0) (sound xs) h.1 g))
@@ -89,7 +99,7 @@ spelled_once (Ok bytes) (Err a) (Err b) h g =
     let same = one_answer bytes (Err h.0) (Err g.0) h.2 g.2 (λ e. absurd (cc (e, h.3))) (λ e. absurd (cc (e, g.3))) in
     cc (same, h.3, g.3, h.4, g.4)
 
-profile_once : (files : Files) (name : Option (List ℕ)) (r s : Result ProfileOf Answer) → IsProfile (Some files) name r → IsProfile (Some files) name s → r ≡ s
+pub profile_once : (files : Files) (name : Option (List ℕ)) (r s : Result ProfileOf Answer) → IsProfile (Some files) name r → IsProfile (Some files) name s → r ≡ s
 profile_once files None r s h g = h ∙ sym g
 profile_once files (Some name) r s h g =
     let same : h.0 ≡ g.0 = file_once files 1048576 part.Profile name h.0 g.0 h.1 g.1 in
@@ -102,7 +112,7 @@ refusal_once (LogSyntax line) a b h g = h ∙ sym g
 refusal_once (LogLimit line) a b h g = h ∙ sym g
 refusal_once OutOfMemory a b h g = absurd h
 
-log_once : (bytes : List ℕ) (r s : Result LogView Answer) → IsLogIn bytes r → IsLogIn bytes s → r ≡ s
+pub log_once : (bytes : List ℕ) (r s : Result LogView Answer) → IsLogIn bytes r → IsLogIn bytes s → r ≡ s
 log_once bytes (Ok v) (Ok w) h g = cc (sym (log_at-only bytes (Ok v) h) ∙ log_at-only bytes (Ok w) g)
 log_once bytes (Ok v) (Err b) h g = absurd (cc (sym (log_at-only bytes (Ok v) h) ∙ log_at-only bytes (Err g.0) g.1))
 log_once bytes (Err a) (Ok w) h g = absurd (cc (sym (log_at-only bytes (Err h.0) h.1) ∙ log_at-only bytes (Ok w) g))
@@ -179,6 +189,33 @@ of_replay a b c d files source log reads o p h g = by_log files source log (λ v
 
 of_profile : (files : Files) (source log name : List ℕ) (o p : Outcome) → IsProfiling (Some files) source log name o → IsProfiling (Some files) source log name p → o ≡ p
 of_profile files source log name o p h g = by_log files source log (λ view. ShowsLog view name) (λ view. ShowsLog view name) o p (λ view os. shows_once view name os o p) h g
+
+-- ---- jobs that record a run, where they are refused
+
+of_record : (a b c d : Work) (files : Files) (left : List ℕ) (r : RecordAsked) (o p : Outcome) → (IsOfRun o.answer → ⊥) → IsRecord a b (Some files) (Some left) r o → IsRecord c d (Some files) (Some left) r p → o ≡ p
+of_record a b c d files left r o p unrun h g =
+    let First = λ (q : ProfileOf) (os : List Outer). Comes (IsInput (Some left) 1048576 part.Input) (λ input. IsRecording a b r (named q) os input) in
+    let Second = λ (q : ProfileOf) (os : List Outer). Comes (IsInput (Some left) 1048576 part.Input) (λ input. IsRecording c d r (named q) os input) in
+    source_once files r.source (λ text. Comes (IsProfile (Some files) r.profile) (λ q. Comes (IsTree text) (First q))) (λ text. Comes (IsProfile (Some files) r.profile) (λ q. Comes (IsTree text) (Second q))) o p
+    (λ text. comes_once (IsProfile (Some files) r.profile) (λ q. Comes (IsTree text) (First q)) (λ q. Comes (IsTree text) (Second q)) o p (profile_once files r.profile)
+    (λ q. by_tree text (First q) (Second q) o p
+    (λ os. comes_once (IsInput (Some left) 1048576 part.Input) (λ input. IsRecording a b r (named q) os input) (λ input. IsRecording c d r (named q) os input) o p (input_once left 1048576 part.Input)
+    (λ input x y. absurd (unrun (told_of_run o _ x.walk x.told refl)))))) h g
+
+of_make : (a b c d : Work) (count : ℕ) (name : List ℕ) (o p : Outcome) → (IsOfRun o.answer → ⊥) → IsMaking a b count name o → IsMaking c d count name p → o ≡ p
+of_make a b c d count name o p unrun h g =
+    let none = λ (x : IsOfRun h.rest.answer). unrun (subst IsOfRun (sym (ap (λ (y : Outcome). y.answer) h.told)) x) in
+    let same : h.rest ≡ g.rest = by_tree (program_text count) (IsMade a b count name) (IsMade c d count name) h.rest g.rest (λ os x y. absurd (none (made_is_of_run a b count name os h.rest x))) h.comes g.comes in
+    h.told ∙ ap (behind (source_put count name ∷ [])) same ∙ sym g.told
+
+pub one_refusal : OneRefusal
+one_refusal a b c d files left None o p unrun h g = h.is ∙ sym g.is
+one_refusal a b c d files left (Some (Races source)) o p unrun h g = of_races files source o p h.is g.is
+one_refusal a b c d files left (Some (Weaken source name)) o p unrun h g = of_weaken files source name o p h.is g.is
+one_refusal a b c d files left (Some (Record r)) o p unrun h g = of_record a b c d files left r o p unrun h.is g.is
+one_refusal a b c d files left (Some (Replay source log reads)) o p unrun h g = of_replay a b c d files source log reads o p h.is g.is
+one_refusal a b c d files left (Some (Profile source log name)) o p unrun h g = of_profile files source log name o p h.is g.is
+one_refusal a b c d files left (Some (Make count name)) o p unrun h g = of_make a b c d count name o p unrun h.is g.is
 
 pub one_outcome : OneOutcome
 one_outcome a b c d files left None o p none h g = h.is ∙ sym g.is

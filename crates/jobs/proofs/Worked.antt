@@ -1,8 +1,9 @@
 -- When the crew has done nothing.
-use Rattle.std.proofs.Common.{◌≡◌, ◌⊎◌, inl, inr, sym, ◌∙◌, ap, subst, ℕ, List, [], Option, Some, Result, Ok, Err}
+use Rattle.std.proofs.Common.{◌≡◌, ◌⊎◌, inl, inr, refl, sym, ◌∙◌, ap, subst, ℕ, List, [], length, Option, Some, Result, Ok, Err}
 use Rattle.answers.specs.declared.answer.Answer.{Answer}
 use Rattle.answers.specs.declared.answer.Answer.TheVariants as answer
 use Rattle.answers.specs.Jobs.{Asked}
+use Rattle.c_tree.specs.Tree.{Outer}
 use Rattle.core_run.specs.declared.outcome.Walk.{Walk}
 use Rattle.core_run.specs.declared.outcome.Walk.TheVariants as walk
 use Rattle.outcomes.proofs.Endings.{comes_at_once}
@@ -16,8 +17,9 @@ use Rattle.outcomes.specs.declared.stop.Stop.{Stop}
 use Rattle.outcomes.specs.declared.stop.Stop.TheVariants as stop
 use Rattle.rr_base.specs.Files.{Files}
 use Rattle.walk_answers.specs.Walking.{answer_of}
+use Rattle.workload.specs.Program.{program_text}
 use Rattle.jobs.specs.Jobs.{IsOutcome, IsOutcomeOf, PutsBefore, RunsThreads}
-use Rattle.jobs.specs.Makings.{summary_told}
+use Rattle.jobs.specs.Makings.{IsMade, summary_told}
 use Rattle.jobs.specs.Works.{IsIdle, IsOfRun, Work}
 
 -- ---- answers of a run
@@ -39,6 +41,9 @@ summary_is_of_run count bytes (answer.SourceRefused number line column) b h = ab
 summary_is_of_run count bytes (answer.LogRefused number line) b h = absurd h
 summary_is_of_run count bytes (answer.ProfileRefused number) b h = absurd h
 summary_is_of_run count bytes (answer.TooLarge what) b h = absurd h
+
+pub made_is_of_run : (old new : Work) (count : ℕ) (name : List ℕ) (os : List Outer) (o : Outcome) → IsMade old new count name os o → IsOfRun o.answer
+made_is_of_run old new count name os o h = subst IsOfRun (sym (ap (λ (x : Outcome). x.answer) h.told)) (summary_is_of_run count (length (program_text count)) h.recorded.answer h.replayed.answer (told_of_run h.recorded _ h.recording.walk h.recording.told refl))
 
 -- ---- results
 

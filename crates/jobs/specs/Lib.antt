@@ -6,4 +6,5 @@ pub mod Profilings
 pub mod Recordings
 pub mod Makings
 pub mod Jobs
+pub mod Causes
 pub mod Laws

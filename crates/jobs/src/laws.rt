@@ -1,8 +1,18 @@
-// How far files and words determine an outcome.
+// How far files and words determine an outcome and a status.
 
-ghost use Rattle.jobs.specs.Laws.{OneOutcome};
+ghost use Rattle.jobs.specs.Laws.{OneOutcome, OneRefusal, StatusesHaveCauses};
 
 /// A job that records no run has one outcome on files.
 pub fn law_one_outcome()
     ensures { OneOutcome }
+{}
+
+/// A job that is refused on files and an input has no other outcome.
+pub fn law_one_refusal()
+    ensures { OneRefusal }
+{}
+
+/// Each status has its cause. Where nothing failed a cause in the words, the files or the input has its status.
+pub fn law_statuses_have_causes()
+    ensures { StatusesHaveCauses }
 {}

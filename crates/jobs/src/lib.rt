@@ -13,5 +13,5 @@ mod sources;
 mod top;
 mod weak_locks;
 
-pub use laws::law_one_outcome;
+pub use laws::{law_one_outcome, law_one_refusal, law_statuses_have_causes};
 pub use top::chimera;
