@@ -7,7 +7,7 @@ use Rattle.facts.specs.Profile.{Pair}
 use Rattle.facts.specs.declared.profile.Profile.{Profile}
 use Rattle.facts.specs.declared.profile.Profile.TheVariants as profile
 use Rattle.order_log.specs.Line.{is_name}
-use Rattle.outcomes.specs.Steps.{IsFile}
+use Rattle.outcomes.specs.Steps.{IsFile, Lacks}
 use Rattle.profile_book.specs.Faults.{number_of}
 use Rattle.profile_book.specs.Reading.{Answers}
 use Rattle.profile_book.specs.declared.fault.ProfileFault.{ProfileFault}
@@ -23,6 +23,11 @@ IsSpelled (Ok bytes) (Err a) = (fault : ProfileFault) × (number : ℕ) × Answe
 abbrev pub IsProfile : Option Files → (name : Option (List ℕ)) → Result Profile Answer → Type 0
 IsProfile files None r = r ≡ Ok profile.All
 IsProfile files (Some name) r = (file : Result (List ℕ) Answer) × IsFile files 1048576 part.Profile name file × IsSpelled file r
+
+-- a profile is named, and the name isn't held
+abbrev pub LacksProfile : Option Files → (name : Option (List ℕ)) → Type 0
+LacksProfile files None = ⊥
+LacksProfile files (Some name) = Lacks files name
 
 -- ---- what a log keeps
 

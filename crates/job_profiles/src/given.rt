@@ -1,7 +1,7 @@
 // The profile that a job is given.
 
 ghost use Rattle.std.specs.Prelude.{◌≡◌, filter, Some, IfErr, IfOk, MatchResult, Ok, option_map};
-ghost use Rattle.job_profiles.specs.Profiles.{IsProfile, IsSpelled, are_names, named as named_of};
+ghost use Rattle.job_profiles.specs.Profiles.{IsProfile, IsSpelled, LacksProfile, are_names, named as named_of};
 ghost use Rattle.answers.specs.declared.answer.Answer.TheVariants as answer;
 ghost use Rattle.facts.specs.declared.profile.Profile.TheVariants as profile;
 ghost use Rattle.order_log.specs.Line as line;
@@ -13,9 +13,9 @@ ghost use Rattle.outcomes.specs.declared.stop.Stop.TheVariants as stop;
 use answers::{Answer, Part};
 use facts::{FunctionPairs, Profile};
 use order_log::is_name;
-use outcomes::{Stop, file};
+use outcomes::{Keeper, Stop, file};
 use profile_book::{ProfileFault, read_profile};
-use rr_base::{Bytes, List, Shelf};
+use rr_base::{Bytes, List};
 use std::alloc::{AllocError, Global};
 
 /// The most bytes of a profile.
@@ -42,17 +42,19 @@ fn spelled(alloc: Global, bytes: &[u8]) -> Result<Profile, Stop>
 }
 
 // The profile in the file of this name.
-fn profile_in<S: Shelf>(alloc: Global, shelf: &mut S, name: &str) -> Result<Profile, Stop>
+fn profile_in<S: Keeper>(alloc: Global, shelf: &mut S, name: &str) -> Result<Profile, Stop>
     ensures profile { Finds (IsProfile (S.files shelf.old) (Some name.now)) result }
     ensures files { S.files shelf.new ≡ S.files shelf.old }
     ensures faults { MatchResult result (λ _. S.faults shelf.new ≡ S.faults shelf.old) (λ stop. ShelfStops stop (S.faults shelf.old) (S.faults shelf.new)) }
+    ensures sound { S.IsSound shelf.old → S.IsSound shelf.new }
+    ensures lacks { S.IsSound shelf.old → result ≡ Err Stop.ShelfFailed → LacksProfile (S.files shelf.old) (Some name.now) }
 {
     let bytes = file(alloc, shelf, name, PROFILE_BYTES, Part::Profile)?;
     spelled(alloc, bytes.as_slice())
 }
 
-/// The profile in the file of this name, or All without a name.
-pub fn profile_of<S: Shelf>(
+/// The profile in the file of this name, or All without a name. A sound shelf fails for want of the name alone.
+pub fn profile_of<S: Keeper>(
     alloc: Global,
     shelf: &mut S,
     name: Option<&str>,
@@ -60,6 +62,8 @@ pub fn profile_of<S: Shelf>(
     ensures profile { Finds (IsProfile (S.files shelf.old) (option_map (λ n. n.now) name.entry)) result }
     ensures files { S.files shelf.new ≡ S.files shelf.old }
     ensures faults { MatchResult result (λ _. S.faults shelf.new ≡ S.faults shelf.old) (λ stop. ShelfStops stop (S.faults shelf.old) (S.faults shelf.new)) }
+    ensures sound { S.IsSound shelf.old → S.IsSound shelf.new }
+    ensures lacks { S.IsSound shelf.old → result ≡ Err Stop.ShelfFailed → LacksProfile (S.files shelf.old) (option_map (λ n. n.now) name.entry) }
 {
     match name {
         Some(name) => profile_in(alloc, shelf, name),

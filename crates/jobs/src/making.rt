@@ -1,6 +1,6 @@
 // A large source is made, put, recorded and replayed.
 
-ghost use Rattle.std.specs.Prelude.{◌≡◌, ◌≤◌, ◌^◌, [], ◌∷◌, ◌++◌, codes, length, string_bytes, Option, IfOk, MatchResult};
+ghost use Rattle.std.specs.Prelude.{◌≡◌, ◌≢◌, ◌≤◌, ◌^◌, [], ◌∷◌, ◌++◌, codes, length, string_bytes, Option, IfOk, MatchResult};
 ghost use Rattle.answers.specs.Jobs.{record_told};
 ghost use Rattle.jobs.specs.Makings as spec;
 ghost use Rattle.facts.specs.declared.profile.Profile.TheVariants as profile;
@@ -19,8 +19,8 @@ use answers::{Answer, RecordJob, summary_text};
 use crew::Crew;
 use facts::Profile;
 use lock_sound::Weakened;
-use outcomes::{Outcome, Stop, put_all};
-use rr_base::{Bytes, List, Shelf};
+use outcomes::{Keeper, Outcome, Stop, put_all};
+use rr_base::{Bytes, List};
 use std::alloc::{AllocError, Global};
 use std::sync::Wait;
 use std::thread::Threads;
@@ -97,7 +97,7 @@ fn summary(
 }
 
 // The log of a recording is put and replayed, and both are told.
-fn replayed_log<'a, R: Threads + Wait + Sync, S: Shelf, C: Crew>(
+fn replayed_log<'a, R: Threads + Wait + Sync, S: Keeper, C: Crew>(
     rt: &R,
     alloc: Global,
     weakened: &Weakened,
@@ -109,6 +109,8 @@ fn replayed_log<'a, R: Threads + Wait + Sync, S: Shelf, C: Crew>(
 ) -> Result<Outcome<'a>, Stop>
     ensures outcome { ComesTo (spec.IsReplayed (work_of C.Crew crew.old) (work_of C.Crew crew.new) count bytes weakened.now recording.entry.log recording.entry.outcome) (λ puts. puts ≡ recording.entry.outcome.puts) (S.files shelf.old) (S.files shelf.new) result }
     ensures faults { MatchResult result (λ _. (S.faults shelf.new ≡ S.faults shelf.old) × (C.faults crew.new ≡ C.faults crew.old)) (λ stop. CrewShelfStops stop (S.faults shelf.old) (S.faults shelf.new) (C.faults crew.old) (C.faults crew.new)) }
+    ensures sound { S.IsSound shelf.old → S.IsSound shelf.new }
+    ensures kept { S.IsSound shelf.old → result ≢ Err Stop.ShelfFailed }
 {
     let Recording { log, outcome } = recording;
     let Outcome { puts, answer } = outcome;
@@ -130,7 +132,7 @@ fn made_code(alloc: Global, source: &[u8]) -> Result<Weakened, Stop>
 }
 
 // The code of a source that was put is recorded without input, and its log is put and replayed.
-fn made<'a, R: Threads + Wait + Sync, S: Shelf, C: Crew>(
+fn made<'a, R: Threads + Wait + Sync, S: Keeper, C: Crew>(
     rt: &R,
     alloc: Global,
     weakened: &Weakened,
@@ -146,6 +148,8 @@ fn made<'a, R: Threads + Wait + Sync, S: Shelf, C: Crew>(
     ensures outcome { (old : Option Files) → ArePut (spec.source_put count job.now.source.now ∷ []) old (S.files shelf.old) → ComesTo (spec.IsMaking (work_of C.Crew crew.old) (work_of C.Crew crew.new) count job.now.source.now) (spec.IsPutInMaking count job.now.source.now) old (S.files shelf.new) result }
     ensures idle { IsIdle result (work_of C.Crew crew.old) (work_of C.Crew crew.new) }
     ensures faults { MatchResult result (λ _. (S.faults shelf.new ≡ S.faults shelf.old) × (C.faults crew.new ≡ C.faults crew.old)) (λ stop. CrewShelfStops stop (S.faults shelf.old) (S.faults shelf.new) (C.faults crew.old) (C.faults crew.new)) }
+    ensures sound { S.IsSound shelf.old → S.IsSound shelf.new }
+    ensures kept { S.IsSound shelf.old → result ≢ Err Stop.ShelfFailed }
 {
     let input = List::new(alloc);
     match recorded_on(rt, alloc, weakened, Profile::All, input, job, crew) {
@@ -156,7 +160,7 @@ fn made<'a, R: Threads + Wait + Sync, S: Shelf, C: Crew>(
 
 /// The outcome of making a source with so many functions, under this name, which is recorded and replayed. The source and its log are
 /// put on the way, and stay where a later step fails.
-pub(crate) fn make<'a, R: Threads + Wait + Sync, S: Shelf, C: Crew>(
+pub(crate) fn make<'a, R: Threads + Wait + Sync, S: Keeper, C: Crew>(
     rt: &R,
     alloc: Global,
     count: u32,
@@ -169,11 +173,13 @@ pub(crate) fn make<'a, R: Threads + Wait + Sync, S: Shelf, C: Crew>(
     ensures outcome { ComesTo (spec.IsMaking (work_of C.Crew crew.old) (work_of C.Crew crew.new) count name.now) (spec.IsPutInMaking count name.now) (S.files shelf.old) (S.files shelf.new) result }
     ensures idle { IsIdle result (work_of C.Crew crew.old) (work_of C.Crew crew.new) }
     ensures faults { MatchResult result (λ _. (S.faults shelf.new ≡ S.faults shelf.old) × (C.faults crew.new ≡ C.faults crew.old)) (λ stop. CrewShelfStops stop (S.faults shelf.old) (S.faults shelf.new) (C.faults crew.old) (C.faults crew.new)) }
+    ensures sound { S.IsSound shelf.old → S.IsSound shelf.new }
+    ensures kept { S.IsSound shelf.old → result ≢ Err Stop.ShelfFailed }
 {
     let source = program_of(alloc, count)?;
     let log = log_name(alloc, name)?;
     let text = source.as_slice();
-    shelf.put(alloc, name, text)?;
+    shelf.keep(alloc, name, text)?;
     let weakened = made_code(alloc, text)?;
     let job = recording_job(name, log.as_str());
     let bytes = text.len() as u32;

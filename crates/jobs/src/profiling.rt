@@ -5,7 +5,8 @@ ghost use Rattle.jobs.specs.Jobs.{IsProfiling};
 ghost use Rattle.jobs.specs.Profilings.{ShowsLog};
 ghost use Rattle.jobs.specs.Sources.{IsTree};
 ghost use Rattle.outcomes.specs.Faults.{IsPure, ShelfStops};
-ghost use Rattle.outcomes.specs.Steps.{Comes, Gives};
+ghost use Rattle.jobs.specs.Wants.{LacksEither};
+ghost use Rattle.outcomes.specs.Steps.{Comes, Gives, Lacks};
 ghost use Rattle.source_names.specs.Spelled.{HaveTexts};
 ghost use Rattle.walk_profiles.specs.Profiling.{ShowsProfile};
 
@@ -14,8 +15,8 @@ use crate::sources::{SOURCE_BYTES, compiled, or_stop};
 use answers::Part;
 use lock_sound::{Weakened, law_weakened_runs};
 use order_log::Log;
-use outcomes::{Outcome, Stop, file};
-use rr_base::{Bytes, Shelf};
+use outcomes::{Keeper, Outcome, Stop, file};
+use rr_base::Bytes;
 use source_names::law_names_are_texts;
 use std::alloc::{AllocError, Global};
 use text_runs::law_text_erased_walk;
@@ -56,7 +57,7 @@ fn profiled<'a>(
 }
 
 /// The outcome of a source and a log by their names, where the profile is put under a third one.
-pub(crate) fn profile_log<'a, S: Shelf>(
+pub(crate) fn profile_log<'a, S: Keeper>(
     alloc: Global,
     source: &str,
     log: &str,
@@ -66,6 +67,8 @@ pub(crate) fn profile_log<'a, S: Shelf>(
     ensures outcome { Gives (IsProfiling (S.files shelf.old) source.now log.now name.now) result }
     ensures files { S.files shelf.new ≡ S.files shelf.old }
     ensures faults { MatchResult result (λ _. S.faults shelf.new ≡ S.faults shelf.old) (λ stop. ShelfStops stop (S.faults shelf.old) (S.faults shelf.new)) }
+    ensures sound { S.IsSound shelf.old → S.IsSound shelf.new }
+    ensures lacks { S.IsSound shelf.old → result ≡ Err Stop.ShelfFailed → LacksEither (S.files shelf.old) source.now (Lacks (S.files shelf.old) log.now) }
 {
     let text = file(alloc, shelf, source, SOURCE_BYTES, Part::Source)?;
     let bytes = file(alloc, shelf, log, LOG_BYTES, Part::Log)?;

@@ -8,15 +8,14 @@ ghost use Rattle.jobs.specs.Sources.{IsTree};
 ghost use Rattle.outcomes.specs.Faults.{IsPure, ShelfStops};
 ghost use Rattle.listing.specs.Text.{races_text_of};
 ghost use Rattle.outcomes.specs.Outcomes.{answers};
-ghost use Rattle.outcomes.specs.Steps.{Comes, Gives};
+ghost use Rattle.outcomes.specs.Steps.{Comes, Gives, Lacks};
 
 use crate::sources::{SOURCE_BYTES, compiled, or_stop};
 use answers::{Answer, Part};
 use facts::Profile;
 use listing::races_text;
 use lock_sound::Weakened;
-use outcomes::{Outcome, Stop, file};
-use rr_base::Shelf;
+use outcomes::{Keeper, Outcome, Stop, file};
 use std::alloc::{AllocError, Global};
 
 // The listing of a code.
@@ -40,7 +39,7 @@ fn listed<'a>(alloc: Global, source: &[u8]) -> Result<Outcome<'a>, Stop>
 }
 
 /// The outcome of a source by its name.
-pub(crate) fn races<'a, S: Shelf>(
+pub(crate) fn races<'a, S: Keeper>(
     alloc: Global,
     source: &'a str,
     shelf: &mut S,
@@ -48,6 +47,8 @@ pub(crate) fn races<'a, S: Shelf>(
     ensures outcome { Gives (IsRaces (S.files shelf.old) source.now) result }
     ensures files { S.files shelf.new ≡ S.files shelf.old }
     ensures faults { MatchResult result (λ _. S.faults shelf.new ≡ S.faults shelf.old) (λ stop. ShelfStops stop (S.faults shelf.old) (S.faults shelf.new)) }
+    ensures sound { S.IsSound shelf.old → S.IsSound shelf.new }
+    ensures lacks { S.IsSound shelf.old → result ≡ Err Stop.ShelfFailed → Lacks (S.files shelf.old) source.now }
 {
     let text = file(alloc, shelf, source, SOURCE_BYTES, Part::Source)?;
     listed(alloc, text.as_slice())

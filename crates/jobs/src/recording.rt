@@ -6,6 +6,8 @@ ghost use Rattle.answers.specs.declared.answer.Part.TheVariants as part;
 ghost use Rattle.jobs.specs.Jobs.{IsRecord};
 ghost use Rattle.jobs.specs.Recordings.{IsLogged, IsRecorded, IsRecording, IsRunOf};
 ghost use Rattle.jobs.specs.Sources.{IsTree};
+ghost use Rattle.jobs.specs.Wants.{LacksEither};
+ghost use Rattle.job_profiles.specs.Profiles.{LacksProfile};
 ghost use Rattle.jobs.specs.Works.{IsIdle, work_of};
 ghost use Rattle.walk_answers.specs.Walking.{outcome_of as outcome_by};
 ghost use Rattle.order_log.specs.Log.{AreWithin, HasNames};
@@ -25,10 +27,10 @@ use job_profiles::{named, profile_of};
 use lock_sound::{Weakened, law_weakened_runs};
 use log_limits::law_log_is_within;
 use order_log::{Log, write_log};
-use outcomes::{Outcome, Put, Stop, file, input as whole_input};
+use outcomes::{Keeper, Outcome, Put, Stop, file, input as whole_input};
 use race_free::law_no_race;
 use recorder::{Recorded, record_threads};
-use rr_base::{Bytes, List, Shelf, Source};
+use rr_base::{Bytes, List, Source};
 use std::alloc::{AllocError, Global};
 use std::sync::Wait;
 use std::thread::Threads;
@@ -166,7 +168,7 @@ fn recorded<'a, R: Threads + Wait + Sync, I: Source, C: Crew>(
 }
 
 /// The outcome of a recording of a source by its name.
-pub(crate) fn record_source<'a, R: Threads + Wait + Sync, I: Source, S: Shelf, C: Crew>(
+pub(crate) fn record_source<'a, R: Threads + Wait + Sync, I: Source, S: Keeper, C: Crew>(
     rt: &R,
     alloc: Global,
     job: &RecordJob<'a>,
@@ -179,6 +181,8 @@ pub(crate) fn record_source<'a, R: Threads + Wait + Sync, I: Source, S: Shelf, C
     ensures idle { IsIdle result (work_of C.Crew crew.old) (work_of C.Crew crew.new) }
     ensures files { S.files shelf.new ≡ S.files shelf.old }
     ensures faults { MatchResult result (λ _. (S.faults shelf.new ≡ S.faults shelf.old) × (I.faults input.new ≡ I.faults input.old) × (C.faults crew.new ≡ C.faults crew.old)) (λ stop. StopCounts stop (record { shelf = S.faults shelf.old; input = I.faults input.old; crew = C.faults crew.old }) (record { shelf = S.faults shelf.new; input = I.faults input.new; crew = C.faults crew.new })) }
+    ensures sound { S.IsSound shelf.old → S.IsSound shelf.new }
+    ensures lacks { S.IsSound shelf.old → result ≡ Err Stop.ShelfFailed → LacksEither (S.files shelf.old) job.now.source.now (LacksProfile (S.files shelf.old) (record_told job.now).profile) }
 {
     let text = file(alloc, shelf, job.source, SOURCE_BYTES, Part::Source)?;
     let profile = profile_of(alloc, shelf, job.profile)?;

@@ -9,7 +9,8 @@ ghost use Rattle.jobs.specs.Sources.{IsTree};
 ghost use Rattle.jobs.specs.Works.{HasRun, IsIdle, work_of};
 ghost use Rattle.walk_answers.specs.Walking.{formula_of as formula_by, outcome_of as outcome_by};
 ghost use Rattle.outcomes.specs.Faults.{CrewShelfStops, CrewStops, IsPure, RefusingCrewStops};
-ghost use Rattle.outcomes.specs.Steps.{Comes, Finds, Gives};
+ghost use Rattle.jobs.specs.Wants.{LacksEither};
+ghost use Rattle.outcomes.specs.Steps.{Comes, Finds, Gives, Lacks};
 ghost use Rattle.replayer.specs.Replays.{entries_taken};
 
 use crate::sources::{SOURCE_BYTES, compiled, or_stop};
@@ -18,10 +19,10 @@ use core_run::{Formula, Walk};
 use crew::Crew;
 use lock_sound::{Weakened, law_weakened_runs};
 use order_log::{Log, LogFault, read_log};
-use outcomes::{Outcome, Stop, file};
+use outcomes::{Keeper, Outcome, Stop, file};
 use race_free::law_no_race;
 use replayer::{ReplayFault, replay as follow};
-use rr_base::{Bytes, List, Shelf};
+use rr_base::{Bytes, List};
 use std::alloc::Global;
 use std::sync::Wait;
 use std::thread::Threads;
@@ -117,7 +118,7 @@ fn replayed<'a, R: Threads + Wait + Sync, C: Crew>(
 }
 
 /// The outcome of a source and a log by their names.
-pub(crate) fn replay<'a, R: Threads + Wait + Sync, S: Shelf, C: Crew>(
+pub(crate) fn replay<'a, R: Threads + Wait + Sync, S: Keeper, C: Crew>(
     rt: &R,
     alloc: Global,
     source: &str,
@@ -130,6 +131,8 @@ pub(crate) fn replay<'a, R: Threads + Wait + Sync, S: Shelf, C: Crew>(
     ensures idle { IsIdle result (work_of C.Crew crew.old) (work_of C.Crew crew.new) }
     ensures files { S.files shelf.new ≡ S.files shelf.old }
     ensures faults { MatchResult result (λ _. (S.faults shelf.new ≡ S.faults shelf.old) × (C.faults crew.new ≡ C.faults crew.old)) (λ stop. CrewShelfStops stop (S.faults shelf.old) (S.faults shelf.new) (C.faults crew.old) (C.faults crew.new)) }
+    ensures sound { S.IsSound shelf.old → S.IsSound shelf.new }
+    ensures lacks { S.IsSound shelf.old → result ≡ Err Stop.ShelfFailed → LacksEither (S.files shelf.old) source.now (Lacks (S.files shelf.old) log.now) }
 {
     let text = file(alloc, shelf, source, SOURCE_BYTES, Part::Source)?;
     let bytes = file(alloc, shelf, log, LOG_BYTES, Part::Log)?;

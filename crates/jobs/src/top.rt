@@ -3,6 +3,7 @@
 ghost use Rattle.std.specs.Prelude.{◌≡◌, map, string_bytes, IfErr, IsTrue, MatchResult, Some};
 ghost use Rattle.answers.specs.Jobs.{HasLimits, job_of as job_by, told};
 ghost use Rattle.jobs.specs.Jobs.{IsOutcome, PutsBefore, ReadsInput, RunsThreads, UsesShelf, is_status};
+ghost use Rattle.jobs.specs.Wants.{LacksFile};
 ghost use Rattle.jobs.specs.Works.{work_of};
 ghost use Rattle.outcomes.specs.Endings.{ComesTo, Ends, MayStop};
 ghost use Rattle.outcomes.specs.Faults.{StopCounts};
@@ -16,14 +17,14 @@ use crate::replaying::replay;
 use crate::weak_locks::weak_locks;
 use answers::{Answer, Job, job_of, tell_answer};
 use crew::Crew;
-use outcomes::{Outcome, Stop, finish, tell_stop};
-use rr_base::{Shelf, Sink, Source};
+use outcomes::{Keeper, Outcome, Stop, finish, tell_stop};
+use rr_base::{Sink, Source};
 use std::alloc::Global;
 use std::sync::Wait;
 use std::thread::Threads;
 
 // The outcome of a job.
-fn outcome_of_job<'a, R: Threads + Wait + Sync, I: Source, S: Shelf, C: Crew>(
+fn outcome_of_job<'a, R: Threads + Wait + Sync, I: Source, S: Keeper, C: Crew>(
     rt: &R,
     alloc: Global,
     job: Job<'a>,
@@ -35,6 +36,8 @@ fn outcome_of_job<'a, R: Threads + Wait + Sync, I: Source, S: Shelf, C: Crew>(
     ensures outcome { ComesTo (IsOutcome (work_of C.Crew crew.old) (work_of C.Crew crew.new) (S.files shelf.old) (I.left input.old) (Some (told job.entry))) (PutsBefore (Some (told job.entry))) (S.files shelf.old) (S.files shelf.new) result }
     ensures faults { MatchResult result (λ _. (S.faults shelf.new ≡ S.faults shelf.old) × (I.faults input.new ≡ I.faults input.old) × (C.faults crew.new ≡ C.faults crew.old)) (λ stop. StopCounts stop (record { shelf = S.faults shelf.old; input = I.faults input.old; crew = C.faults crew.old }) (record { shelf = S.faults shelf.new; input = I.faults input.new; crew = C.faults crew.new })) }
     ensures causes { IfErr result (MayStop (UsesShelf (Some (told job.entry))) (ReadsInput (Some (told job.entry))) (RunsThreads (Some (told job.entry)))) }
+    ensures sound { S.IsSound shelf.old → S.IsSound shelf.new }
+    ensures lacks { S.IsSound shelf.old → result ≡ Err Stop.ShelfFailed → LacksFile (S.files shelf.old) (Some (told job.entry)) }
     ensures input { (ReadsInput (Some (told job.entry)) → ⊥) → input.new ≡ input.old }
     ensures crew { (RunsThreads (Some (told job.entry)) → ⊥) → crew.new ≡ crew.old }
 {
@@ -55,7 +58,7 @@ fn outcome_of_job<'a, R: Threads + Wait + Sync, I: Source, S: Shelf, C: Crew>(
 /// the run ended or a thread trapped, and a made source and its log, which are put on the way. Only a recording touches `input`, and
 /// only a recording, a replay and the making of a source have the crew run threads: a job for each slot, with a turn for each
 /// entry of the log, or more; a refusal comes before that.
-pub fn chimera<R: Threads + Wait + Sync, I: Source, O: Sink, S: Shelf, C: Crew>(
+pub fn chimera<R: Threads + Wait + Sync, I: Source, O: Sink, S: Keeper, C: Crew>(
     rt: &R,
     alloc: Global,
     words: &[String],
@@ -71,6 +74,8 @@ pub fn chimera<R: Threads + Wait + Sync, I: Source, O: Sink, S: Shelf, C: Crew>(
     ensures write_fault { result ≡ 8 → Rose (O.faults out.old) (O.faults out.new) }
     ensures shelf_fault { result ≡ 9 → Rose (S.faults shelf.old) (S.faults shelf.new) }
     ensures crew_fault { result ≡ 10 → Rose (C.faults crew.old) (C.faults crew.new) }
+    // A sound shelf fails only for want of a file that the job reads.
+    ensures lacks { S.IsSound shelf.old → result ≡ 9 → LacksFile (S.files shelf.old) (job_by (map string_bytes words.now)) }
     ensures input { (ReadsInput (job_by (map string_bytes words.now)) → ⊥) → input.new ≡ input.old }
     ensures crew { (RunsThreads (job_by (map string_bytes words.now)) → ⊥) → crew.new ≡ crew.old }
 {

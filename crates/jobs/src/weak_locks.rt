@@ -5,6 +5,8 @@ ghost use Rattle.answers.specs.declared.answer.Answer.TheVariants as answer;
 ghost use Rattle.jobs.specs.Jobs.{IsWeaken};
 ghost use Rattle.jobs.specs.Listings.{ListsWeakLocks};
 ghost use Rattle.jobs.specs.Sources.{IsTree};
+ghost use Rattle.jobs.specs.Wants.{LacksEither};
+ghost use Rattle.job_profiles.specs.Profiles.{LacksProfile};
 ghost use Rattle.outcomes.specs.Faults.{IsPure, ShelfStops};
 ghost use Rattle.listing.specs.WeakText.{weak_text_of};
 ghost use Rattle.outcomes.specs.Outcomes.{answers};
@@ -16,8 +18,7 @@ use facts::Profile;
 use job_profiles::profile_of;
 use listing::weak_text;
 use lock_sound::Weakened;
-use outcomes::{Outcome, Stop, file};
-use rr_base::Shelf;
+use outcomes::{Keeper, Outcome, Stop, file};
 use std::alloc::{AllocError, Global};
 
 // The listing of a code.
@@ -43,7 +44,7 @@ fn listed<'a>(alloc: Global, source: &[u8], profile: &Profile) -> Result<Outcome
 }
 
 /// The outcome of a source and a profile by their names.
-pub(crate) fn weak_locks<'a, S: Shelf>(
+pub(crate) fn weak_locks<'a, S: Keeper>(
     alloc: Global,
     source: &'a str,
     profile: Option<&str>,
@@ -52,6 +53,8 @@ pub(crate) fn weak_locks<'a, S: Shelf>(
     ensures outcome { Gives (IsWeaken (S.files shelf.old) source.now (option_map (λ n. n.now) profile.entry)) result }
     ensures files { S.files shelf.new ≡ S.files shelf.old }
     ensures faults { MatchResult result (λ _. S.faults shelf.new ≡ S.faults shelf.old) (λ stop. ShelfStops stop (S.faults shelf.old) (S.faults shelf.new)) }
+    ensures sound { S.IsSound shelf.old → S.IsSound shelf.new }
+    ensures lacks { S.IsSound shelf.old → result ≡ Err Stop.ShelfFailed → LacksEither (S.files shelf.old) source.now (LacksProfile (S.files shelf.old) (option_map (λ n. n.now) profile.entry)) }
 {
     let text = file(alloc, shelf, source, SOURCE_BYTES, Part::Source)?;
     let profile = profile_of(alloc, shelf, profile)?;

@@ -34,6 +34,11 @@ abbrev pub Holds : Option Files → (name content : List ℕ) → Type 0
 Holds None name content = Unit {0}
 Holds (Some files) name content = files name ≡ Some content
 
+-- it holds no such name
+abbrev pub Lacks : Option Files → (name : List ℕ) → Type 0
+Lacks None name = Unit {0}
+Lacks (Some files) name = files name ≡ None
+
 -- reading a file that may have so many bytes
 pub record IsFile (files : Option Files) (most : ℕ) (what : Part) (name : List ℕ) (r : Result (List ℕ) Answer) : Type 0 where
   pub content : List ℕ

@@ -4,6 +4,7 @@
 #![tactic(auto)]
 
 mod finishing;
+mod keeper;
 mod outcome;
 mod steps;
 mod stop;
@@ -11,6 +12,7 @@ mod stop;
 mod tests;
 
 pub use finishing::{finish, put_all, tell_stop};
+pub use keeper::Keeper;
 pub use outcome::{Outcome, Put};
 pub use steps::{file, input};
 pub use stop::Stop;

@@ -1,17 +1,49 @@
 // Reading what a job asks for.
 
-ghost use Rattle.std.specs.Prelude.{◌≡◌, ◌≤◌, length, IfOk, MatchResult};
+ghost use Rattle.std.specs.Prelude.{◌≡◌, ◌≤◌, None, length, IfOk, IfSome, MatchResult};
+ghost use Rattle.answers.specs.Contents.{IsWithin, KeepsWithin};
+ghost use Rattle.rr_base.specs.Faults.{ShelfFaults};
 ghost use Rattle.rr_base.specs.Streams.{IsUsedUp};
 ghost use Rattle.outcomes.specs.Faults.{InputStops, ShelfStops};
-ghost use Rattle.outcomes.specs.Steps.{Finds, IsFile, IsInput};
+ghost use Rattle.outcomes.specs.Steps.{Finds, IsFile, IsInput, Lacks};
 
+use crate::keeper::Keeper;
 use crate::stop::Stop;
-use answers::{Answer, Part, get_within};
-use rr_base::{Bytes, ReadEnd, Shelf, Source, read_to_end};
+use answers::{Answer, Part};
+use rr_base::{Bytes, List, ReadEnd, ShelfEnd, Source, read_to_end};
 use std::alloc::Global;
 
-/// The content of a name, which may have so many bytes.
-pub fn file<S: Shelf>(
+// The content of a name, or nothing where it has more than `most` bytes.
+fn fetch_within<S: Keeper>(
+    alloc: Global,
+    shelf: &mut S,
+    name: &str,
+    most: u32,
+) -> Result<Option<Bytes>, ShelfEnd>
+    ensures content { IfOk result (λ found. IfSome (S.files shelf.old) (λ files. IsWithin most (files name.now) found)) }
+    ensures fits { IfOk result (λ found. IfSome found (λ bytes. length bytes ≤ most)) }
+    ensures files { S.files shelf.new ≡ S.files shelf.old }
+    ensures faults { MatchResult result (λ _. S.faults shelf.new ≡ S.faults shelf.old) (λ end. ShelfFaults end (S.faults shelf.old) (S.faults shelf.new)) }
+    ensures sound { S.IsSound shelf.old → S.IsSound shelf.new }
+    ensures lacks { S.IsSound shelf.old → result ≡ Err ShelfEnd.Failed → Lacks (S.files shelf.old) name.now }
+{
+    let bytes = shelf.fetch(alloc, name, most)?;
+    Ok(within(bytes, most))
+}
+
+// All of the bytes, where they are no more than `most`.
+fn within(bytes: Vec<u8>, most: u32) -> Option<Bytes>
+    ensures { KeepsWithin most bytes.items result }
+{
+    if bytes.len() > most as usize {
+        None
+    } else {
+        Some(List::from_vec(bytes))
+    }
+}
+
+/// The content of a name, which may have so many bytes. A sound shelf fails for want of the name alone.
+pub fn file<S: Keeper>(
     alloc: Global,
     shelf: &mut S,
     name: &str,
@@ -22,8 +54,10 @@ pub fn file<S: Shelf>(
     ensures fits { IfOk result (λ bytes. length bytes ≤ most) }
     ensures files { S.files shelf.new ≡ S.files shelf.old }
     ensures faults { MatchResult result (λ _. S.faults shelf.new ≡ S.faults shelf.old) (λ stop. ShelfStops stop (S.faults shelf.old) (S.faults shelf.new)) }
+    ensures sound { S.IsSound shelf.old → S.IsSound shelf.new }
+    ensures lacks { S.IsSound shelf.old → result ≡ Err Stop.ShelfFailed → Lacks (S.files shelf.old) name.now }
 {
-    match get_within(alloc, shelf, name, most)? {
+    match fetch_within(alloc, shelf, name, most)? {
         Some(bytes) => Ok(bytes),
         None => Err(Stop::Refused(Answer::TooLarge(what))),
     }

@@ -19,10 +19,10 @@ returns-in_err-log-clause-outcome g c =
     let files = g.S.Shelf.files c.args.shelf.now in
     rw p.1 (nothing_put _ _ c.args.count c.args.name.now files files p.0 p.2 refl)
 
-pub returns-in_err-put-clause-outcome : goal.returns-in_err-put-clause-outcome
-returns-in_err-put-clause-outcome g c =
-    let p = err_from_is_err_and c.from_residual-in_err-put.result c.from_residual-in_err-put.ensures.1 in
-    rw p.1 (source_not_put _ _ c.args.count c.args.name.now (g.S.Shelf.files c.args.shelf.now) (g.S.Shelf.files c.put.new.self) c.in_err-put.field-0.0 p.0 p.2 (λ e. c.put.ensures.failed (cc (e, c.in_err-put.was))) (λ e. c.put.ensures.memory (cc (e, c.in_err-put.was))))
+pub returns-in_err-keep-clause-outcome : goal.returns-in_err-keep-clause-outcome
+returns-in_err-keep-clause-outcome g c =
+    let p = err_from_is_err_and c.from_residual-in_err-keep.result c.from_residual-in_err-keep.ensures.1 in
+    rw p.1 (source_not_put _ _ c.args.count c.args.name.now (g.S.Shelf.files c.args.shelf.now) (g.S.Shelf.files c.keep.new.self) c.in_err-keep.field-0.0 p.0 p.2 (λ e. c.keep.ensures.failed (cc (e, c.in_err-keep.was))) (λ e. c.keep.ensures.memory (cc (e, c.in_err-keep.was))))
 
 pub made_code-requires : goal.made_code-requires
 made_code-requires g c = subst (λ xs. length xs ≤ 1048576) (sym c.as_slice-text.ensures) (made_short c.args.count c.in_ok-source.source c.requires.to c.in_ok-source.ensures.len)
@@ -31,10 +31,10 @@ pub returns-in_err-weakened-clause-outcome : goal.returns-in_err-weakened-clause
 returns-in_err-weakened-clause-outcome g c =
     let p = err_from_is_err_and c.from_residual-in_err-weakened.result c.from_residual-in_err-weakened.ensures.1 in
     let old = g.S.Shelf.files c.args.shelf.now in
-    let new = g.S.Shelf.files c.put.new.self in
+    let new = g.S.Shelf.files c.keep.new.self in
     let text : c.as_slice-text.result.now ≡ program_text c.args.count = c.as_slice-text.ensures ∙ c.in_ok-source.ensures.text in
     let s = c.in_err-weakened.field-0.0 in
-    rw (p.1, p.2) (not_made _ _ c.args.count c.args.name.now old new (source_is_put c.args.count c.args.name.now c.as_slice-text.result.now old new text c.in_ok-put.ensures.ok) s
+    rw (p.1, p.2) (not_made _ _ c.args.count c.args.name.now old new (source_is_put c.args.count c.args.name.now c.as_slice-text.result.now old new text c.in_ok-keep.ensures.ok) s
     (same_compile c.as_slice-text.result.now (program_text c.args.count) profile.All profile.All (Err s) text refl c.in_err-weakened.ensures.code))
 
 pub overflow_cast-bytes : goal.overflow_cast-bytes
@@ -50,10 +50,10 @@ made-requires-clause-code g c κs within =
 pub returns-clause-outcome : goal.returns-clause-outcome
 returns-clause-outcome g c =
     let old = g.S.Shelf.files c.args.shelf.now in
-    let between = g.S.Shelf.files c.put.new.self in
+    let between = g.S.Shelf.files c.keep.new.self in
     let text : c.as_slice-text.result.now ≡ program_text c.args.count = c.as_slice-text.ensures ∙ c.in_ok-source.ensures.text in
     once_put _ _ c.args.count c.args.name.now c.recording_job-job.result.source.now old between (g.S.Shelf.files c.made.new.shelf) c.made.result c.recording_job-job.ensures.name c.made.ensures.outcome
-    (source_is_put c.args.count c.args.name.now c.as_slice-text.result.now old between text c.in_ok-put.ensures.ok)
+    (source_is_put c.args.count c.args.name.now c.as_slice-text.result.now old between text c.in_ok-keep.ensures.ok)
 
 pub returns-clause-faults : goal.returns-clause-faults
-returns-clause-faults g c = later_ends c.made.result _ _ _ _ _ _ c.made.ensures.faults c.in_ok-put.ensures.faults refl
+returns-clause-faults g c = later_ends c.made.result _ _ _ _ _ _ c.made.ensures.faults c.in_ok-keep.ensures.faults refl

@@ -1,0 +1,21 @@
+-- That a name is wanting which a job asks the shelf for, in the order of work.
+use Rattle.std.specs.Prelude.{ℕ, List, ◌⊎◌, Option, Some, None, Ok}
+use Rattle.answers.specs.Jobs.{Asked}
+use Rattle.answers.specs.Jobs.Asked.{Races, Weaken, Record, Replay, Profile, Make}
+use Rattle.answers.specs.declared.answer.Part.TheVariants as part
+use Rattle.job_profiles.specs.Profiles.{LacksProfile}
+use Rattle.outcomes.specs.Steps.{IsFile, Lacks}
+use Rattle.rr_base.specs.Files.{Files}
+
+-- its source isn't held; or it is, and a later name isn't
+abbrev pub LacksEither : Option Files → (source : List ℕ) → (LacksLater : Type 0) → Type 0
+LacksEither files source LacksLater = Lacks files source ⊎ ((text : List ℕ) × IsFile files 1048576 part.Source source (Ok text) × LacksLater)
+
+abbrev pub LacksFile : Option Files → Option Asked → Type 0
+LacksFile files None = ⊥
+LacksFile files (Some (Races source)) = Lacks files source
+LacksFile files (Some (Weaken source profile)) = LacksEither files source (LacksProfile files profile)
+LacksFile files (Some (Record r)) = LacksEither files r.source (LacksProfile files r.profile)
+LacksFile files (Some (Replay source log reads)) = LacksEither files source (Lacks files log)
+LacksFile files (Some (Profile source log name)) = LacksEither files source (Lacks files log)
+LacksFile files (Some (Make count name)) = ⊥
