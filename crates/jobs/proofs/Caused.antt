@@ -15,6 +15,8 @@ use Rattle.core_run.specs.declared.outcome.Walk.TheVariants as walk
 use Rattle.facts.specs.declared.profile.Profile.{Profile as ProfileOf}
 use Rattle.facts.specs.declared.profile.Profile.TheVariants as profile
 use Rattle.job_profiles.specs.Profiles.{IsProfile, IsSpelled, named}
+use Rattle.core_run.specs.Walks.{WalkIs}
+use Rattle.lock_sound.specs.Weakened.{Analysed}
 use Rattle.order_log.specs.Log.{LogView}
 use Rattle.order_log.specs.declared.fault.LogFault.{LogFault}
 use Rattle.order_log.specs.declared.fault.LogFault.TheVariants.{LogSyntax, LogLimit, OutOfMemory}
@@ -27,10 +29,11 @@ use Rattle.outcomes.specs.Steps.{Comes, IsFile, IsInput, IsWithin, Then}
 use Rattle.outcomes.specs.declared.outcome.Outcome.{Outcome}
 use Rattle.recorder.specs.Records.{IsWholeWalk}
 use Rattle.rr_base.specs.Files.{Files}
-use Rattle.walk_answers.specs.Walking.{answer_of}
+use Rattle.walk_answers.proofs.OneWalk.{one_walk}
+use Rattle.walk_answers.specs.Walking.{answer_of, formula_of, no_reads}
 use Rattle.walk_profiles.specs.Profiling.{answer_of as shown_of}
 use Rattle.workload.specs.Program.{program_text}
-use Rattle.jobs.specs.Causes.{CauseOf, FollowsLog, InputIs, IsAccepted, IsDecided, IsLogFile, IsLogOf, LogIs, MayAnswer, ProfileIs, Refuses, SourceIs, Walks, WentWell}
+use Rattle.jobs.specs.Causes.{CauseOf, FollowsLog, InputIs, IsAccepted, IsDecided, IsLogFile, IsLogOf, LogIs, MayAnswer, kept_by, ProfileIs, Refuses, SourceIs, Walks, WentWell}
 use Rattle.jobs.specs.Causes.CauseOf.{NoJob, Refused, Answered, InputFailed, OutputFailed, ShelfFailed, CrewFailed, LacksMemory}
 use Rattle.jobs.specs.Causes.Refuses.{AtSource, AtProfile, AtLog, AtTree, AtInput}
 use Rattle.jobs.specs.Jobs.{IsOutcome, IsOutcomeOf, PutsBefore, ReadsInput, RunsThreads, UsesShelf}
@@ -40,9 +43,9 @@ use Rattle.jobs.specs.Makings.{IsMade, IsMaking, source_put, summary_told}
 use Rattle.jobs.specs.Recordings.{IsRecording}
 use Rattle.jobs.specs.Replays.{IsLogIn, IsRefusal, Replays}
 use Rattle.jobs.specs.Profilings.{ShowsLog}
-use Rattle.jobs.specs.Sources.{IsTree}
+use Rattle.jobs.specs.Sources.{IsFound, IsTree}
 use Rattle.jobs.specs.Works.{IsOfRun, Work}
-use Rattle.jobs.proofs.Unique.{file_once, input_once, log_once, one_refusal, profile_once, tree_once}
+use Rattle.jobs.proofs.Unique.{file_once, found_once, input_once, log_once, one_refusal, profile_once, tree_once}
 
 -- some log, where none is read
 no_log : LogView
@@ -392,6 +395,49 @@ module _ (files : Files) (left : List ℕ) (a b : Work) (o : Outcome) where
   either (Profile source log name) = profile_either source log name
   either (Make count name) = λ h. made_either count name h.rest (answer_is o _ h.told) h.comes.step h.comes.is h.comes.next
 
+-- ---- the walk of a log that is read
+
+-- a step that has found this, and what comes of it
+comes_at : {X : Type 0} (IsStep : Result X Answer → Type 0) (Next : X → Outcome → Type 0) (o : Outcome) (x : X) → ((r s : Result X Answer) → IsStep r → IsStep s → r ≡ s) → IsStep (Ok x) → Comes IsStep Next o → Next x o
+comes_at IsStep Next o x once is h = subst (λ r. Then Next r o) (once h.step (Ok x) h.is is) h.next
+
+module _ (files : Files) (text log : List ℕ) (view : LogView) (os : List Outer) (Next : LogView → List Outer → Outcome → Type 0) (o : Outcome) where
+  log_at : (file : Result (List ℕ) Answer) → IsFile (Some files) 536870912 part.Log log file → IsLogOf file (Ok view) → IsTree text (Ok os) → OfLog files [] log Next text o → Next view os o
+  log_at (Ok bytes) f l t h =
+      comes_at (IsTree text) (Next view) o os (tree_once text) t
+      (comes_at (IsLogIn bytes) (λ v. Comes (IsTree text) (Next v)) o view (log_once bytes) l
+      (comes_at (IsFile (Some files) 536870912 part.Log log) (λ b. Comes (IsLogIn b) (λ v. Comes (IsTree text) (Next v))) o bytes (file_once files 536870912 part.Log log) f h))
+  log_at (Err a) f l t h = absurd (cc l)
+
+  files_at : (source : List ℕ) → IsFile (Some files) 1048576 part.Source source (Ok text) → IsLogFile files log (Ok view) → IsTree text (Ok os) → Comes (IsFile (Some files) 1048576 part.Source source) (OfLog files [] log Next) o → Next view os o
+  files_at source s l t h = log_at l.0 l.1 l.2 t (comes_at (IsFile (Some files) 1048576 part.Source source) (OfLog files [] log Next) o text (file_once files 1048576 part.Source source) s h)
+
+module _ (view : LogView) (os : List Outer) (found : Analysed) (is : IsFound os view.profile found) (w : Walk) (o : Outcome) where
+  replay_walked : (a b : Work) (reads : Option (List ℕ)) → WalkIs found.weak view.setup view.entries (formula_of reads) w → Replays a b view reads os o → o.answer ≡ answer_of w
+  replay_walked a b reads walks h =
+      let same : h.found ≡ found = found_once os view.profile h.found found h.is is in
+      let other : WalkIs found.weak view.setup view.entries (formula_of reads) h.walk = subst (λ (x : Analysed). WalkIs x.weak view.setup view.entries (formula_of reads) h.walk) same h.walks in
+      answer_is o _ h.told ∙ (one_walk found.weak view.setup view.entries (formula_of reads) h.walk w other walks).0
+
+  same_status : (v : Walk) → answer_of v ≡ answer_of w → status_of (shown_of v) ≡ status_of (answer_of w)
+  same_status (walk.Done out reads ends) e = ap status_of e
+  same_status (walk.Trapped kind thread line out reads ends) e = ap status_of e
+  same_status (walk.Wrong at) e = ap status_of e
+
+  profile_walked : (name : List ℕ) → WalkIs found.weak view.setup view.entries no_reads w → ShowsLog view name os o → status_of o.answer ≡ status_of (answer_of w)
+  profile_walked name walks h =
+      let same : h.found ≡ found = found_once os view.profile h.found found h.is is in
+      let other : WalkIs found.weak view.setup view.entries no_reads h.shows.walk = subst (λ (x : Analysed). WalkIs x.weak view.setup view.entries no_reads h.shows.walk) same h.shows.walks in
+      ap status_of h.shows.told ∙ same_status h.shows.walk (one_walk found.weak view.setup view.entries no_reads h.shows.walk w other walks).0
+
+walked : (files : Files) (left : List ℕ) (a b : Work) (o : Outcome) (job : Asked) → FollowsLog job → (by : IsAccepted files left job) (found : Analysed) → IsFound by.os by.followed.profile found → (w : Walk) → WalkIs found.weak by.followed.setup by.followed.entries (kept_by job) w → IsOutcomeOf a b (Some files) (Some left) (Some job) o → status_of o.answer ≡ status_of (answer_of w)
+walked files left a b o (Races source) follows = absurd follows
+walked files left a b o (Weaken source name) follows = absurd follows
+walked files left a b o (Record r) follows = absurd follows
+walked files left a b o (Replay source log reads) follows = λ by found is w walks h. ap status_of (replay_walked by.followed by.os found is w o a b reads walks (files_at files by.text log by.followed by.os (λ view. Replays a b view reads) o source by.source by.log by.tree h))
+walked files left a b o (Profile source log name) follows = λ by found is w walks h. profile_walked by.followed by.os found is w o name walks (files_at files by.text log by.followed by.os (λ view. ShowsLog view name) o source by.source by.log by.tree h)
+walked files left a b o (Make count name) follows = absurd follows
+
 -- ---- the statuses
 
 -- words that are no job put nothing
@@ -487,6 +533,7 @@ module _ (a b : Work) (files : Files) (left : List ℕ) (old new : Outside) (sta
       none = λ e. usage_status job e told;
       refused = λ asked e refusal h. refusal_status asked refusal h (subst IsTold e told);
       accepted = λ asked e h. accepted_status asked h (subst IsTold e told);
+      walked = λ asked e follows by found is w walks. let t = subst IsTold e told in t.2 ∙ walked files left a b t.0 asked follows by found is w walks t.1.is;
     }
 
 pub statuses_have_causes : StatusesHaveCauses

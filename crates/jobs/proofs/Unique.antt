@@ -85,7 +85,7 @@ tree_once source (Err a) (Err b) h g =
     let same : h.0 ≡ g.0 = cc (one_reading source (refused h.0) (refused g.0) h.1 g.1) in
     ap Err (h.2 ∙ same_refusal h.0 g.0 same ∙ sym g.2)
 
-found_once : (os : List Outer) (p : ProfileOf) (a b : Analysed) → IsFound os p a → IsFound os p b → a ≡ b
+pub found_once : (os : List Outer) (p : ProfileOf) (a b : Analysed) → IsFound os p a → IsFound os p b → a ≡ b
 found_once os p a b h g = one_weakened a b h.is g.is (h.of ∙ sym g.of) (h.by_profile ∙ sym g.by_profile)
 
 -- ---- profiles

@@ -7,17 +7,22 @@ use Rattle.answers.specs.declared.answer.Answer.{Answer}
 use Rattle.answers.specs.declared.answer.Answer.TheVariants as answer
 use Rattle.answers.specs.declared.answer.Part.TheVariants as part
 use Rattle.c_tree.specs.Tree.{Outer}
+use Rattle.core_run.specs.Walks.{WalkIs}
+use Rattle.core_run.specs.declared.access.Formula.{Formula}
+use Rattle.core_run.specs.declared.outcome.Walk.{Walk}
 use Rattle.facts.specs.declared.profile.Profile.{Profile as ProfileOf}
 use Rattle.job_profiles.specs.Profiles.{IsProfile}
+use Rattle.lock_sound.specs.Weakened.{Analysed}
 use Rattle.order_log.specs.Log.{LogView}
 use Rattle.outcomes.specs.Endings.{Outside}
 use Rattle.outcomes.specs.Steps.{IsFile, IsInput}
 use Rattle.rr_base.specs.Faults.{Rose}
 use Rattle.rr_base.specs.Files.{Files}
+use Rattle.walk_answers.specs.Walking.{answer_of, formula_of, no_reads}
 use Rattle.workload.specs.Program.{program_text}
 use Rattle.jobs.specs.Jobs.{ReadsInput, RunsThreads, UsesShelf}
 use Rattle.jobs.specs.Replays.{IsLogIn}
-use Rattle.jobs.specs.Sources.{IsTree}
+use Rattle.jobs.specs.Sources.{IsFound, IsTree}
 
 -- ---- what a job reads, in the order of work
 
@@ -94,6 +99,11 @@ FollowsLog (Replay source log reads) = Unit {0}
 FollowsLog (Profile source log name) = Unit {0}
 FollowsLog _ = ⊥
 
+-- which of the walk's accesses are kept
+abbrev pub kept_by : Asked → Formula
+kept_by (Replay source log reads) = formula_of reads
+kept_by _ = no_reads
+
 -- a listing is made; the walk of a recorded log takes all entries; that of a log which is read may be refused, too
 abbrev pub MayAnswer : Asked → Answer → Type 0
 MayAnswer job (answer.Done out) = Unit {0}
@@ -121,8 +131,9 @@ pub record WentWell (old new : Outside) (status : ℕ) : Type 0 where
   pub crew : Rose old.counts.crew new.counts.crew → ⊥
   pub memory : status ≢ 12
 
--- then the words, the files and the input decide
+-- then the words, the files and the input decide, and for a log that is read its walk
 pub record IsDecided (files : Files) (left : List ℕ) (job : Option Asked) (status : ℕ) : Type 0 where
   pub none : job ≡ None → status ≡ 1
   pub refused : (asked : Asked) → job ≡ Some asked → (a : Answer) → Refuses files left asked a → status ≡ status_of a
   pub accepted : (asked : Asked) → job ≡ Some asked → IsAccepted files left asked → (a : Answer) × MayAnswer asked a × (status ≡ status_of a)
+  pub walked : (asked : Asked) → job ≡ Some asked → FollowsLog asked → (by : IsAccepted files left asked) → (found : Analysed) → IsFound by.os by.followed.profile found → (w : Walk) → WalkIs found.weak by.followed.setup by.followed.entries (kept_by asked) w → status ≡ status_of (answer_of w)
