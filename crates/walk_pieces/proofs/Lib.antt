@@ -1,0 +1,4 @@
+pub mod Slices
+pub mod Growing
+pub mod Printing
+pub mod Ended
