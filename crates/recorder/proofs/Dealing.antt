@@ -9,6 +9,9 @@ use Rattle.sync_objects.specs.declared.entry.Noted.{Noted}
 use Rattle.shared_cells.specs.Rule.{Board}
 use Rattle.shared_cells.specs.Seats.{AreAtStart, AreSeats, IsSeatOf, start_view, view_of}
 use Rattle.shared_cells.specs.declared.seat.Seat.{Seat}
+use Rattle.thread_step.specs.Steps.{told_of}
+use Rattle.walk_pieces.specs.declared.remains.Remains.{Remains}
+use Rattle.walk_pieces.specs.Remains.{remains_of}
 use Rattle.weak_turns.specs.Carrying.{Carrying, IsSound, run_has_ended}
 use Rattle.recorder.specs.Carriers.{AreCarriers, AreParts, IsCarrierOf, IsTaken}
 
@@ -79,59 +82,67 @@ module _ (cells : Board) (seats : List Seat) where
 -- ---- parts
 
 module _ (carriers : List Carrying) where
-  pub record HasTaken (seats : List Seat) (lists : List (List Noted)) (rest : List Carrying) : Type 0 where
+  pub record HasTaken (seats : List Seat) (lists : List (List Noted)) (remains : List Remains) (rest : List Carrying) : Type 0 where
     pub rest_is : rest ≡ drop (length seats) carriers
     pub few : length seats ≤ length carriers
     pub count : length lists ≡ length seats
-    pub each : (t : ℕ) (c : Carrying) → t < length seats → slice_get carriers t ≡ Some c → IsTaken c t seats lists
+    pub others : length remains ≡ length seats
+    pub each : (t : ℕ) (c : Carrying) → t < length seats → slice_get carriers t ≡ Some c → IsTaken c t seats lists remains
 
-  pub takes_more : (seats more_seats : List Seat) (lists more_lists : List (List Noted)) (rest more : List Carrying) (c : Carrying) (seat : Seat) (list : List Noted) → HasTaken seats lists rest → rest ≡ c ∷ more →
-      more_seats ≡ seats ++ seat ∷ [] → more_lists ≡ lists ++ list ∷ [] → seat ≡ c.seat → list ≡ c.run.entries → IsSound c → run_has_ended c.run ≡ true → HasTaken more_seats more_lists more
-  takes_more seats more_seats lists more_lists rest more c seat list before e seats_are lists_are seat_is list_is sound ended =
+  pub takes_more : (seats more_seats : List Seat) (lists more_lists : List (List Noted)) (remains more_remains : List Remains) (rest more : List Carrying) (c : Carrying) (seat : Seat) (list : List Noted) (left : Remains) → HasTaken seats lists remains rest → rest ≡ c ∷ more →
+      more_seats ≡ seats ++ seat ∷ [] → more_lists ≡ lists ++ list ∷ [] → more_remains ≡ remains ++ left ∷ [] → seat ≡ c.seat → list ≡ c.run.entries → left ≡ remains_of (told_of c.run) → IsSound c → run_has_ended c.run ≡ true → HasTaken more_seats more_lists more_remains more
+  takes_more seats more_seats lists more_lists remains more_remains rest more c seat list left before e seats_are lists_are remains_are seat_is list_is left_is sound ended =
       let next = drop_next carriers (length seats) c more (sym before.rest_is ∙ e) in
       let within = slice_get_within carriers (length seats) c next.0 in
       let seat_count : length more_seats ≡ length seats + 1 = ap length seats_are ∙ push_length seats seat in
       let list_count : length more_lists ≡ length lists + 1 = ap length lists_are ∙ push_length lists list in
+      let rest_count : length more_remains ≡ length remains + 1 = ap length remains_are ∙ push_length remains left in
       let counts = before.count in
+      let others = before.others in
       let one : suc (length seats) ≡ length more_seats = omega arith in
       record {
         rest_is = next.1 ∙ ap (λ k. drop k carriers) one;
         few = omega arith;
         count = omega arith;
+        others = omega arith;
         each = λ t x lt at. by t x at (cases_eq t (length seats)) lt;
       }
     where
-      old : (t : ℕ) (x : Carrying) → IsTaken x t seats lists → IsTaken x t more_seats more_lists
+      old : (t : ℕ) (x : Carrying) → IsTaken x t seats lists remains → IsTaken x t more_seats more_lists more_remains
       old t x k = record {
         seat = ap (λ xs. slice_get xs t) seats_are ∙ push_before seats seat x.seat t k.seat;
         list = ap (λ xs. slice_get xs t) lists_are ∙ push_before lists list x.run.entries t k.list;
+        rest = ap (λ xs. slice_get xs t) remains_are ∙ push_before remains left (remains_of (told_of x.run)) t k.rest;
         sound = k.sound;
         ended = k.ended;
       }
 
-      new : (t : ℕ) → t ≡ length seats → IsTaken c t more_seats more_lists
+      new : (t : ℕ) → t ≡ length seats → IsTaken c t more_seats more_lists more_remains
       new t same = record {
         seat = ap (λ xs. slice_get xs t) seats_are ∙ ap (slice_get (seats ++ seat ∷ [])) same ∙ push_last seats seat ∙ ap Some seat_is;
         list = ap (λ xs. slice_get xs t) lists_are ∙ ap (slice_get (lists ++ list ∷ [])) (same ∙ sym before.count) ∙ push_last lists list ∙ ap Some list_is;
+        rest = ap (λ xs. slice_get xs t) remains_are ∙ ap (slice_get (remains ++ left ∷ [])) (same ∙ sym before.others) ∙ push_last remains left ∙ ap Some left_is;
         sound = sound;
         ended = ended;
       }
 
-      by : (t : ℕ) (x : Carrying) → slice_get carriers t ≡ Some x → (t ≡ length seats) ⊎ (t ≡ length seats → ⊥) → t < length more_seats → IsTaken x t more_seats more_lists
+      by : (t : ℕ) (x : Carrying) → slice_get carriers t ≡ Some x → (t ≡ length seats) ⊎ (t ≡ length seats → ⊥) → t < length more_seats → IsTaken x t more_seats more_lists more_remains
       by t x at (inl same) lt =
           let next = drop_next carriers (length seats) c more (sym before.rest_is ∙ e) in
-          subst (λ z. IsTaken z t more_seats more_lists) (same_Some c x (sym next.0 ∙ ap (slice_get carriers) (sym same) ∙ at)) (new t same)
+          subst (λ z. IsTaken z t more_seats more_lists more_remains) (same_Some c x (sym next.0 ∙ ap (slice_get carriers) (sym same) ∙ at)) (new t same)
       by t x at (inr other) lt =
           let seat_count : length more_seats ≡ length seats + 1 = ap length seats_are ∙ push_length seats seat in
           old t x (before.each t x (omega arith) at)
 
-  pub all_taken : (seats : List Seat) (lists : List (List Noted)) (rest : List Carrying) → length rest ≡ 0 → HasTaken seats lists rest → AreParts carriers seats lists
-  all_taken seats lists rest none h =
+  pub all_taken : (seats : List Seat) (lists : List (List Noted)) (remains : List Remains) (rest : List Carrying) → length rest ≡ 0 → HasTaken seats lists remains rest → AreParts carriers seats lists remains
+  all_taken seats lists remains rest none h =
       let over = none_left carriers (length seats) (ap length (sym h.rest_is) ∙ none) in
       let few = h.few in
       let count = h.count in
+      let others = h.others in
       record {
         seat_count = omega arith;
         list_count = omega arith;
+        rest_count = omega arith;
         each = λ t c at. let within = slice_get_within carriers t c at in h.each t c (omega arith) at;
       }

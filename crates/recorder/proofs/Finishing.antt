@@ -16,6 +16,7 @@ use Rattle.flow_code.specs.Settle.{IsRunnable, settled}
 use Rattle.flow_code.proofs.Counts.{action_counts}
 use Rattle.core_run.specs.declared.access.Formula.{Formula}
 use Rattle.core_run.specs.declared.outcome.Walk.{Walk}
+use Rattle.core_run.specs.Endings.{ending_of, trap_of}
 use Rattle.core_run.specs.Histories.{HasNoRace, lists_of, entries_in}
 use Rattle.core_run.specs.Machine.{Told, start_state}
 use Rattle.core_run.specs.Walks.{WalkIs, walk_of}
@@ -28,7 +29,9 @@ use Rattle.shared_cells.specs.Seats.{AreSeats, IsSeatOf, view_of}
 use Rattle.shared_cells.specs.Threads.{AreMarks, after_marks, own}
 use Rattle.shared_cells.specs.Views.{SeatView}
 use Rattle.shared_cells.specs.declared.seat.Seat.{Seat}
-use Rattle.thread_step.specs.Steps.{Stepping}
+use Rattle.thread_step.specs.Steps.{Stepping, told_of}
+use Rattle.walk_pieces.specs.declared.remains.Remains.{Remains}
+use Rattle.walk_pieces.specs.Remains.{IsWalked, remains_of}
 use Rattle.weak_turns.specs.Carrying.{Carrying, IsSameCarrier, run_has_ended}
 use Rattle.weak_turns.specs.Shown.{Carries}
 use Rattle.weak_turns.proofs.Showing.{same_phase}
@@ -47,11 +50,22 @@ none_to_come v zero r c e = refl
 none_to_come v (suc n) r c e = absurd (true≢false (sym (ap has_ended (same_phase v (suc n) r c) ∙ e) ∙ marks_open v.code v.setup v.from n (own v) c.ahead))
 
 -- what the seat knows of its thread is what the run shows
-own_shown : (v : SeatView) (n : ℕ) (r : Stepping) → Carries v n r → run_has_ended r ≡ true → (has_ended (own v).thread.phase ≡ true) × (r.entries ≡ (own v).entries)
+record IsShownBy (r : Stepping) (told : Told) : Type 0 where
+  ended : has_ended told.thread.phase ≡ true
+  entries : r.entries ≡ told.entries
+  rest : remains_of (told_of r) ≡ remains_of told
+
+own_shown : (v : SeatView) (n : ℕ) (r : Stepping) → Carries v n r → run_has_ended r ≡ true → IsShownBy r (own v)
 own_shown v n r c e =
     let none = none_to_come v n r c e in
     let here : Carries v 0 r = subst (λ k. Carries v k r) none c in
-    (ap has_ended (same_phase v 0 r here) ∙ e, here.shows.entries)
+    let phase = same_phase v 0 r here in
+    record {
+      ended = ap has_ended phase ∙ e;
+      entries = here.shows.entries;
+      rest = ap (λ ps. record { pieces = ps; ending = ending_of r.flow.kept.thread.phase; trap = trap_of r.flow.kept.thread.phase }) here.shows.pieces
+          ∙ ap (λ p. record { pieces = (own v).pieces; ending = ending_of p; trap = trap_of p }) (sym phase);
+    }
 
 -- lists that are the threads' entries, place by place
 lists_so : (lists : List (List Noted)) (threads : List Told) → length lists ≡ length threads → ((t : ℕ) (list : List Noted) (told : Told) → slice_get lists t ≡ Some list → slice_get threads t ≡ Some told → list ≡ told.entries) → lists ≡ map (λ (told : Told). told.entries) threads
@@ -59,6 +73,13 @@ lists_so [] [] len h = refl
 lists_so [] (x ∷ threads) len h = cc
 lists_so (xs ∷ lists) [] len h = cc
 lists_so (xs ∷ lists) (x ∷ threads) len h = ap (λ z. z ∷ lists) (h 0 xs x refl refl) ∙ ap (λ zs. x.entries ∷ zs) (lists_so lists threads (omega (arith, len)) (λ t a b p q. h (suc t) a b p q))
+
+-- so is what else remains of them
+remains_so : (remains : List Remains) (threads : List Told) → length remains ≡ length threads → ((t : ℕ) (rest : Remains) (told : Told) → slice_get remains t ≡ Some rest → slice_get threads t ≡ Some told → rest ≡ remains_of told) → remains ≡ map remains_of threads
+remains_so [] [] len h = refl
+remains_so [] (x ∷ threads) len h = cc
+remains_so (r ∷ remains) [] len h = cc
+remains_so (r ∷ remains) (x ∷ threads) len h = ap (λ z. z ∷ remains) (h 0 r x refl refl) ∙ ap (λ zs. remains_of x ∷ zs) (remains_so remains threads (omega (arith, len)) (λ t a b p q. h (suc t) a b p q))
 
 -- ---- from the carriers that were given to those that came back
 
@@ -76,7 +97,7 @@ module _ {A B : Type 0} (R : A → B → Type 0) where
   zip_at (x ∷ xs) (z ∷ ys) zero y h e = (x, refl, subst (R x) (same_Some z y e) h.0)
   zip_at (x ∷ xs) (z ∷ ys) (suc t) y h e = zip_at xs ys t y h.1 e
 
-module _ (R : Carrying → Carrying → Type 0) (cells : Board) (given back : List Carrying) (led : AllZip R given back) (leads : (x y : Carrying) → R x y → IsSameCarrier x y) (seats : List Seat) (lists : List (List Noted)) (are : AreCarriers cells given) (parts : AreParts back seats lists) where
+module _ (R : Carrying → Carrying → Type 0) (cells : Board) (given back : List Carrying) (led : AllZip R given back) (leads : (x y : Carrying) → R x y → IsSameCarrier x y) (seats : List Seat) (lists : List (List Noted)) (remains : List Remains) (are : AreCarriers cells given) (parts : AreParts back seats lists remains) where
   at_place : (t : ℕ) (seat : Seat) → slice_get seats t ≡ Some seat → (later : Carrying) × (slice_get back t ≡ Some later) × (seat ≡ later.seat)
   at_place t seat at =
       let later = beside seats back t seat parts.seat_count at in
@@ -100,23 +121,31 @@ module _ (R : Carrying → Carrying → Type 0) (cells : Board) (given back : Li
     threads_count : length closes.state.threads ≡ length seats
     threads_count = (kept cells.code cells.setup runnable limits closes.state closes.reached).threads ∙ sym seats_are.count
 
-    thread_at : (t : ℕ) (told : Told) → slice_get closes.state.threads t ≡ Some told → (has_ended told.thread.phase ≡ true) × ((list : List Noted) → slice_get lists t ≡ Some list → list ≡ told.entries)
+    record IsAt (t : ℕ) (told : Told) : Type 0 where
+      ended : has_ended told.thread.phase ≡ true
+      list : (xs : List Noted) → slice_get lists t ≡ Some xs → xs ≡ told.entries
+      rest : (r : Remains) → slice_get remains t ≡ Some r → r ≡ remains_of told
+
+    thread_at : (t : ℕ) (told : Told) → slice_get closes.state.threads t ≡ Some told → IsAt t told
     thread_at t told at =
         let seat = beside closes.state.threads seats t told threads_count at in
         let p = at_place t seat.0 seat.1 in
         let taken = parts.each t p.0 p.1 in
         let shown = own_shown (view_of p.0.seat) p.0.seat.marks p.0.run taken.sound.carrying.carries taken.ended in
-        let knows : told ≡ own (view_of p.0.seat) = same_Some told (own (view_of p.0.seat)) (sym at ∙ closes.threads t seat.0 seat.1 ∙ ap (λ z. Some (own (view_of z))) p.2) in (
-          ap (λ (z : Told). has_ended z.thread.phase) knows ∙ shown.0,
-          λ list is. same_Some list p.0.run.entries (sym is ∙ taken.list) ∙ shown.1 ∙ sym (ap (λ (z : Told). z.entries) knows),
-        )
+        let knows : told ≡ own (view_of p.0.seat) = same_Some told (own (view_of p.0.seat)) (sym at ∙ closes.threads t seat.0 seat.1 ∙ ap (λ z. Some (own (view_of z))) p.2) in
+        record {
+          ended = ap (λ (z : Told). has_ended z.thread.phase) knows ∙ shown.ended;
+          list = λ xs is. same_Some xs p.0.run.entries (sym is ∙ taken.list) ∙ shown.entries ∙ sym (ap (λ (z : Told). z.entries) knows);
+          rest = λ r is. same_Some r (remains_of (told_of p.0.run)) (sym is ∙ taken.rest) ∙ shown.rest ∙ sym (ap remains_of knows);
+        }
 
-    pub finished : IsFinished cells.code cells.setup lists
+    pub finished : IsFinished cells.code cells.setup lists remains
     finished = record {
       state = closes.state;
       reached = closes.reached;
-      ended = λ t told at. (thread_at t told at).0;
-      lists_are = lists_so lists closes.state.threads (parts.list_count ∙ sym parts.seat_count ∙ sym threads_count) (λ t list told at there. (thread_at t told there).1 list at);
+      ended = λ t told at. (thread_at t told at).ended;
+      lists_are = lists_so lists closes.state.threads (parts.list_count ∙ sym parts.seat_count ∙ sym threads_count) (λ t list told at there. (thread_at t told there).list list at);
+      remains_are = remains_so remains closes.state.threads (parts.rest_count ∙ sym parts.seat_count ∙ sym threads_count) (λ t rest told at there. (thread_at t told there).rest rest at);
     }
 
 -- ---- the log
@@ -133,23 +162,28 @@ behind_length (suc n) before lists = by (next_entry before lists) (λ b ls. behi
 pub few_written : (lists : List (List Noted)) → length (entries_in (written_merge lists)) ≤ total_length lists
 few_written lists = let few = behind_length (total_length lists) [] lists in let same = length-map (written_merge lists) (λ (x : Noted). x.entry) in omega arith
 
-pub records_finished : (code : Code) (s : SetupView) (lists : List (List Noted)) (f : Formula) (entries : List Entry) (w : Walk) → IsRunnable code → IsWithinLimits s → IsFinished code s lists → HasNoRace code s → entries ≡ entries_in (written_merge lists) → WalkIs code s entries f w → Records code s f entries w
-records_finished code s lists f entries w runnable limits done free is walks = record {
-  labels = done.reached.0;
-  end = done.state;
-  ran = done.reached.1;
-  ended = done.ended;
-  log = log;
-  same = same;
-  walk = walks;
-  whole = whole_walk code s entries f done.state w same done.ended walks;
-}
-  where
-    log : entries ≡ entries_in (written_merge (lists_of done.state))
-    log = is ∙ ap (λ ls. entries_in (written_merge ls)) done.lists_are
+module _ (code : Code) (s : SetupView) (lists : List (List Noted)) (remains : List Remains) (entries : List Entry) (runnable : IsRunnable code) (limits : IsWithinLimits s) (done : IsFinished code s lists remains) (free : HasNoRace code s) (is : entries ≡ entries_in (written_merge lists)) where
+  log : entries ≡ entries_in (written_merge (lists_of done.state))
+  log = is ∙ ap (λ ls. entries_in (written_merge ls)) done.lists_are
 
-    same : walk_of code s entries (start_state code s) ≡ Some done.state
-    same = ap (λ es. walk_of code s es (start_state code s)) log ∙ merges_walk code s runnable limits done.reached.0 done.state (written_merge (lists_of done.state)) free done.reached.1 done.ended (written_is_merge code s runnable limits done.reached.0 done.state done.reached.1)
+  same : walk_of code s entries (start_state code s) ≡ Some done.state
+  same = ap (λ es. walk_of code s es (start_state code s)) log ∙ merges_walk code s runnable limits done.reached.0 done.state (written_merge (lists_of done.state)) free done.reached.1 done.ended (written_is_merge code s runnable limits done.reached.0 done.state done.reached.1)
+
+  -- the walk of the log ends as the run has
+  pub walked : IsWalked code s entries remains
+  walked = record { end = done.state; whole = record { walked = same; ended = done.ended }; remain = done.remains_are }
+
+  pub records_finished : (f : Formula) (w : Walk) → WalkIs code s entries f w → Records code s f entries w
+  records_finished f w walks = record {
+    labels = done.reached.0;
+    end = done.state;
+    ran = done.reached.1;
+    ended = done.ended;
+    log = log;
+    same = same;
+    walk = walks;
+    whole = whole_walk code s entries f done.state w same done.ended walks;
+  }
 
 -- ---- the turns
 
@@ -168,7 +202,7 @@ enough (x ∷ given) [] lists n m h = cc
 enough [] [] (z ∷ lists) n m h = cc
 enough (x ∷ given) (y ∷ back) [] n m h = cc
 
-module _ (R : Carrying → Carrying → Type 0) (cells : Board) (given back : List Carrying) (led : AllZip R given back) (seats : List Seat) (lists : List (List Noted)) (are : AreCarriers cells given) (parts : AreParts back seats lists) where
+module _ (R : Carrying → Carrying → Type 0) (cells : Board) (given back : List Carrying) (led : AllZip R given back) (seats : List Seat) (lists : List (List Noted)) (remains : List Remains) (are : AreCarriers cells given) (parts : AreParts back seats lists remains) where
   pub rose_enough : (entries old new : ℕ) → entries ≤ total_length lists → RoseBy (rises (λ (c : Carrying). c.turns) given back) old new → RoseAtLeast entries old new
   rose_enough entries old new few rose =
       let turns = enough given back lists parts.list_count (zip_length R given back led) (λ t c later list p q r. let taken = parts.each t later q in ((are.each t c p).fresh, subst (λ (z : List Noted). length z ≤ later.turns) (same_Some later.run.entries list (sym taken.list ∙ r)) taken.sound.listed)) in

@@ -4,6 +4,9 @@ use Rattle.sync_objects.specs.declared.entry.Noted.{Noted}
 use Rattle.shared_cells.specs.Rule.{Board}
 use Rattle.shared_cells.specs.Seats.{view_of}
 use Rattle.shared_cells.specs.declared.seat.Seat.{Seat}
+use Rattle.thread_step.specs.Steps.{told_of}
+use Rattle.walk_pieces.specs.declared.remains.Remains.{Remains}
+use Rattle.walk_pieces.specs.Remains.{remains_of}
 use Rattle.weak_turns.specs.Carrying.{Carrying, IsSound, run_has_ended}
 
 -- it carries thread t of these cells, and has had no turn
@@ -17,15 +20,17 @@ pub record AreCarriers (cells : Board) (carriers : List Carrying) : Type 0 where
   pub count : length carriers ≡ cells.setup.slots
   pub each : (t : ℕ) (c : Carrying) → slice_get carriers t ≡ Some c → IsCarrierOf cells t c
 
--- the carrier's thread has ended; its seat and its entries stand at its place
-pub record IsTaken (c : Carrying) (t : ℕ) (seats : List Seat) (lists : List (List Noted)) : Type 0 where
+-- the carrier's thread has ended; its seat, its entries and what else remains of it stand at its place
+pub record IsTaken (c : Carrying) (t : ℕ) (seats : List Seat) (lists : List (List Noted)) (remains : List Remains) : Type 0 where
   pub seat : slice_get seats t ≡ Some c.seat
   pub list : slice_get lists t ≡ Some c.run.entries
+  pub rest : slice_get remains t ≡ Some (remains_of (told_of c.run))
   pub sound : IsSound c
   pub ended : run_has_ended c.run ≡ true
 
--- the seats of all carriers and the entries of their threads, which have ended
-pub record AreParts (carriers : List Carrying) (seats : List Seat) (lists : List (List Noted)) : Type 0 where
+-- the seats of all carriers, the entries of their threads, which have ended, and what else remains of these
+pub record AreParts (carriers : List Carrying) (seats : List Seat) (lists : List (List Noted)) (remains : List Remains) : Type 0 where
   pub seat_count : length seats ≡ length carriers
   pub list_count : length lists ≡ length carriers
-  pub each : (t : ℕ) (c : Carrying) → slice_get carriers t ≡ Some c → IsTaken c t seats lists
+  pub rest_count : length remains ≡ length carriers
+  pub each : (t : ℕ) (c : Carrying) → slice_get carriers t ≡ Some c → IsTaken c t seats lists remains

@@ -11,7 +11,7 @@ ghost use Rattle.shared_cells.specs.Seats.{AreAtStart, AreSeats};
 ghost use Rattle.sync_objects.specs.Setup.{IsWithinLimits};
 
 use crate::record::Recorded;
-use core_run::{Formula, Noted, walk};
+use core_run::{Formula, Noted};
 use crew::{Crew, CrewEnd};
 use entry_merge::merge;
 use flow_code::Code;
@@ -22,13 +22,15 @@ use std::sync::Wait;
 use std::thread::Threads;
 use sync_objects::Setup;
 use thread_step::ThreadRun;
+use walk_pieces::{Remains, into_remains, whole_walk};
 use weak_turns::Carrier;
 
-/// The seats of all threads and their entries, in order.
+/// The seats of all threads, their entries, and what else remains of their runs, in order.
 #[derive(Drop)]
 pub(crate) struct Parts {
     pub seats: Vec<Seat>,
     pub lists: List<List<Noted>>,
+    pub remains: Vec<Remains>,
 }
 
 /// A carrier for each seat.
@@ -51,34 +53,42 @@ fn carriers_of<'c, 'a>(
     Ok(carriers)
 }
 
-/// The seats and the entries of carriers whose threads have ended. Where one hasn't, memory was wanting.
+/// The parts of carriers whose threads have ended. Where one hasn't, memory was wanting.
 fn parts_of(alloc: Global, carriers: Vec<Carrier>) -> Result<Parts, AllocError>
-    ensures { IfOk result (λ it. AreParts carriers.entry.items it.seats.items it.lists) }
+    ensures { IfOk result (λ it. AreParts carriers.entry.items it.seats.items it.lists it.remains.items) }
 {
     let mut seats = Vec::new(alloc);
     let mut lists = List::new(alloc);
+    let mut remains = Vec::new(alloc);
     for carrier in carriers {
         let (seat, run) = carrier.into_parts();
         if run.ending().is_none() {
             return Err(AllocError);
         }
+        let (list, rest) = into_remains(run);
         seats.push(seat)?;
-        lists.push(List::from_slice(alloc, run.noted())?)?;
+        lists.push(list)?;
+        remains.push(rest)?;
     }
-    Ok(Parts { seats, lists })
+    Ok(Parts {
+        seats,
+        lists,
+        remains,
+    })
 }
 
-// What these lists leave, which are those of a run in which all threads have ended.
+// What these lists leave, which are those of a run in which all threads have ended, as is what remains of its threads.
 fn log_of(
     alloc: Global,
     lists: &List<List<Noted>>,
+    remains: &[Remains],
     code: &Code,
     setup: &Setup,
     formula: &Formula,
 ) -> Result<Recorded, AllocError>
     requires runnable { IsRunnable code.now }
     requires limits { IsWithinLimits setup.now }
-    requires finished { IsFinished code.now setup.now lists.now }
+    requires finished { IsFinished code.now setup.now lists.now remains.now }
     requires race_free { HasNoRace code.now setup.now }
     ensures records { IfOk result (λ it. Records code.now setup.now formula.now it.entries it.walk) }
     ensures entries { IfOk result (λ it. length it.entries ≤ total_length lists.now) }
@@ -87,7 +97,7 @@ fn log_of(
     if entries.len() >= u32::MAX as usize {
         return Err(AllocError);
     }
-    let walk = walk(alloc, code, setup, &entries, formula)?;
+    let walk = whole_walk(alloc, code, setup, &entries, formula, remains)?;
     Ok(Recorded { entries, walk })
 }
 
@@ -123,7 +133,11 @@ pub fn record_threads<R: Threads + Wait + Sync, C: Crew>(
         Ok(carriers) => carriers,
         Err(end) => return Err(end),
     };
-    let Parts { seats, lists } = match parts_of(alloc, carriers) {
+    let Parts {
+        seats,
+        lists,
+        remains,
+    } = match parts_of(alloc, carriers) {
         Ok(parts) => parts,
         Err(error) => return Err(CrewEnd::from(error)),
     };
@@ -131,7 +145,7 @@ pub fn record_threads<R: Threads + Wait + Sync, C: Crew>(
         Ok(closed) => closed,
         Err(error) => return Err(CrewEnd::from(error)),
     };
-    match log_of(alloc, &lists, code, setup, formula) {
+    match log_of(alloc, &lists, &remains, code, setup, formula) {
         Ok(recorded) => Ok(recorded),
         Err(error) => Err(CrewEnd::from(error)),
     }

@@ -5,6 +5,6 @@ use Rattle.recorder.proofs.threads.parts_of.Given as goal
 
 abbrev pub invariant-loop-carrier : goal.invariant-loop-carrier
 invariant-loop-carrier l = record {
-  taken : HasTaken l.fn.carriers.items l.seats.items l.lists (into_iter_items l.carrier-iterator);
+  taken : HasTaken l.fn.carriers.items l.seats.items l.lists l.remains.items (into_iter_items l.carrier-iterator);
   long : into_iter_len l.carrier-iterator ≡ length (into_iter_items l.carrier-iterator);
 }
