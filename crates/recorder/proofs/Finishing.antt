@@ -16,7 +16,6 @@ use Rattle.flow_code.specs.Settle.{IsRunnable, settled}
 use Rattle.flow_code.proofs.Counts.{action_counts}
 use Rattle.core_run.specs.declared.access.Formula.{Formula}
 use Rattle.core_run.specs.declared.outcome.Walk.{Walk}
-use Rattle.core_run.specs.Endings.{ending_of, trap_of}
 use Rattle.core_run.specs.Histories.{HasNoRace, lists_of, entries_in}
 use Rattle.core_run.specs.Machine.{Told, start_state}
 use Rattle.core_run.specs.Walks.{WalkIs, walk_of}
@@ -32,6 +31,7 @@ use Rattle.shared_cells.specs.declared.seat.Seat.{Seat}
 use Rattle.thread_step.specs.Steps.{Stepping, told_of}
 use Rattle.walk_pieces.specs.declared.remains.Remains.{Remains}
 use Rattle.walk_pieces.specs.Remains.{IsWalked, remains_of}
+use Rattle.walk_pieces.proofs.Remaining.{all_remain, same_remains}
 use Rattle.weak_turns.specs.Carrying.{Carrying, IsSameCarrier, run_has_ended}
 use Rattle.weak_turns.specs.Shown.{Carries}
 use Rattle.weak_turns.proofs.Showing.{same_phase}
@@ -63,8 +63,7 @@ own_shown v n r c e =
     record {
       ended = ap has_ended phase ∙ e;
       entries = here.shows.entries;
-      rest = ap (λ ps. record { pieces = ps; ending = ending_of r.flow.kept.thread.phase; trap = trap_of r.flow.kept.thread.phase }) here.shows.pieces
-          ∙ ap (λ p. record { pieces = (own v).pieces; ending = ending_of p; trap = trap_of p }) (sym phase);
+      rest = same_remains (told_of r) (own v) here.shows.pieces (sym phase);
     }
 
 -- lists that are the threads' entries, place by place
@@ -73,13 +72,6 @@ lists_so [] [] len h = refl
 lists_so [] (x ∷ threads) len h = cc
 lists_so (xs ∷ lists) [] len h = cc
 lists_so (xs ∷ lists) (x ∷ threads) len h = ap (λ z. z ∷ lists) (h 0 xs x refl refl) ∙ ap (λ zs. x.entries ∷ zs) (lists_so lists threads (omega (arith, len)) (λ t a b p q. h (suc t) a b p q))
-
--- so is what else remains of them
-remains_so : (remains : List Remains) (threads : List Told) → length remains ≡ length threads → ((t : ℕ) (rest : Remains) (told : Told) → slice_get remains t ≡ Some rest → slice_get threads t ≡ Some told → rest ≡ remains_of told) → remains ≡ map remains_of threads
-remains_so [] [] len h = refl
-remains_so [] (x ∷ threads) len h = cc
-remains_so (r ∷ remains) [] len h = cc
-remains_so (r ∷ remains) (x ∷ threads) len h = ap (λ z. z ∷ remains) (h 0 r x refl refl) ∙ ap (λ zs. remains_of x ∷ zs) (remains_so remains threads (omega (arith, len)) (λ t a b p q. h (suc t) a b p q))
 
 -- ---- from the carriers that were given to those that came back
 
@@ -145,7 +137,7 @@ module _ (R : Carrying → Carrying → Type 0) (cells : Board) (given back : Li
       reached = closes.reached;
       ended = λ t told at. (thread_at t told at).ended;
       lists_are = lists_so lists closes.state.threads (parts.list_count ∙ sym parts.seat_count ∙ sym threads_count) (λ t list told at there. (thread_at t told there).list list at);
-      remains_are = remains_so remains closes.state.threads (parts.rest_count ∙ sym parts.seat_count ∙ sym threads_count) (λ t rest told at there. (thread_at t told there).rest rest at);
+      remains_are = all_remain remains closes.state.threads (parts.rest_count ∙ sym parts.seat_count ∙ sym threads_count) (λ t rest told at there. (thread_at t told there).rest rest at);
     }
 
 -- ---- the log

@@ -12,6 +12,7 @@ use Rattle.runs.specs.Paths.{IsPrefixOf}
 use Rattle.runs.specs.Steps.{entries_of}
 use Rattle.runs.proofs.Lists.{own_in, own_out}
 use Rattle.replayer.specs.Following.{Following, made_in}
+use Rattle.walk_pieces.specs.declared.remains.Remains.{Remains}
 use Rattle.replayer.specs.Replays.{AreFresh, HaveFollowed}
 use Rattle.replayer.specs.Wants.{noted_in}
 use Rattle.replayer.specs.declared.wanted.Wanted.{Wanted}
@@ -112,8 +113,8 @@ rises_made (j ∷ js) (b ∷ bs) e fresh listed =
     let more = rises_made js bs (omega (arith, e)) (λ k f q. fresh (suc k) f q) (λ k f q. listed (suc k) f q) in
     omega (arith, none, one, more)
 
-pub turns_rose : (cells : Board) (es : List Entry) (seats : List Seat) (all_ended : Bool) (jobs backs : List Following) (h : HaveFollowed cells es seats all_ended) → h.fs ≡ backs → length backs ≡ length jobs → AreFresh jobs → (taken old new : ℕ) → taken ≤ made_in h.fs → RoseBy (rises (λ (f : Following). f.turns) jobs backs) old new → RoseAtLeast taken old new
-turns_rose cells es seats all_ended jobs backs h same long fresh taken old new most r =
+pub turns_rose : (cells : Board) (es : List Entry) (seats : List Seat) (remains : List Remains) (all_ended : Bool) (jobs backs : List Following) (h : HaveFollowed cells es seats remains all_ended) → h.fs ≡ backs → length backs ≡ length jobs → AreFresh jobs → (taken old new : ℕ) → taken ≤ made_in h.fs → RoseBy (rises (λ (f : Following). f.turns) jobs backs) old new → RoseAtLeast taken old new
+turns_rose cells es seats remains all_ended jobs backs h same long fresh taken old new most r =
     let made = rises_made jobs backs long fresh (λ k f e. (h.whole k f (ap (λ fs. slice_get fs k) same ∙ e)).1.listed) in
     let is = r.rises in
     let all = ap made_in same in

@@ -1,5 +1,5 @@
 -- The end of a replay: how the threads of its followers stand by the log.
-use Rattle.std.proofs.Common.{◌≡◌, ◌≢◌, ℕ, zero, suc, ◌-◌, ◌^◌, ◌<◌, ◌≤◌, Bool, true, false, List, [], ◌∷◌, length, take, Option, Some, None, refl, sym, ap, subst, ◌∙◌, ⊎_elim, arith, get_or}
+use Rattle.std.proofs.Common.{◌≡◌, ◌≢◌, ℕ, zero, suc, ◌-◌, ◌^◌, ◌<◌, ◌≤◌, Bool, true, false, List, [], ◌∷◌, length, map, take, Option, Some, None, refl, sym, ap, subst, ◌∙◌, ⊎_elim, arith, get_or}
 use Rattle.std.specs.Prelude.{slice_get, ◌||◌, ◌&&◌, nat_le, Contains}
 use Rattle.std.specs.List.{list_all}
 use Rattle.std.specs.Option.{option_map}
@@ -15,7 +15,7 @@ use Rattle.flow_code.specs.Next.{has_ended}
 use Rattle.flow_code.specs.Settle.{IsRunnable}
 use Rattle.core_run.specs.Histories.{HasNoRace, HaveEnded, IsReachable}
 use Rattle.core_run.specs.Machine.{Told, machine, start_state}
-use Rattle.core_run.specs.Walks.{IsRefusedAt, IsUnfinished, WalkIs}
+use Rattle.core_run.specs.Walks.{IsRefusedAt, IsUnfinished, WalkIs, walk_of}
 use Rattle.core_run.specs.declared.access.Formula.{Formula}
 use Rattle.core_run.specs.declared.outcome.Walk.{Walk}
 use Rattle.core_run.specs.declared.outcome.Walk.TheVariants as walk
@@ -33,9 +33,13 @@ use Rattle.shared_cells.specs.Views.{SeatView, never}
 use Rattle.shared_cells.specs.Words.{objects_end, HaveGoneOn}
 use Rattle.shared_cells.specs.declared.seat.Seat.{Seat}
 use Rattle.shared_cells.proofs.ThreadSteps.{goes_nowhere, goes_marks}
+use Rattle.thread_step.specs.Steps.{told_of}
+use Rattle.walk_pieces.specs.declared.remains.Remains.{Remains}
+use Rattle.walk_pieces.specs.Remains.{IsWalked, remains_of}
+use Rattle.walk_pieces.proofs.Remaining.{all_remain, same_remains}
 use Rattle.weak_turns.proofs.Showing.{same_phase}
 use Rattle.replayer.specs.Following.{Following, IsSound, IsOnTrack, StandsSo, next_of, is_behind, is_over, made_in}
-use Rattle.replayer.specs.Replays.{IsFollower, HaveFollowed, entries_taken, has_ended_in}
+use Rattle.replayer.specs.Replays.{IsFollower, HaveFollowed, entries_taken, has_ended_in, remains_in}
 use Rattle.replayer.specs.Steps.{told_at, HasDeparted}
 use Rattle.replayer.specs.Wants.{wanted_of, noted_in}
 use Rattle.replayer.specs.declared.wanted.Wanted.{Wanted}
@@ -135,7 +139,17 @@ one_open (f ∷ fs) e = by (has_ended_in f) refl e (one_open fs)
     by true q h more = let r = more h in (suc r.0, r.1, r.2, r.3)
     by false q h more = (0, f, refl, q)
 
-module _ (code : Code) (s : SetupView) (cells : Board) (es : List Entry) (seats : List Seat) (all_ended : Bool) (h : HaveFollowed cells es seats all_ended) (code_is : cells.code ≡ code) (setup_is : cells.setup ≡ s) where
+-- where all have ended, each has
+one_ended : (fs : List Following) → list_all has_ended_in fs ≡ true → (k : ℕ) (f : Following) → slice_get fs k ≡ Some f → has_ended_in f ≡ true
+one_ended [] e k f at = cc
+one_ended (x ∷ fs) e k f at = by (has_ended_in x) refl e (λ h j there. one_ended fs h j f there) k at
+  where
+    by : (b : Bool) → has_ended_in x ≡ b → (b && list_all has_ended_in fs) ≡ true → (list_all has_ended_in fs ≡ true → (j : ℕ) → slice_get fs j ≡ Some f → has_ended_in f ≡ true) → (k : ℕ) → slice_get (x ∷ fs) k ≡ Some f → has_ended_in f ≡ true
+    by false q h more k at = cc
+    by true q h more zero at = ap has_ended_in (sym (same_Some x f at)) ∙ q
+    by true q h more (suc k) at = more h k at
+
+module _ (code : Code) (s : SetupView) (cells : Board) (es : List Entry) (seats : List Seat) (remains : List Remains) (all_ended : Bool) (h : HaveFollowed cells es seats remains all_ended) (code_is : cells.code ≡ code) (setup_is : cells.setup ≡ s) where
   -- the follower of a seat
   pub record OfSeat (t : ℕ) (seat : Seat) : Type 0 where
     pub f : Following
@@ -359,6 +373,42 @@ module _ (code : Code) (s : SetupView) (cells : Board) (es : List Entry) (seats 
           let phase = same_phase (view_of f.seat) f.seat.marks f.run whole.1.carrying.carries in
           true≢false (sym over ∙ ap has_ended phase ∙ one.3)
 
+      -- ---- where all threads have ended
+
+      -- each thread is one that a run shows, which has ended
+      record IsOver (t : ℕ) (told : Told) : Type 0 where
+        f : Following
+        there : slice_get h.fs t ≡ Some f
+        ended : has_ended told.thread.phase ≡ true
+        rest : remains_in f ≡ remains_of told
+
+      over_at : all_ended ≡ true → (t : ℕ) (told : Told) → slice_get all_marked.state.threads t ≡ Some told → IsOver t told
+      over_at all t told e =
+          let r = seat_at t told e in
+          let o = of_seat t r.0 r.1 in
+          let same : told_at o.f.seat ≡ told = ap told_at o.seat_is ∙ sym r.2 in
+          let shows = o.sound.carrying.carries in
+          let phase = same_phase (view_of o.f.seat) o.f.seat.marks o.f.run shows in
+          record {
+            f = o.f;
+            there = o.there;
+            ended = ap (λ (z : Told). has_ended z.thread.phase) (sym same) ∙ ap has_ended phase ∙ one_ended h.fs (sym h.ended ∙ all) t o.f o.there;
+            rest = same_remains (told_of o.f.run) (told_at o.f.seat) shows.shows.pieces (sym phase) ∙ ap remains_of same;
+          }
+
+      all_over : all_ended ≡ true → HaveEnded code s all_marked.state
+      all_over all t told e = (over_at all t told e).ended
+
+      remains_so : all_ended ≡ true → remains ≡ map remains_of all_marked.state.threads
+      remains_so all =
+          let count = thread_count in
+          let fs_count = h.done.followers.count in
+          let slots = ap (λ (z : SetupView). z.slots) setup_is in
+          let long = ap length h.remains_are ∙ length-map h.fs remains_in in
+          all_remain remains all_marked.state.threads (omega (arith, count, fs_count, slots, long)) (λ t r told at there.
+          let o = over_at all t told there in
+          same_Some r (remains_in o.f) (sym at ∙ ap (λ xs. slice_get xs t) h.remains_are ∙ slice_get-map remains_in h.fs t ∙ ap (option_map remains_in) o.there) ∙ o.rest)
+
       -- ---- what the walk comes to
 
       module _ (free : HasNoRace code s) (small : (k : ℕ) (e : Entry) → slice_get es k ≡ Some e → e.thread < s.slots) where
@@ -373,6 +423,18 @@ module _ (code : Code) (s : SetupView) (cells : Board) (es : List Entry) (seats 
         pub is_unfinished : ((code : Code) (s : SetupView) (es : List Entry) (departure : ℕ) (end : State Told) → IsRunnable code → IsWithinLimits s → HasNoRace code s → Followed code s es departure end → ((k : ℕ) (e : Entry) → slice_get es k ≡ Some e → e.thread < length end.threads) → length es ≤ departure → (HaveEnded code s end → ⊥) → IsUnfinished code s (start_state code s) es (length es)) →
             departure ≡ never → length es < 2 ^ 32 - 1 → all_ended ≡ false → IsUnfinished code s (start_state code s) es (length es)
         is_unfinished law high few open_is = law code s es departure all_marked.state runnable limits free (followed (none_put high few)) (threads_here small) (omega (arith, high, few)) (open_end open_is)
+
+        -- where nothing has departed and all threads have ended, the walk comes to their end
+        pub is_whole : ((code : Code) (s : SetupView) (es : List Entry) (departure : ℕ) (end : State Told) → IsRunnable code → IsWithinLimits s → HasNoRace code s → Followed code s es departure end → ((k : ℕ) (e : Entry) → slice_get es k ≡ Some e → e.thread < length end.threads) → length es ≤ departure → HaveEnded code s end → walk_of code s es (start_state code s) ≡ Some end) →
+            departure ≡ never → length es < 2 ^ 32 - 1 → all_ended ≡ true → IsWalked code s es remains
+        is_whole law high few all = record {
+          end = all_marked.state;
+          whole = record {
+            walked = law code s es departure all_marked.state runnable limits free (followed (none_put high few)) (threads_here small) (omega (arith, high, few)) (all_over all);
+            ended = all_over all;
+          };
+          remain = remains_so all;
+        }
 
       -- ---- how many entries were made
 

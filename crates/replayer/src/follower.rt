@@ -99,12 +99,13 @@ impl<'c, 'a> Follower<'c, 'a> {
         self.run.ending().is_some()
     }
 
-    /// The seat.
-    pub fn into_seat(self) -> Seat
-        ensures { result ≡ self.entry.seat }
+    /// The seat and the run.
+    pub fn into_parts(self) -> (Seat, ThreadRun<'a>)
+        ensures seat { result.0 ≡ self.entry.seat }
+        ensures run { result.1 ≡ self.entry.run }
     {
-        let Follower { seat, .. } = self;
-        seat
+        let Follower { seat, run, .. } = self;
+        (seat, run)
     }
 
     // The entry that the thread has to make next, if it has to make one.

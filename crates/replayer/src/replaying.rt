@@ -9,15 +9,15 @@ ghost use Rattle.shared_cells.specs.Rule.{Board};
 ghost use Rattle.shared_cells.specs.Seats.{AreAtStart, AreSeats};
 ghost use Rattle.sync_objects.specs.declared.entry.Entry.{Entry as EntryOf};
 ghost use Rattle.replayer.specs.Following.{Following, made_in};
-ghost use Rattle.replayer.specs.Replays.{AreDone, AreFollowers, AreFresh, AreThreads, AreWhole, HaveFollowed, ReplayFaults, entries_taken, has_ended_in};
+ghost use Rattle.replayer.specs.Replays.{AreDone, AreFollowers, AreFresh, AreThreads, AreWhole, HaveFollowed, ReplayFaults, entries_taken, has_ended_in, remains_in};
 ghost use Rattle.replayer.specs.declared.replaying.ReplayFault.TheVariants as fault;
 
 use crate::follower::Follower;
 use crate::numbering::{number_all, own_entries};
-use core_run::{Formula, Walk, walk};
+use core_run::{Formula, Walk};
 use crew::{Crew, CrewEnd};
 use flow_code::Code;
-use log_walks::{law_unfinished, law_wrong};
+use log_walks::{law_unfinished, law_whole, law_wrong};
 use rr_base::List;
 use shared_cells::{Cells, Seat};
 use std::alloc::{AllocError, Global};
@@ -25,6 +25,7 @@ use std::sync::Wait;
 use std::thread::Threads;
 use sync_objects::{Entry, Setup};
 use thread_step::ThreadRun;
+use walk_pieces::{Remains, into_remains, whole_walk};
 
 /// Why there is no answer.
 #[derive(Clone, Copy, Debug, PartialEq, Eq)]
@@ -97,28 +98,48 @@ fn all_have_ended(followers: &[Follower]) -> bool
     true
 }
 
-// Their seats, in order.
-fn seats_of(alloc: Global, followers: Vec<Follower>) -> Result<Vec<Seat>, AllocError>
-    ensures { IfOk result (λ it. it.items ≡ map (λ (f : Following). f.seat) followers.entry.items) }
+// Their seats, and what remains of their runs, in order.
+fn parts_of(
+    alloc: Global,
+    followers: Vec<Follower>,
+) -> Result<(Vec<Seat>, Vec<Remains>), AllocError>
+    ensures seats { IfOk result (λ it. it.0.items ≡ map (λ (f : Following). f.seat) followers.entry.items) }
+    ensures remains { IfOk result (λ it. it.1.items ≡ map remains_in followers.entry.items) }
 {
     let mut seats = Vec::new(alloc);
+    let mut remains = Vec::new(alloc);
     for follower in followers {
-        seats.push(follower.into_seat())?;
+        let (seat, run) = follower.into_parts();
+        let (_, rest) = into_remains(run);
+        seats.push(seat)?;
+        remains.push(rest)?;
     }
-    Ok(seats)
+    Ok((seats, remains))
 }
 
-// The seats of followers that have come to their end, and whether their threads have ended. Err where memory ran out for one of
-// them.
-fn gather(alloc: Global, followers: Vec<Follower>) -> Result<(Vec<Seat>, bool), AllocError>
-    ensures { IfOk result (λ it. (cells : Board) (es : List EntryOf) → AreDone cells es followers.entry.items → (h : HaveFollowed cells es it.0.items it.1) × (h.fs ≡ followers.entry.items)) }
+/// What is left of followers that have come to their end: their seats and what remains of their runs, in order, and whether their
+/// threads have ended.
+#[derive(Drop)]
+pub(crate) struct Gathered {
+    pub seats: Vec<Seat>,
+    pub remains: Vec<Remains>,
+    pub all_ended: bool,
+}
+
+// What is left of these followers. Err where memory ran out for one of them.
+fn gather(alloc: Global, followers: Vec<Follower>) -> Result<Gathered, AllocError>
+    ensures { IfOk result (λ it. (cells : Board) (es : List EntryOf) → AreDone cells es followers.entry.items → (h : HaveFollowed cells es it.seats.items it.remains.items it.all_ended) × (h.fs ≡ followers.entry.items)) }
 {
     if some_is_out(&followers) {
         return Err(AllocError);
     }
     let all_ended = all_have_ended(&followers);
-    let seats = seats_of(alloc, followers)?;
-    Ok((seats, all_ended))
+    let (seats, remains) = parts_of(alloc, followers)?;
+    Ok(Gathered {
+        seats,
+        remains,
+        all_ended,
+    })
 }
 
 // What the walk of the log comes to, by how the threads have followed it.
@@ -129,8 +150,7 @@ fn conclude(
     setup: &Setup,
     entries: &List<Entry>,
     formula: &Formula,
-    seats: Vec<Seat>,
-    all_ended: bool,
+    gathered: Gathered,
 ) -> Result<Walk, AllocError>
     requires code { cells.code ≡ code.now }
     requires setup { cells.setup ≡ setup.now }
@@ -138,10 +158,15 @@ fn conclude(
     requires race_free { HasNoRace code.now setup.now }
     requires few { length entries.now < 2 ^ 32 - 1 }
     requires threads { AreThreads setup.now entries.now }
-    requires followed { HaveFollowed cells entries.now seats.items all_ended }
+    requires followed { HaveFollowed cells entries.now gathered.seats.items gathered.remains.items gathered.all_ended }
     ensures walk { IfOk result (WalkIs code.now setup.now entries.now formula.now) }
-    ensures taken { IfOk result (λ w. (h : HaveFollowed cells.entry entries.now seats.items all_ended) → entries_taken entries.now w ≤ made_in h.fs) }
+    ensures taken { IfOk result (λ w. (h : HaveFollowed cells.entry entries.now gathered.seats.items gathered.remains.items gathered.all_ended) → entries_taken entries.now w ≤ made_in h.fs) }
 {
+    let Gathered {
+        seats,
+        remains,
+        all_ended,
+    } = gathered;
     let closed = cells.close(alloc, seats)?;
     if closed.departure != u32::MAX {
         law_wrong();
@@ -155,7 +180,8 @@ fn conclude(
             at: entries.len() as u32,
         });
     }
-    walk(alloc, code, setup, entries, formula)
+    law_whole();
+    whole_walk(alloc, code, setup, entries, formula, &remains)
 }
 
 /// Replays a log: each thread of the code follows its own entries of it, in turns that the crew gives, as a job of its own. The
@@ -191,13 +217,11 @@ pub fn replay<R: Threads + Wait + Sync, C: Crew>(
         Err(CrewEnd::Failed) => return Err(ReplayFault::CrewFault),
         Err(CrewEnd::OutOfMemory) => return Err(ReplayFault::OutOfMemory),
     };
-    let (seats, all_ended) = match gather(alloc, jobs) {
+    let gathered = match gather(alloc, jobs) {
         Ok(gathered) => gathered,
         Err(error) => return Err(ReplayFault::from(error)),
     };
-    match conclude(
-        alloc, cells, code, setup, entries, formula, seats, all_ended,
-    ) {
+    match conclude(alloc, cells, code, setup, entries, formula, gathered) {
         Ok(walk) => Ok(walk),
         Err(error) => Err(ReplayFault::from(error)),
     }

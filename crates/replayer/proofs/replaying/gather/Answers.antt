@@ -9,7 +9,8 @@ returns c = λ cells es done. (
     fs = c.args.followers.items;
     done = done;
     whole = subst AreWhole c.deref.ensures.value (c.some_is_out.ensures c.if-some_is_out.false);
-    seats_are = c.in_ok-seats.ensures;
+    seats_are = c.in_ok-seats.ensures.seats;
+    remains_are = c.in_ok-seats.ensures.remains;
     ended = c.all_have_ended-all_ended.ensures ∙ ap (list_all has_ended_in) c.deref-2.ensures.value;
   },
   refl,

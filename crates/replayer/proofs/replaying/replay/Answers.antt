@@ -15,4 +15,4 @@ returns-in-Ok-conclude-clause-turns g c =
     let backs = c.in-Ok-run.jobs.items in
     let done = done_by _ cells es jobs backs c.in-Ok-followers.ensures.followers c.in-Ok-run.ensures.finished (λ f h z. (z.leads, z.ended)) in
     let both = c.in-Ok-gather.ensures cells es done in
-    turns_rose cells es c.in-Ok-gather.gathered.0.items c.in-Ok-gather.gathered.1 jobs backs both.0 both.1 (done.followers.count ∙ sym c.in-Ok-followers.ensures.followers.count) c.in-Ok-followers.ensures.fresh (entries_taken es c.in-Ok-conclude.walk) (g.C.Crew.turns c.args.crew.now) (g.C.Crew.turns c.run.new.self) (c.in-Ok-conclude.ensures.taken both.0) c.in-Ok-run.ensures.turns
+    turns_rose cells es c.in-Ok-gather.gathered.seats.items c.in-Ok-gather.gathered.remains.items c.in-Ok-gather.gathered.all_ended jobs backs both.0 both.1 (done.followers.count ∙ sym c.in-Ok-followers.ensures.followers.count) c.in-Ok-followers.ensures.fresh (entries_taken es c.in-Ok-conclude.walk) (g.C.Crew.turns c.args.crew.now) (g.C.Crew.turns c.run.new.self) (c.in-Ok-conclude.ensures.taken both.0) c.in-Ok-run.ensures.turns
