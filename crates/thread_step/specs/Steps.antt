@@ -18,14 +18,15 @@ use Rattle.runs.specs.Steps.{Change, Becomes, Operates}
 use Rattle.sync_objects.specs.Words.{number_of}
 use Rattle.core_run.specs.Pieces.{piece_next, piece_at}
 
--- the thread, its entries and its printed pieces, in order; whether there is room for one more of each; and the bytes that are
--- ready for the next print
+-- the thread, its entries and its printed pieces, in order; whether there is room for one more of each; and the step for which
+-- there is room, with the bytes that are ready for a print
 pub record Stepping : Type 0 where
   pub flow : Running
   pub entries : List Noted
   pub pieces : List (List ℕ)
   pub has_entry : Bool
   pub has_piece : Bool
+  pub next : Action
   pub ready : List ℕ
 
 -- the thread with its lists; no list of its accesses is kept
@@ -46,6 +47,7 @@ pub record IsReady (r : Stepping) : Type 0 where
   pub frame : is_ready r.flow.code r.flow.kept ≡ true
   pub entry : r.has_entry ≡ true
   pub piece : r.has_piece ≡ true
+  pub next : r.next ≡ next_of r
   pub bytes : IsPiece r.flow.code r.flow.kept.thread r.ready (next_of r)
 
 -- what the step of thread t leaves, on this answer; an operation is the one with this number on its object

@@ -29,7 +29,8 @@ pub struct ThreadRun<'a> {
     flow: Flow<'a>,
     noted: Vec<Noted>,
     pieces: Vec<Bytes>,
-    // What the next print prints.
+    // The next step, for which there is room, and what it prints.
+    next: Action,
     ready: Bytes,
 }
 
@@ -46,6 +47,7 @@ impl<'a> Model for ThreadRun<'a> {
       pieces = r.pieces.items;
       has_entry = nat_lt (vec_len r.noted) (vec_capacity r.noted);
       has_piece = nat_lt (vec_len r.pieces) (vec_capacity r.pieces);
+      next = r.next;
       ready = r.ready;
     } };
 
@@ -94,6 +96,7 @@ impl<'a> ThreadRun<'a> {
             flow,
             noted: Vec::new(alloc),
             pieces: Vec::new(alloc),
+            next: Action::Quiet,
             ready: Bytes::new(alloc),
         })
     }
@@ -120,23 +123,26 @@ impl<'a> ThreadRun<'a> {
         (noted, pieces)
     }
 
-    /// What comes next: a quiet step, or what the thread does to the words.
+    /// What comes next, for which room was made: a quiet step, or what the thread does to the words.
     pub fn next_action(&self) -> Action
+        requires { IsReady self.now }
         ensures { result ≡ next_of self.now }
     {
-        self.flow.next_action()
+        self.next
     }
 
-    // Has ready what the next step prints.
-    fn reserve_piece(&mut self) -> Result<(), AllocError>
+    // Finds the next step, and has ready what it prints.
+    fn look_ahead(&mut self) -> Result<(), AllocError>
         ensures flow { self.new.flow ≡ self.old.flow }
         ensures entries { self.new.entries ≡ self.old.entries }
         ensures pieces { self.new.pieces ≡ self.old.pieces }
         ensures has_entry { self.new.has_entry ≡ self.old.has_entry }
         ensures has_piece { self.new.has_piece ≡ self.old.has_piece }
+        ensures next { self.new.next ≡ next_of self.new }
         ensures bytes { OnOk result (IsPiece self.new.flow.code self.new.flow.kept.thread self.new.ready (next_of self.new)) }
     {
-        if let Action::Operate { op: Op::Print, .. } = self.flow.next_action() {
+        self.next = self.flow.next_action();
+        if let Action::Operate { op: Op::Print, .. } = self.next {
             self.ready = self.flow.piece()?;
         }
         Ok(())
@@ -151,7 +157,7 @@ impl<'a> ThreadRun<'a> {
         self.flow.reserve()?;
         self.noted.reserve(1)?;
         self.pieces.reserve(1)?;
-        self.reserve_piece()
+        self.look_ahead()
     }
 
     // Notes an entry of the thread as it stands.
@@ -190,7 +196,7 @@ impl<'a> ThreadRun<'a> {
         ensures same { IsSameRun self.old self.new }
         ensures told { told_of self.new ≡ after self.old.flow.code self.old.flow.setup self.old.flow.number (told_of self.old) (next_of self.old) answer number }
     {
-        if let Action::Operate { op, obj } = self.flow.next_action() {
+        if let Action::Operate { op, obj } = self.next {
             self.note(op.name(), obj, number);
             if matches!(op, Op::Print) {
                 self.print();
