@@ -9,9 +9,8 @@ use Rattle.sync_objects.specs.declared.entry.Noted.{Noted}
 use Rattle.shared_cells.specs.Rule.{Board}
 use Rattle.shared_cells.specs.Seats.{AreAtStart, AreSeats, IsSeatOf, start_view, view_of}
 use Rattle.shared_cells.specs.declared.seat.Seat.{Seat}
-use Rattle.thread_step.specs.Steps.{told_of}
 use Rattle.walk_pieces.specs.declared.remains.Remains.{Remains}
-use Rattle.walk_pieces.specs.Remains.{remains_of}
+use Rattle.walk_pieces.specs.Remains.{remains_in}
 use Rattle.weak_turns.specs.Carrying.{Carrying, IsSound, run_has_ended}
 use Rattle.recorder.specs.Carriers.{AreCarriers, AreParts, IsCarrierOf, IsTaken}
 
@@ -90,7 +89,7 @@ module _ (carriers : List Carrying) where
     pub each : (t : ℕ) (c : Carrying) → t < length seats → slice_get carriers t ≡ Some c → IsTaken c t seats lists remains
 
   pub takes_more : (seats more_seats : List Seat) (lists more_lists : List (List Noted)) (remains more_remains : List Remains) (rest more : List Carrying) (c : Carrying) (seat : Seat) (list : List Noted) (left : Remains) → HasTaken seats lists remains rest → rest ≡ c ∷ more →
-      more_seats ≡ seats ++ seat ∷ [] → more_lists ≡ lists ++ list ∷ [] → more_remains ≡ remains ++ left ∷ [] → seat ≡ c.seat → list ≡ c.run.entries → left ≡ remains_of (told_of c.run) → IsSound c → run_has_ended c.run ≡ true → HasTaken more_seats more_lists more_remains more
+      more_seats ≡ seats ++ seat ∷ [] → more_lists ≡ lists ++ list ∷ [] → more_remains ≡ remains ++ left ∷ [] → seat ≡ c.seat → list ≡ c.run.entries → left ≡ remains_in c.run → IsSound c → run_has_ended c.run ≡ true → HasTaken more_seats more_lists more_remains more
   takes_more seats more_seats lists more_lists remains more_remains rest more c seat list left before e seats_are lists_are remains_are seat_is list_is left_is sound ended =
       let next = drop_next carriers (length seats) c more (sym before.rest_is ∙ e) in
       let within = slice_get_within carriers (length seats) c next.0 in
@@ -112,7 +111,7 @@ module _ (carriers : List Carrying) where
       old t x k = record {
         seat = ap (λ xs. slice_get xs t) seats_are ∙ push_before seats seat x.seat t k.seat;
         list = ap (λ xs. slice_get xs t) lists_are ∙ push_before lists list x.run.entries t k.list;
-        rest = ap (λ xs. slice_get xs t) remains_are ∙ push_before remains left (remains_of (told_of x.run)) t k.rest;
+        rest = ap (λ xs. slice_get xs t) remains_are ∙ push_before remains left (remains_in x.run) t k.rest;
         sound = k.sound;
         ended = k.ended;
       }

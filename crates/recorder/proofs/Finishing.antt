@@ -28,9 +28,9 @@ use Rattle.shared_cells.specs.Seats.{AreSeats, IsSeatOf, view_of}
 use Rattle.shared_cells.specs.Threads.{AreMarks, after_marks, own}
 use Rattle.shared_cells.specs.Views.{SeatView}
 use Rattle.shared_cells.specs.declared.seat.Seat.{Seat}
-use Rattle.thread_step.specs.Steps.{Stepping, told_of}
+use Rattle.thread_step.specs.Steps.{Stepping}
 use Rattle.walk_pieces.specs.declared.remains.Remains.{Remains}
-use Rattle.walk_pieces.specs.Remains.{IsWalked, remains_of}
+use Rattle.walk_pieces.specs.Remains.{IsWalked, RemainsOf, remains_in}
 use Rattle.walk_pieces.proofs.Remaining.{all_remain, same_remains}
 use Rattle.weak_turns.specs.Carrying.{Carrying, IsSameCarrier, run_has_ended}
 use Rattle.weak_turns.specs.Shown.{Carries}
@@ -53,7 +53,7 @@ none_to_come v (suc n) r c e = absurd (true≢false (sym (ap has_ended (same_pha
 record IsShownBy (r : Stepping) (told : Told) : Type 0 where
   ended : has_ended told.thread.phase ≡ true
   entries : r.entries ≡ told.entries
-  rest : remains_of (told_of r) ≡ remains_of told
+  rest : RemainsOf (remains_in r) told
 
 own_shown : (v : SeatView) (n : ℕ) (r : Stepping) → Carries v n r → run_has_ended r ≡ true → IsShownBy r (own v)
 own_shown v n r c e =
@@ -63,7 +63,7 @@ own_shown v n r c e =
     record {
       ended = ap has_ended phase ∙ e;
       entries = here.shows.entries;
-      rest = same_remains (told_of r) (own v) here.shows.pieces (sym phase);
+      rest = same_remains r (own v) here.shows.pieces here.shows.reads (sym phase);
     }
 
 -- lists that are the threads' entries, place by place
@@ -116,7 +116,7 @@ module _ (R : Carrying → Carrying → Type 0) (cells : Board) (given back : Li
     record IsAt (t : ℕ) (told : Told) : Type 0 where
       ended : has_ended told.thread.phase ≡ true
       list : (xs : List Noted) → slice_get lists t ≡ Some xs → xs ≡ told.entries
-      rest : (r : Remains) → slice_get remains t ≡ Some r → r ≡ remains_of told
+      rest : (r : Remains) → slice_get remains t ≡ Some r → RemainsOf r told
 
     thread_at : (t : ℕ) (told : Told) → slice_get closes.state.threads t ≡ Some told → IsAt t told
     thread_at t told at =
@@ -128,7 +128,7 @@ module _ (R : Carrying → Carrying → Type 0) (cells : Board) (given back : Li
         record {
           ended = ap (λ (z : Told). has_ended z.thread.phase) knows ∙ shown.ended;
           list = λ xs is. same_Some xs p.0.run.entries (sym is ∙ taken.list) ∙ shown.entries ∙ sym (ap (λ (z : Told). z.entries) knows);
-          rest = λ r is. same_Some r (remains_of (told_of p.0.run)) (sym is ∙ taken.rest) ∙ shown.rest ∙ sym (ap remains_of knows);
+          rest = λ r is. subst (λ z. RemainsOf z told) (same_Some (remains_in p.0.run) r (sym taken.rest ∙ is)) (subst (RemainsOf (remains_in p.0.run)) (sym knows) shown.rest);
         }
 
     pub finished : IsFinished cells.code cells.setup lists remains

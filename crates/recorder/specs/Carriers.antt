@@ -4,9 +4,8 @@ use Rattle.sync_objects.specs.declared.entry.Noted.{Noted}
 use Rattle.shared_cells.specs.Rule.{Board}
 use Rattle.shared_cells.specs.Seats.{view_of}
 use Rattle.shared_cells.specs.declared.seat.Seat.{Seat}
-use Rattle.thread_step.specs.Steps.{told_of}
 use Rattle.walk_pieces.specs.declared.remains.Remains.{Remains}
-use Rattle.walk_pieces.specs.Remains.{remains_of}
+use Rattle.walk_pieces.specs.Remains.{remains_in}
 use Rattle.weak_turns.specs.Carrying.{Carrying, IsSound, run_has_ended}
 
 -- it carries thread t of these cells, and has had no turn
@@ -24,7 +23,7 @@ pub record AreCarriers (cells : Board) (carriers : List Carrying) : Type 0 where
 pub record IsTaken (c : Carrying) (t : ℕ) (seats : List Seat) (lists : List (List Noted)) (remains : List Remains) : Type 0 where
   pub seat : slice_get seats t ≡ Some c.seat
   pub list : slice_get lists t ≡ Some c.run.entries
-  pub rest : slice_get remains t ≡ Some (remains_of (told_of c.run))
+  pub rest : slice_get remains t ≡ Some (remains_in c.run)
   pub sound : IsSound c
   pub ended : run_has_ended c.run ≡ true
 

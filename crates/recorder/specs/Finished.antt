@@ -1,5 +1,6 @@
 -- What a run leaves that has come to its end.
-use Rattle.std.specs.Prelude.{◌≡◌, List, map}
+use Rattle.std.specs.Prelude.{◌≡◌, List}
+use Rattle.std.specs.List.{AllZip}
 use Rattle.sync_objects.specs.Setup.{SetupView}
 use Rattle.sync_objects.specs.declared.entry.Noted.{Noted}
 use Rattle.flow_code.specs.declared.code.Code.{Code}
@@ -7,7 +8,7 @@ use Rattle.core_run.specs.Histories.{IsReachable, HaveEnded, lists_of}
 use Rattle.core_run.specs.Machine.{Told}
 use Rattle.runs.specs.Steps.{State}
 use Rattle.walk_pieces.specs.declared.remains.Remains.{Remains}
-use Rattle.walk_pieces.specs.Remains.{remains_of}
+use Rattle.walk_pieces.specs.Remains.{RemainsOf}
 
 -- these are the lists of a state that a run leads to, in which all threads have ended, and what else remains of them
 pub record IsFinished (code : Code) (s : SetupView) (lists : List (List Noted)) (remains : List Remains) : Type 0 where
@@ -15,4 +16,4 @@ pub record IsFinished (code : Code) (s : SetupView) (lists : List (List Noted)) 
   pub reached : IsReachable code s state
   pub ended : HaveEnded code s state
   pub lists_are : lists ≡ lists_of state
-  pub remains_are : remains ≡ map remains_of state.threads
+  pub remains_are : AllZip RemainsOf remains state.threads

@@ -39,15 +39,18 @@ fn carriers_of<'c, 'a>(
     cells: &'c Cells<'a>,
     seats: Vec<Seat>,
     budget: u32,
+    formula: &Formula,
 ) -> Result<Vec<Carrier<'c, 'a>>, AllocError>
     requires runnable { IsRunnable cells.now.code }
     requires seats { AreSeats cells.now seats.items }
     requires start { AreAtStart cells.now.code cells.now.setup seats.items }
     ensures { IfOk result (λ it. AreCarriers cells.now it.items) }
 {
+    let code = cells.code();
+    let setup = cells.setup();
     let mut carriers = Vec::new(alloc);
     for seat in seats {
-        let run = ThreadRun::new(alloc, cells.code(), cells.setup(), seat.thread())?;
+        let run = ThreadRun::new(alloc, code, setup, seat.thread(), *formula)?;
         carriers.push(Carrier::new(alloc, cells, seat, run, budget)?)?;
     }
     Ok(carriers)
@@ -125,7 +128,7 @@ pub fn record_threads<R: Threads + Wait + Sync, C: Crew>(
         Ok(made) => made,
         Err(error) => return Err(CrewEnd::from(error)),
     };
-    let carriers = match carriers_of(alloc, &cells, seats, budget) {
+    let carriers = match carriers_of(alloc, &cells, seats, budget, formula) {
         Ok(carriers) => carriers,
         Err(error) => return Err(CrewEnd::from(error)),
     };

@@ -1,7 +1,7 @@
 -- The end of a replay: how the threads of its followers stand by the log.
-use Rattle.std.proofs.Common.{◌≡◌, ◌≢◌, ℕ, zero, suc, ◌-◌, ◌^◌, ◌<◌, ◌≤◌, Bool, true, false, List, [], ◌∷◌, length, map, take, Option, Some, None, refl, sym, ap, subst, ◌∙◌, ⊎_elim, arith, get_or}
+use Rattle.std.proofs.Common.{◌≡◌, ◌≢◌, ℕ, zero, suc, ◌-◌, ◌^◌, ◌<◌, ◌≤◌, Bool, true, false, List, [], ◌∷◌, length, take, Option, Some, None, refl, sym, ap, subst, ◌∙◌, ⊎_elim, arith, get_or}
 use Rattle.std.specs.Prelude.{slice_get, ◌||◌, ◌&&◌, nat_le, Contains}
-use Rattle.std.specs.List.{list_all}
+use Rattle.std.specs.List.{AllZip, list_all}
 use Rattle.std.specs.Option.{option_map}
 use Rattle.std.proofs.lemmas.Bool.{cases_eq, leb-true, true≢false}
 use Rattle.std.proofs.lemmas.List.{length-map}
@@ -33,13 +33,12 @@ use Rattle.shared_cells.specs.Views.{SeatView, never}
 use Rattle.shared_cells.specs.Words.{objects_end, HaveGoneOn}
 use Rattle.shared_cells.specs.declared.seat.Seat.{Seat}
 use Rattle.shared_cells.proofs.ThreadSteps.{goes_nowhere, goes_marks}
-use Rattle.thread_step.specs.Steps.{told_of}
 use Rattle.walk_pieces.specs.declared.remains.Remains.{Remains}
-use Rattle.walk_pieces.specs.Remains.{IsWalked, remains_of}
+use Rattle.walk_pieces.specs.Remains.{IsWalked, RemainsOf, remains_in}
 use Rattle.walk_pieces.proofs.Remaining.{all_remain, same_remains}
 use Rattle.weak_turns.proofs.Showing.{same_phase}
 use Rattle.replayer.specs.Following.{Following, IsSound, IsOnTrack, StandsSo, next_of, is_behind, is_over, made_in}
-use Rattle.replayer.specs.Replays.{IsFollower, HaveFollowed, entries_taken, has_ended_in, remains_in}
+use Rattle.replayer.specs.Replays.{IsFollower, HaveFollowed, entries_taken, has_ended_in}
 use Rattle.replayer.specs.Steps.{told_at, HasDeparted}
 use Rattle.replayer.specs.Wants.{wanted_of, noted_in}
 use Rattle.replayer.specs.declared.wanted.Wanted.{Wanted}
@@ -380,7 +379,7 @@ module _ (code : Code) (s : SetupView) (cells : Board) (es : List Entry) (seats 
         f : Following
         there : slice_get h.fs t ≡ Some f
         ended : has_ended told.thread.phase ≡ true
-        rest : remains_in f ≡ remains_of told
+        rest : RemainsOf (remains_in f.run) told
 
       over_at : all_ended ≡ true → (t : ℕ) (told : Told) → slice_get all_marked.state.threads t ≡ Some told → IsOver t told
       over_at all t told e =
@@ -393,21 +392,22 @@ module _ (code : Code) (s : SetupView) (cells : Board) (es : List Entry) (seats 
             f = o.f;
             there = o.there;
             ended = ap (λ (z : Told). has_ended z.thread.phase) (sym same) ∙ ap has_ended phase ∙ one_ended h.fs (sym h.ended ∙ all) t o.f o.there;
-            rest = same_remains (told_of o.f.run) (told_at o.f.seat) shows.shows.pieces (sym phase) ∙ ap remains_of same;
+            rest = subst (RemainsOf (remains_in o.f.run)) same (same_remains o.f.run (told_at o.f.seat) shows.shows.pieces shows.shows.reads (sym phase));
           }
 
       all_over : all_ended ≡ true → HaveEnded code s all_marked.state
       all_over all t told e = (over_at all t told e).ended
 
-      remains_so : all_ended ≡ true → remains ≡ map remains_of all_marked.state.threads
+      remains_so : all_ended ≡ true → AllZip RemainsOf remains all_marked.state.threads
       remains_so all =
           let count = thread_count in
           let fs_count = h.done.followers.count in
           let slots = ap (λ (z : SetupView). z.slots) setup_is in
-          let long = ap length h.remains_are ∙ length-map h.fs remains_in in
+          let rest = λ (f : Following). remains_in f.run in
+          let long = ap length h.remains_are ∙ length-map h.fs rest in
           all_remain remains all_marked.state.threads (omega (arith, count, fs_count, slots, long)) (λ t r told at there.
           let o = over_at all t told there in
-          same_Some r (remains_in o.f) (sym at ∙ ap (λ xs. slice_get xs t) h.remains_are ∙ slice_get-map remains_in h.fs t ∙ ap (option_map remains_in) o.there) ∙ o.rest)
+          subst (λ z. RemainsOf z told) (same_Some (rest o.f) r (sym (ap (λ xs. slice_get xs t) h.remains_are ∙ slice_get-map rest h.fs t ∙ ap (option_map rest) o.there) ∙ at)) o.rest)
 
       -- ---- what the walk comes to
 

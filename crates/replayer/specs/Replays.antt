@@ -10,9 +10,8 @@ use Rattle.flow_code.specs.Next.{has_ended}
 use Rattle.shared_cells.specs.Rule.{Board}
 use Rattle.shared_cells.specs.Seats.{view_of}
 use Rattle.shared_cells.specs.declared.seat.Seat.{Seat}
-use Rattle.thread_step.specs.Steps.{told_of}
 use Rattle.walk_pieces.specs.declared.remains.Remains.{Remains}
-use Rattle.walk_pieces.specs.Remains.{remains_of}
+use Rattle.walk_pieces.specs.Remains.{remains_in}
 use Rattle.replayer.specs.Following.{Following, IsSound, is_over}
 use Rattle.replayer.specs.Wants.{wanted_of}
 use Rattle.replayer.specs.declared.replaying.ReplayFault.{ReplayFault}
@@ -62,10 +61,6 @@ AreWhole fs = (k : ℕ) (f : Following) → slice_get fs k ≡ Some f → (f.is_
 abbrev pub has_ended_in : Following → Bool
 has_ended_in f = has_ended f.run.flow.kept.thread.phase
 
--- what remains of its run
-abbrev pub remains_in : Following → Remains
-remains_in f = remains_of (told_of f.run)
-
 -- these are the seats of followers that have come to their end, this remains of their runs, and this is whether their threads have
 -- ended
 pub record HaveFollowed (cells : Board) (es : List Entry) (seats : List Seat) (remains : List Remains) (all_ended : Bool) : Type 0 where
@@ -73,5 +68,5 @@ pub record HaveFollowed (cells : Board) (es : List Entry) (seats : List Seat) (r
   pub done : AreDone cells es fs
   pub whole : AreWhole fs
   pub seats_are : seats ≡ map (λ (f : Following). f.seat) fs
-  pub remains_are : remains ≡ map remains_in fs
+  pub remains_are : remains ≡ map (λ (f : Following). remains_in f.run) fs
   pub ended : all_ended ≡ list_all has_ended_in fs

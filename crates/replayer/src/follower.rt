@@ -1,5 +1,5 @@
 // A thread that follows a log, as a job.
-ghost use Rattle.std.specs.Prelude.{◌≡◌, ◌^◌, ◌<◌, false, length, Some, slice_get, ℕ};
+ghost use Rattle.std.specs.Prelude.{◌≡◌, ◌^◌, ◌<◌, [], false, length, Some, slice_get, ℕ};
 ghost use Rattle.std.proofs.Common.{refl, ◌∙◌};
 ghost use Rattle.core_run.specs.Machine.{start_told};
 ghost use Rattle.flow_code.specs.Next.{has_ended};
@@ -64,6 +64,7 @@ impl<'c, 'a> Follower<'c, 'a> {
         requires setup { run.flow.setup ≡ cells.now.setup }
         requires number { run.flow.number ≡ (view_of seat).from }
         requires told { told_of run ≡ start_told cells.now.code cells.now.setup (view_of seat).from }
+        requires reads { run.reads ≡ [] }
         requires own { (k : ℕ) (w : WantedOf) → slice_get wanted k ≡ Some w → w.noted.entry.thread ≡ (view_of seat).from }
         requires few { length wanted < 2 ^ 32 }
         ensures cells { result.cells ≡ cells.now }

@@ -9,7 +9,8 @@ ghost use Rattle.shared_cells.specs.Rule.{Board};
 ghost use Rattle.shared_cells.specs.Seats.{AreAtStart, AreSeats};
 ghost use Rattle.sync_objects.specs.declared.entry.Entry.{Entry as EntryOf};
 ghost use Rattle.replayer.specs.Following.{Following, made_in};
-ghost use Rattle.replayer.specs.Replays.{AreDone, AreFollowers, AreFresh, AreThreads, AreWhole, HaveFollowed, ReplayFaults, entries_taken, has_ended_in, remains_in};
+ghost use Rattle.replayer.specs.Replays.{AreDone, AreFollowers, AreFresh, AreThreads, AreWhole, HaveFollowed, ReplayFaults, entries_taken, has_ended_in};
+ghost use Rattle.walk_pieces.specs.Remains.{remains_in};
 ghost use Rattle.replayer.specs.declared.replaying.ReplayFault.TheVariants as fault;
 
 use crate::follower::Follower;
@@ -51,6 +52,7 @@ fn followers<'c, 'a>(
     setup: &'a Setup,
     seats: Vec<Seat>,
     entries: &List<Entry>,
+    formula: &Formula,
 ) -> Result<Vec<Follower<'c, 'a>>, AllocError>
     requires runnable { IsRunnable code.now }
     requires code { cells.now.code ≡ code.now }
@@ -65,7 +67,7 @@ fn followers<'c, 'a>(
     let mut jobs = Vec::with_capacity(alloc, usize::from(setup.slots()))?;
     for seat in seats {
         let thread = seat.thread();
-        let run = ThreadRun::new(alloc, code, setup, thread)?;
+        let run = ThreadRun::new(alloc, code, setup, thread, *formula)?;
         let wanted = own_entries(alloc, noted.as_slice(), thread)?;
         jobs.push(Follower::new(cells, seat, run, wanted))?;
     }
@@ -104,7 +106,7 @@ fn parts_of(
     followers: Vec<Follower>,
 ) -> Result<(Vec<Seat>, Vec<Remains>), AllocError>
     ensures seats { IfOk result (λ it. it.0.items ≡ map (λ (f : Following). f.seat) followers.entry.items) }
-    ensures remains { IfOk result (λ it. it.1.items ≡ map remains_in followers.entry.items) }
+    ensures remains { IfOk result (λ it. it.1.items ≡ map (λ (f : Following). remains_in f.run) followers.entry.items) }
 {
     let mut seats = Vec::new(alloc);
     let mut remains = Vec::new(alloc);
@@ -208,7 +210,7 @@ pub fn replay<R: Threads + Wait + Sync, C: Crew>(
         Ok(made) => made,
         Err(error) => return Err(ReplayFault::from(error)),
     };
-    let jobs = match followers(alloc, &cells, code, setup, seats, entries) {
+    let jobs = match followers(alloc, &cells, code, setup, seats, entries, formula) {
         Ok(jobs) => jobs,
         Err(error) => return Err(ReplayFault::from(error)),
     };

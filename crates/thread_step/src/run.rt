@@ -6,22 +6,28 @@ ghost use Rattle.flow_code.specs.Next.{gave_up, stopped, shut, has_ended, has_be
 ghost use Rattle.flow_code.specs.Settle.{IsRunnable, settled};
 ghost use Rattle.abstract_machine.specs.Limits.{most_entries, most_revokes};
 ghost use Rattle.core_run.specs.Endings.{ending_of, trap_of};
-ghost use Rattle.core_run.specs.Machine.{start_thread, entry_of, operated, marked};
+ghost use Rattle.core_run.specs.Machine.{access_of, start_thread, entry_of, operated, marked};
 ghost use Rattle.core_run.specs.Pieces.{piece_at};
+ghost use Rattle.core_run.specs.Shown.{with_read};
 ghost use Rattle.flow_code.specs.Next.{act_at};
 ghost use Rattle.sync_objects.specs.declared.operation.OpName.TheVariants as name;
 ghost use Rattle.sync_objects.specs.declared.object.ObjId.TheVariants as object;
-ghost use Rattle.thread_step.specs.Steps.{Stepping, IsReady, IsPiece, IsSameRun, told_of, next_of, after};
+ghost use Rattle.thread_step.specs.Steps.{Stepping, IsReady, IsPiece, IsSameRun, told_of, next_of, after, reads_after};
 
-use core_run::{Action, Ending, Entry, Flow, Noted, Setup};
+use core_run::{Access, Action, Ending, Entry, Flow, Formula, Noted, Setup};
 use flow_code::Code;
 use rr_base::{Bytes, Trap};
 use std::alloc::{AllocError, Global};
 use std::marker::Model;
 use std::mem;
 use sync_objects::{ObjId, Op, OpName};
+use watch_calls::AccessTest;
 
-/// One running thread of a code, with the list of its entries and the pieces that it has printed.
+/// The most accesses that are kept of a thread.
+const MOST_READS: usize = 262_144;
+
+/// One running thread of a code, with the list of its entries, the pieces that it has printed, and the first of its accesses that
+/// meet a formula.
 #[derive(Drop)]
 pub struct ThreadRun<'a> {
     alloc: Global,
@@ -29,6 +35,8 @@ pub struct ThreadRun<'a> {
     flow: Flow<'a>,
     noted: Vec<Noted>,
     pieces: Vec<Bytes>,
+    formula: Formula,
+    reads: Vec<Access>,
     // The next step, for which there is room, and what it prints.
     next: Action,
     ready: Bytes,
@@ -45,8 +53,11 @@ impl<'a> Model for ThreadRun<'a> {
       flow = r.flow;
       entries = r.noted.items;
       pieces = r.pieces.items;
+      formula = r.formula;
+      reads = r.reads.items;
       has_entry = nat_lt (vec_len r.noted) (vec_capacity r.noted);
       has_piece = nat_lt (vec_len r.pieces) (vec_capacity r.pieces);
+      has_read = nat_lt (vec_len r.reads) (vec_capacity r.reads);
       next = r.next;
       ready = r.ready;
     } };
@@ -76,18 +87,33 @@ fn put_piece(pieces: &mut Vec<Bytes>, piece: Bytes)
     }
 }
 
+// Keeps an access behind the others, if it meets the formula and isn't one too many.
+fn keep_access(reads: &mut Vec<Access>, formula: &Formula, access: Access)
+    requires { vec_len reads.old < vec_capacity reads.old }
+    ensures { reads.new.items ≡ with_read formula.now reads.old.items access }
+{
+    if formula.test(&access) && reads.len() < MOST_READS {
+        match reads.push(access) {
+            Ok(()) => {}
+            Err(_) => unreachable!(),
+        }
+    }
+}
+
 impl<'a> ThreadRun<'a> {
-    /// Thread `thread` of the code at its start, with empty lists.
+    /// Thread `thread` of the code at its start, with empty lists. It keeps the accesses that meet the formula.
     pub fn new(
         alloc: Global,
         code: &'a Code,
         setup: &'a Setup,
         thread: u8,
+        formula: Formula,
     ) -> Result<ThreadRun<'a>, AllocError>
         requires runnable { IsRunnable code.now }
         requires thread { thread < setup.now.slots }
         ensures flow { IfOk result (λ r. (r.flow.code ≡ code.now) × (r.flow.setup ≡ setup.now) × (r.flow.number ≡ thread)) }
         ensures told { IfOk result (λ r. told_of r ≡ record { thread = start_thread code.now setup.now thread; entries = []; accesses = []; pieces = [] }) }
+        ensures reads { IfOk result (λ r. (r.formula ≡ formula) × (r.reads ≡ [])) }
     {
         let flow = Flow::new(alloc, code, setup, thread)?;
         Ok(ThreadRun {
@@ -96,6 +122,8 @@ impl<'a> ThreadRun<'a> {
             flow,
             noted: Vec::new(alloc),
             pieces: Vec::new(alloc),
+            formula,
+            reads: Vec::new(alloc),
             next: Action::Quiet,
             ready: Bytes::new(alloc),
         })
@@ -115,12 +143,24 @@ impl<'a> ThreadRun<'a> {
         self.pieces.as_slice()
     }
 
-    /// The two lists: its entries and its pieces.
-    pub fn into_lists(self) -> (Vec<Noted>, Vec<Bytes>)
-        ensures { (result.0.items ≡ self.entry.entries) × (result.1.items ≡ self.entry.pieces) }
+    /// The formula of the accesses that are kept: the first 262,144 that meet it.
+    pub fn formula(&self) -> Formula
+        ensures { result ≡ self.now.formula }
     {
-        let ThreadRun { noted, pieces, .. } = self;
-        (noted, pieces)
+        self.formula
+    }
+
+    /// The three lists: its entries, its pieces, and the accesses that were kept.
+    pub fn into_lists(self) -> (Vec<Noted>, Vec<Bytes>, Vec<Access>)
+        ensures { (result.0.items ≡ self.entry.entries) × (result.1.items ≡ self.entry.pieces) × (result.2.items ≡ self.entry.reads) }
+    {
+        let ThreadRun {
+            noted,
+            pieces,
+            reads,
+            ..
+        } = self;
+        (noted, pieces, reads)
     }
 
     /// What comes next, for which room was made: a quiet step, or what the thread does to the words.
@@ -138,6 +178,8 @@ impl<'a> ThreadRun<'a> {
         ensures pieces { self.new.pieces ≡ self.old.pieces }
         ensures has_entry { self.new.has_entry ≡ self.old.has_entry }
         ensures has_piece { self.new.has_piece ≡ self.old.has_piece }
+        ensures has_read { self.new.has_read ≡ self.old.has_read }
+        ensures reads { (self.new.formula ≡ self.old.formula) × (self.new.reads ≡ self.old.reads) }
         ensures next { self.new.next ≡ next_of self.new }
         ensures bytes { OnOk result (IsPiece self.new.flow.code self.new.flow.kept.thread self.new.ready (next_of self.new)) }
     {
@@ -148,15 +190,17 @@ impl<'a> ThreadRun<'a> {
         Ok(())
     }
 
-    /// Makes room for one more step: for what the interpreter needs, an entry and a piece. A quiet step is one too.
+    /// Makes room for one more step: for what the interpreter needs, an entry, a piece and an access. A quiet step is one too.
     pub fn reserve(&mut self) -> Result<(), AllocError>
         ensures same { IsSameRun self.old self.new }
         ensures told { told_of self.new ≡ told_of self.old }
+        ensures reads { self.new.reads ≡ self.old.reads }
         ensures ready { OnOk result (IsReady self.new) }
     {
         self.flow.reserve()?;
         self.noted.reserve(1)?;
         self.pieces.reserve(1)?;
+        self.reads.reserve(1)?;
         self.look_ahead()
     }
 
@@ -167,6 +211,7 @@ impl<'a> ThreadRun<'a> {
         ensures entries { self.new.entries ≡ self.old.entries ++ record { entry = entry_of self.old.flow.number self.old.flow.kept.thread op obj; number = number } ∷ [] }
         ensures pieces { self.new.pieces ≡ self.old.pieces }
         ensures has_piece { self.new.has_piece ≡ self.old.has_piece }
+        ensures reads { (self.new.formula ≡ self.old.formula) × (self.new.reads ≡ self.old.reads) }
         ensures bytes { self.new.ready ≡ self.old.ready }
     {
         let entry = Entry {
@@ -184,23 +229,49 @@ impl<'a> ThreadRun<'a> {
         ensures flow { self.new.flow ≡ self.old.flow }
         ensures entries { self.new.entries ≡ self.old.entries }
         ensures pieces { self.new.pieces ≡ self.old.pieces ++ self.old.ready ∷ [] }
+        ensures reads { (self.new.formula ≡ self.old.formula) × (self.new.reads ≡ self.old.reads) }
     {
         let piece = mem::replace(&mut self.ready, Bytes::new(self.alloc));
         put_piece(&mut self.pieces, piece);
     }
 
+    // Keeps an access of the thread as it stands, if it meets the formula.
+    fn keep(&mut self, cell: u32, value: u64, store: bool)
+        requires { self.old.has_read ≡ true }
+        ensures flow { self.new.flow ≡ self.old.flow }
+        ensures entries { self.new.entries ≡ self.old.entries }
+        ensures pieces { self.new.pieces ≡ self.old.pieces }
+        ensures formula { self.new.formula ≡ self.old.formula }
+        ensures reads { self.new.reads ≡ with_read self.old.formula self.old.reads (access_of self.old.flow.number self.old.flow.kept.thread cell value store) }
+    {
+        let access = Access {
+            thread: self.thread,
+            count: self.flow.count(),
+            cell,
+            value,
+            store,
+        };
+        keep_access(&mut self.reads, &self.formula, access);
+    }
+
     /// One step, with its answer: a quiet one, or what comes next. An operation is noted as an entry with its number among
-    /// those of its object, and a print with what it prints.
+    /// those of its object, a print with what it prints, and an access is kept if it meets the formula.
     pub fn take_answer(&mut self, answer: i64, number: u32)
         requires { IsReady self.old }
         ensures same { IsSameRun self.old self.new }
         ensures told { told_of self.new ≡ after self.old.flow.code self.old.flow.setup self.old.flow.number (told_of self.old) (next_of self.old) answer number }
+        ensures reads { self.new.reads ≡ reads_after self.old.formula self.old.flow.number self.old.flow.kept.thread (next_of self.old) answer self.old.reads }
     {
-        if let Action::Operate { op, obj } = self.next {
-            self.note(op.name(), obj, number);
-            if matches!(op, Op::Print) {
-                self.print();
+        match self.next {
+            Action::Load { cell } => self.keep(cell, answer.cast_unsigned(), false),
+            Action::Store { cell, value } => self.keep(cell, value, true),
+            Action::Operate { op, obj } => {
+                self.note(op.name(), obj, number);
+                if matches!(op, Op::Print) {
+                    self.print();
+                }
             }
+            Action::Quiet | Action::Mark | Action::Ended => {}
         }
         self.flow.take_answer(answer);
     }
@@ -208,7 +279,7 @@ impl<'a> ThreadRun<'a> {
     /// All quiet steps. After an Err some of them are made, and the others are still to come.
     pub fn settle(&mut self) -> Result<(), AllocError>
         ensures same { IsSameRun self.old self.new }
-        ensures lists { (self.new.entries ≡ self.old.entries) × (self.new.pieces ≡ self.old.pieces) }
+        ensures lists { (self.new.entries ≡ self.old.entries) × (self.new.pieces ≡ self.old.pieces) × (self.new.reads ≡ self.old.reads) }
         ensures thread { OnOk result (self.new.flow.kept.thread ≡ settled self.old.flow.code self.old.flow.setup self.old.flow.number self.old.flow.kept.thread) }
         ensures rest { settled self.new.flow.code self.new.flow.setup self.new.flow.number self.new.flow.kept.thread ≡ settled self.old.flow.code self.old.flow.setup self.old.flow.number self.old.flow.kept.thread }
         ensures quiet { OnOk result (next_of self.new ≢ Action.Quiet) }
@@ -223,6 +294,7 @@ impl<'a> ThreadRun<'a> {
         requires revokes { self.old.flow.kept.thread.revokes < most_revokes }
         ensures same { IsSameRun self.old self.new }
         ensures told { told_of self.new ≡ operated (told_of self.old) (gave_up self.old.flow.kept.thread lock stripe) (record { entry = entry_of self.old.flow.number self.old.flow.kept.thread name.Revoke (object.Weak lock stripe); number = number }) [] }
+        ensures reads { self.new.reads ≡ self.old.reads }
     {
         self.note(OpName::Revoke, ObjId::Weak { lock, stripe }, number);
         self.flow.give_up(lock, stripe);
@@ -234,6 +306,7 @@ impl<'a> ThreadRun<'a> {
         requires open { has_ended self.old.flow.kept.thread.phase ≡ false }
         ensures same { IsSameRun self.old self.new }
         ensures told { told_of self.new ≡ operated (told_of self.old) (stopped self.old.flow.kept.thread) (record { entry = entry_of self.old.flow.number self.old.flow.kept.thread name.Stop object.Halt; number = number }) [] }
+        ensures reads { self.new.reads ≡ self.old.reads }
     {
         self.note(OpName::Stop, ObjId::Halt, number);
         self.flow.stop();
@@ -245,6 +318,7 @@ impl<'a> ThreadRun<'a> {
         requires open { has_ended self.old.flow.kept.thread.phase ≡ false }
         ensures same { IsSameRun self.old self.new }
         ensures told { told_of self.new ≡ operated (told_of self.old) (shut self.old.flow.kept.thread) (record { entry = entry_of self.old.flow.number self.old.flow.kept.thread name.Close (object.Slot self.old.flow.number); number = number }) [] }
+        ensures reads { self.new.reads ≡ self.old.reads }
     {
         let slot = self.thread;
         self.note(OpName::Close, ObjId::Slot(slot), number);

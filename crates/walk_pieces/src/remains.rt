@@ -1,9 +1,8 @@
 // What remains of a thread's run.
 ghost use Rattle.std.specs.Prelude.{◌≡◌};
-ghost use Rattle.thread_step.specs.Steps.{told_of};
-ghost use Rattle.walk_pieces.specs.Remains.{remains_of};
+ghost use Rattle.walk_pieces.specs.Remains.{remains_in};
 
-use core_run::{Ending, Noted};
+use core_run::{Access, Ending, Formula, Noted};
 use rr_base::{Bytes, List, Trap};
 use thread_step::ThreadRun;
 
@@ -16,20 +15,26 @@ pub struct Remains {
     pub ending: Option<Ending>,
     /// The kind and the line of its trap, if it has trapped.
     pub trap: Option<(Trap, u32)>,
+    /// The formula by which accesses were kept, and these.
+    pub formula: Formula,
+    pub reads: List<Access>,
 }
 
 /// The entries of a thread, and what else remains of its run.
 pub fn into_remains(run: ThreadRun) -> (List<Noted>, Remains)
     ensures entries { result.0 ≡ run.entry.entries }
-    ensures remains { result.1 ≡ remains_of (told_of run.entry) }
+    ensures remains { result.1 ≡ remains_in run.entry }
 {
     let ending = run.ending();
     let trap = run.trap();
-    let (noted, pieces) = run.into_lists();
+    let formula = run.formula();
+    let (noted, pieces, reads) = run.into_lists();
     let remains = Remains {
         pieces: List::from_vec(pieces),
         ending,
         trap,
+        formula,
+        reads: List::from_vec(reads),
     };
     (List::from_vec(noted), remains)
 }

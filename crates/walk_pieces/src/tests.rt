@@ -1,10 +1,19 @@
 use crate::Remains;
 use crate::whole::from_remains;
-use core_run::{Ending, Walk};
+use core_run::{Ending, Formula, Walk};
 use rr_base::{Bytes, List, Trap};
 use std::alloc::Global;
 use std::test::Fail;
 use sync_objects::{Entry, ObjId, OpName};
+
+const NONE: Formula = Formula {
+    loads: false,
+    stores: false,
+    thread: None,
+    low: 1,
+    high: 0,
+    value: None,
+};
 
 // The threads of a log's entries that print, the pieces of each thread, and all bytes.
 type Row = (
@@ -50,6 +59,8 @@ fn remains_of(alloc: Global, lists: &[&[&[u8]]]) -> Result<Vec<Remains>, Fail> {
             pieces,
             ending: Some(Ending::Ended),
             trap: None,
+            formula: NONE,
+            reads: List::new(alloc),
         })?;
     }
     Ok(all)

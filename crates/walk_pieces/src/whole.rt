@@ -1,15 +1,15 @@
 // What a walk comes to that takes all entries of a run's log.
-ghost use Rattle.std.specs.Prelude.{◌≡◌, ◌≤◌, ◌<◌, ◌^◌, ◌-◌, ◌+◌, [], length, IfOk, MatchOption};
+ghost use Rattle.std.specs.Prelude.{◌≡◌, ◌≤◌, ◌<◌, ◌^◌, ◌-◌, ◌+◌, [], length, IfOk, MatchOption, true};
 ghost use Rattle.core_run.specs.Walks.{NoTrap, TrapOf, WalkIs};
 ghost use Rattle.core_run.specs.declared.access.Formula.{Formula as FormulaOf};
 ghost use Rattle.flow_code.specs.Settle.{IsRunnable};
 ghost use Rattle.flow_code.specs.declared.code.Code.{Code as CodeOf};
 ghost use Rattle.sync_objects.specs.Setup.{SetupView};
-ghost use Rattle.walk_pieces.specs.Remains.{AsksNothing, IsWalked, endings_in, trap_in};
+ghost use Rattle.walk_pieces.specs.Remains.{HaveKept, IsWalked, endings_in, reads_in, trap_in};
 
 use crate::printed::bytes_of;
 use crate::remains::Remains;
-use core_run::{Ending, Entry, Formula, Setup, Walk, walk};
+use core_run::{Access, Ending, Entry, Formula, Setup, Walk, walk};
 use flow_code::Code;
 use rr_base::{List, Trap};
 use std::alloc::{AllocError, Global};
@@ -46,17 +46,44 @@ fn first_trap(remains: &[Remains]) -> Option<(u8, Trap, u32)>
     None
 }
 
-// The walk by what remains of its threads. No accesses are asked for.
+// The accesses that were kept of the threads, in their order.
+fn reads_of(alloc: Global, remains: &[Remains]) -> Result<List<Access>, AllocError>
+    ensures { IfOk result (λ it. it ≡ reads_in remains.now) }
+{
+    let mut all = List::new(alloc);
+    let mut rest = remains;
+    while let [thread, more @ ..] = rest {
+        all.extend_from_slice(thread.reads.as_slice())?;
+        rest = more;
+    }
+    Ok(all)
+}
+
+// Whether they all have kept accesses by this formula.
+fn have_kept(formula: &Formula, remains: &[Remains]) -> bool
+    ensures { result ≡ true → HaveKept formula.now remains.now }
+{
+    let mut rest = remains;
+    while let [thread, more @ ..] = rest {
+        if thread.formula != *formula {
+            return false;
+        }
+        rest = more;
+    }
+    true
+}
+
+// The walk by what remains of its threads.
 pub(crate) fn from_remains(
     alloc: Global,
     entries: &List<Entry>,
     remains: &[Remains],
 ) -> Result<Walk, AllocError>
     requires { length remains.now ≤ 16 }
-    ensures { IfOk result (λ walk. (code : CodeOf) (s : SetupView) (f : FormulaOf) → AsksNothing f → IsWalked code s entries.now remains.now → WalkIs code s entries.now f walk) }
+    ensures { IfOk result (λ walk. (code : CodeOf) (s : SetupView) (f : FormulaOf) → HaveKept f remains.now → IsWalked code s entries.now remains.now → WalkIs code s entries.now f walk) }
 {
     let out = bytes_of(alloc, entries, remains)?;
-    let reads = List::new(alloc);
+    let reads = reads_of(alloc, remains)?;
     let ends = endings_of(alloc, remains)?;
     match first_trap(remains) {
         None => Ok(Walk::Done { out, reads, ends }),
@@ -72,7 +99,7 @@ pub(crate) fn from_remains(
 }
 
 /// The walk of the entries, at whose end all threads have ended and this remains of them. The entries are walked only where
-/// accesses are asked for.
+/// accesses were kept by another formula.
 pub fn whole_walk(
     alloc: Global,
     code: &Code,
@@ -87,9 +114,9 @@ pub fn whole_walk(
     ensures { IfOk result (WalkIs code.now setup.now entries.now formula.now) }
 {
     let _slots = setup.slots();
-    if formula.loads || formula.stores {
-        walk(alloc, code, setup, entries, formula)
-    } else {
+    if have_kept(formula, remains) {
         from_remains(alloc, entries, remains)
+    } else {
+        walk(alloc, code, setup, entries, formula)
     }
 }

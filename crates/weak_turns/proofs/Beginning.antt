@@ -1,5 +1,5 @@
 -- A carrier at its start, and after a turn.
-use Rattle.std.proofs.Common.{◌≡◌, ℕ, ◌*◌, false, List, length, refl, ap, inl, arith}
+use Rattle.std.proofs.Common.{◌≡◌, ℕ, ◌*◌, false, List, [], length, refl, ap, inl, arith}
 use Rattle.flow_code.specs.Settle.{IsRunnable, settled}
 use Rattle.core_run.specs.Machine.{Told, start_told}
 use Rattle.held_locks.proofs.StripeLaws.{has_its}
@@ -16,8 +16,8 @@ module _ (cells : Board) (t : ℕ) where
   no_stripes : HasItsStripes (start_told cells.code cells.setup t).thread
   no_stripes = has_its (start_told cells.code cells.setup t).thread (record { sorted = tt; opened = tt; listed = λ n e. cc; only = λ n e. refl })
 
-  starts : (r : Stepping) → r.flow.code ≡ cells.code → r.flow.setup ≡ cells.setup → r.flow.number ≡ t → told_of r ≡ start_told cells.code cells.setup t → Carries (start_view cells.code cells.setup t) 0 r
-  starts r code setup number told = record {
+  starts : (r : Stepping) → r.flow.code ≡ cells.code → r.flow.setup ≡ cells.setup → r.flow.number ≡ t → told_of r ≡ start_told cells.code cells.setup t → r.reads ≡ [] → Carries (start_view cells.code cells.setup t) 0 r
+  starts r code setup number told none = record {
     ahead = tt;
     shows = record {
       code_is = code;
@@ -25,6 +25,7 @@ module _ (cells : Board) (t : ℕ) where
       number_is = number;
       entries = ap (λ (z : Told). z.entries) told;
       pieces = ap (λ (z : Told). z.pieces) told;
+      reads = none;
       thread = inl (ap (λ (z : Told). settled cells.code cells.setup t z.thread) told);
     };
     stripes = no_stripes;
@@ -32,12 +33,12 @@ module _ (cells : Board) (t : ℕ) where
 
 pub sound_start : (cells : Board) (seat : Seat) (r : Stepping) (budget : ℕ) (since : List ℕ) →
     IsRunnable cells.code → IsSeatOf cells seat → view_of seat ≡ start_view cells.code cells.setup (view_of seat).from → seat.marks ≡ 0 →
-    r.flow.code ≡ cells.code → r.flow.setup ≡ cells.setup → r.flow.number ≡ (view_of seat).from → told_of r ≡ start_told cells.code cells.setup (view_of seat).from →
+    r.flow.code ≡ cells.code → r.flow.setup ≡ cells.setup → r.flow.number ≡ (view_of seat).from → told_of r ≡ start_told cells.code cells.setup (view_of seat).from → r.reads ≡ [] →
     length since ≡ 8 * length cells.code.locks →
     IsSound (record { cells = cells; seat = seat; run = r; budget = budget; turns = 0; since = since; is_out = false })
-sound_start cells seat r budget since runnable of view marks code setup number told stripes = record {
+sound_start cells seat r budget since runnable of view marks code setup number told kept stripes = record {
   runnable = runnable;
-  carrying = record { seat_of = of; carries = carries_at (start_view cells.code cells.setup (view_of seat).from) (view_of seat) 0 seat.marks r view marks (starts cells (view_of seat).from r code setup number told) };
+  carrying = record { seat_of = of; carries = carries_at (start_view cells.code cells.setup (view_of seat).from) (view_of seat) 0 seat.marks r view marks (starts cells (view_of seat).from r code setup number told kept) };
   stripes = stripes;
   listed = let none = ap (λ (z : Told). length z.entries) told in omega arith;
 }

@@ -1,6 +1,8 @@
 -- After each step the run shows the thread of its seat again.
-use Rattle.std.proofs.Common.{◌≡◌, ◌≢◌, ℕ, suc, ◌<◌, ◌&&◌, not, nat_lt, true, false, List, [], ◌∷◌, ◌++◌, ℤ, pos, refl, sym, ap, subst, ◌∙◌, inl, inr, ⊎_elim, arith}
+use Rattle.std.proofs.Common.{◌≡◌, ◌≢◌, ℕ, suc, ◌<◌, ◌^◌, ◌&&◌, not, nat_lt, true, false, List, [], ◌∷◌, ◌++◌, ℤ, pos, refl, sym, ap, subst, ◌∙◌, inl, inr, ⊎_elim, arith}
 use Rattle.std.proofs.lemmas.Bool.{lt-ltb}
+use Rattle.std.proofs.lemmas.Int.{of_z-to_z}
+use mir.Syntax.{w64}
 use Rattle.sync_objects.specs.Names.{name_of}
 use Rattle.sync_objects.specs.Words.{number_of}
 use Rattle.sync_objects.specs.declared.entry.Noted.{Noted}
@@ -12,7 +14,7 @@ use Rattle.sync_objects.specs.declared.operation.OpName.{OpName}
 use Rattle.sync_objects.specs.declared.operation.OpName.TheVariants as name
 use Rattle.abstract_machine.proofs.Calls.{is_from_outside}
 use Rattle.abstract_machine.specs.Limits.{most_entries, most_revokes}
-use Rattle.abstract_machine.specs.Values.{number}
+use Rattle.abstract_machine.specs.Values.{number, word}
 use Rattle.abstract_machine.specs.declared.event.Action.{Action}
 use Rattle.abstract_machine.specs.declared.event.Action.TheVariants as action
 use Rattle.flow_code.specs.Next.{has_begun, has_ended, holds, action_at, stepped, gave_up, stopped, shut}
@@ -20,9 +22,12 @@ use Rattle.flow_code.specs.Settle.{settled, IsRunnable}
 use Rattle.flow_code.specs.Threads.{Thread}
 use Rattle.flow_code.proofs.Asked.{own_action}
 use Rattle.flow_code.proofs.Counts.{action_counts, settled_keeps_all}
-use Rattle.core_run.specs.Machine.{Told, marked, operated, entry_of}
+use Rattle.core_run.specs.Machine.{Told, access_of, marked, operated, entry_of}
+use Rattle.core_run.specs.Shown.{with_read}
+use Rattle.core_run.specs.Walks.{kept_reads}
+use Rattle.core_run.proofs.Walked.{kept_more}
 use Rattle.core_run.specs.Pieces.{piece_next}
-use Rattle.thread_step.specs.Steps.{Stepping, IsSameRun, told_of, next_of, after}
+use Rattle.thread_step.specs.Steps.{Stepping, IsSameRun, told_of, next_of, after, reads_after}
 use Rattle.held_locks.specs.ThreadStripes.{HasItsStripes}
 use Rattle.shared_cells.specs.Seats.{view_of, place_in, AttemptIs, IsRefused, HasMoved}
 use Rattle.shared_cells.specs.Threads.{Own, way_of, pending, after_by, after_load, after_store, after_operation, IsNext, IsDueIn, IsDueBy}
@@ -144,13 +149,14 @@ module _ (v : SeatView) (n : ℕ) (r : Stepping) (c : Carries v n r) where
   is_due o obj way h = record { marks = h.marks; due = subst (λ w. IsDueBy w v.code v.setup v.from told o obj) (sym way) h.comes }
 
   module _ (q : Stepping) (same : IsSameRun r q) where
-    shows_after : (now : Told) → q.entries ≡ now.entries → q.pieces ≡ now.pieces → IsSameThread v.code v.setup v.from q.flow.kept.thread now.thread → Shows v.code v.setup v.from q now
-    shows_after now entries pieces thread = record {
+    shows_after : (now : Told) → q.entries ≡ now.entries → q.pieces ≡ now.pieces → q.reads ≡ kept_reads r.formula now → IsSameThread v.code v.setup v.from q.flow.kept.thread now.thread → Shows v.code v.setup v.from q now
+    shows_after now entries pieces reads thread = record {
       code_is = same.code ∙ c.shows.code_is;
       setup_is = same.setup ∙ c.shows.setup_is;
       number_is = same.number ∙ c.shows.number_is;
       entries = entries;
       pieces = pieces;
+      reads = reads ∙ ap (λ f. kept_reads f now) (sym same.formula);
       thread = thread;
     }
 
@@ -163,35 +169,51 @@ module _ (v : SeatView) (n : ℕ) (r : Stepping) (c : Carries v n r) where
         ∙ ap (λ z. after v.code v.setup z (told_of r) (next_of r) answer k) c.shows.number_is
         ∙ ap (λ b. after v.code v.setup v.from (told_of r) b answer k) e
 
+    -- the accesses that are kept, in the code of the seat
+    kept_so : (a : Action) (answer : ℤ) → next_of r ≡ a → q.reads ≡ reads_after r.formula r.flow.number th (next_of r) answer r.reads → q.reads ≡ reads_after r.formula v.from th a answer (kept_reads r.formula told)
+    kept_so a answer e kept =
+        kept
+        ∙ ap (λ b. reads_after r.formula r.flow.number th b answer r.reads) e
+        ∙ ap (λ k. reads_after r.formula k th a answer r.reads) c.shows.number_is
+        ∙ ap (reads_after r.formula v.from th a answer) c.shows.reads
+
     module _ (rests : IsSettled r) where
       come_if : (a : Action) → next_of r ≡ a → a ≢ action.Ended → settled v.code v.setup v.from told.thread ≡ th
       come_if a e acting = comes v n r c rests (lives_if v n r c a e acting)
 
-      pub loads : (cell w : ℕ) (answer : ℤ) → answer ≡ number w → next_of r ≡ action.Load cell → told_of q ≡ after r.flow.code r.flow.setup r.flow.number (told_of r) (next_of r) answer 0 → Carries (with_thread v (after_load v.code v.setup v.from told cell w)) 0 q
-      loads cell w answer is e left =
+      pub loads : (cell w : ℕ) (answer : ℤ) → w < 2 ^ 64 → answer ≡ number w → next_of r ≡ action.Load cell → told_of q ≡ after r.flow.code r.flow.setup r.flow.number (told_of r) (next_of r) answer 0 → q.reads ≡ reads_after r.formula r.flow.number th (next_of r) answer r.reads → Carries (with_thread v (after_load v.code v.setup v.from told cell w)) 0 q
+      loads cell w answer fits is e left kept =
           let so = leaves_so (action.Load cell) answer 0 e left in
           let come = come_if (action.Load cell) e (λ f. cc) in
+          let reads = λ (z : ℕ) (y : Thread). with_read r.formula (kept_reads r.formula told) (access_of v.from y cell z false) in
+          let here = kept_so (action.Load cell) answer e kept
+          ∙ ap (λ z. reads z th) (ap word is ∙ of_z-to_z w64 w fits)
+          ∙ ap (reads w) (sym come)
+          ∙ sym (kept_more r.formula told (stepped v.code v.setup v.from (settled v.code v.setup v.from told.thread) (number w)) (access_of v.from (settled v.code v.setup v.from told.thread) cell w false)) in
           arrives v (after_load v.code v.setup v.from told cell w) q
-          (shows_after (after_load v.code v.setup v.from told cell w) (ap (λ (z : Told). z.entries) so ∙ c.shows.entries) (ap (λ (z : Told). z.pieces) so ∙ c.shows.pieces)
+          (shows_after (after_load v.code v.setup v.from told cell w) (ap (λ (z : Told). z.entries) so ∙ c.shows.entries) (ap (λ (z : Told). z.pieces) so ∙ c.shows.pieces) here
           (inl (ap (settled v.code v.setup v.from) (ap (λ (z : Told). z.thread) so ∙ ap (stepped v.code v.setup v.from th) is ∙ ap (λ z. stepped v.code v.setup v.from z (number w)) (sym come)))))
           (stripes_stepped v.code v.setup v.from told.thread c.stripes (number w))
 
-      pub stores : (cell w : ℕ) → next_of r ≡ action.Store cell w → told_of q ≡ after r.flow.code r.flow.setup r.flow.number (told_of r) (next_of r) (pos 0) 0 → Carries (with_thread v (after_store v.code v.setup v.from told cell w)) 0 q
-      stores cell w e left =
+      pub stores : (cell w : ℕ) → next_of r ≡ action.Store cell w → told_of q ≡ after r.flow.code r.flow.setup r.flow.number (told_of r) (next_of r) (pos 0) 0 → q.reads ≡ reads_after r.formula r.flow.number th (next_of r) (pos 0) r.reads → Carries (with_thread v (after_store v.code v.setup v.from told cell w)) 0 q
+      stores cell w e left kept =
           let so = leaves_so (action.Store cell w) (pos 0) 0 e left in
           let come = come_if (action.Store cell w) e (λ f. cc) in
+          let here = kept_so (action.Store cell w) (pos 0) e kept
+          ∙ ap (λ (y : Thread). with_read r.formula (kept_reads r.formula told) (access_of v.from y cell w true)) (sym come)
+          ∙ sym (kept_more r.formula told (stepped v.code v.setup v.from (settled v.code v.setup v.from told.thread) (pos 0)) (access_of v.from (settled v.code v.setup v.from told.thread) cell w true)) in
           arrives v (after_store v.code v.setup v.from told cell w) q
-          (shows_after (after_store v.code v.setup v.from told cell w) (ap (λ (z : Told). z.entries) so ∙ c.shows.entries) (ap (λ (z : Told). z.pieces) so ∙ c.shows.pieces)
+          (shows_after (after_store v.code v.setup v.from told cell w) (ap (λ (z : Told). z.entries) so ∙ c.shows.entries) (ap (λ (z : Told). z.pieces) so ∙ c.shows.pieces) here
           (inl (ap (settled v.code v.setup v.from) (ap (λ (z : Told). z.thread) so ∙ ap (λ z. stepped v.code v.setup v.from z (pos 0)) (sym come)))))
           (stripes_stepped v.code v.setup v.from told.thread c.stripes (pos 0))
 
-      pub marks : next_of r ≡ action.Mark → told_of q ≡ after r.flow.code r.flow.setup r.flow.number (told_of r) (next_of r) (pos 0) 0 → Carries v (suc n) q
-      marks e left =
+      pub marks : next_of r ≡ action.Mark → told_of q ≡ after r.flow.code r.flow.setup r.flow.number (told_of r) (next_of r) (pos 0) 0 → q.reads ≡ reads_after r.formula r.flow.number th (next_of r) (pos 0) r.reads → Carries v (suc n) q
+      marks e left kept =
           let so = leaves_so action.Mark (pos 0) 0 e left in
           let come = come_if action.Mark e (λ f. cc) in
           record {
             ahead = (c.ahead, ap (action_at v.code v.setup v.from) come ∙ acts v n r c action.Mark e);
-            shows = shows_after (pending v (suc n)) (ap (λ (z : Told). z.entries) so ∙ c.shows.entries) (ap (λ (z : Told). z.pieces) so ∙ c.shows.pieces)
+            shows = shows_after (pending v (suc n)) (ap (λ (z : Told). z.entries) so ∙ c.shows.entries) (ap (λ (z : Told). z.pieces) so ∙ c.shows.pieces) (kept_so action.Mark (pos 0) e kept)
                 (inl (ap (settled v.code v.setup v.from) (ap (λ (z : Told). z.thread) so ∙ ap (λ z. stepped v.code v.setup v.from z (pos 0)) (sym come))));
             stripes = stripes_stepped v.code v.setup v.from told.thread c.stripes (pos 0);
           }
@@ -204,8 +226,8 @@ module _ (v : SeatView) (n : ℕ) (r : Stepping) (c : Carries v n r) where
           let few = few_marks v n r c (lives_if v n r c action.Mark e (λ f. cc)) in
           omega arith
 
-      pub operates : (o : Op) (obj : ObjId) (answer : ℤ) (k : ℕ) → way_of o obj ≡ Own → next_of r ≡ action.Operate o obj → told_of q ≡ after r.flow.code r.flow.setup r.flow.number (told_of r) (next_of r) answer k → Operated v n o obj answer k q
-      operates o obj answer k way e left = record {
+      pub operates : (o : Op) (obj : ObjId) (answer : ℤ) (k : ℕ) → way_of o obj ≡ Own → next_of r ≡ action.Operate o obj → told_of q ≡ after r.flow.code r.flow.setup r.flow.number (told_of r) (next_of r) answer k → q.reads ≡ reads_after r.formula r.flow.number th (next_of r) answer r.reads → Operated v n o obj answer k q
+      operates o obj answer k way e left kept = record {
         shows = subst (λ w. Shows v.code v.setup v.from q (after_by w v.code v.setup v.from told o obj answer k)) (sym way) (subst (λ z. Shows v.code v.setup v.from q (now z)) (sym come) here);
         stripes = subst (λ w. HasItsStripes (after_by w v.code v.setup v.from told o obj answer k).thread) (sym way) (stripes_stepped v.code v.setup v.from told.thread c.stripes answer);
       }
@@ -226,9 +248,10 @@ module _ (v : SeatView) (n : ℕ) (r : Stepping) (c : Carries v n r) where
           here = shows_after (now th)
               (ap (λ (z : Told). z.entries) so ∙ ap (λ (xs : List Noted). xs ++ x ∷ []) c.shows.entries)
               (ap (λ (z : Told). z.pieces) so ∙ ap (λ (xs : List (List ℕ)). xs ++ piece_next v.code th o) c.shows.pieces)
+              (kept_so (action.Operate o obj) answer e kept)
               (inl (ap (λ (z : Told). settled v.code v.setup v.from z.thread) so))
 
-    module _ (lives : has_ended th.phase ≡ false) where
+    module _ (lives : has_ended th.phase ≡ false) (kept : q.reads ≡ r.reads) where
       -- an entry that is made of the thread from outside
       same_entries : (o : OpName) (obj : ObjId) (k : ℕ) → q.entries ≡ r.entries ++ record { entry = entry_of r.flow.number th o obj; number = k } ∷ [] → q.entries ≡ told.entries ++ record { entry = entry_of v.from told.thread o obj; number = k } ∷ []
       same_entries o obj k e =
@@ -243,7 +266,7 @@ module _ (v : SeatView) (n : ℕ) (r : Stepping) (c : Carries v n r) where
       pub stops : (answer : ℤ) (k : ℕ) → told_of q ≡ operated (told_of r) (stopped th) (record { entry = entry_of r.flow.number th name.Stop object.Halt; number = k }) [] → Operated v n op.Stop object.Halt answer k q
       stops answer k left = record {
         shows = shows_after (after_operation v.code v.setup v.from told op.Stop object.Halt answer k)
-            (same_entries name.Stop object.Halt k (ap (λ (z : Told). z.entries) left)) (same_pieces (ap (λ (z : Told). z.pieces) left))
+            (same_entries name.Stop object.Halt k (ap (λ (z : Told). z.entries) left)) (same_pieces (ap (λ (z : Told). z.pieces) left)) (kept ∙ c.shows.reads)
             (inr (ap (λ (z : Told). has_ended z.thread.phase) left, ap (λ (z : Told). z.thread.phase) (sym left)));
         stripes = stripes_same told.thread (stopped told.thread) refl refl c.stripes;
       }
@@ -254,7 +277,7 @@ module _ (v : SeatView) (n : ℕ) (r : Stepping) (c : Carries v n r) where
           left ∙ ap (λ i. operated (told_of r) (shut th) (record { entry = entry_of r.flow.number th name.Close (object.Slot i); number = k }) []) c.shows.number_is in
           record {
             shows = shows_after (after_operation v.code v.setup v.from told op.Close (object.Slot v.from) answer k)
-                (same_entries name.Close (object.Slot v.from) k (ap (λ (z : Told). z.entries) so)) (same_pieces (ap (λ (z : Told). z.pieces) so))
+                (same_entries name.Close (object.Slot v.from) k (ap (λ (z : Told). z.entries) so)) (same_pieces (ap (λ (z : Told). z.pieces) so)) (kept ∙ c.shows.reads)
                 (inr (ap (λ (z : Told). has_ended z.thread.phase) so, ap (λ (z : Told). z.thread.phase) (sym so)));
             stripes = stripes_same told.thread (shut told.thread) refl refl c.stripes;
           }
@@ -265,7 +288,7 @@ module _ (v : SeatView) (n : ℕ) (r : Stepping) (c : Carries v n r) where
           let held : holds told.thread.stripes lock stripe ≡ true = sym ((are_alike rests lives).stripes lock stripe) ∙ has in
           record {
             shows = shows_after (after_operation v.code v.setup v.from told op.Revoke (object.Weak lock stripe) answer k)
-                (same_entries name.Revoke (object.Weak lock stripe) k (ap (λ (z : Told). z.entries) left)) (same_pieces (ap (λ (z : Told). z.pieces) left))
+                (same_entries name.Revoke (object.Weak lock stripe) k (ap (λ (z : Told). z.entries) left)) (same_pieces (ap (λ (z : Told). z.pieces) left)) (kept ∙ c.shows.reads)
                 (inl (ap (λ (z : Told). settled v.code v.setup v.from z.thread) left
                 ∙ ap (λ z. settled v.code v.setup v.from (gave_up z lock stripe)) (sym come)
                 ∙ settled_less v.code v.setup v.from runnable lock stripe told.thread (agree told.thread c.stripes) held));

@@ -10,6 +10,7 @@ use Rattle.flow_code.specs.Settle.{settled}
 use Rattle.flow_code.specs.Threads.{Thread}
 use Rattle.flow_code.proofs.Counts.{action_counts, ended_action, settled_keeps_all, settled_count}
 use Rattle.core_run.specs.Machine.{Told}
+use Rattle.core_run.specs.Walks.{kept_reads}
 use Rattle.thread_step.specs.Steps.{Stepping, IsSameRun, told_of, next_of}
 use Rattle.held_locks.specs.ThreadStripes.{HasItsStripes}
 use Rattle.shared_cells.specs.Threads.{AreMarks, after_marks, own, pending, IsNext}
@@ -26,13 +27,14 @@ module _ (code : Code) (s : SetupView) (t : ℕ) where
 
   module _ (r q : Stepping) (told : Told) (shows : Shows code s t r told) where
     -- what a run and a thread show stays, where the run changes nothing that is told
-    pub shows_told : IsSameRun r q → told_of q ≡ told_of r → Shows code s t q told
-    shows_told same e = record {
+    pub shows_told : IsSameRun r q → told_of q ≡ told_of r → q.reads ≡ r.reads → Shows code s t q told
+    shows_told same e kept = record {
       code_is = same.code ∙ shows.code_is;
       setup_is = same.setup ∙ shows.setup_is;
       number_is = same.number ∙ shows.number_is;
       entries = ap (λ (z : Told). z.entries) e ∙ shows.entries;
       pieces = ap (λ (z : Told). z.pieces) e ∙ shows.pieces;
+      reads = kept ∙ shows.reads ∙ ap (λ f. kept_reads f told) (sym same.formula);
       thread = subst (λ th. IsSameThread code s t th told.thread) (sym (ap (λ (z : Told). z.thread) e)) shows.thread;
     }
 
@@ -51,6 +53,7 @@ module _ (code : Code) (s : SetupView) (t : ℕ) where
       number_is = h.same.number ∙ shows.number_is;
       entries = h.entries ∙ shows.entries;
       pieces = h.pieces ∙ shows.pieces;
+      reads = h.reads ∙ shows.reads ∙ ap (λ f. kept_reads f told) (sym h.same.formula);
       thread = ⊎_elim (λ e. inl (rests_alike h ∙ e)) (λ x. absurd (true≢false (sym x.0 ∙ lives))) shows.thread;
     }
 
@@ -92,8 +95,8 @@ module _ (v : SeatView) (n : ℕ) (r : Stepping) (c : Carries v n r) where
   abbrev pub known : Thread
   known = (pending v n).thread
 
-  pub told_on : (q : Stepping) → IsSameRun r q → told_of q ≡ told_of r → Carries v n q
-  told_on q same e = record { ahead = c.ahead; shows = shows_told v.code v.setup v.from r q (pending v n) c.shows same e; stripes = c.stripes }
+  pub told_on : (q : Stepping) → IsSameRun r q → told_of q ≡ told_of r → q.reads ≡ r.reads → Carries v n q
+  told_on q same e kept = record { ahead = c.ahead; shows = shows_told v.code v.setup v.from r q (pending v n) c.shows same e kept; stripes = c.stripes }
 
   pub rested_on : (q : Stepping) → HasRested r q → has_ended th.phase ≡ false → Carries v n q
   rested_on q h lives = record { ahead = c.ahead; shows = shows_rested v.code v.setup v.from r q (pending v n) c.shows h lives; stripes = c.stripes }

@@ -67,6 +67,7 @@ pub record HasRested (r q : Stepping) : Type 0 where
   pub same : IsSameRun r q
   pub entries : q.entries ≡ r.entries
   pub pieces : q.pieces ≡ r.pieces
+  pub reads : q.reads ≡ r.reads
   pub rest : settled q.flow.code q.flow.setup q.flow.number q.flow.kept.thread ≡ settled r.flow.code r.flow.setup r.flow.number r.flow.kept.thread
 
 -- a turn's step, or none where memory was seen to be out, or was wanting

@@ -7,6 +7,7 @@ use Rattle.flow_code.specs.Next.{has_ended}
 use Rattle.flow_code.specs.Settle.{settled}
 use Rattle.flow_code.specs.Threads.{Thread}
 use Rattle.core_run.specs.Machine.{Told}
+use Rattle.core_run.specs.Walks.{kept_reads}
 use Rattle.held_locks.specs.ThreadStripes.{HasItsStripes}
 use Rattle.shared_cells.specs.Rule.{Board}
 use Rattle.shared_cells.specs.Seats.{IsSeatOf, view_of}
@@ -19,13 +20,14 @@ use Rattle.thread_step.specs.Steps.{Stepping}
 abbrev pub IsSameThread : Code → SetupView → ℕ → Thread → Thread → Type 0
 IsSameThread code s t th q = (settled code s t th ≡ settled code s t q) ⊎ ((has_ended th.phase ≡ true) × (q.phase ≡ th.phase))
 
--- the run shows thread t of the machine, with its entries and with what it has printed
+-- the run shows thread t of the machine, with its entries, with what it has printed, and with the accesses that it keeps of it
 pub record Shows (code : Code) (s : SetupView) (t : ℕ) (r : Stepping) (told : Told) : Type 0 where
   pub code_is : r.flow.code ≡ code
   pub setup_is : r.flow.setup ≡ s
   pub number_is : r.flow.number ≡ t
   pub entries : r.entries ≡ told.entries
   pub pieces : r.pieces ≡ told.pieces
+  pub reads : r.reads ≡ kept_reads r.formula told
   pub thread : IsSameThread code s t r.flow.kept.thread told.thread
 
 -- the next so many actions of a seat's thread are marks, and behind them it is what the run shows

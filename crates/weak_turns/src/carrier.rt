@@ -1,5 +1,5 @@
 // A thread with its seat, as a job.
-ghost use Rattle.std.specs.Prelude.{◌≡◌, ◌≤◌, IfOk, true, false};
+ghost use Rattle.std.specs.Prelude.{◌≡◌, ◌≤◌, [], IfOk, true, false};
 ghost use Rattle.std.proofs.Common.{refl, ◌∙◌};
 ghost use Rattle.core_run.specs.Machine.{start_told};
 ghost use Rattle.crew.specs.Counts.{RoseBy};
@@ -59,6 +59,7 @@ impl<'c, 'a> Carrier<'c, 'a> {
         requires setup { run.flow.setup ≡ cells.now.setup }
         requires number { run.flow.number ≡ (view_of seat).from }
         requires told { told_of run ≡ start_told cells.now.code cells.now.setup (view_of seat).from }
+        requires reads { run.reads ≡ [] }
         ensures { IfOk result (λ c. (c.cells ≡ cells.now) × (c.seat ≡ seat) × (c.run ≡ run.entry) × (c.budget ≡ budget) × (c.turns ≡ 0) × (c.is_out ≡ false)) }
     {
         let stripes = cells.code().locks.len();

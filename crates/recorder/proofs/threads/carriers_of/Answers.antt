@@ -9,7 +9,7 @@ use Rattle.recorder.proofs.threads.carriers_of.Goals as goal
 pub new-requires-clause-thread : goal.new-requires-clause-thread
 new-requires-clause-thread c =
     let n = next_seat c.args.cells.now c.args.seats.items _ c.in-Some.seat _ c.requires.seats c.requires.start (sym c.loop-seat.invariant.dealt.rest_is ∙ c.in-Some.ensures.steps.0) in
-    subst (λ k. k < c.setup.result.now.slots) (sym c.thread.ensures) (subst (λ (z : SetupView). c.in-Some.seat.thread < z.slots) (sym c.setup.ensures) n.of.within)
+    subst (λ k. k < c.setup-setup.result.now.slots) (sym c.thread.ensures) (subst (λ (z : SetupView). c.in-Some.seat.thread < z.slots) (sym c.setup-setup.ensures) n.of.within)
 
 pub new-requires-in-loop-seat-clause-seat : goal.new-requires-in-loop-seat-clause-seat
 new-requires-in-loop-seat-clause-seat c = (next_seat c.args.cells.now c.args.seats.items _ c.in-Some.seat _ c.requires.seats c.requires.start (sym c.loop-seat.invariant.dealt.rest_is ∙ c.in-Some.ensures.steps.0)).of
@@ -29,8 +29,8 @@ pub new-requires-in-loop-seat-clause-told : goal.new-requires-in-loop-seat-claus
 new-requires-in-loop-seat-clause-told c =
     let n = next_seat c.args.cells.now c.args.seats.items _ c.in-Some.seat _ c.requires.seats c.requires.start (sym c.loop-seat.invariant.dealt.rest_is ∙ c.in-Some.ensures.steps.0) in
     c.in_ok-run.ensures.told
-    ∙ ap (λ z. start_told z c.setup.result.now c.thread.result) c.code.ensures
-    ∙ ap (λ z. start_told c.args.cells.now.code z c.thread.result) c.setup.ensures
+    ∙ ap (λ z. start_told z c.setup-setup.result.now c.thread.result) c.code-code.ensures
+    ∙ ap (λ z. start_told c.args.cells.now.code z c.thread.result) c.setup-setup.ensures
     ∙ ap (start_told c.args.cells.now.code c.args.cells.now.setup) (c.thread.ensures ∙ sym n.of.thread_is)
 
 pub loop-seat-preserved : goal.loop-seat-preserved

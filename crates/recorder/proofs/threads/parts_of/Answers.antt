@@ -1,7 +1,7 @@
 use Rattle.std.proofs.Common.{◌≡◌, length, sym, ap, ◌∙◌, arith, rules, true}
 use Rattle.std.specs.Vec.Iter.{into_iter_items}
-use Rattle.thread_step.specs.Steps.{Stepping, told_of}
-use Rattle.walk_pieces.specs.Remains.{remains_of}
+use Rattle.thread_step.specs.Steps.{Stepping}
+use Rattle.walk_pieces.specs.Remains.{remains_in}
 use Rattle.weak_turns.specs.Carrying.{run_has_ended}
 use Rattle.recorder.proofs.Dealing.{takes_more, all_taken}
 use Rattle.recorder.proofs.threads.parts_of.Goals as goal
@@ -18,7 +18,7 @@ loop-carrier-preserved c =
       taken = takes_more c.args.carriers.items c.loop-carrier.seats.items c.push.new.self.items c.loop-carrier.lists c.push-in-loop-carrier.new.self c.loop-carrier.remains.items c.push-in-loop-carrier-2.new.self.items _ _ carrier parts.result.0 c.into_remains-list.result.0 c.into_remains-list.result.1 c.loop-carrier.invariant.taken c.in-Some.ensures.steps.0
           c.in_ok-push.ensures.items c.in_ok-push-2.ensures.ok c.in_ok-push-3.ensures.items parts.ensures.seat
           (c.into_remains-list.ensures.entries ∙ ap (λ (z : Stepping). z.entries) parts.ensures.run)
-          (c.into_remains-list.ensures.remains ∙ ap (λ (z : Stepping). remains_of (told_of z)) parts.ensures.run) parts.ensures.sound (sym (ap run_has_ended parts.ensures.run) ∙ ended);
+          (c.into_remains-list.ensures.remains ∙ ap remains_in parts.ensures.run) parts.ensures.sound (sym (ap run_has_ended parts.ensures.run) ∙ ended);
       long = omega (arith, items, counts, long);
     }
 

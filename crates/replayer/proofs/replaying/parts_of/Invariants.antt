@@ -1,7 +1,7 @@
 use Rattle.std.proofs.Common.{◌≡◌, ◌++◌, map}
 use Rattle.std.specs.Vec.Iter.{into_iter_items}
 use Rattle.replayer.specs.Following.{Following}
-use Rattle.replayer.specs.Replays.{remains_in}
+use Rattle.walk_pieces.specs.Remains.{remains_in}
 use Rattle.replayer.proofs.replaying.parts_of.Given as goal
 
 abbrev pub invariant-loop-follower : goal.invariant-loop-follower
@@ -9,5 +9,5 @@ invariant-loop-follower l = record {
   can_next : (goal.iterator-loop-follower).can_next l.follower-iterator;
   is_finite : (goal.iterator-loop-follower).is_finite l.follower-iterator;
   seats : map (λ (f : Following). f.seat) l.fn.followers.items ≡ l.seats.items ++ map (λ (f : Following). f.seat) (into_iter_items l.follower-iterator);
-  remains : map remains_in l.fn.followers.items ≡ l.remains.items ++ map remains_in (into_iter_items l.follower-iterator);
+  remains : map (λ (f : Following). remains_in f.run) l.fn.followers.items ≡ l.remains.items ++ map (λ (f : Following). remains_in f.run) (into_iter_items l.follower-iterator);
 }

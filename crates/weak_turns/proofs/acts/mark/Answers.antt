@@ -20,5 +20,5 @@ returns-clause-carrying c =
     let one : suc old.marks ≡ old.marks + 1 = omega arith in
     record {
       seat_of = c.requires.carrying.seat_of;
-      carries = subst (λ k. Carries v k q) one (marks v old.marks c.args.run.now c.requires.carrying.carries q c.take_answer.ensures.same c.requires.settled c.requires.next c.take_answer.ensures.told);
+      carries = subst (λ k. Carries v k q) one (marks v old.marks c.args.run.now c.requires.carrying.carries q c.take_answer.ensures.same c.requires.settled c.requires.next c.take_answer.ensures.told c.take_answer.ensures.reads);
     }

@@ -24,5 +24,5 @@ returns-clause-carrying c =
     record {
       seat_of = c.store.ensures.seat;
       carries = carries_at (with_thread v (after_store v.code v.setup v.from (pending v n) c.args.cell c.args.value)) _ 0 _ q c.store.ensures.view c.store.ensures.marks
-          (stores v n r c.requires.carrying.carries q c.take_answer.ensures.same c.requires.settled c.args.cell c.args.value c.requires.next c.take_answer.ensures.told);
+          (stores v n r c.requires.carrying.carries q c.take_answer.ensures.same c.requires.settled c.args.cell c.args.value c.requires.next c.take_answer.ensures.told c.take_answer.ensures.reads);
     }

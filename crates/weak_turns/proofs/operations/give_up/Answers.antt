@@ -18,5 +18,5 @@ returns-in-Done-clause-carrying c =
     record {
       seat_of = c.in-Done.ensures.seat;
       carries = done old _ q op.Revoke (object.Weak c.args.place.lock c.args.place.stripe) c.in-Done.answer c.in-Done.number c.in-Done.ensures.is
-          (gives_up (view_of old) old.marks r h.carries q c.give_up.ensures.same c.requires.open c.args.place.lock c.args.place.stripe c.in-Done.answer c.in-Done.number (subst IsRunnable (sym h.seat_of.code_is) c.requires.runnable) c.requires.settled c.requires.held c.give_up.ensures.told);
+          (gives_up (view_of old) old.marks r h.carries q c.give_up.ensures.same c.requires.open c.give_up.ensures.reads c.args.place.lock c.args.place.stripe c.in-Done.answer c.in-Done.number (subst IsRunnable (sym h.seat_of.code_is) c.requires.runnable) c.requires.settled c.requires.held c.give_up.ensures.told);
     }

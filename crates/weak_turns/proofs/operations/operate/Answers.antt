@@ -3,7 +3,7 @@ use Rattle.std.proofs.lemmas.Int.{to_z-of_z}
 use mir.Syntax.{w64}
 use Rattle.flow_code.specs.Settle.{IsRunnable}
 use Rattle.shared_cells.specs.Seats.{view_of}
-use Rattle.thread_step.specs.Steps.{told_of, next_of, after}
+use Rattle.thread_step.specs.Steps.{told_of, next_of, after, reads_after}
 use Rattle.weak_turns.proofs.Moving.{own_due, is_due, operates, done}
 use Rattle.weak_turns.proofs.operations.operate.Goals as goal
 
@@ -27,9 +27,11 @@ returns-in-Done-clause-carrying c =
     let number = c.in-Done.number in
     let left : told_of q ≡ after r.flow.code r.flow.setup r.flow.number (told_of r) (next_of r) answer number =
     c.take_answer.ensures.told ∙ ap (λ z. after r.flow.code r.flow.setup r.flow.number (told_of r) (next_of r) z number) (to_z-of_z w64 answer (search rules)) in
+    let kept : q.reads ≡ reads_after r.formula r.flow.number r.flow.kept.thread (next_of r) answer r.reads =
+    c.take_answer.ensures.reads ∙ ap (λ z. reads_after r.formula r.flow.number r.flow.kept.thread (next_of r) z r.reads) (to_z-of_z w64 answer (search rules)) in
     let own = own_due v old.marks r h.carries c.args.op c.args.obj (subst IsRunnable (sym h.seat_of.code_is) c.requires.runnable) c.requires.settled c.requires.next in
     record {
       seat_of = c.in-Done.ensures.seat;
       carries = done old _ q c.args.op c.args.obj answer number c.in-Done.ensures.is
-          (operates v old.marks r h.carries q c.take_answer.ensures.same c.requires.settled c.args.op c.args.obj answer number own.0 c.requires.next left);
+          (operates v old.marks r h.carries q c.take_answer.ensures.same c.requires.settled c.args.op c.args.obj answer number own.0 c.requires.next left kept);
     }

@@ -21,5 +21,5 @@ returns-in-Done-clause-carrying c =
     record {
       seat_of = c.in-Done.ensures.seat;
       carries = done old c.attempt.new.seat q op.Close (object.Slot (view_of old).from) c.in-Done.answer c.in-Done.number came
-          (shuts (view_of old) old.marks c.args.run.now h.carries q c.shut.ensures.same c.requires.open c.in-Done.answer c.in-Done.number c.shut.ensures.told);
+          (shuts (view_of old) old.marks c.args.run.now h.carries q c.shut.ensures.same c.requires.open c.shut.ensures.reads c.in-Done.answer c.in-Done.number c.shut.ensures.told);
     }

@@ -14,5 +14,5 @@ returns-in-Done-clause-carrying c =
     record {
       seat_of = c.in-Done.ensures.seat;
       carries = done old _ q op.Stop object.Halt c.in-Done.answer c.in-Done.number c.in-Done.ensures.is
-          (stops (view_of old) old.marks c.args.run.now c.requires.carrying.carries q c.stop.ensures.same c.requires.open c.in-Done.answer c.in-Done.number c.stop.ensures.told);
+          (stops (view_of old) old.marks c.args.run.now c.requires.carrying.carries q c.stop.ensures.same c.requires.open c.stop.ensures.reads c.in-Done.answer c.in-Done.number c.stop.ensures.told);
     }
