@@ -2,6 +2,10 @@
 //! race, its weak locks, and which functions were at work at once; and it makes a large source. It stands on `jobs`, which promises what its words and files come to.
 #![tactic(auto)]
 
+ghost use Rattle.std.specs.Prelude.{◌≡◌, drop, map, string_bytes};
+ghost use Rattle.std.specs.Process.{exit_status};
+ghost use Rattle.chimera.specs.Mains.{IsEndOf};
+
 #[cfg(test)]
 mod make_tests;
 #[cfg(test)]
@@ -26,38 +30,67 @@ mod whole_tests;
 use answers::{FileShelf, InSource, OutSink};
 use crew::ScopeCrew;
 use jobs::chimera;
+use std::alloc::Global;
 use std::env;
-use std::io::{self, ErrorKind};
+use std::io::{self, ErrorKind, Read, Write};
 use std::process::ExitCode;
 use std::rt::Files;
+use std::sync::Wait;
+use std::thread::Threads;
 
-// The words behind the program's name.
-fn words(rt: &(impl std::rt::Env + AllocGlobal)) -> io::Result<Vec<String>> {
+// All words of the command line, the program's name first.
+fn command_line(rt: &(impl std::rt::Env + AllocGlobal)) -> io::Result<Vec<String>> {
     let mut words = Vec::new(rt.alloc());
-    for word in env::args(rt)?.skip(1) {
+    for word in env::args(rt)? {
         words.push(word)?;
     }
     Ok(words)
 }
 
+// The words behind the program's name.
+fn behind_name(mut line: Vec<String>) -> Vec<String>
+    ensures { result.items ≡ drop 1 line.items }
+{
+    if !line.is_empty() {
+        let _name = line.remove(0);
+    }
+    line
+}
+
+// Does what the words ask for, on these streams and the system's files and threads.
+fn run<R: Threads + Wait + Sync + Files, I: Read + Drop, O: Write + Drop>(
+    rt: &R,
+    alloc: Global,
+    words: &[String],
+    input: I,
+    out: O,
+) -> ExitCode
+    ensures { IsEndOf (map string_bytes words.now) (exit_status result) }
+{
+    ExitCode::from(chimera(
+        rt,
+        alloc,
+        words,
+        &mut InSource::new(input),
+        &mut OutSink::new(out),
+        &mut FileShelf::new(rt),
+        &mut ScopeCrew::new(),
+    ))
+}
+
 fn main(rt: HostRuntime) -> ExitCode {
-    let words = match words(&rt) {
-        Ok(words) => words,
+    let line = match command_line(&rt) {
+        Ok(line) => line,
         Err(error) if error.kind() == ErrorKind::OutOfMemory => return ExitCode::from(12),
         // Words that aren't text are no job.
         Err(_) => Vec::new(rt.alloc()),
     };
-    let mut input = InSource::new(rt.stdin());
-    let mut out = OutSink::new(io::writer(&rt));
-    let mut shelf = FileShelf::new(&rt);
-    let mut crew = ScopeCrew::new();
-    ExitCode::from(chimera(
+    let words = behind_name(line);
+    run(
         &rt,
         rt.alloc(),
         words.as_slice(),
-        &mut input,
-        &mut out,
-        &mut shelf,
-        &mut crew,
-    ))
+        rt.stdin(),
+        io::writer(&rt),
+    )
 }
