@@ -1,5 +1,5 @@
 -- What expressions with commas between them and calls are, by what was made of their parts.
-use Rattle.std.proofs.Common.{◌≡◌, Option, None, sym, ap, ◌∙◌}
+use Rattle.std.proofs.Common.{◌≡◌, [], Option, sym, ap, ◌∙◌}
 use Rattle.c_lexer.specs.Bytes.{Text}
 use Rattle.rr_base.specs.declared.position.Position.{Position}
 use Rattle.c_tree.specs.Tree.{Exp, Exps, comma, call}
@@ -15,13 +15,13 @@ placed : (e e1 : Exp) (place : Position) → place ≡ position_of (own_place e)
 placed e e1 place at is = at ∙ ap (λ (z : Exp). position_of (own_place z)) is
 
 pub comma_is : (h : Here) (w : Target) (e a : Exp) (es es1 : Exps) (at : Position) (p : Part) (tail : Option core.Exp) (place : Position) →
-    e ≡ comma a es at → place ≡ position_of (own_place e) → es1 ≡ es → tail ≡ tail_of h es1 None place → p ≡ part h no_target a →
+    e ≡ comma a es at → place ≡ position_of (own_place e) → es1 ≡ es → tail ≡ tail_of h es1 [] place → p ≡ part h no_target a →
     held_value (with_tail (value_in p) tail place) ≡ held h w e
 comma_is h w e a es es1 at p tail place is there same is_tail is_p =
     ap (λ (z : Part). held_value (with_tail (value_in z) tail place)) is_p
     ∙ (ap (λ (z : Option core.Exp). held_value (with_tail (value_of h a) z place)) is_tail
-    ∙ (ap (λ (z : Exps). held_value (with_tail (value_of h a) (tail_of h z None place) place)) same
-    ∙ (ap (λ (z : Position). held_value (with_tail (value_of h a) (tail_of h es None z) z)) (placed e (comma a es at) place there is)
+    ∙ (ap (λ (z : Exps). held_value (with_tail (value_of h a) (tail_of h z [] place) place)) same
+    ∙ (ap (λ (z : Position). held_value (with_tail (value_of h a) (tail_of h es [] z) z)) (placed e (comma a es at) place there is)
     ∙ sym (ap (held h w) is))))
 
 pub call_is : (h : Here) (w : Target) (e : Exp) (name name1 : Text) (es es1 : Exps) (at place : Position) →

@@ -22,6 +22,7 @@ use Rattle.c_elaborate.specs.Held.{position_of, Held, held_register, held_cells,
 use Rattle.c_elaborate.specs.Here.{Source, Here, site_at, home_of, global_named, offset_in}
 use Rattle.c_elaborate.specs.Operators.{binary_in, conditional_in, index_in, stepped_in, assigned_in, prefix_in, cast_in, member_in, arrow_in}
 use Rattle.c_elaborate.specs.Calls.{operand_for, called}
+use Rattle.c_elaborate.specs.Commas.{with_last, joined}
 
 -- ---- constants
 
@@ -56,18 +57,13 @@ is_pointer_type (Some t) = is_pointing (type_operand t)
 
 -- ---- expressions
 
--- one word behind another, whose value is let go
-abbrev pub behind : Option core.Exp → core.Exp → Position → core.Exp
-behind None e at = e
-behind (Some before) e at = core.comma before e at
-
 abbrev pub with_tail : core.Exp → Option core.Exp → Position → core.Exp
 with_tail e None at = e
 with_tail e (Some tail) at = core.comma e tail at
 
 abbrev mutual
   pub held : Here → Target → Exp → Held
-  held h w (comma e es at) = held_value (with_tail (value_by (standing h.known no_target e) (held h no_target e)) (tail_of h es None (position_of at)) (position_of at))
+  held h w (comma e es at) = held_value (with_tail (value_by (standing h.known no_target e) (held h no_target e)) (tail_of h es [] (position_of at)) (position_of at))
   held h w (assign a op b at) =
       held_value (assigned_in h.source op (part_by (standing h.known no_target a) (held h no_target a)) (part_by (standing h.known (assigned_target op (standing h.known no_target a)) b) (held h (assigned_target op (standing h.known no_target a)) b)) (position_of at))
   held h w (conditional a b c at) =
@@ -95,9 +91,9 @@ abbrev mutual
   held h w (paren a at) = held h w a
 
   -- expressions with commas between them, behind those so far: each is computed
-  pub tail_of : Here → Exps → Option core.Exp → Position → Option core.Exp
-  tail_of h no_exp so_far at = so_far
-  tail_of h (and_exp e es) so_far at = tail_of h es (Some (behind so_far (value_by (standing h.known no_target e) (held h no_target e)) at)) at
+  pub tail_of : Here → Exps → List (Option core.Exp) → Position → Option core.Exp
+  tail_of h no_exp so_far at = joined so_far None at
+  tail_of h (and_exp e es) so_far at = tail_of h es (with_last (value_by (standing h.known no_target e) (held h no_target e)) so_far at) at
 
   -- the operands of a call, each as it is wanted
   pub arguments : Here → List Wanted → Exps → List core.Exp

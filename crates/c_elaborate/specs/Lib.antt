@@ -2,6 +2,7 @@ pub mod Held
 pub mod Here
 pub mod Operators
 pub mod Calls
+pub mod Commas
 pub mod Expressions
 pub mod Initials
 pub mod Statements

@@ -1,12 +1,14 @@
 -- How what the crate holds shows.
-use Rattle.std.specs.Prelude.{ℕ, List, map}
+use Rattle.std.specs.Prelude.{ℕ, List, Option, map, reverse}
 use Rattle.std.specs.Borrow.{Bor}
 use Rattle.indexmap.specs.IndexMap.{IndexMap}
 use Rattle.c_lexer.specs.Bytes.{Text}
 use Rattle.c_types.specs.Shown.{shown_standing}
 use Rattle.c_programs.specs.Table.{known_of}
 use Rattle.c_sites.specs.NumberTables.{numbered_of}
-use Rattle.c_core.specs.View.{exp_of}
+use Rattle.c_core.specs.declared.value.Value.{Value}
+use Rattle.c_core.specs.Core.{Exp}
+use Rattle.c_core.specs.View.{exp_of, maybe_of}
 use Rattle.c_elaborate.specs.declared.held.Held.{Held as RustHeld}
 use Rattle.c_elaborate.specs.declared.held.Held.TheVariants as rust
 use Rattle.c_elaborate.specs.declared.held.Part.{Part as RustPart}
@@ -24,6 +26,10 @@ held_of (rust.Value e) = held_value (exp_of e)
 
 abbrev pub part_of : RustPart → Part
 part_of p = part_by (shown_standing p.standing) (held_of p.held)
+
+-- words so far, of which the last place stands last
+abbrev pub places_of : List (Option Value) → List (Option Exp)
+places_of places = map maybe_of (reverse places)
 
 abbrev pub globals_of : {S : Type 0} → IndexMap (Bor Text) ℕ S → List (Text × ℕ)
 globals_of gs = map (λ e. (e.0.now, e.1)) gs.entries

@@ -1,5 +1,5 @@
 //! The core tree of an expression (C99 6.5).
-ghost use Rattle.std.specs.Prelude.{◌≡◌, true, if◌then◌else◌, IfOk, None, map};
+ghost use Rattle.std.specs.Prelude.{◌≡◌, [], true, if◌then◌else◌, IfOk, map};
 ghost use Rattle.c_tree.specs.Tree.{listed};
 ghost use Rattle.rr_base.specs.Positions.{position_at};
 ghost use Rattle.c_tree.specs.Tree as trees;
@@ -20,6 +20,7 @@ ghost use Rattle.c_elaborate.specs.Expressions as spec;
 ghost use Rattle.c_elaborate.specs.Views.{held_of, here_of, part_of};
 
 use crate::calls::{called, push_argument};
+use crate::commas::{joined, push_last};
 use crate::held::{Held, Part, is_pointing};
 use crate::here::{Here, site_at};
 use crate::home::Home;
@@ -116,21 +117,6 @@ pub fn is_pointer_type(of: Option<TypeRef>) -> bool
     match of {
         None => false,
         Some(of) => is_pointing(Operand::of_type(of)),
-    }
-}
-
-/// One word behind another, whose value is let go.
-fn behind(
-    alloc: Global,
-    before: Option<Value>,
-    value: Value,
-    at: Position,
-) -> Result<Value, AllocError>
-    ensures { IfOk result (λ v. exp_of v ≡ spec.behind (maybe_of before) (exp_of value) at) }
-{
-    match before {
-        None => Ok(value),
-        Some(before) => make::comma(alloc, before, value, at),
     }
 }
 
@@ -397,15 +383,15 @@ fn tail_of(
     es: &[Expr],
     at: Position,
 ) -> Result<Option<Value>, AllocError>
-    ensures { IfOk result (λ v. maybe_of v ≡ spec.tail_of (here_of here.entry) (listed (map tree.exp_of es.now)) None at) }
+    ensures { IfOk result (λ v. maybe_of v ≡ spec.tail_of (here_of here.entry) (listed (map tree.exp_of es.now)) [] at) }
 {
-    let mut so_far = None;
+    let mut so_far = List::new(alloc);
     for e in es {
         let next = part(alloc, here, Target::No, e)?;
         let next = next.into_value(alloc)?;
-        so_far = Some(behind(alloc, so_far, next, at)?);
+        push_last(alloc, &mut so_far, next, at)?;
     }
-    Ok(so_far)
+    joined(alloc, so_far, at)
 }
 
 /// The operands of a call, each as it is wanted.

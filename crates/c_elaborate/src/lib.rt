@@ -3,6 +3,7 @@
 #![tactic(auto)]
 
 mod calls;
+mod commas;
 mod expression;
 mod functions;
 mod globals;

@@ -1,5 +1,5 @@
 -- An expression without a fault: what stands for it is there, and is of the kind that is known of it.
-use Rattle.std.proofs.Common.{◌≡◌, ℕ, suc, pred, true, false, not, ◌&&◌, List, [], ◌∷◌, length, Option, Some, None, refl, sym, ap, subst, arith}
+use Rattle.std.proofs.Common.{◌≡◌, ℕ, suc, pred, true, false, not, ◌&&◌, List, [], ◌∷◌, length, Option, Some, refl, sym, ap, subst, arith}
 use Rattle.abstract_machine.specs.declared.operator.BinaryOp.TheVariants as flow
 use Rattle.c_tree.specs.declared.ctype.CType.{CType}
 use Rattle.c_tree.specs.Tree.{Exp, comma, assign, conditional, binary, prefix, sizeof_exp, sizeof_type, cast, index, member, arrow, post_increment, post_decrement, named, call, number, letter, text, null, paren, Exps, no_exp, and_exp}
@@ -21,6 +21,7 @@ use Rattle.c_core.specs.Core.{Function, Program}
 use Rattle.c_elaborate.specs.Held.{Held, held_value, held_zero, value_by, position_of}
 use Rattle.c_elaborate.specs.Here.{Here, site_at, offset_in}
 use Rattle.c_elaborate.specs.Operators.{conditional_in, binary_in, prefix_in, cast_in}
+use Rattle.c_elaborate.specs.Commas.{with_last}
 use Rattle.c_elaborate.specs.Expressions.{with_tail, is_pointer_type, held, tail_of, part}
 use Rattle.flow_lower.specs.Sound.{IsSoundExp}
 use Rattle.source_sound.proofs.Environment.{IsFormedTarget, AreKept, places_of, Suits, HaveSites}
@@ -33,6 +34,7 @@ use Rattle.source_sound.proofs.Calls.{AreWanted}
 use Rattle.source_sound.proofs.Names.{type_known, sized_type}
 use Rattle.source_sound.proofs.Called.{AllFit, no_arguments, argument_fits, called_stands}
 use Rattle.source_sound.proofs.Targets.{IsKnownType, formed_assigned_target, formed_cast_target, sites_apart, sites_apart₃, malloc_site, kept_apart, kept_apart₃}
+use Rattle.source_sound.proofs.Commas.{AllSound, LastStands, Joined, with_last_sound, with_last_stands, behind_last, joined_stands}
 use Rattle.source_sound.proofs.Nodes.{folded_here, sized_stands, number_stands, named_stands, steps_stands, assigns_stands, prefixed_stands, casts_stand, comma_stands, gone_stands, behind_stands}
 
 module _ (p : Program) (home : ℕ → Option ℕ) (f : Function) (h : Here) (suits : Suits p home f h) where
@@ -67,23 +69,14 @@ module _ (p : Program) (home : ℕ → Option ℕ) (f : Function) (h : Here) (su
 
   -- ---- commas
 
-  -- the word behind those so far
-  record Tail (s : Standing) (es : Exps) (before : Option core.Exp) (at : Position) : Type 0 where
-    last : core.Exp
-    is : tail_of h es before at ≡ Some last
-    stands_last : stands (last_standing h.known s es) (held_value last)
+  -- the word that comes behind those so far
+  abbrev Tail : Standing → Exps → List (Option core.Exp) → Position → Type 0
+  Tail s es places at = Joined p home f h suits (last_standing h.known s es) (tail_of h es places at)
 
-  tail_ends : (s : Standing) (v : core.Exp) (at : Position) → stands (as_value s) (held_value v) → Tail s no_exp (Some v) at
-  tail_ends s v at k = record { last = v; is = refl; stands_last = k }
-
-  comma_tail : (s : Standing) (v : core.Exp) (e : Exp) (es : Exps) (at : Position) → IsSoundExp p home f v → Tail (behind s (let_go (standing h.known no_target e))) es (Some (word e)) at →
-      stands (last_standing h.known s (and_exp e es)) (held_value (with_tail v (tail_of h (and_exp e es) None at) at))
-  comma_tail s v e es at sound t =
-      subst (λ z. stands (last_standing h.known s (and_exp e es)) (held_value (with_tail v z at))) (sym t.is)
-      (comma_stands p home f h suits (last_standing h.known s (and_exp e es)) v t.last at sound t.stands_last)
-
-  next_tail : (s : Standing) (v : core.Exp) (e : Exp) (es : Exps) (at : Position) → Tail (behind s (let_go (standing h.known no_target e))) es (Some (core.comma v (word e) at)) at → Tail s (and_exp e es) (Some v) at
-  next_tail s v e es at t = record { last = t.last; is = t.is; stands_last = t.stands_last }
+  comma_tail : (s : Standing) (v : core.Exp) (es : Exps) (at : Position) → IsSoundExp p home f v → Tail s es [] at → stands (last_standing h.known s es) (held_value (with_tail v (tail_of h es [] at) at))
+  comma_tail s v es at sound t =
+      subst (λ z. stands (last_standing h.known s es) (held_value (with_tail v z at))) (sym t.is)
+      (comma_stands p home f h suits (last_standing h.known s es) v t.last at sound t.stands_last)
 
   -- ---- arguments
 
@@ -119,9 +112,9 @@ module _ (p : Program) (home : ℕ → Option ℕ) (f : Function) (h : Here) (su
         let g' = gives_here no_target x s' in
         let gone = gone_stands p home f h suits e (word e) s none'.1 g.kind g.sound in
         let gone' = gone_stands p home f h suits x (word x) s' more.1 g'.kind g'.sound in
-        comma_tail (let_go (standing h.known no_target e)) (word e) x xs (position_of at) g.sound
-        (tail_stands xs (behind (let_go (standing h.known no_target e)) (let_go (standing h.known no_target x))) (word x) (position_of at)
-        (behind_stands p home f h suits (let_go (standing h.known no_target e)) (let_go (standing h.known no_target x)) (word e) (word x) gone gone') g'.sound more.2 sites''.1 kept''.1)
+        comma_tail (let_go (standing h.known no_target e)) (word e) (and_exp x xs) (position_of at) g.sound
+        (tail_stands xs (behind (let_go (standing h.known no_target e)) (let_go (standing h.known no_target x))) (Some (word x) ∷ []) (position_of at)
+        (behind_stands p home f h suits (let_go (standing h.known no_target e)) (let_go (standing h.known no_target x)) (word e) (word x) gone gone') (g'.sound, tt) more.2 sites''.1 kept''.1)
     exp_stands (assign a o b at) w none sites kept formed =
         let sa = standing h.known no_target a in
         let w' = assigned_target o sa in
@@ -208,18 +201,19 @@ module _ (p : Program) (home : ℕ → Option ℕ) (f : Function) (h : Here) (su
     exp_stands (paren a at) w none sites kept formed = exp_stands a w none sites kept formed
 
     -- the expressions behind a comma
-    tail_stands : (es : Exps) (s : Standing) (v : core.Exp) (at : Position) → stands (as_value s) (held_value v) → IsSoundExp p home f v → rest_faults h.known es ≡ [] → HaveSites p home f h (places_of (all_allocations h.known es)) → AreKept h (all_addressed h.numbers es) → Tail s es (Some v) at
-    tail_stands no_exp s v at k sound none sites kept = tail_ends s v at k
-    tail_stands (and_exp x xs) s v at k sound none sites kept =
+    tail_stands : (es : Exps) (s : Standing) (places : List (Option core.Exp)) (at : Position) → LastStands p home f h suits (as_value s) places → AllSound p home f h suits places → rest_faults h.known es ≡ [] → HaveSites p home f h (places_of (all_allocations h.known es)) → AreKept h (all_addressed h.numbers es) → Tail s es places at
+    tail_stands no_exp s places at last sound none sites kept = joined_stands p home f h suits (as_value s) places at sound last
+    tail_stands (and_exp x xs) s places at last sound none sites kept =
         let more = append_nil₃ (faults h.known no_target x) (go_faults (standing h.known no_target x) x) (rest_faults h.known xs) none in
         let sites' = sites_apart p home f h (allocations h.known no_target x) (all_allocations h.known xs) sites in
         let kept' = kept_apart h (addressed h.numbers x) (all_addressed h.numbers xs) kept in
         let s' = exp_stands x no_target more.0 sites'.0 kept'.0 tt in
         let g = gives_here no_target x s' in
-        let both_words = core.comma v (word x) at in
-        let gone = gone_stands p home f h suits x both_words s' more.1 g.kind (sound, g.sound) in
-        next_tail s v x xs at (tail_stands xs (behind s (let_go (standing h.known no_target x))) both_words at
-        (behind_stands p home f h suits s (let_go (standing h.known no_target x)) v both_words k gone) (sound, g.sound) more.2 sites'.1 kept'.1)
+        let gone = gone_stands p home f h suits x (word x) s' more.1 g.kind g.sound in
+        let next = behind s (let_go (standing h.known no_target x)) in
+        let stands_next = behind_last p home f h suits s (let_go (standing h.known no_target x)) places (word x) last gone in
+        tail_stands xs next (with_last (word x) places at) at (with_last_stands p home f h suits (as_value next) (word x) places at stands_next sound)
+        (with_last_sound p home f h suits (word x) places at g.sound sound) more.2 sites'.1 kept'.1
 
     pub arguments_fit : (es : Exps) (ws : List Wanted) (at : Position) → arguments_faults h.known ws at es ≡ [] → HaveSites p home f h (places_of (all_allocations h.known es)) → AreKept h (all_addressed h.numbers es) → count_of es ≡ length ws → AreWanted ws → AllFit p home f h suits ws es
     arguments_fit no_exp [] at none sites kept c v = no_arguments p home f h suits

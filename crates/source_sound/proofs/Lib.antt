@@ -6,6 +6,7 @@ pub mod Called
 pub mod Calls
 pub mod Changes
 pub mod Choices
+pub mod Commas
 pub mod Declarations
 pub mod DeclaredTypes
 pub mod Definitions

@@ -1,17 +1,17 @@
-use Rattle.std.proofs.Common.{◌≡◌, ◌++◌, None, drop, map}
+use Rattle.std.proofs.Common.{◌≡◌, [], ◌++◌, drop, map}
 use Rattle.c_tree.specs.Tree.{listed}
 use Rattle.c_tree.specs.View as tree
 use Rattle.c_types.specs.Shown.{shown_wants}
-use Rattle.c_core.specs.View.{exp_of, maybe_of}
+use Rattle.c_core.specs.View.{exp_of}
 use Rattle.c_elaborate.specs.Expressions as spec
-use Rattle.c_elaborate.specs.Views.{here_of}
+use Rattle.c_elaborate.specs.Views.{here_of, places_of}
 use Rattle.c_elaborate.proofs.expression.+expression.Given as goal
 
 -- what is computed and the rest make the whole
 abbrev pub invariant-tail_of-loop-e : goal.invariant-tail_of-loop-e
 invariant-tail_of-loop-e l =
-    spec.tail_of (here_of l.here) (listed (map tree.exp_of (drop l.e-index l.es))) (maybe_of l.so_far) l.at
-    ≡ spec.tail_of (here_of l.fn.here) (listed (map tree.exp_of l.fn.es)) None l.fn.at
+    spec.tail_of (here_of l.here) (listed (map tree.exp_of (drop l.e-index l.es))) (places_of l.so_far) l.at
+    ≡ spec.tail_of (here_of l.fn.here) (listed (map tree.exp_of l.fn.es)) [] l.fn.at
 
 -- what is pushed and the rest make the whole
 abbrev pub invariant-arguments-loop-e : goal.invariant-arguments-loop-e
