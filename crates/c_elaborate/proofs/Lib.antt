@@ -6,3 +6,4 @@ pub mod Nested
 pub mod Offsets
 pub mod Pieces
 pub mod Rows
+pub mod Turns

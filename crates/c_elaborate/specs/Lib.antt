@@ -8,5 +8,6 @@ pub mod Initials
 pub mod Statements
 pub mod Functions
 pub mod Globals
+pub mod Turns
 pub mod Whole
 pub mod Views

@@ -11,10 +11,12 @@ mod held;
 mod here;
 mod home;
 mod initials;
+mod laws;
 mod local;
 mod make;
 mod operators;
 mod statement;
 mod whole;
 
+pub use laws::law_commas;
 pub use whole::elaborate;
