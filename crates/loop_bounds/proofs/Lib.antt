@@ -3,6 +3,7 @@ pub mod Entered
 pub mod Innermost
 pub mod Making
 pub mod Marks
+pub mod Placed
 pub mod Pointing
 pub mod Raising
 pub mod Regions

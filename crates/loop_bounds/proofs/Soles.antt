@@ -43,7 +43,7 @@ pub record Makerless (is : List Instr) (r n : ℕ) : Type 0 where
   pub none : count_by (λ i. assigns r (Some i.act)) (take n is) ≡ 0
   pub unmade : (j : ℕ) → j < n → assigns r (nth is j) ≡ true → ⊥
 
-abbrev Fits : List Instr → (r n : ℕ) → Option (Option ℕ) → Type 0
+abbrev pub Fits : List Instr → (r n : ℕ) → Option (Option ℕ) → Type 0
 Fits is r n None = Makerless is r n
 Fits is r n (Some None) = 2 ≤ count_by (λ i. assigns r (Some i.act)) (take n is)
 Fits is r n (Some (Some q)) = Sole is r n q
@@ -69,7 +69,7 @@ fits_next is r n false (Some (Some q)) e c h = let z = h.one in let w = h.within
   alone = λ j lt m. ⊎_elim (λ (l : j < n). h.alone j l m) (λ (g : n ≤ j). let same : j ≡ n = omega arith in absurd (true≢false (sym m ∙ ap (λ k. assigns r (nth is k)) same ∙ e))) (cases_lt j n);
 }
 
-fits : (is : List Instr) (r n : ℕ) → n ≤ length is → Fits is r n (makers_in is n r)
+pub fits : (is : List Instr) (r n : ℕ) → n ≤ length is → Fits is r n (makers_in is n r)
 fits is r zero le = record { none = refl; unmade = λ j lt m. absurd (omega arith) }
 fits is r (suc n) le =
     let i = got is n (omega arith) in

@@ -7,7 +7,7 @@ use Rattle.flow_code.specs.declared.code.LoopInfo.{LoopInfo}
 use Rattle.facts.specs.Blocks.{is_target, assigns}
 use Rattle.loop_bounds.specs.declared.ways.Ways.{Ways}
 use Rattle.weak_facts.specs.Loops.{loop_code, nth}
-use Rattle.weak_facts.specs.Ranges.{mark_before, calls_nothing}
+use Rattle.weak_facts.specs.Ranges.{mark_before, calls_nothing, moved_of, maker_at}
 
 -- each is the place behind the last jump or branch that goes to the instruction in its place, or 0 if none does
 abbrev pub AreEnds : List Instr → List ℕ → Type 0
@@ -63,3 +63,7 @@ module _ {S : Type 0} where
   -- the table tells which instruction alone assigns each register
   abbrev pub AreMakers : List Instr → HashMap ℕ (Option ℕ) S → Type 0
   AreMakers is makers = (r : ℕ) → get nat_eq makers r ≡ makers_in is (length is) r
+
+-- each has the last instructions before the move in its place, in its block, that assign the move's pointer and its number
+abbrev pub AreOperands : List Instr → List (Option ℕ × Option ℕ) → Type 0
+AreOperands is makers = (k : ℕ) (m : ℕ × ℕ) → k < length is → moved_of (nth is k) ≡ Some m → slice_get makers k ≡ Some (maker_at is k m.0, maker_at is k m.1)

@@ -1,23 +1,24 @@
 //! The accesses of a code whose elements are known where their loop is entered.
 ghost use Rattle.std.specs.Prelude.{◌≡◌, ◌<◌, ◌+◌, ◌^◌, ◌++◌, List as Items, Some, slice_get, length, option_to_list, IfOk, OnOk};
 ghost use Rattle.std.specs.Option.{option_copied};
-ghost use Rattle.facts.specs.Blocks.{AreStarts};
+ghost use Rattle.facts.specs.Blocks.{AreAmounts};
 ghost use Rattle.facts.specs.PointsTo.{list_at};
 ghost use Rattle.weak_facts.specs.Loops as loops;
 ghost use Rattle.flow_code.specs.declared.act.Instr.{Instr as Step};
-ghost use Rattle.loop_bounds.specs.Tables.{AreWays, AreMakers, AreRounds, AreCalm, calm_loops};
+ghost use Rattle.loop_bounds.specs.Tables.{AreWays, AreMakers, AreOperands, AreRounds, AreCalm, calm_loops};
 ghost use Rattle.weak_facts.specs.Ranges.{HasRegisters};
 ghost use Rattle.weak_facts.specs.Ranges as spec;
 
 use crate::acts::pointer_of;
 use crate::loops::{counted_of, following};
 use crate::makers::{Makers, makers_of, only_maker};
+use crate::operands::operand_makers;
 use crate::rounds::rounds_of;
 use crate::shifts::moved_shift;
 use crate::spans::{calls_nothing, loop_code};
 use crate::ways::{Ways, ways_of};
 use abstract_machine::site_at;
-use facts::{PointsTo, block_starts};
+use facts::{PointsTo, amounts, block_starts};
 use flow_code::{Act, Code, Function, Instr, LoopInfo};
 use rr_base::{List, Place};
 use std::alloc::{AllocError, Global};
@@ -78,13 +79,14 @@ fn have_single_cells(code: &Code, places: &[Place]) -> bool
     places.iter().all(|place| has_single_cells(code, *place))
 }
 
-/// A function, with its number, the places where its blocks begin, the ways to its instructions, the makers of its registers,
-/// the innermost loop round each instruction, and its counted loops that call nothing.
+/// A function, with its number, what made the operands of its moves, the constants that its instructions add, the ways to
+/// them, the makers of its registers, the innermost loop round each instruction, and its counted loops that call nothing.
 #[derive(Clone, Copy)]
 struct Body<'a> {
     number: u32,
     function: &'a Function,
-    starts: &'a [bool],
+    operands: &'a [(Option<usize>, Option<usize>)],
+    amounts: &'a [Option<i64>],
     ways: &'a Ways,
     makers: &'a Makers,
     rounds: &'a [Option<usize>],
@@ -115,17 +117,26 @@ fn range_in(
 ) -> Option<Range>
     requires lists { HasRegisters code.now points.now }
     requires function { slice_get code.now.functions body.now.number ≡ Some body.now.function.now }
-    requires starts { AreStarts body.now.function.now.instrs body.now.starts.now }
+    requires operands { AreOperands body.now.function.now.instrs body.now.operands.now }
+    requires amounts { AreAmounts body.now.function.now.instrs body.now.amounts.now }
     requires ways { AreWays body.now.function.now.instrs body.now.ways.now }
     requires makers { AreMakers body.now.function.now.instrs body.now.makers.now }
-    requires length { length body.now.starts.now ≡ length body.now.function.now.instrs }
+    requires operands_length { length body.now.operands.now ≡ length body.now.function.now.instrs }
+    requires amounts_length { length body.now.amounts.now ≡ length body.now.function.now.instrs }
     requires at { at < length body.now.function.now.instrs }
     requires number { at < 2 ^ 32 }
     ensures { result ≡ spec.range_in code.now points.now body.now.number body.now.function.now.instrs at register counted.now }
 {
     let instrs = body.function.instrs.as_slice();
     let maker = only_maker(instrs, body.ways, body.makers, counted, at, register)?;
-    let shift = moved_shift(instrs, body.starts, counted, maker)?;
+    let shift = moved_shift(
+        instrs,
+        body.makers,
+        body.operands,
+        body.amounts,
+        counted,
+        maker,
+    )?;
     if have_single_cells(code, places_of(code, points, body, register)) {
         Some(Range {
             function: body.number,
@@ -142,10 +153,12 @@ fn range_in(
 fn range_at(code: &Code, points: &PointsTo, body: &Body<'_>, at: usize, act: &Act) -> Option<Range>
     requires lists { HasRegisters code.now points.now }
     requires function { slice_get code.now.functions body.now.number ≡ Some body.now.function.now }
-    requires starts { AreStarts body.now.function.now.instrs body.now.starts.now }
+    requires operands { AreOperands body.now.function.now.instrs body.now.operands.now }
+    requires amounts { AreAmounts body.now.function.now.instrs body.now.amounts.now }
     requires ways { AreWays body.now.function.now.instrs body.now.ways.now }
     requires makers { AreMakers body.now.function.now.instrs body.now.makers.now }
-    requires length { length body.now.starts.now ≡ length body.now.function.now.instrs }
+    requires operands_length { length body.now.operands.now ≡ length body.now.function.now.instrs }
+    requires amounts_length { length body.now.amounts.now ≡ length body.now.function.now.instrs }
     requires rounds { AreRounds body.now.function.now.instrs body.now.rounds.now }
     requires rounds_length { length body.now.rounds.now ≡ length body.now.function.now.instrs }
     requires calm { AreCalm body.now.function.now.instrs body.now.loops.now }
@@ -177,10 +190,12 @@ fn push_ranges(
 ) -> Result<(), AllocError>
     requires lists { HasRegisters code.now points.now }
     requires function { slice_get code.now.functions body.now.number ≡ Some body.now.function.now }
-    requires starts { AreStarts body.now.function.now.instrs body.now.starts.now }
+    requires operands { AreOperands body.now.function.now.instrs body.now.operands.now }
+    requires amounts { AreAmounts body.now.function.now.instrs body.now.amounts.now }
     requires ways { AreWays body.now.function.now.instrs body.now.ways.now }
     requires makers { AreMakers body.now.function.now.instrs body.now.makers.now }
-    requires length { length body.now.starts.now ≡ length body.now.function.now.instrs }
+    requires operands_length { length body.now.operands.now ≡ length body.now.function.now.instrs }
+    requires amounts_length { length body.now.amounts.now ≡ length body.now.function.now.instrs }
     requires rounds { AreRounds body.now.function.now.instrs body.now.rounds.now }
     requires rounds_length { length body.now.rounds.now ≡ length body.now.function.now.instrs }
     requires calm { AreCalm body.now.function.now.instrs body.now.loops.now }
@@ -218,12 +233,15 @@ fn push_function(
     let counted = counted_of(alloc, function, &ways)?;
     let calm = calm_of(alloc, instrs, counted.as_slice())?;
     let starts = block_starts(alloc, instrs)?;
+    let operands = operand_makers(alloc, instrs, starts.as_slice())?;
+    let amounts = amounts(alloc, instrs, starts.as_slice())?;
     let rounds = rounds_of(alloc, instrs, &ways.ends)?;
     let makers = makers_of(alloc, instrs)?;
     let body = Body {
         number,
         function,
-        starts: starts.as_slice(),
+        operands: operands.as_slice(),
+        amounts: amounts.as_slice(),
         ways: &ways,
         makers: &makers,
         rounds: rounds.as_slice(),

@@ -8,6 +8,7 @@ mod counted;
 mod laws;
 mod loops;
 mod makers;
+mod operands;
 mod rounds;
 mod shifts;
 mod spans;

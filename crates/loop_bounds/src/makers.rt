@@ -1,14 +1,16 @@
 //! Which instruction made what a register has.
-ghost use Rattle.std.specs.Prelude.{◌≡◌, ◌==◌, ◌≤◌, ◌<◌, ℕ, Some, if◌then◌else◌, nat_eq, length, IfSome, IfOk, OnOk};
+ghost use Rattle.std.specs.Prelude.{◌≡◌, ◌==◌, ◌≤◌, ◌<◌, ℕ, ◌+◌, ◌||◌, Some, if◌then◌else◌, nat_eq, nat_lt, nat_le, length, IfSome, IfOk, OnOk};
 ghost use Rattle.std.specs.HashMap.{get};
 ghost use Rattle.std.specs.Option.{option_copied};
 ghost use Rattle.facts.specs.Blocks.{AreStarts};
 ghost use Rattle.facts.specs.Blocks as blocks;
 ghost use Rattle.loop_bounds.specs.Tables as tables;
 ghost use Rattle.loop_bounds.specs.Tables.{AreWays, AreMakers};
+ghost use Rattle.weak_facts.specs.Loops as loops;
 ghost use Rattle.weak_facts.specs.Ranges as spec;
 
 use crate::acts::{assigned, assigns, nth};
+use crate::spans::keeps;
 use crate::ways::{Ways, is_entered_at};
 use flow_code::{Act, Instr, LoopInfo};
 use std::alloc::{AllocError, Global};
@@ -78,6 +80,25 @@ fn sole_maker(makers: &Makers, register: u32) -> Option<usize>
         Some(maker) => *maker,
         None => None,
     }
+}
+
+/// Whether nothing of the loop assigns the register.
+pub fn is_kept(instrs: &[Instr], makers: &Makers, counted: &LoopInfo, register: u32) -> bool
+    requires { AreMakers instrs.now makers.now }
+    ensures { result ≡ loops.keeps instrs.now counted.now register }
+{
+    match makers.get(&register).copied() {
+        None => true,
+        Some(Some(maker)) => is_outside(counted, maker),
+        Some(None) => keeps(instrs, counted, register),
+    }
+}
+
+// Whether the place is none of the loop.
+fn is_outside(counted: &LoopInfo, place: usize) -> bool
+    ensures { result ≡ (nat_lt place counted.now.at || nat_le (counted.now.last + 2) place) }
+{
+    place < counted.at as usize || counted.last as usize + 2 <= place
 }
 
 /// The only instruction that assigns the register, if it stands in the loop before the place, and each way there comes by

@@ -1,4 +1,4 @@
-use Rattle.std.proofs.Common.{◌≡◌, ◌≤◌, ◌-◌, None, refl, sym, ◌∙◌, arith, false}
+use Rattle.std.proofs.Common.{◌≡◌, ◌-◌, None, refl, sym, ◌∙◌, arith, false}
 use Rattle.std.specs.Prelude.{slice_index_or}
 use Rattle.weak_facts.specs.Ranges.{begins_round}
 use Rattle.loop_bounds.specs.Tables.{behind}
