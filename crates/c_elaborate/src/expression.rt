@@ -1,4 +1,4 @@
-//! The core tree of an expression (C99 6.5).
+//! The core tree of an expression (C99 6.5). Its calls stay out of line, so that a level of nesting takes little of the stack.
 ghost use Rattle.std.specs.Prelude.{◌≡◌, [], true, if◌then◌else◌, IfOk, map};
 ghost use Rattle.c_tree.specs.Tree.{listed};
 ghost use Rattle.rr_base.specs.Positions.{position_at};
@@ -15,7 +15,7 @@ ghost use Rattle.c_core.specs.Core as core;
 ghost use Rattle.c_core.specs.View.{exp_of, maybe_of};
 ghost use Rattle.c_elaborate.specs.Held.{held_value, held_zero, operand_in, position_of, value_in};
 ghost use Rattle.c_elaborate.specs.Here.{home_of, offset_in};
-ghost use Rattle.c_elaborate.specs.Operators.{arrow_in, assigned_in, binary_in, cast_in, conditional_in, member_in, prefix_in, stepped_in};
+ghost use Rattle.c_elaborate.specs.Operators.{arrow_in, assigned_in, binary_in, cast_in, conditional_in, index_in, member_in, prefix_in, stepped_in};
 ghost use Rattle.c_elaborate.specs.Expressions as spec;
 ghost use Rattle.c_elaborate.specs.Views.{held_of, here_of, part_of};
 
@@ -211,8 +211,7 @@ fn held<'h>(
     match e {
         Expr::Comma { first, rest, .. } => {
             let tail = tail_of(alloc, here, rest.as_slice(), at)?;
-            let first = part(alloc, here, Target::No, first)?;
-            sequence(alloc, first, tail, at)
+            before_tail(alloc, here, first, tail, at)
         }
         Expr::Assign {
             left,
@@ -221,14 +220,12 @@ fn held<'h>(
             ..
         } => {
             let left = part(alloc, here, Target::No, left)?;
-            let right = part(alloc, here, assigned_target(*op, left.standing), right)?;
-            assignment(alloc, here, *op, left, right, at)
+            assigned_to(alloc, here, right, *op, left, at)
         }
         Expr::Conditional { test, yes, no, .. } => {
             let test = part(alloc, here, Target::No, test)?;
             let yes = part(alloc, here, Target::No, yes)?;
-            let no = part(alloc, here, Target::No, no)?;
-            choice(alloc, here, e, test, yes, no, at)
+            chosen(alloc, here, no, e, test, yes, at)
         }
         Expr::Binary {
             left,
@@ -237,8 +234,7 @@ fn held<'h>(
             ..
         } => {
             let left = part(alloc, here, Target::No, left)?;
-            let right = part(alloc, here, Target::No, right)?;
-            operation(alloc, here, e, *op, left, right, at)
+            operated(alloc, here, right, e, *op, left, at)
         }
         Expr::Index {
             base,
@@ -246,8 +242,7 @@ fn held<'h>(
             ..
         } => {
             let base = part(alloc, here, Target::No, base)?;
-            let by = part(alloc, here, Target::No, by)?;
-            index(alloc, here.source, base, by, at)
+            indexed(alloc, here, by, base, at)
         }
         Expr::Prefix { op, operand, .. } => prefixed(alloc, here, operand, *op, e, at),
         Expr::Cast { to, operand, .. } => cast_to(alloc, here, operand, to, e, at),
@@ -271,8 +266,94 @@ fn held<'h>(
     }
 }
 
+/// An expression with others behind it.
+#[cycle(expression)]
+#[inline(never)]
+fn before_tail(
+    alloc: Global,
+    here: Here,
+    first: &Expr,
+    tail: Option<Value>,
+    at: Position,
+) -> Result<Held, AllocError>
+    ensures { IfOk result (λ h. held_of h ≡ held_value (spec.with_tail (spec.value_of (here_of here.entry) (tree.exp_of first.now)) (maybe_of tail) at)) }
+{
+    let first = part(alloc, here, Target::No, first)?;
+    sequence(alloc, first, tail, at)
+}
+
+/// An assignment to a place that is made.
+#[cycle(expression)]
+#[inline(never)]
+fn assigned_to<'h>(
+    alloc: Global,
+    here: Here<'h, '_>,
+    right: &Expr,
+    op: AssignOp,
+    left: Part<'h>,
+    at: Position,
+) -> Result<Held, AllocError>
+    ensures { let h = here_of here.entry in let l = part_of left.entry in IfOk result (λ r. held_of r ≡ held_value (assigned_in h.source op l (spec.part h (standings.assigned_target op l.standing) (tree.exp_of right.now)) at)) }
+{
+    let right = part(alloc, here, assigned_target(op, left.standing), right)?;
+    assignment(alloc, here, op, left, right, at)
+}
+
+/// `?:`, of which the last operand is left.
+#[cycle(expression)]
+#[inline(never)]
+fn chosen(
+    alloc: Global,
+    here: Here,
+    no: &Expr,
+    e: &Expr,
+    test: Part,
+    yes: Part,
+    at: Position,
+) -> Result<Held, AllocError>
+    ensures { let h = here_of here.entry in IfOk result (λ r. held_of r ≡ spec.folded h.known (tree.exp_of e.now) at (held_value (conditional_in (part_of test.entry) (part_of yes.entry) (spec.part h no_target (tree.exp_of no.now)) at))) }
+{
+    let no = part(alloc, here, Target::No, no)?;
+    choice(alloc, here, e, test, yes, no, at)
+}
+
+/// An operator of which the second operand is left.
+#[cycle(expression)]
+#[inline(never)]
+fn operated(
+    alloc: Global,
+    here: Here,
+    right: &Expr,
+    e: &Expr,
+    op: BinaryOp,
+    left: Part,
+    at: Position,
+) -> Result<Held, AllocError>
+    ensures { let h = here_of here.entry in IfOk result (λ r. held_of r ≡ spec.folded h.known (tree.exp_of e.now) at (held_value (binary_in h.source op (part_of left.entry) (spec.part h no_target (tree.exp_of right.now)) at))) }
+{
+    let right = part(alloc, here, Target::No, right)?;
+    operation(alloc, here, e, op, left, right, at)
+}
+
+/// An element of what is made.
+#[cycle(expression)]
+#[inline(never)]
+fn indexed(
+    alloc: Global,
+    here: Here,
+    by: &Expr,
+    base: Part,
+    at: Position,
+) -> Result<Held, AllocError>
+    ensures { let h = here_of here.entry in IfOk result (λ r. held_of r ≡ index_in h.source (part_of base.entry) (spec.part h no_target (tree.exp_of by.now)) at) }
+{
+    let by = part(alloc, here, Target::No, by)?;
+    index(alloc, here.source, base, by, at)
+}
+
 /// An operator before its operand.
 #[cycle(expression)]
+#[inline(never)]
 fn prefixed(
     alloc: Global,
     here: Here,
@@ -290,6 +371,7 @@ fn prefixed(
 
 /// A cast.
 #[cycle(expression)]
+#[inline(never)]
 fn cast_to(
     alloc: Global,
     here: Here,
@@ -308,6 +390,7 @@ fn cast_to(
 
 /// A member of a struct.
 #[cycle(expression)]
+#[inline(never)]
 fn member_of(
     alloc: Global,
     here: Here,
@@ -326,6 +409,7 @@ fn member_of(
 
 /// A member of a struct to which a pointer is given.
 #[cycle(expression)]
+#[inline(never)]
 fn pointed_member(
     alloc: Global,
     here: Here,
@@ -344,6 +428,7 @@ fn pointed_member(
 
 /// `++` and `--` behind their operand.
 #[cycle(expression)]
+#[inline(never)]
 fn post(
     alloc: Global,
     here: Here,
@@ -377,6 +462,7 @@ pub fn part<'h>(
 
 /// Expressions with commas between them, behind a first one: each is computed. Nothing where there is none.
 #[cycle(expression)]
+#[inline(never)]
 fn tail_of(
     alloc: Global,
     here: Here,
@@ -396,6 +482,7 @@ fn tail_of(
 
 /// The operands of a call, each as it is wanted.
 #[cycle(expression)]
+#[inline(never)]
 fn arguments(
     alloc: Global,
     here: Here,
@@ -421,6 +508,7 @@ fn arguments(
 
 /// A call.
 #[cycle(expression)]
+#[inline(never)]
 fn call_held(
     alloc: Global,
     here: Here,

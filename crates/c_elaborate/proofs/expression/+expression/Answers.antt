@@ -8,21 +8,21 @@ use Rattle.c_core.specs.View.{maybe_of}
 use Rattle.c_elaborate.specs.Held.{Held, Part, held_value}
 use Rattle.c_elaborate.specs.Operators.{stepped_in}
 use Rattle.c_elaborate.specs.Expressions as spec
-use Rattle.c_elaborate.specs.Views.{held_of, here_of, part_of, source_in}
+use Rattle.c_elaborate.specs.Views.{held_of, here_of, source_in}
 use Rattle.c_elaborate.proofs.ExpressionLists.{comma_is, call_is}
 use Rattle.c_elaborate.proofs.expression.+expression.Goals as goal
 
-pub held-returns-in_ok-first-in-Comma : goal.held-returns-in_ok-first-in-Comma
-held-returns-in_ok-first-in-Comma t c =
+pub held-returns-in_ok-tail-in-Comma : goal.held-returns-in_ok-tail-in-Comma
+held-returns-in_ok-tail-in-Comma t c =
     let h = here_of c.args.here in
-    subst (λ (x : Held). IfOk c.sequence.result (λ v. held_of v ≡ x))
-    (comma_is h (shown_target c.args.target) (tree.exp_of c.args.e.now) _ _ (listed (map tree.exp_of c.as_slice.result.now)) _ (part_of c.in_ok-first-in-Comma.first) (maybe_of c.in_ok-tail-in-Comma.tail) c.place_of-at.result
+    subst (λ (x : Held). IfOk c.before_tail.result (λ v. held_of v ≡ x))
+    (comma_is h (shown_target c.args.target) (tree.exp_of c.args.e.now) _ _ (listed (map tree.exp_of c.as_slice.result.now)) _ (spec.part h no_target (tree.exp_of c.deref.result.now)) (maybe_of c.in_ok-tail-in-Comma.tail) c.place_of-at.result
     (ap tree.exp_of c.in-Comma.is)
     c.place_of-at.ensures
     (ap (λ z. listed (map tree.exp_of z)) c.as_slice.ensures ∙ sym (exps_of_row-list c.in-Comma.rest))
     c.in_ok-tail-in-Comma.ensures
-    (c.in_ok-first-in-Comma.ensures ∙ ap (λ z. spec.part h no_target (tree.exp_of z)) c.deref.ensures))
-    c.sequence.ensures
+    (ap (λ z. spec.part h no_target (tree.exp_of z)) c.deref.ensures))
+    c.before_tail.ensures
 
 pub held-returns-in-Call : goal.held-returns-in-Call
 held-returns-in-Call t c =
