@@ -3,6 +3,7 @@ pub mod Orders
 pub mod Summaries
 pub mod Tables
 pub mod Marked
+pub mod Merging
 pub mod PathSets
 pub mod SeenPaths
 pub mod Carrying

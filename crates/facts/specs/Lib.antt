@@ -2,6 +2,7 @@ pub mod Accesses
 pub mod Blocks
 pub mod Carried
 pub mod Locks
+pub mod Merges
 pub mod Pairs
 pub mod Paths
 pub mod PointsTo

@@ -1,11 +1,12 @@
 //! Sets of paths, as lists that ascend, and the paths of a called function as its caller sees them.
-ghost use Rattle.std.specs.Prelude.{◌≡◌, ◌≤◌, ◌<◌, ◌^◌, Some, true, length, insert, OnOk, MatchOption};
+ghost use Rattle.std.specs.Prelude.{◌≡◌, ◌≤◌, ◌<◌, ◌^◌, Some, true, length, ◌++◌, insert, IfOk, OnOk, MatchOption};
 ghost use Rattle.facts.specs.Paths as spec;
-ghost use Rattle.facts.specs.Locks.{has, with, union, is_less as is_less_of, is_same as is_same_of};
+ghost use Rattle.facts.specs.Merges as merges;
+ghost use Rattle.facts.specs.Locks.{has, with, union, are_ascending, is_less as is_less_of, is_same as is_same_of};
 
 use crate::locks::LockPath;
 use rr_base::List;
-use std::alloc::AllocError;
+use std::alloc::{AllocError, Global};
 
 // No object has more cells.
 const MOST_CELLS: u32 = 65_535;
@@ -119,6 +120,90 @@ pub fn add_path(paths: &mut List<LockPath>, path: LockPath) -> Result<(), AllocE
         paths.insert(place, path)?;
     }
     Ok(())
+}
+
+// Whether the path comes before the first of the others, if there is one.
+fn comes_first(path: LockPath, others: &[LockPath]) -> bool
+    ensures { result ≡ merges.comes_first path others.now }
+{
+    match others {
+        [first, ..] => path.is_less(*first),
+        [] => true,
+    }
+}
+
+/// Whether the paths ascend.
+pub fn ascend(paths: &[LockPath]) -> bool
+    ensures { result ≡ are_ascending paths.now }
+{
+    let mut rest = paths;
+    while let [first, more @ ..] = rest {
+        if !comes_first(*first, more) {
+            return false;
+        }
+        rest = more;
+    }
+    true
+}
+
+// Adds those in front that come before the path.
+fn push_before(
+    merged: &mut List<LockPath>,
+    others: &[LockPath],
+    path: LockPath,
+) -> Result<(), AllocError>
+    ensures { OnOk result (merged.new ≡ merged.old ++ merges.before_path path others.now) }
+{
+    for other in others {
+        if !other.is_less(path) {
+            return Ok(());
+        }
+        merged.push(*other)?;
+    }
+    Ok(())
+}
+
+// Those from the first on that comes behind the path.
+fn behind_path(others: &[LockPath], path: LockPath) -> &[LockPath]
+    ensures { result.now ≡ merges.behind_path path others.now }
+{
+    let mut rest = others;
+    while let [first, more @ ..] = rest {
+        if !first.is_less(path) {
+            return if first.is_same(path) { more } else { rest };
+        }
+        rest = more;
+    }
+    rest
+}
+
+fn push_all(merged: &mut List<LockPath>, others: &[LockPath]) -> Result<(), AllocError>
+    ensures { OnOk result (merged.new ≡ merged.old ++ others.now) }
+{
+    for other in others {
+        merged.push(*other)?;
+    }
+    Ok(())
+}
+
+/// The paths and the others, where those ascend.
+pub fn merged(
+    alloc: Global,
+    paths: &[LockPath],
+    others: &[LockPath],
+) -> Result<List<LockPath>, AllocError>
+    requires { are_ascending others.now ≡ true }
+    ensures { IfOk result (λ merged. merged ≡ union paths.now others.now) }
+{
+    let mut merged = List::new(alloc);
+    let mut rest = others;
+    for path in paths {
+        push_before(&mut merged, rest, *path)?;
+        merged.push(*path)?;
+        rest = behind_path(rest, *path);
+    }
+    push_all(&mut merged, rest)?;
+    Ok(merged)
 }
 
 /// Adds the others, the last one first.

@@ -6,7 +6,7 @@ ghost use Rattle.facts.specs.Paths.{are_small, are_small_actuals};
 ghost use Rattle.facts.specs.declared.locks.Minus.TheVariants.{Listed};
 
 use crate::locks::{LockPath, Minus, Naming, RelLocks};
-use crate::paths::{add_path, add_paths, substitute};
+use crate::paths::{add_path, add_paths, ascend, merged, substitute};
 use rr_base::List;
 use std::alloc::{AllocError, Global};
 
@@ -113,6 +113,10 @@ impl Minus {
         let Minus::Listed(others) = other else {
             return Ok(Minus::All);
         };
+        if ascend(others.as_slice()) {
+            let joined = merged(alloc, paths.as_slice(), others.as_slice())?;
+            return Ok(Minus::Listed(joined));
+        }
         let mut joined = paths.copied(alloc)?;
         add_paths(&mut joined, others.as_slice())?;
         Ok(Minus::Listed(joined))
