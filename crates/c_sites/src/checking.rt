@@ -13,13 +13,16 @@ use c_programs::{Table, note_function, note_objects, note_struct};
 use c_tree::{External, Program};
 use c_types::{FaultKind, Found, Names};
 use std::alloc::{AllocError, Global};
+use thiserror::Error;
 
 /// Why a source isn't typed.
-#[derive(Clone, Copy, Debug)]
+#[derive(Clone, Copy, Debug, Error)]
 pub enum TypeFault {
     /// The machine has no memory left for the names of the source.
+    #[error("out of memory")]
     OutOfMemory,
     /// The first rule that the source breaks.
+    #[error(transparent)]
     Found(Found),
 }
 

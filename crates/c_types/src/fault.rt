@@ -3,20 +3,34 @@ ghost use Rattle.std.specs.Prelude.{◌≡◌};
 ghost use Rattle.c_types.specs.Found as spec;
 ghost use Rattle.rr_base.specs.Positions.{position_at};
 
+use thiserror::Error;
+
 /// A rule that a source breaks.
-#[derive(Clone, Copy, Debug, PartialEq, Eq)]
+#[derive(Clone, Copy, Debug, PartialEq, Eq, Error)]
 pub enum FaultKind {
+    #[error("nothing of this name is declared")]
     UnknownName,
+    #[error("the name is declared twice")]
     DuplicateName,
+    #[error("the type is another")]
     TypeMismatch,
+    #[error("not a place")]
     NotPlace,
+    #[error("the call has other arguments")]
     BadCall,
+    #[error("a thread can't begin here")]
     BadRoot,
+    #[error("there is no main")]
     NoMain,
+    #[error("the object is too large")]
     ObjectTooLarge,
+    #[error("too many places of memory")]
     TooManySites,
+    #[error("the globals are too large")]
     GlobalsTooLarge,
+    #[error("not a constant")]
     NotConstant,
+    #[error("not in the language")]
     OutOfProfile,
 }
 
@@ -43,7 +57,8 @@ impl FaultKind {
 }
 
 /// A fault and its place, line and column from 1.
-#[derive(Clone, Copy, Debug)]
+#[derive(Clone, Copy, Debug, Error)]
+#[error("{line}:{column}: {fault}")]
 pub struct Found {
     pub fault: FaultKind,
     pub line: u32,

@@ -9,12 +9,15 @@ use crate::threads::in_threads;
 use std::alloc::{AllocError, Global};
 use std::sync::Wait;
 use std::thread::Threads;
+use thiserror::Error;
 
 /// Why a crew hands back no jobs.
-#[derive(Clone, Copy, Debug, PartialEq, Eq)]
+#[derive(Clone, Copy, Debug, PartialEq, Eq, Error)]
 pub enum CrewEnd {
     /// A fault of the crew, which its count of faults shows too.
+    #[error("the crew failed")]
     Failed,
+    #[error("out of memory")]
     OutOfMemory,
 }
 

@@ -11,10 +11,12 @@ use c_sites::{TypeFault, Typed, check};
 use c_tree::Program;
 use rr_base::List;
 use std::alloc::Global;
+use thiserror::Error;
 
 /// Why a source is refused: the number by which messages tell it, and the line and column at which it stands, both from
 /// 1 and counted in bytes.
-#[derive(Clone, Copy, Debug, PartialEq, Eq)]
+#[derive(Clone, Copy, Debug, PartialEq, Eq, Error)]
+#[error("fault {number} at {line}:{column}")]
 pub struct SourceFault {
     pub number: u8,
     pub line: u32,
@@ -22,10 +24,12 @@ pub struct SourceFault {
 }
 
 /// Why a source isn't compiled.
-#[derive(Clone, Copy, Debug, PartialEq, Eq)]
+#[derive(Clone, Copy, Debug, PartialEq, Eq, Error)]
 pub enum CompileFault {
+    #[error(transparent)]
     Source(SourceFault),
     /// The machine has no memory left.
+    #[error("out of memory")]
     OutOfMemory,
 }
 

@@ -16,12 +16,12 @@ ghost use Rattle.replayer.specs.Replays.{entries_taken};
 use crate::sources::{SOURCE_BYTES, compiled, or_stop};
 use answers::{Answer, Part};
 use core_run::{Formula, Walk};
-use crew::Crew;
+use crew::{Crew, CrewEnd};
 use lock_sound::{Weakened, law_weakened_runs};
 use order_log::{Log, LogFault, read_log};
 use outcomes::{Keeper, Outcome, Stop, file};
 use race_free::law_no_race;
-use replayer::{ReplayFault, replay as follow};
+use replayer::replay as follow;
 use rr_base::{Bytes, List};
 use std::alloc::Global;
 use std::sync::Wait;
@@ -71,8 +71,8 @@ fn walked<R: Threads + Wait + Sync, C: Crew>(
     law_no_race();
     match follow(rt, alloc, code, setup, log.entries(), formula, crew) {
         Ok(walk) => Ok(walk),
-        Err(ReplayFault::CrewFault) => Err(Stop::CrewFailed),
-        Err(ReplayFault::OutOfMemory) => Err(Stop::OutOfMemory),
+        Err(CrewEnd::Failed) => Err(Stop::CrewFailed),
+        Err(CrewEnd::OutOfMemory) => Err(Stop::OutOfMemory),
     }
 }
 

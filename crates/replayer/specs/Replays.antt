@@ -3,7 +3,6 @@ use Rattle.std.specs.Prelude.{◌≡◌, ℕ, ◌<◌, Bool, true, false, List, 
 use Rattle.std.specs.List.{list_all}
 use Rattle.core_run.specs.declared.outcome.Walk.{Walk}
 use Rattle.core_run.specs.declared.outcome.Walk.TheVariants as walk
-use Rattle.rr_base.specs.Faults.{Rose}
 use Rattle.sync_objects.specs.Setup.{SetupView, IsWithinLimits}
 use Rattle.sync_objects.specs.declared.entry.Entry.{Entry}
 use Rattle.flow_code.specs.Next.{has_ended}
@@ -14,13 +13,6 @@ use Rattle.walk_pieces.specs.declared.remains.Remains.{Remains}
 use Rattle.walk_pieces.specs.Remains.{remains_in}
 use Rattle.replayer.specs.Following.{Following, IsSound, is_over}
 use Rattle.replayer.specs.Wants.{wanted_of}
-use Rattle.replayer.specs.declared.replaying.ReplayFault.{ReplayFault}
-use Rattle.replayer.specs.declared.replaying.ReplayFault.TheVariants as fault
-
--- only a fault of the crew raises its count of faults
-abbrev pub ReplayFaults : ReplayFault → ℕ → ℕ → Type 0
-ReplayFaults fault.CrewFault old new = Rose old new
-ReplayFaults fault.OutOfMemory old new = new ≡ old
 
 -- each entry is of one of the setup's threads
 abbrev pub AreThreads : SetupView → List Entry → Type 0

@@ -14,5 +14,5 @@ mod trying;
 mod wanted;
 
 pub use follower::Follower;
-pub use replaying::{ReplayFault, replay};
+pub use replaying::replay;
 pub use wanted::Wanted;

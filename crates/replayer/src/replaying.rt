@@ -3,15 +3,14 @@ ghost use Rattle.std.specs.Prelude.{◌≡◌, ◌-◌, ◌<◌, ◌≤◌, ◌^
 ghost use Rattle.std.specs.List.{list_all};
 ghost use Rattle.core_run.specs.Histories.{HasNoRace};
 ghost use Rattle.core_run.specs.Walks.{WalkIs};
-ghost use Rattle.crew.specs.Counts.{RoseAtLeast, RoseBy};
+ghost use Rattle.crew.specs.Counts.{CrewFaults, RoseAtLeast, RoseBy};
 ghost use Rattle.flow_code.specs.Settle.{IsRunnable};
 ghost use Rattle.shared_cells.specs.Rule.{Board};
 ghost use Rattle.shared_cells.specs.Seats.{AreAtStart, AreSeats};
 ghost use Rattle.sync_objects.specs.declared.entry.Entry.{Entry as EntryOf};
 ghost use Rattle.replayer.specs.Following.{Following, made_in};
-ghost use Rattle.replayer.specs.Replays.{AreDone, AreFollowers, AreFresh, AreThreads, AreWhole, HaveFollowed, ReplayFaults, entries_taken, has_ended_in};
+ghost use Rattle.replayer.specs.Replays.{AreDone, AreFollowers, AreFresh, AreThreads, AreWhole, HaveFollowed, entries_taken, has_ended_in};
 ghost use Rattle.walk_pieces.specs.Remains.{remains_in};
-ghost use Rattle.replayer.specs.declared.replaying.ReplayFault.TheVariants as fault;
 
 use crate::follower::Follower;
 use crate::numbering::{number_all, own_entries};
@@ -27,22 +26,6 @@ use std::thread::Threads;
 use sync_objects::{Entry, Setup};
 use thread_step::ThreadRun;
 use walk_pieces::{Remains, into_remains, whole_walk};
-
-/// Why there is no answer.
-#[derive(Clone, Copy, Debug, PartialEq, Eq)]
-pub enum ReplayFault {
-    /// A fault of the crew, which its count of faults shows too.
-    CrewFault,
-    OutOfMemory,
-}
-
-impl From<AllocError> for ReplayFault {
-    ghost from_gives = { λ _ end. end ≡ fault.OutOfMemory };
-
-    fn from(_error: AllocError) -> ReplayFault {
-        ReplayFault::OutOfMemory
-    }
-}
 
 // A follower for each seat, in order.
 fn followers<'c, 'a>(
@@ -196,35 +179,19 @@ pub fn replay<R: Threads + Wait + Sync, C: Crew>(
     entries: &List<Entry>,
     formula: &Formula,
     crew: &mut C,
-) -> Result<Walk, ReplayFault>
+) -> Result<Walk, CrewEnd>
     requires runnable { IsRunnable code.now }
     requires race_free { HasNoRace code.now setup.now }
     requires few { length entries.now < 2 ^ 32 - 1 }
     requires threads { AreThreads setup.now entries.now }
     ensures walk { IfOk result (WalkIs code.now setup.now entries.now formula.now) }
-    ensures fault { MatchResult result (λ _. C.faults crew.new ≡ C.faults crew.old) (λ end. ReplayFaults end (C.faults crew.old) (C.faults crew.new)) }
+    ensures fault { MatchResult result (λ _. C.faults crew.new ≡ C.faults crew.old) (λ end. CrewFaults end (C.faults crew.old) (C.faults crew.new)) }
     ensures turns { IfOk result (λ w. RoseAtLeast (entries_taken entries.now w) (C.turns crew.old) (C.turns crew.new)) }
     ensures jobs_run { IfOk result (λ _. RoseBy setup.now.slots (C.jobs_run crew.old) (C.jobs_run crew.new)) }
 {
-    let (cells, seats) = match Cells::new(alloc, code, setup) {
-        Ok(made) => made,
-        Err(error) => return Err(ReplayFault::from(error)),
-    };
-    let jobs = match followers(alloc, &cells, code, setup, seats, entries, formula) {
-        Ok(jobs) => jobs,
-        Err(error) => return Err(ReplayFault::from(error)),
-    };
-    let jobs = match crew.run(rt, alloc, jobs) {
-        Ok(jobs) => jobs,
-        Err(CrewEnd::Failed) => return Err(ReplayFault::CrewFault),
-        Err(CrewEnd::OutOfMemory) => return Err(ReplayFault::OutOfMemory),
-    };
-    let gathered = match gather(alloc, jobs) {
-        Ok(gathered) => gathered,
-        Err(error) => return Err(ReplayFault::from(error)),
-    };
-    match conclude(alloc, cells, code, setup, entries, formula, gathered) {
-        Ok(walk) => Ok(walk),
-        Err(error) => Err(ReplayFault::from(error)),
-    }
+    let (cells, seats) = Cells::new(alloc, code, setup)?;
+    let jobs = followers(alloc, &cells, code, setup, seats, entries, formula)?;
+    let jobs = crew.run(rt, alloc, jobs)?;
+    let gathered = gather(alloc, jobs)?;
+    Ok(conclude(alloc, cells, code, setup, entries, formula, gathered)?)
 }

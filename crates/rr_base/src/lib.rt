@@ -1,5 +1,5 @@
 //! What every crate of Chimera stands on: lists that contracts see as lists, traps, pointer words, and
-//! the outside as traits. It stands on std alone.
+//! the outside as traits.
 #![tactic(auto)]
 
 mod layout;

@@ -5,12 +5,15 @@ ghost use Rattle.rr_base.specs.Files.{Files, with_file, LeavesOthers};
 ghost use Rattle.rr_base.specs.declared.shelf.ShelfEnd.TheVariants as shelf_end;
 
 use std::alloc::{AllocError, Global};
+use thiserror::Error;
 
 /// Why a shelf gave or took nothing.
-#[derive(Clone, Copy, Debug, PartialEq, Eq)]
+#[derive(Clone, Copy, Debug, PartialEq, Eq, Error)]
 pub enum ShelfEnd {
     /// A fault of the outside, which its count of faults shows too.
+    #[error("the shelf failed")]
     Failed,
+    #[error("out of memory")]
     OutOfMemory,
 }
 

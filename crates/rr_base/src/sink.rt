@@ -4,12 +4,15 @@ ghost use Rattle.rr_base.specs.Streams.{Took, TookSome};
 ghost use Rattle.rr_base.specs.declared.sink.SinkEnd.TheVariants as sink_end;
 
 use std::alloc::{AllocError, Global};
+use thiserror::Error;
 
 /// Why a sink took nothing.
-#[derive(Clone, Copy, Debug, PartialEq, Eq)]
+#[derive(Clone, Copy, Debug, PartialEq, Eq, Error)]
 pub enum SinkEnd {
     /// A fault of the outside, which its count of faults shows too.
+    #[error("the output failed")]
     Failed,
+    #[error("out of memory")]
     OutOfMemory,
 }
 

@@ -5,9 +5,11 @@ ghost use Rattle.rr_base.specs.declared.source.ReadEnd.TheVariants as read_end;
 
 use crate::list::List;
 use std::alloc::{AllocError, Global};
+use thiserror::Error;
 
 /// A fault of the outside, which its count of faults shows too.
-#[derive(Clone, Copy, Debug, PartialEq, Eq)]
+#[derive(Clone, Copy, Debug, PartialEq, Eq, Error)]
+#[error("the outside failed")]
 pub struct Failed;
 
 /// Where bytes are read from.
@@ -28,12 +30,15 @@ pub trait Source {
 }
 
 /// Why a source wasn't read to its end.
-#[derive(Clone, Copy, Debug, PartialEq, Eq)]
+#[derive(Clone, Copy, Debug, PartialEq, Eq, Error)]
 pub enum ReadEnd {
     /// A fault of the source.
+    #[error("the input failed")]
     Failed,
     /// More bytes came than were allowed.
+    #[error("the input is too large")]
     TooLarge,
+    #[error("out of memory")]
     OutOfMemory,
 }
 
