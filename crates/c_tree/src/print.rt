@@ -153,6 +153,14 @@ fn print_type(alloc: Global, out: &mut List<Kind>, of: &CType) -> Result<(), All
     put_stars(out, of.stars)
 }
 
+fn print_enclosed_type(alloc: Global, out: &mut List<Kind>, of: &CType) -> Result<(), AllocError>
+    ensures { OnOk result (out.new ≡ out.old ++ spec.p punct.OpenParen ∷ (spec.type_kinds of.now ++ spec.p punct.CloseParen ∷ [])) }
+{
+    put_punct(out, Punct::OpenParen)?;
+    print_type(alloc, out, of)?;
+    put_punct(out, Punct::CloseParen)
+}
+
 #[cycle(print)]
 fn print_expr(alloc: Global, out: &mut List<Kind>, e: &Expr) -> Result<(), AllocError>
     ensures { OnOk result (out.new ≡ out.old ++ spec.exp_kinds (exp_of e.now)) }
@@ -199,32 +207,18 @@ fn print_expr(alloc: Global, out: &mut List<Kind>, e: &Expr) -> Result<(), Alloc
         }
         Expr::SizeofType { of, .. } => {
             put_word(out, Word::Sizeof)?;
-            put_punct(out, Punct::OpenParen)?;
-            print_type(alloc, out, of)?;
-            put_punct(out, Punct::CloseParen)
+            print_enclosed_type(alloc, out, of)
         }
         Expr::Cast { to, operand, .. } => {
-            put_punct(out, Punct::OpenParen)?;
-            print_type(alloc, out, to)?;
-            put_punct(out, Punct::CloseParen)?;
+            print_enclosed_type(alloc, out, to)?;
             print_expr(alloc, out, operand)
         }
         Expr::Index { base, index, .. } => {
             print_expr(alloc, out, base)?;
-            put_punct(out, Punct::OpenBracket)?;
-            print_expr(alloc, out, index)?;
-            put_punct(out, Punct::CloseBracket)
+            print_enclosed(alloc, out, Punct::OpenBracket, index, Punct::CloseBracket)
         }
-        Expr::Member { base, name, .. } => {
-            print_expr(alloc, out, base)?;
-            put_punct(out, Punct::Dot)?;
-            put_name(alloc, out, &name.text)
-        }
-        Expr::Arrow { base, name, .. } => {
-            print_expr(alloc, out, base)?;
-            put_punct(out, Punct::Arrow)?;
-            put_name(alloc, out, &name.text)
-        }
+        Expr::Member { base, name, .. } => print_selection(alloc, out, base, Punct::Dot, name),
+        Expr::Arrow { base, name, .. } => print_selection(alloc, out, base, Punct::Arrow, name),
         Expr::PostIncrement { operand, .. } => {
             print_expr(alloc, out, operand)?;
             put_punct(out, Punct::PlusPlus)
@@ -238,22 +232,62 @@ fn print_expr(alloc: Global, out: &mut List<Kind>, e: &Expr) -> Result<(), Alloc
             name,
             arguments,
             ..
-        } => {
-            put_name(alloc, out, name)?;
-            put_punct(out, Punct::OpenParen)?;
-            print_arguments(alloc, out, arguments.as_slice())?;
-            put_punct(out, Punct::CloseParen)
-        }
+        } => print_call(alloc, out, name, arguments.as_slice()),
         Expr::Number { value, .. } => out.push(Kind::Number(*value)),
         Expr::Letter { value, .. } => out.push(Kind::Letter(*value)),
         Expr::Text { bytes, .. } => put_text(alloc, out, bytes),
         Expr::Null { .. } => put_word(out, Word::Null),
         Expr::Paren { inner, .. } => {
-            put_punct(out, Punct::OpenParen)?;
-            print_expr(alloc, out, inner)?;
-            put_punct(out, Punct::CloseParen)
+            print_enclosed(alloc, out, Punct::OpenParen, inner, Punct::CloseParen)
         }
     }
+}
+
+// An expression in parentheses or brackets.
+#[cycle(print)]
+fn print_enclosed(
+    alloc: Global,
+    out: &mut List<Kind>,
+    opening: Punct,
+    inner: &Expr,
+    closing: Punct,
+) -> Result<(), AllocError>
+    ensures { OnOk result (out.new ≡ out.old ++ spec.p opening ∷ (spec.exp_kinds (exp_of inner.now) ++ spec.p closing ∷ [])) }
+{
+    put_punct(out, opening)?;
+    print_expr(alloc, out, inner)?;
+    put_punct(out, closing)
+}
+
+// A member behind a point or an arrow.
+#[cycle(print)]
+fn print_selection(
+    alloc: Global,
+    out: &mut List<Kind>,
+    base: &Expr,
+    mark: Punct,
+    name: &Name,
+) -> Result<(), AllocError>
+    ensures { OnOk result (out.new ≡ out.old ++ (spec.exp_kinds (exp_of base.now) ++ spec.p mark ∷ kind.Name name.now.text ∷ [])) }
+{
+    print_expr(alloc, out, base)?;
+    put_punct(out, mark)?;
+    put_name(alloc, out, &name.text)
+}
+
+#[cycle(print)]
+fn print_call(
+    alloc: Global,
+    out: &mut List<Kind>,
+    name: &Bytes,
+    arguments: &[Expr],
+) -> Result<(), AllocError>
+    ensures { OnOk result (out.new ≡ out.old ++ kind.Name name.now ∷ spec.p punct.OpenParen ∷ (spec.exps_kinds (listed (map exp_of arguments.now)) ++ spec.p punct.CloseParen ∷ [])) }
+{
+    put_name(alloc, out, name)?;
+    put_punct(out, Punct::OpenParen)?;
+    print_arguments(alloc, out, arguments)?;
+    put_punct(out, Punct::CloseParen)
 }
 
 #[cycle(print)]

@@ -6,5 +6,5 @@ use Rattle.c_tree.proofs.print.+print.Goals as goal
 pub print_expr-returns-in_ok-print_expr-in-Comma : goal.print_expr-returns-in_ok-print_expr-in-Comma
 print_expr-returns-in_ok-print_expr-in-Comma t c = rw (c.in-Comma.is, exps_of_row-list) (grind (arith, common_steps))
 
-pub print_expr-returns-in_ok-print_arguments-in-Call : goal.print_expr-returns-in_ok-print_arguments-in-Call
-print_expr-returns-in_ok-print_arguments-in-Call t c = rw (c.in-Call.is, exps_of_row-list) (grind (arith, common_steps))
+pub print_expr-returns-in-Call : goal.print_expr-returns-in-Call
+print_expr-returns-in-Call t c = rw (c.in-Call.is, exps_of_row-list) (grind (arith, common_steps))
