@@ -17,11 +17,15 @@ mod profile_tests;
 #[cfg(test)]
 mod race_tests;
 #[cfg(test)]
+mod range_tests;
+#[cfg(test)]
 mod record_tests;
 #[cfg(test)]
 mod region_tests;
 #[cfg(test)]
 mod tests;
+#[cfg(test)]
+mod thread_tests;
 #[cfg(test)]
 mod weak_tests;
 #[cfg(test)]

@@ -59,8 +59,41 @@ fn records_by_orders(rt: HostRuntime) -> Result<(), Fail> {
 // Turns of thread 2 first, of thread 1 first, and of each in turn.
 pub static ORDERS: [&[(u8, usize)]; 3] = [&[(2, 20)], &[(1, 20)], &[]];
 
+// Which thread's turns come first, with how many each.
+static TWENTY: [&[(u8, usize)]; 20] = [
+    &[],
+    &[(0, 20)],
+    &[(1, 20)],
+    &[(2, 20)],
+    &[(7, 20)],
+    &[(1, 1), (2, 1)],
+    &[(2, 1), (1, 1)],
+    &[(0, 4), (2, 20)],
+    &[(0, 4), (1, 20)],
+    &[(0, 9), (1, 3), (2, 20)],
+    &[(0, 9), (1, 4), (2, 20)],
+    &[(0, 9), (1, 5), (2, 20)],
+    &[(0, 9), (1, 9), (2, 20)],
+    &[(0, 9), (2, 3), (1, 20)],
+    &[(0, 9), (2, 9), (1, 1), (0, 20)],
+    &[(0, 9), (2, 1), (1, 1), (2, 1), (1, 1), (2, 1), (1, 1)],
+    &[(7, 1), (6, 1), (5, 1), (4, 1), (3, 1), (2, 9), (1, 9)],
+    &[(2, 9), (1, 9), (0, 20), (2, 9), (1, 9)],
+    &[(0, 9), (1, 20), (0, 20), (2, 20)],
+    &[
+        (0, 1),
+        (1, 1),
+        (0, 1),
+        (2, 1),
+        (0, 7),
+        (1, 3),
+        (2, 3),
+        (7, 2),
+    ],
+];
+
 // The bank's log with one thing changed, and what is told of it.
-static CHANGES: [(&[&str], &str, u8); 13] = [
+pub static CHANGES: [(&[&str], &str, u8); 13] = [
     (&[STARTS, BEGIN, LOCK, UNLOCK, GOES_ON, LAST], "20\n", 0),
     // exchanged
     (
@@ -127,7 +160,7 @@ fn names_the_first_wrong_entry_by_any_order(rt: HostRuntime) -> Result<(), Fail>
         let mut log = joined(alloc, &[FIRST, SLOTS_8])?;
         log.append(joined(alloc, entries)?)?;
         let mut shelf = shelf_of(alloc, joined(alloc, &[BANK])?, log)?;
-        for order in ORDERS {
+        for order in TWENTY {
             let outside = Outside { order, ..SOUND };
             let words = ["replay", "a", "b"];
             check_in(&rt, alloc, &words, &outside, &mut shelf, (text, wanted))?;

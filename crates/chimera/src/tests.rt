@@ -1,6 +1,6 @@
 ghost use Rattle.std.specs.Prelude.{◌<◌};
 
-use crew::SchedCrew;
+use crew::{Crew, SchedCrew};
 use jobs::chimera;
 use rr_base::{Bytes, List, MemShelf, MemSink, MemSource};
 use std::alloc::{AllocError, Global};
@@ -210,7 +210,7 @@ const LEAVES: &str =
     "int main(void) { int i = 0; int n = 0; do { i++; if (i == 2) continue; if (i == 5) break; n += i; } while (i < 10); printf(\"%d\\n\", n); return 0; }\n";
 
 // A source, the parts of a log, and what is told of them: the text and the status.
-static RUNS: [(&str, &[&str], &str, u8); 28] = [
+pub static RUNS: [(&str, &[&str], &str, u8); 28] = [
     (
         BANK,
         &[FIRST, SLOTS_8, STARTS, BEGIN, LOCK, UNLOCK, GOES_ON, LAST],
@@ -496,13 +496,14 @@ fn order_of(alloc: Global, runs: &[(u8, usize)]) -> Result<List<u8>, AllocError>
     Ok(order)
 }
 
-/// Calls with these words, and answers what the sink holds then, and the status.
-pub fn call(
+/// Calls with these words on this crew, and answers what the sink holds then, and the status.
+pub fn call_on<C: Crew>(
     rt: &(impl Abort + Threads + Wait + Sync),
     alloc: Global,
     words: &[&str],
     outside: &Outside,
     shelf: &mut MemShelf,
+    crew: &mut C,
 ) -> Result<(Bytes, u8), Fail> {
     let mut owned = Vec::new(alloc);
     for word in words {
@@ -512,7 +513,6 @@ pub fn call(
     let mut input = MemSource::new(bytes, List::from_slice(alloc, outside.read_fails)?);
     let fails = List::from_slice(alloc, outside.write_fails)?;
     let mut out = MemSink::new(List::new(alloc), fails, 1);
-    let mut crew = SchedCrew::new(order_of(alloc, outside.order)?, outside.turns);
     let status = chimera(
         rt,
         alloc,
@@ -520,9 +520,21 @@ pub fn call(
         &mut input,
         &mut out,
         shelf,
-        &mut crew,
+        crew,
     );
     Ok((out.bytes().copied(alloc)?, status))
+}
+
+/// Calls with these words on the outside's crew, and answers what the sink holds then, and the status.
+pub fn call(
+    rt: &(impl Abort + Threads + Wait + Sync),
+    alloc: Global,
+    words: &[&str],
+    outside: &Outside,
+    shelf: &mut MemShelf,
+) -> Result<(Bytes, u8), Fail> {
+    let mut crew = SchedCrew::new(order_of(alloc, outside.order)?, outside.turns);
+    call_on(rt, alloc, words, outside, shelf, &mut crew)
 }
 
 /// Calls with these words, and compares what is told and the status.

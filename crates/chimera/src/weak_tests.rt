@@ -88,7 +88,7 @@ pub const REVOKED: &str =
     "1 3 take w0.0\n1 4 revoke w0.0\n2 0 begin s2\n2 3 lock m6\n2 5 take w0.0\n2 6 give w0.0\n2 6 unlock m6\n1 4 lock m6\n1 5 unlock m6\n1 6 retake w0.0\n1 6 give w0.0\n1 7 end s1\n0 10 join s1\n1 8 leave T\n2 8 end s2\n0 12 join s2\n0 13 halt H\n2 9 leave T\n";
 
 // A source, a log of it, and what is told.
-static RUNS: [(&str, &[&str], &str, u8); 9] = [
+pub static RUNS: [(&str, &[&str], &str, u8); 9] = [
     (
         COUNTER,
         &[
