@@ -169,23 +169,25 @@ fn names_the_first_wrong_entry_by_any_order(rt: HostRuntime) -> Result<(), Fail>
     Ok(())
 }
 
-// A crew with fewer turns than the log has entries.
+// A crew with fewer turns than the log has entries, and one with enough of them.
 #[test]
 fn tells_when_the_turns_end(rt: HostRuntime) -> Result<(), Fail> {
     let alloc = rt.alloc();
     let log = [FIRST, SLOTS_8, STARTS, BEGIN, LOCK, UNLOCK, GOES_ON, LAST];
     let mut shelf = shelf_of(alloc, joined(alloc, &[BANK])?, joined(alloc, &log)?)?;
-    for words in [["replay", "a", "b"], ["record", "a", "l"]] {
-        let outside = Outside { turns: 24, ..SOUND };
-        check_in(
-            &rt,
-            alloc,
-            &words,
-            &outside,
-            &mut shelf,
-            ("crew fault\n", 10),
-        )?;
+    for (turns, want) in [(24, ("crew fault\n", 10)), (1000, ("20\n", 0))] {
+        assert!(rt; shelf.content("l").is_none());
+        for words in [["replay", "a", "b"], ["record", "a", "l"]] {
+            let outside = Outside { turns, ..SOUND };
+            check_in(&rt, alloc, &words, &outside, &mut shelf, want)?;
+        }
     }
-    assert!(rt; shelf.content("l").is_none());
-    Ok(())
+    check_in(
+        &rt,
+        alloc,
+        &["replay", "a", "l"],
+        &SOUND,
+        &mut shelf,
+        ("20\n", 0),
+    )
 }

@@ -189,9 +189,24 @@ pub fn replay<R: Threads + Wait + Sync, C: Crew>(
     ensures turns { IfOk result (λ w. RoseAtLeast (entries_taken entries.now w) (C.turns crew.old) (C.turns crew.new)) }
     ensures jobs_run { IfOk result (λ _. RoseBy setup.now.slots (C.jobs_run crew.old) (C.jobs_run crew.new)) }
 {
-    let (cells, seats) = Cells::new(alloc, code, setup)?;
-    let jobs = followers(alloc, &cells, code, setup, seats, entries, formula)?;
-    let jobs = crew.run(rt, alloc, jobs)?;
-    let gathered = gather(alloc, jobs)?;
-    Ok(conclude(alloc, cells, code, setup, entries, formula, gathered)?)
+    let (cells, seats) = match Cells::new(alloc, code, setup) {
+        Ok(made) => made,
+        Err(error) => return Err(CrewEnd::from(error)),
+    };
+    let jobs = match followers(alloc, &cells, code, setup, seats, entries, formula) {
+        Ok(jobs) => jobs,
+        Err(error) => return Err(CrewEnd::from(error)),
+    };
+    let jobs = match crew.run(rt, alloc, jobs) {
+        Ok(jobs) => jobs,
+        Err(end) => return Err(end),
+    };
+    let gathered = match gather(alloc, jobs) {
+        Ok(gathered) => gathered,
+        Err(error) => return Err(CrewEnd::from(error)),
+    };
+    match conclude(alloc, cells, code, setup, entries, formula, gathered) {
+        Ok(walk) => Ok(walk),
+        Err(error) => Err(CrewEnd::from(error)),
+    }
 }
