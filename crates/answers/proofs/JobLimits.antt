@@ -1,4 +1,4 @@
--- The numbers of a job are within their limits, and no command has none or more than three positional words.
+-- The numbers of a job are within their limits.
 use Rattle.std.proofs.Common.{◌≡◌, refl, sym, ◌∙◌, subst, ℕ, ◌≤◌, true, ◌&&◌, List, [], ◌∷◌, Option, Some, None, IfSome, option_map, option_and_then, bytes_eq, decimal, nat_le, codes, arith, leb-true, inl, inr}
 use Rattle.std.specs.Str.Parse.{digits_value}
 use Rattle.std.proofs.lemmas.Bool.{and_parts, cond-true, cond-false, cases_Bool}
@@ -6,33 +6,9 @@ use Rattle.std.proofs.lemmas.Option.{same_Some}
 use Rattle.answers.specs.Arguments.{Argument, value_of, number_within, number_or}
 use Rattle.answers.specs.Jobs.{Asked, asked_of, record_of, HasLimits, told}
 use Rattle.answers.specs.Jobs.Asked.{Races, Weaken, Replay, Profile, Make}
-use Rattle.answers.specs.Reading.{has_other_number}
 use Rattle.answers.specs.declared.command.Command.{Command}
 use Rattle.answers.specs.declared.command.Command.TheVariants as command
 use Rattle.answers.specs.declared.job.Job.{Job}
-
-none_without_words : (c : Command) (given : List Argument) → None ≡ asked_of c [] given
-none_without_words command.Races given = refl
-none_without_words command.Weaken given = refl
-none_without_words command.Record given = refl
-none_without_words command.Replay given = refl
-none_without_words command.Profile given = refl
-none_without_words command.Make given = refl
-
-none_with_four : (c : Command) (w x y z : List ℕ) (more : List (List ℕ)) (given : List Argument) → None ≡ asked_of c (w ∷ x ∷ y ∷ z ∷ more) given
-none_with_four command.Races w x y z more given = refl
-none_with_four command.Weaken w x y z more given = refl
-none_with_four command.Record w x y z more given = refl
-none_with_four command.Replay w x y z more given = refl
-none_with_four command.Profile w x y z more given = refl
-none_with_four command.Make w x y z more given = refl
-
-pub no_job : (c : Command) (words : List (List ℕ)) (given : List Argument) → has_other_number words ≡ true → None ≡ asked_of c words given
-no_job c [] given h = none_without_words c given
-no_job c (x ∷ []) given h = cc
-no_job c (x ∷ y ∷ []) given h = cc
-no_job c (x ∷ y ∷ z ∷ []) given h = cc
-no_job c (w ∷ x ∷ y ∷ z ∷ more) given h = none_with_four c w x y z more given
 
 -- ---- limits
 

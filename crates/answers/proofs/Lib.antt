@@ -1,4 +1,9 @@
 pub mod FirstWords
 pub mod JobLimits
+pub mod Matched
 pub mod Numbers
+pub mod Pairs
+pub mod Readers
+pub mod Steps
+pub mod Walks
 pub mod Written

@@ -1,6 +1,7 @@
-pub mod Arguments
-pub mod Reading
-pub mod Jobs
 pub mod Answers
-pub mod Endings
+pub mod Arguments
 pub mod Contents
+pub mod Endings
+pub mod Jobs
+pub mod Reader
+pub mod Reading

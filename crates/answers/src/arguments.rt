@@ -1,9 +1,9 @@
 // The words behind a command, read as positional words and as options with their values.
 
-ghost use Rattle.std.specs.Prelude.{◌≡◌, ◌≤◌, [], ◌∷◌, length, map, string_bytes, option_map, MatchOption};
+ghost use Rattle.std.specs.Prelude.{◌≡◌, ◌≤◌, ◌∷◌, ◌+◌, ◌==◌, length, map, string_bytes, option_map, MatchOption};
 ghost use Rattle.answers.specs.Arguments as spec;
 ghost use Rattle.answers.specs.Jobs.{takes};
-ghost use Rattle.answers.specs.Reading.{read, IsPositional};
+ghost use Rattle.answers.specs.Reading.{read};
 
 use crate::command::Command;
 
@@ -13,15 +13,6 @@ enum Argument<'a> {
     Positional(&'a str),
     Setting { name: &'a str, value: &'a str },
     Wrong,
-}
-
-/// The positional words of a command line, of which no command has more than three.
-#[derive(Clone, Copy)]
-pub enum Positional<'a> {
-    One(&'a str),
-    Two(&'a str, &'a str),
-    Three(&'a str, &'a str, &'a str),
-    Other,
 }
 
 fn is_name(word: &str) -> bool
@@ -101,35 +92,30 @@ pub fn are_fit(command: Command, mut words: &[String]) -> bool
     true
 }
 
-// The first positional word, and the words behind it.
-fn next_positional(mut words: &[String]) -> Option<(&str, &[String])>
-    ensures { MatchOption result (spec.positional (spec.arguments (map string_bytes words.now)) ≡ []) (λ found. spec.positional (spec.arguments (map string_bytes words.now)) ≡ found.0.now ∷ spec.positional (spec.arguments (map string_bytes found.1.now))) }
+// The words behind the first positional one.
+fn behind_positional(mut words: &[String]) -> Option<&[String]>
+    ensures { MatchOption result (length (spec.positional (spec.arguments (map string_bytes words.now))) ≡ 0) (λ rest. length (spec.positional (spec.arguments (map string_bytes words.now))) ≡ 1 + length (spec.positional (spec.arguments (map string_bytes rest.now)))) }
 {
     while let [word, rest @ ..] = words {
         let (argument, rest) = first_argument(word, rest);
-        if let Argument::Positional(word) = argument {
-            return Some((word, rest));
+        if let Argument::Positional(_) = argument {
+            return Some(rest);
         }
         words = rest;
     }
     None
 }
 
-/// The positional words.
-pub fn positional_words(words: &[String]) -> Positional<'_>
-    ensures { IsPositional (spec.positional (spec.arguments (map string_bytes words.now))) result }
+/// Whether there are so many positional words.
+pub fn has_positional(mut words: &[String], mut number: u8) -> bool
+    ensures { result ≡ (length (spec.positional (spec.arguments (map string_bytes words.now))) == number) }
 {
-    let Some((first, rest)) = next_positional(words) else {
-        return Positional::Other;
-    };
-    let Some((second, rest)) = next_positional(rest) else {
-        return Positional::One(first);
-    };
-    let Some((third, rest)) = next_positional(rest) else {
-        return Positional::Two(first, second);
-    };
-    match next_positional(rest) {
-        Some(_) => Positional::Other,
-        None => Positional::Three(first, second, third),
+    while let Some(rest) = behind_positional(words) {
+        if number == 0 {
+            return false;
+        }
+        number -= 1;
+        words = rest;
     }
+    number == 0
 }

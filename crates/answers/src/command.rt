@@ -1,7 +1,8 @@
 // The commands, and the options that each takes.
 
-ghost use Rattle.std.specs.Prelude.{◌≡◌};
+ghost use Rattle.std.specs.Prelude.{◌≡◌, length};
 ghost use Rattle.answers.specs.Jobs as spec;
+ghost use Rattle.answers.specs.Reader.{words_of};
 
 /// What the first word says is to be done.
 #[derive(Clone, Copy, Debug)]
@@ -27,6 +28,17 @@ impl Command {
             "profile" => Some(Command::Profile),
             "make" => Some(Command::Make),
             _ => None,
+        }
+    }
+
+    /// How many positional words it takes.
+    pub fn number(self) -> u8
+        ensures { result ≡ length (words_of self) }
+    {
+        match self {
+            Command::Races | Command::Weaken => 1,
+            Command::Record | Command::Replay | Command::Make => 2,
+            Command::Profile => 3,
         }
     }
 

@@ -13,6 +13,7 @@ mod command;
 mod files;
 mod job;
 mod number;
+mod reading;
 mod summary;
 mod telling;
 #[cfg(test)]

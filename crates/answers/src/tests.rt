@@ -177,7 +177,7 @@ const NO_JOBS: [&str; 52] = [
 fn words_are_a_job(rt: HostRuntime) -> Result<(), Fail> {
     for (line, want) in JOBS {
         let words = words_of(rt.alloc(), line)?;
-        match job_of(words.as_slice()) {
+        match job_of(rt.alloc(), words.as_slice())? {
             Some(job) => assert_eq!(rt; told(rt.alloc(), job)?.as_str(), want),
             None => assert!(rt; false, "{line}"),
         }
@@ -189,9 +189,9 @@ fn words_are_a_job(rt: HostRuntime) -> Result<(), Fail> {
 fn words_are_no_job(rt: HostRuntime) -> Result<(), Fail> {
     for line in NO_JOBS {
         let words = words_of(rt.alloc(), line)?;
-        assert!(rt; job_of(words.as_slice()).is_none(), "{line}");
+        assert!(rt; job_of(rt.alloc(), words.as_slice())?.is_none(), "{line}");
     }
-    assert!(rt; job_of(&[]).is_none());
+    assert!(rt; job_of(rt.alloc(), &[])?.is_none());
     Ok(())
 }
 
@@ -206,7 +206,7 @@ fn lists_of_three_words(rt: HostRuntime) -> Result<(), Fail> {
         for second in line.split(' ') {
             for third in line.split(' ') {
                 let words = words_of(alloc, &format!(in alloc; "{first} {second} {third}")?)?;
-                if job_of(words.as_slice()).is_some() {
+                if job_of(alloc, words.as_slice())?.is_some() {
                     jobs = jobs.saturating_add(1);
                 }
             }
