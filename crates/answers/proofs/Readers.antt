@@ -78,51 +78,81 @@ one_option name only e = rw e refl
 
 races_ready : Ready command.Races
 races_ready = record {
-  simple = refl; leaf = refl;
+  simple = refl;
+  leaf = refl;
   options = no_option _ _ (λ name. refl);
   words = (record { by_index = refl; by_id = refl; next_at = refl }, tt);
-  apart = refl; passing = refl; none = refl; valid = λ rows. refl; behind = λ words. refl
+  apart = refl;
+  passing = refl;
+  none = refl;
+  valid = λ rows. refl;
+  behind = λ words. refl;
 }
 
 weaken_ready : Ready command.Weaken
 weaken_ready = record {
-  simple = refl; leaf = refl;
+  simple = refl;
+  leaf = refl;
   options = of_options _ _ (options_of command.Weaken) (λ name e. one_option name (codes "profile") e) refl (record { by_long = refl; by_id = refl }, tt);
   words = (record { by_index = refl; by_id = refl; next_at = refl }, tt);
-  apart = refl; passing = refl; none = refl; valid = λ rows. refl; behind = λ words. refl
+  apart = refl;
+  passing = refl;
+  none = refl;
+  valid = λ rows. refl;
+  behind = λ words. refl;
 }
 
 record_ready : Ready command.Record
 record_ready = record {
-  simple = refl; leaf = refl;
+  simple = refl;
+  leaf = refl;
   options = of_options _ _ (options_of command.Record) (λ name e. e) refl
       (record { by_long = refl; by_id = refl }, (record { by_long = refl; by_id = refl }, (record { by_long = refl; by_id = refl }, (record { by_long = refl; by_id = refl }, (record { by_long = refl; by_id = refl }, (record { by_long = refl; by_id = refl }, tt))))));
   words = (record { by_index = refl; by_id = refl; next_at = refl }, (record { by_index = refl; by_id = refl; next_at = refl }, tt));
-  apart = refl; passing = refl; none = refl; valid = λ rows. refl; behind = λ words. refl
+  apart = refl;
+  passing = refl;
+  none = refl;
+  valid = λ rows. refl;
+  behind = λ words. refl;
 }
 
 replay_ready : Ready command.Replay
 replay_ready = record {
-  simple = refl; leaf = refl;
+  simple = refl;
+  leaf = refl;
   options = of_options _ _ (options_of command.Replay) (λ name e. one_option name (codes "reads") e) refl (record { by_long = refl; by_id = refl }, tt);
   words = (record { by_index = refl; by_id = refl; next_at = refl }, (record { by_index = refl; by_id = refl; next_at = refl }, tt));
-  apart = refl; passing = refl; none = refl; valid = λ rows. refl; behind = λ words. refl
+  apart = refl;
+  passing = refl;
+  none = refl;
+  valid = λ rows. refl;
+  behind = λ words. refl;
 }
 
 profile_ready : Ready command.Profile
 profile_ready = record {
-  simple = refl; leaf = refl;
+  simple = refl;
+  leaf = refl;
   options = no_option _ _ (λ name. refl);
   words = (record { by_index = refl; by_id = refl; next_at = refl }, (record { by_index = refl; by_id = refl; next_at = refl }, (record { by_index = refl; by_id = refl; next_at = refl }, tt)));
-  apart = refl; passing = refl; none = refl; valid = λ rows. refl; behind = λ words. refl
+  apart = refl;
+  passing = refl;
+  none = refl;
+  valid = λ rows. refl;
+  behind = λ words. refl;
 }
 
 make_ready : Ready command.Make
 make_ready = record {
-  simple = refl; leaf = refl;
+  simple = refl;
+  leaf = refl;
   options = no_option _ _ (λ name. refl);
   words = (record { by_index = refl; by_id = refl; next_at = refl }, (record { by_index = refl; by_id = refl; next_at = refl }, tt));
-  apart = refl; passing = refl; none = refl; valid = λ rows. refl; behind = λ words. refl
+  apart = refl;
+  passing = refl;
+  none = refl;
+  valid = λ rows. refl;
+  behind = λ words. refl;
 }
 
 ready : (c : Command) → Ready c
@@ -155,5 +185,5 @@ reads c words fit number =
     record {
       taken = and_from _ _ r.simple (ap (built_takes (built (reader_of c)) nothing_held) (r.behind words) ∙ takes_all);
       simple = r.simple;
-      rows = ap (λ ws. rows_after s.rules (names_of (built (reader_of c))) ws) (r.behind words) ∙ ap (λ subs. rows_after s.rules (map label_of subs) words) r.leaf ∙ end ∙ ap (map row_of) w.holds
+      rows = ap (λ ws. rows_after s.rules (names_of (built (reader_of c))) ws) (r.behind words) ∙ ap (λ subs. rows_after s.rules (map label_of subs) words) r.leaf ∙ end ∙ ap (map row_of) w.holds;
     }

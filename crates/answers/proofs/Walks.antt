@@ -72,12 +72,12 @@ kind_of word =
     elim (cases_Bool (is_name word)) [
       | inl name ↦ Name name
       | inr other ↦ elim (cases_Bool (is_option word)) [
-          | inl dashes ↦ elim (cases_Bool (list_any is_equals (drop 2 word))) [
-              | inl has ↦ Joined (drop 2 word) (dashed word dashes) has
-              | inr lacks ↦ Apart (drop 2 word) (dashed word dashes) lacks
-            ]
-          | inr none ↦ Bad other none
+        | inl dashes ↦ elim (cases_Bool (list_any is_equals (drop 2 word))) [
+          | inl has ↦ Joined (drop 2 word) (dashed word dashes) has
+          | inr lacks ↦ Apart (drop 2 word) (dashed word dashes) lacks
         ]
+        | inr none ↦ Bad other none
+      ]
     ]
 
 -- ---- the walk
@@ -111,7 +111,7 @@ one_more s w v word rest all step turn more = record {
   ends = ap (λ (u : Walk). fold (walked s.rules []) u rest) step ∙ more.ends;
   holds = more.holds;
   settles = more.settles;
-  passes = and_from _ _ turn (ap (λ (u : Walk). walk_passes s [] u rest) step ∙ more.passes)
+  passes = and_from _ _ turn (ap (λ (u : Walk). walk_passes s [] u rest) step ∙ more.passes);
 }
 
 no_more : (s : Shape) (done : List Pair) (last : Option Pair) (at : ℕ) → Settles s.rules done last → Walked s (walk_at done last at) [] (so_far done last)

@@ -22,7 +22,7 @@ mod tests;
 pub use adapters::{FileShelf, InSource, OutSink};
 pub use answer::{Answer, Part, text_of};
 pub use asking::job_of;
-pub use files::{get_within, read_within};
+pub use files::read_within;
 pub use job::{Job, RecordJob};
 pub use summary::summary_text;
 pub use telling::{tell, tell_answer};

@@ -2,7 +2,7 @@
 
 ghost use Rattle.std.specs.Prelude.{◌≤◌, ◌^◌, length, IfOk};
 
-use answers::{Answer, get_within, text_of};
+use answers::{Answer, text_of};
 use core_run::{Formula, Walk, walk};
 use facts::Profile;
 use front::{CompileFault, compile, plain};
@@ -114,7 +114,11 @@ fn replaying(alloc: Global, source: &[u8], log: &[u8]) -> Result<Answer, AllocEr
 pub fn content<S: Shelf>(alloc: Global, shelf: &mut S, name: &str) -> Result<Bytes, ShelfEnd>
     ensures { IfOk result (λ bytes. length bytes ≤ 2 ^ 20) }
 {
-    get_within(alloc, shelf, name, MOST_BYTES)?.ok_or(ShelfEnd::Failed)
+    let bytes = shelf.get(alloc, name, MOST_BYTES)?;
+    if bytes.len() > MOST_BYTES as usize {
+        return Err(ShelfEnd::Failed);
+    }
+    Ok(List::from_vec(bytes))
 }
 
 fn source_named<S: Shelf>(alloc: Global, shelf: &mut S, name: &str) -> Result<Bytes, ShelfEnd>
