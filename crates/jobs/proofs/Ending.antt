@@ -1,20 +1,42 @@
 -- How the call of a job ends.
-use Rattle.std.proofs.Common.{◌≡◌, refl, sym, ap, subst, ◌∙◌, ℕ, List, Option, Some, None, Err}
+use Rattle.std.proofs.Common.{◌≡◌, refl, sym, ap, subst, ◌∙◌, ℕ, List, [], ◌∷◌, Option, Some, None, Err}
 use Rattle.std.specs.Prelude.{option_map}
 use Rattle.answers.specs.Answers.{status_of, text_of}
 use Rattle.answers.specs.Endings.{Writes}
 use Rattle.answers.specs.Jobs.{Asked, told}
+use Rattle.answers.specs.Jobs.Asked.{Races, Weaken, Record, Replay, Profile, Make}
 use Rattle.answers.specs.declared.answer.Answer.TheVariants as answer
 use Rattle.answers.specs.declared.job.Job.{Job}
-use Rattle.outcomes.proofs.Endings.{comes_at_once, finished, stopped}
+use Rattle.outcomes.proofs.Endings.{comes_at_once, finished, no_puts, stopped}
 use Rattle.outcomes.specs.Endings.{ComesTo, Ends, Finishes, IsFoundSo, MayStop, Outside, ShelfSight, TellsStop, shelf_of}
+use Rattle.outcomes.specs.Endings.Ends.{WantsMemory}
 use Rattle.outcomes.specs.Faults.{StopCounts}
+use Rattle.outcomes.specs.Puts.{Put}
 use Rattle.outcomes.specs.declared.outcome.Outcome.{Outcome}
 use Rattle.outcomes.specs.declared.stop.Stop.{Stop}
 use Rattle.outcomes.specs.declared.stop.Stop.TheVariants as stop
 use Rattle.rr_base.specs.Files.{Files}
 use Rattle.jobs.specs.Jobs.{IsOutcome, PutsBefore, ReadsInput, RunsThreads, UsesShelf}
+use Rattle.jobs.specs.Makings.{source_put}
+use Rattle.jobs.specs.Makings.IsPutInMaking.{Source}
 use Rattle.jobs.specs.Works.{Work}
+
+-- files that a job may put before it has an outcome
+puts_before : (job : Option Asked) → (puts : List Put) × PutsBefore job puts
+puts_before None = ([], refl)
+puts_before (Some (Races source)) = ([], refl)
+puts_before (Some (Weaken source profile)) = ([], refl)
+puts_before (Some (Record asked)) = ([], refl)
+puts_before (Some (Replay source log reads)) = ([], refl)
+puts_before (Some (Profile source log name)) = ([], refl)
+puts_before (Some (Make count name)) = (source_put count name ∷ [], Source refl)
+
+-- memory was wanting for the words, before anything was done
+pub memory_ends : (a b : Work) (files : Option Files) (left : Option (List ℕ)) (job : Option Asked) (old new : Outside) (result : ℕ) → new.files ≡ old.files → new.counts ≡ old.counts → TellsStop stop.OutOfMemory old.out new.out result
+    → Ends (IsOutcome a b files left job) (PutsBefore job) (UsesShelf job) (ReadsInput job) (RunsThreads job) old new result
+memory_ends a b files left job old new result same counts tells =
+    let before = puts_before job in
+    WantsMemory tells.0 before.0 before.1 (record { made = []; rest = before.0; split = refl; files = no_puts old.files new.files same }) counts tells.1
 
 module _ (a b : Work) (files : Option Files) (left : Option (List ℕ)) (found : Option Job) (asked : Option Asked) (old new : Outside) (result : ℕ) (is : option_map told found ≡ asked) where
   -- how the call of these words ends
@@ -22,7 +44,7 @@ module _ (a b : Work) (files : Option Files) (left : Option (List ℕ)) (found :
   EndsFor job = Ends (IsOutcome a b files left job) (PutsBefore job) (UsesShelf job) (ReadsInput job) (RunsThreads job) old new result
 
   -- the job that was found is that of the words
-  for_found : (job : Option Job) → found ≡ job → EndsFor (option_map told job) → EndsFor asked
+  pub for_found : (job : Option Job) → found ≡ job → EndsFor (option_map told job) → EndsFor asked
   for_found job e h = subst EndsFor (sym (ap (option_map told) e) ∙ is) h
 
   pub usage_ends : found ≡ None → b ≡ a → new.files ≡ old.files → new.counts ≡ old.counts → Writes (text_of answer.Usage) (status_of answer.Usage) old.out new.out result → EndsFor asked

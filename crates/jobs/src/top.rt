@@ -1,6 +1,6 @@
 // The whole call: from words to the files that are put, what is written, and the status.
 
-ghost use Rattle.std.specs.Prelude.{◌≡◌, map, string_bytes, IfErr, IsTrue, MatchResult, Some};
+ghost use Rattle.std.specs.Prelude.{◌≡◌, map, string_bytes, option_map, IfErr, IfSome, IsTrue, MatchResult, Some};
 ghost use Rattle.answers.specs.Jobs.{HasLimits, job_of as job_by, told};
 ghost use Rattle.jobs.specs.Jobs.{IsOutcome, PutsBefore, ReadsInput, RunsThreads, UsesShelf, is_status};
 ghost use Rattle.jobs.specs.Wants.{LacksFile};
@@ -19,7 +19,7 @@ use answers::{Answer, Job, job_of, tell_answer};
 use crew::Crew;
 use outcomes::{Keeper, Outcome, Stop, finish, tell_stop};
 use rr_base::{Sink, Source};
-use std::alloc::Global;
+use std::alloc::{AllocError, Global};
 use std::sync::Wait;
 use std::thread::Threads;
 
@@ -51,6 +51,38 @@ fn outcome_of_job<'a, R: Threads + Wait + Sync, I: Source, S: Keeper, C: Crew>(
     }
 }
 
+// Does a job, where there is one, and tells what it comes to.
+fn do_job<'a, R: Threads + Wait + Sync, I: Source, O: Sink, S: Keeper, C: Crew>(
+    rt: &R,
+    alloc: Global,
+    found: Option<Job<'a>>,
+    input: &mut I,
+    out: &mut O,
+    shelf: &mut S,
+    crew: &mut C,
+) -> u8
+    requires { IfSome found.entry (λ job. HasLimits (told job)) }
+    ensures ends { let job = option_map told found.entry in Ends (IsOutcome (work_of C.Crew crew.old) (work_of C.Crew crew.new) (S.files shelf.old) (I.left input.old) job) (PutsBefore job) (UsesShelf job) (ReadsInput job) (RunsThreads job) (record { files = S.files shelf.old; counts = record { shelf = S.faults shelf.old; input = I.faults input.old; crew = C.faults crew.old }; out = record { held = O.held out.old; faults = O.faults out.old } }) (record { files = S.files shelf.new; counts = record { shelf = S.faults shelf.new; input = I.faults input.new; crew = C.faults crew.new }; out = record { held = O.held out.new; faults = O.faults out.new } }) result }
+    ensures status { IsTrue (is_status result) }
+    // Each of these comes only from a fault of its object.
+    ensures read_fault { result ≡ 7 → Rose (I.faults input.old) (I.faults input.new) }
+    ensures write_fault { result ≡ 8 → Rose (O.faults out.old) (O.faults out.new) }
+    ensures shelf_fault { result ≡ 9 → Rose (S.faults shelf.old) (S.faults shelf.new) }
+    ensures crew_fault { result ≡ 10 → Rose (C.faults crew.old) (C.faults crew.new) }
+    // A sound shelf fails only for want of a file that the job reads.
+    ensures lacks { S.IsSound shelf.old → result ≡ 9 → LacksFile (S.files shelf.old) (option_map told found.entry) }
+    ensures input { (ReadsInput (option_map told found.entry) → ⊥) → input.new ≡ input.old }
+    ensures crew { (RunsThreads (option_map told found.entry) → ⊥) → crew.new ≡ crew.old }
+{
+    let Some(job) = found else {
+        return tell_answer(alloc, out, Answer::Usage);
+    };
+    match outcome_of_job(rt, alloc, job, input, shelf, crew) {
+        Ok(outcome) => finish(alloc, outcome, shelf, out),
+        Err(stop) => tell_stop(alloc, out, stop),
+    }
+}
+
 /// Does what the words behind the program's name ask for, and answers the exit status: 0 where the run ended, or the listing or the
 /// profile was written, 1 where the words are no job, 2 where the source is refused, 3 where a thread trapped, 4 where the log is refused, 5
 /// where it isn't one of this program, 6 where the profile is refused, 7 where the input failed, 8 where the sink did, 9 where the
@@ -79,11 +111,8 @@ pub fn chimera<R: Threads + Wait + Sync, I: Source, O: Sink, S: Keeper, C: Crew>
     ensures input { (ReadsInput (job_by (map string_bytes words.now)) → ⊥) → input.new ≡ input.old }
     ensures crew { (RunsThreads (job_by (map string_bytes words.now)) → ⊥) → crew.new ≡ crew.old }
 {
-    let Some(job) = job_of(words) else {
-        return tell_answer(alloc, out, Answer::Usage);
-    };
-    match outcome_of_job(rt, alloc, job, input, shelf, crew) {
-        Ok(outcome) => finish(alloc, outcome, shelf, out),
-        Err(stop) => tell_stop(alloc, out, stop),
+    match job_of(alloc, words) {
+        Ok(found) => do_job(rt, alloc, found, input, out, shelf, crew),
+        Err(AllocError) => tell_stop(alloc, out, Stop::OutOfMemory),
     }
 }
