@@ -192,6 +192,7 @@ pub fn can_go(of: Standing) -> bool
     }
 }
 
+/// What is left of a value that is let go.
 pub fn let_go<'a>(of: Standing<'a>) -> Standing<'a>
     ensures { shown_standing result ≡ spec.let_go (shown_standing of.entry) }
 {

@@ -39,7 +39,8 @@ pub fn constant_named(name: &[u8]) -> Option<i64>
     constant_in(&CONSTANTS, name)
 }
 
-fn is_int(of: &CType) -> bool
+/// Whether the type is one of Int.
+pub fn is_int(of: &CType) -> bool
     ensures { result ≡ spec.is_int of.now }
 {
     let is_number = match of.specifier {
@@ -53,7 +54,8 @@ fn is_int(of: &CType) -> bool
     is_number && of.stars == 0
 }
 
-fn is_of_numbers(op: PrefixOp) -> bool
+/// Whether the operator makes a number of a number.
+pub fn is_of_numbers(op: PrefixOp) -> bool
     ensures { result ≡ spec.is_of_numbers op }
 {
     match op {

@@ -11,7 +11,9 @@ mod sizes;
 
 pub use blame::{first_place, note_mismatch, note_specifier, own_place};
 pub use blame_call::wants_of;
-pub use calls::{can_go, format_of, is_main};
-pub use constants::{constant_named, is_constant, value_of};
+pub use calls::{
+    behind, call_standing, can_go, fits_wanted, format_of, given_by_call, is_main, let_go,
+};
+pub use constants::{constant_named, is_constant, is_int, is_of_numbers, value_of};
 pub use judging::judge;
 pub use sizes::{length_of, note_constant, note_length};
