@@ -61,7 +61,7 @@ fn do_job<'a, R: Threads + Wait + Sync, I: Source, O: Sink, S: Keeper, C: Crew>(
     shelf: &mut S,
     crew: &mut C,
 ) -> u8
-    requires { IfSome found.entry (λ job. HasLimits (told job)) }
+    requires { IfSome found (λ job. HasLimits (told job)) }
     ensures ends { let job = option_map told found.entry in Ends (IsOutcome (work_of C.Crew crew.old) (work_of C.Crew crew.new) (S.files shelf.old) (I.left input.old) job) (PutsBefore job) (UsesShelf job) (ReadsInput job) (RunsThreads job) (record { files = S.files shelf.old; counts = record { shelf = S.faults shelf.old; input = I.faults input.old; crew = C.faults crew.old }; out = record { held = O.held out.old; faults = O.faults out.old } }) (record { files = S.files shelf.new; counts = record { shelf = S.faults shelf.new; input = I.faults input.new; crew = C.faults crew.new }; out = record { held = O.held out.new; faults = O.faults out.new } }) result }
     ensures status { IsTrue (is_status result) }
     // Each of these comes only from a fault of its object.
