@@ -1,10 +1,12 @@
 -- How the call of a job ends.
-use Rattle.std.proofs.Common.{◌≡◌, refl, sym, ap, subst, ◌∙◌, ℕ, List, [], ◌∷◌, Option, Some, None, Err}
+use Rattle.std.proofs.Common.{◌≡◌, refl, sym, ap, subst, ◌∙◌, ℕ, List, [], ◌∷◌, Option, Some, None, Err, arith}
 use Rattle.std.specs.Prelude.{option_map}
-use Rattle.answers.specs.Answers.{status_of, text_of}
-use Rattle.answers.specs.Endings.{Writes}
+use Rattle.answers.specs.Answers.{status_of, text_of, read_fault, crew_fault}
+use Rattle.answers.specs.Endings.{Sight, Writes}
+use Rattle.answers.specs.Endings.Writes.{Whole, Failed, NoMemory}
 use Rattle.answers.specs.Jobs.{Asked, told}
 use Rattle.answers.specs.Jobs.Asked.{Races, Weaken, Record, Replay, Profile, Make}
+use Rattle.answers.specs.declared.answer.Answer.{Answer}
 use Rattle.answers.specs.declared.answer.Answer.TheVariants as answer
 use Rattle.answers.specs.declared.job.Job.{Job}
 use Rattle.outcomes.proofs.Endings.{comes_at_once, finished, no_puts, stopped}
@@ -19,6 +21,7 @@ use Rattle.rr_base.specs.Files.{Files}
 use Rattle.jobs.specs.Jobs.{IsOutcome, PutsBefore, ReadsInput, RunsThreads, UsesShelf}
 use Rattle.jobs.specs.Makings.{source_put}
 use Rattle.jobs.specs.Makings.IsPutInMaking.{Source}
+use Rattle.jobs.specs.Wants.{LacksFile}
 use Rattle.jobs.specs.Works.{Work}
 
 -- files that a job may put before it has an outcome
@@ -58,3 +61,30 @@ module _ (a b : Work) (files : Option Files) (left : Option (List ℕ)) (found :
 
   pub stopped_ends : (job : Job) (s : Stop) → found ≡ Some job → ComesTo (IsOutcome a b files left (Some (told job))) (PutsBefore (Some (told job))) old.files new.files (Err s) → StopCounts s old.counts new.counts → MayStop (UsesShelf (Some (told job))) (ReadsInput (Some (told job))) (RunsThreads (Some (told job))) s → TellsStop s old.out new.out result → EndsFor asked
   stopped_ends job s e h counts may tells = for_found (Some job) e (stopped (IsOutcome a b files left (Some (told job))) (PutsBefore (Some (told job))) (UsesShelf (Some (told job))) (ReadsInput (Some (told job))) (RunsThreads (Some (told job))) old new result s h counts may tells)
+
+-- a shelf that failed for want of a file is told by 9, and no other stop is
+module _ (files : Option Files) (old new : Sight) (result : ℕ) (nine : result ≡ 9) where
+  not_nine : (text : List ℕ) (status : ℕ) → (status ≡ 9 → ⊥) → Writes text status old new result → ⊥
+  not_nine text status other (Whole e took faults) = other (sym e ∙ nine)
+  not_nine text status other (Failed e took rose) = omega (arith, e, nine)
+  not_nine text status other (NoMemory e took faults) = omega (arith, e, nine)
+
+  no_answer : (a : Answer) → status_of a ≡ 9 → ⊥
+  no_answer (answer.Done out) e = omega (arith, e)
+  no_answer answer.Usage e = omega (arith, e)
+  no_answer (answer.SourceRefused number line column) e = omega (arith, e)
+  no_answer (answer.Trapped out kind thread line) e = omega (arith, e)
+  no_answer (answer.LogRefused number line) e = omega (arith, e)
+  no_answer (answer.WrongEntry at) e = omega (arith, e)
+  no_answer (answer.ProfileRefused number) e = omega (arith, e)
+  no_answer (answer.TooLarge what) e = omega (arith, e)
+
+  lacks_by : (job : Asked) (s : Stop) → TellsStop s old new result → (s ≡ stop.ShelfFailed → LacksFile files (Some job)) → LacksFile files (Some job)
+  lacks_by job (stop.Refused a) tells h = absurd (not_nine (text_of a) (status_of a) (no_answer a) tells)
+  lacks_by job stop.ShelfFailed tells h = h refl
+  lacks_by job stop.InputFailed tells h = absurd (not_nine read_fault 7 (λ e. omega (arith, e)) tells)
+  lacks_by job stop.CrewFailed tells h = absurd (not_nine crew_fault 10 (λ e. omega (arith, e)) tells)
+  lacks_by job stop.OutOfMemory tells h = absurd (omega (arith, tells.0, nine))
+
+  pub found_lacks : (found : Option Job) (job : Job) (s : Stop) → found ≡ Some job → TellsStop s old new result → (s ≡ stop.ShelfFailed → LacksFile files (Some (told job))) → LacksFile files (option_map told found)
+  found_lacks found job s e tells h = subst (λ f. LacksFile files (option_map told f)) (sym e) (lacks_by (told job) s tells h)
