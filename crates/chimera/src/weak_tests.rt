@@ -26,8 +26,27 @@ pthread_join(a, NULL); pthread_join(b, NULL);
 return 0; }
 ";
 
+// The first of them stores every second element.
+const STEPS: &str = "#include <pthread.h>
+int v[8];
+void *low(void *p) {
+for (int i = 0; i < 4; i++)
+v[i * 2 % 8] = i;
+return NULL; }
+void *high(void *p) {
+for (int i = 4; i < 8; i++)
+v[i] = i;
+return NULL; }
+int main(void) {
+pthread_t a; pthread_t b;
+pthread_create(&a, NULL, low, NULL);
+pthread_create(&b, NULL, high, NULL);
+pthread_join(a, NULL); pthread_join(b, NULL);
+return 0; }
+";
+
 // A source, and the listing of its weak locks.
-static LISTINGS: [(&str, &str, u8); 8] = [
+static LISTINGS: [(&str, &str, u8); 9] = [
     (BANK, "", 0),
     (
         COUNTER,
@@ -48,6 +67,11 @@ static LISTINGS: [(&str, &str, u8); 8] = [
     (
         HALVES,
         "lock w0 v+0 stripes 8\naccess 5:6 store loop 4:1\naccess 9:6 store loop 8:1\n",
+        0,
+    ),
+    (
+        STEPS,
+        "lock w0 v+0 stripes 8\naccess 5:14 store instruction 5:14\naccess 9:6 store loop 8:1\n",
         0,
     ),
     (
