@@ -21,7 +21,7 @@ use rr_base::{List, Position};
 use std::alloc::Global;
 
 /// Where an expression begins.
-pub fn first_place(e: &Expr) -> Position
+pub(crate) fn first_place(e: &Expr) -> Position
     ensures { place_of result ≡ spec_first_place (exp_of e.now) }
 {
     match e {
@@ -51,10 +51,13 @@ pub fn first_place(e: &Expr) -> Position
     }
 }
 
-/// An expression, with commas outside of all parentheses.
 #[cycle(read)]
 #[tactic(auto, using(c_parse_rules::proofs::Steps::expression_rules))]
-pub fn expression(alloc: Global, level: u32, tokens: &[Token]) -> Result<(Expr, &[Token]), Stop<'_>>
+pub(crate) fn expression(
+    alloc: Global,
+    level: u32,
+    tokens: &[Token],
+) -> Result<(Expr, &[Token]), Stop<'_>>
     requires { level ≤ 257 }
     ensures { Reads (phrase.expression level) (λ e. exp_of e) tokens.now result }
 {
@@ -91,10 +94,13 @@ fn more(
     Ok((found, rest))
 }
 
-/// An expression with no such comma.
 #[cycle(read)]
 #[tactic(auto, using(c_parse_rules::proofs::Steps::assignment_rules))]
-pub fn assignment(alloc: Global, level: u32, tokens: &[Token]) -> Result<(Expr, &[Token]), Stop<'_>>
+pub(crate) fn assignment(
+    alloc: Global,
+    level: u32,
+    tokens: &[Token],
+) -> Result<(Expr, &[Token]), Stop<'_>>
     requires { level ≤ 257 }
     ensures { Reads (phrase.assignment level) (λ e. exp_of e) tokens.now result }
 {
@@ -102,26 +108,13 @@ pub fn assignment(alloc: Global, level: u32, tokens: &[Token]) -> Result<(Expr, 
     let Some(((op, place), behind)) = next_assign(rest, level + 2)? else {
         return Ok((left, rest));
     };
-    let left = Box::new(alloc, left)?;
     let (right, rest) = assignment(alloc, level + 2, behind)?;
-    let right = Box::new(alloc, right)?;
-    let Position { line, column } = place;
-    Ok((
-        Expr::Assign {
-            left,
-            op,
-            right,
-            line,
-            column,
-        },
-        rest,
-    ))
+    Ok((make::assign(alloc, left, op, right, place)?, rest))
 }
 
-/// One that assigns nothing outside of all parentheses.
 #[cycle(read)]
 #[tactic(auto, using(c_parse_rules::proofs::Steps::conditional_part_rules))]
-pub fn conditional(
+pub(crate) fn conditional(
     alloc: Global,
     level: u32,
     tokens: &[Token],
@@ -130,26 +123,13 @@ pub fn conditional(
     ensures { Reads (phrase.conditional_part level) (λ e. exp_of e) tokens.now result }
 {
     let (test, rest) = operands(alloc, level, tokens)?;
-    if !begins_with(rest, Punct::Question) {
+    let Some((place, behind)) = next_punct(rest, Punct::Question, level + 2)? else {
         return Ok((test, rest));
-    }
-    let test = Box::new(alloc, test)?;
-    let (Position { line, column }, rest) = punct(rest, Punct::Question, level + 2)?;
-    let (yes, rest) = expression(alloc, level + 2, rest)?;
-    let yes = Box::new(alloc, yes)?;
+    };
+    let (yes, rest) = expression(alloc, level + 2, behind)?;
     let (_, rest) = punct(rest, Punct::Colon, level + 2)?;
     let (no, rest) = conditional(alloc, level + 1, rest)?;
-    let no = Box::new(alloc, no)?;
-    Ok((
-        Expr::Conditional {
-            test,
-            yes,
-            no,
-            line,
-            column,
-        },
-        rest,
-    ))
+    Ok((make::conditional(alloc, test, yes, no, place)?, rest))
 }
 
 #[cycle(read)]
@@ -270,14 +250,8 @@ fn enclosed(
     ensures { Reads (phrase.enclosed level (place_of place)) (λ e. exp_of e) tokens.now result }
 {
     let (inner, rest) = expression(alloc, level + 1, tokens)?;
-    let inner = Box::new(alloc, inner)?;
     let (_, rest) = punct(rest, Punct::CloseParen, level + 1)?;
-    let Position { line, column } = place;
-    let base = Expr::Paren {
-        inner,
-        line,
-        column,
-    };
+    let base = make::paren(alloc, inner, place)?;
     postfix(alloc, level, base, rest)
 }
 
@@ -341,70 +315,28 @@ fn postfix(
     requires { level ≤ 257 }
     ensures { Reads (phrase.postfix level (exp_of base)) (λ e. exp_of e) tokens.now result }
 {
-    if begins_with(tokens, Punct::OpenBracket) {
-        let base = Box::new(alloc, base)?;
-        let (Position { line, column }, rest) = punct(tokens, Punct::OpenBracket, level + 2)?;
+    if let Some((place, rest)) = next_punct(tokens, Punct::OpenBracket, level + 2)? {
         let (index, rest) = expression(alloc, level + 2, rest)?;
-        let index = Box::new(alloc, index)?;
         let (_, rest) = punct(rest, Punct::CloseBracket, level + 2)?;
-        let base = Expr::Index {
-            base,
-            index,
-            line,
-            column,
-        };
+        let base = make::element(alloc, base, index, place)?;
         return postfix(alloc, level + 1, base, rest);
     }
-    if begins_with(tokens, Punct::Dot) {
-        let base = Box::new(alloc, base)?;
-        let (Position { line, column }, rest) = punct(tokens, Punct::Dot, level + 2)?;
+    if let Some((place, rest)) = next_punct(tokens, Punct::Dot, level + 2)? {
         let (name, rest) = name(alloc, rest, level + 2)?;
-        return postfix(
-            alloc,
-            level + 1,
-            Expr::Member {
-                base,
-                name,
-                line,
-                column,
-            },
-            rest,
-        );
-    }
-    if begins_with(tokens, Punct::Arrow) {
-        let base = Box::new(alloc, base)?;
-        let (Position { line, column }, rest) = punct(tokens, Punct::Arrow, level + 2)?;
-        let (name, rest) = name(alloc, rest, level + 2)?;
-        return postfix(
-            alloc,
-            level + 1,
-            Expr::Arrow {
-                base,
-                name,
-                line,
-                column,
-            },
-            rest,
-        );
-    }
-    if begins_with(tokens, Punct::PlusPlus) {
-        let operand = Box::new(alloc, base)?;
-        let (Position { line, column }, rest) = punct(tokens, Punct::PlusPlus, level + 2)?;
-        let base = Expr::PostIncrement {
-            operand,
-            line,
-            column,
-        };
+        let base = make::member(alloc, base, name, place)?;
         return postfix(alloc, level + 1, base, rest);
     }
-    if begins_with(tokens, Punct::MinusMinus) {
-        let operand = Box::new(alloc, base)?;
-        let (Position { line, column }, rest) = punct(tokens, Punct::MinusMinus, level + 2)?;
-        let base = Expr::PostDecrement {
-            operand,
-            line,
-            column,
-        };
+    if let Some((place, rest)) = next_punct(tokens, Punct::Arrow, level + 2)? {
+        let (name, rest) = name(alloc, rest, level + 2)?;
+        let base = make::arrow(alloc, base, name, place)?;
+        return postfix(alloc, level + 1, base, rest);
+    }
+    if let Some((place, rest)) = next_punct(tokens, Punct::PlusPlus, level + 2)? {
+        let base = make::post_increment(alloc, base, place)?;
+        return postfix(alloc, level + 1, base, rest);
+    }
+    if let Some((place, rest)) = next_punct(tokens, Punct::MinusMinus, level + 2)? {
+        let base = make::post_decrement(alloc, base, place)?;
         return postfix(alloc, level + 1, base, rest);
     }
     Ok((base, tokens))
@@ -434,7 +366,7 @@ fn arguments(
 
 /// An expression, or none before this token.
 #[tactic(auto, using(c_parse_rules::proofs::Steps::maybe_expression_rules))]
-pub fn maybe_expression(
+pub(crate) fn maybe_expression(
     alloc: Global,
     level: u32,
     stop: Punct,
