@@ -4,4 +4,4 @@ use Rattle.c_parser.specs.declared.short.ForHead.{ForHead as CodeForHead}
 use Rattle.c_grammar.specs.Rules.{ForHead, for_head}
 
 abbrev pub for_head_of : CodeForHead → ForHead
-for_head_of h = for_head (start_of h.start) (maybe_of h.test) (maybe_of h.step)
+for_head_of h = for_head (start_of h.start.value) (maybe_of h.test.value) (maybe_of h.step.value)

@@ -1,6 +1,6 @@
-//! Composes statements of their parts.
+//! Composes statements of their parts, each of which stands in a box already.
 
-ghost use Rattle.std.specs.Prelude.{◌≡◌, IfOk, map};
+ghost use Rattle.std.specs.Prelude.{◌≡◌, map};
 ghost use Rattle.c_tree.specs.Tree as tree;
 ghost use Rattle.c_tree.specs.View.{exp_of, stmt_of, part_of};
 ghost use Rattle.c_parser.specs.ForHeads.{for_head_of};
@@ -9,7 +9,6 @@ ghost use Rattle.c_parse_rules.specs.Gives.{place_of};
 use crate::short::ForHead;
 use c_tree::{Expr, Part, Stmt};
 use rr_base::{List, Position};
-use std::alloc::{AllocError, Global};
 
 pub(crate) fn block(parts: List<Part>, place: Position) -> Stmt
     ensures { stmt_of result ≡ tree.block (tree.listed_parts (map part_of parts)) (place_of place) }
@@ -22,93 +21,67 @@ pub(crate) fn block(parts: List<Part>, place: Position) -> Stmt
     }
 }
 
-pub(crate) fn branch(
-    alloc: Global,
-    test: Expr,
-    yes: Stmt,
-    place: Position,
-) -> Result<Stmt, AllocError>
-    ensures { IfOk result (λ s. stmt_of s ≡ tree.branch (exp_of test) (stmt_of yes) (place_of place)) }
+pub(crate) fn branch(test: Box<Expr>, yes: Box<Stmt>, place: Position) -> Stmt
+    ensures { stmt_of result ≡ tree.branch (exp_of test.value) (stmt_of yes.value) (place_of place) }
 {
     let Position { line, column } = place;
-    Ok(Stmt::If {
-        test,
-        yes: Box::new(alloc, yes)?,
+    Stmt::If {
+        test: Box::into_inner(test),
+        yes,
         no: None,
         line,
         column,
-    })
+    }
 }
 
-pub(crate) fn branch_else(
-    alloc: Global,
-    test: Expr,
-    yes: Stmt,
-    no: Stmt,
-    place: Position,
-) -> Result<Stmt, AllocError>
-    ensures { IfOk result (λ s. stmt_of s ≡ tree.branch_else (exp_of test) (stmt_of yes) (stmt_of no) (place_of place)) }
+pub(crate) fn branch_else(test: Box<Expr>, yes: Box<Stmt>, no: Box<Stmt>, place: Position) -> Stmt
+    ensures { stmt_of result ≡ tree.branch_else (exp_of test.value) (stmt_of yes.value) (stmt_of no.value) (place_of place) }
 {
     let Position { line, column } = place;
-    Ok(Stmt::If {
-        test,
-        yes: Box::new(alloc, yes)?,
-        no: Some(Box::new(alloc, no)?),
+    Stmt::If {
+        test: Box::into_inner(test),
+        yes,
+        no: Some(no),
         line,
         column,
-    })
+    }
 }
 
-pub(crate) fn while_loop(
-    alloc: Global,
-    test: Expr,
-    body: Stmt,
-    place: Position,
-) -> Result<Stmt, AllocError>
-    ensures { IfOk result (λ s. stmt_of s ≡ tree.while_loop (exp_of test) (stmt_of body) (place_of place)) }
+pub(crate) fn while_loop(test: Box<Expr>, body: Box<Stmt>, place: Position) -> Stmt
+    ensures { stmt_of result ≡ tree.while_loop (exp_of test.value) (stmt_of body.value) (place_of place) }
 {
     let Position { line, column } = place;
-    Ok(Stmt::While {
-        test,
-        body: Box::new(alloc, body)?,
+    Stmt::While {
+        test: Box::into_inner(test),
+        body,
         line,
         column,
-    })
+    }
 }
 
-pub(crate) fn do_loop(
-    alloc: Global,
-    body: Stmt,
-    test: Expr,
-    place: Position,
-) -> Result<Stmt, AllocError>
-    ensures { IfOk result (λ s. stmt_of s ≡ tree.do_loop (stmt_of body) (exp_of test) (place_of place)) }
+pub(crate) fn do_loop(body: Box<Stmt>, test: Box<Expr>, place: Position) -> Stmt
+    ensures { stmt_of result ≡ tree.do_loop (stmt_of body.value) (exp_of test.value) (place_of place) }
 {
     let Position { line, column } = place;
-    Ok(Stmt::Do {
-        body: Box::new(alloc, body)?,
-        test,
+    Stmt::Do {
+        body,
+        test: Box::into_inner(test),
         line,
         column,
-    })
+    }
 }
 
-pub(crate) fn for_loop(
-    alloc: Global,
-    head: ForHead,
-    body: Stmt,
-    place: Position,
-) -> Result<Stmt, AllocError>
-    ensures { IfOk result (λ s. let h = for_head_of head in stmt_of s ≡ tree.for_loop h.start h.test h.next (stmt_of body) (place_of place)) }
+pub(crate) fn for_loop(head: ForHead, body: Box<Stmt>, place: Position) -> Stmt
+    ensures { let h = for_head_of head in stmt_of result ≡ tree.for_loop h.start h.test h.next (stmt_of body.value) (place_of place) }
 {
     let ForHead { start, test, step } = head;
     let Position { line, column } = place;
-    Ok(Stmt::For {
-        start,
-        test,
-        step,
-        body: Box::new(alloc, body)?,
+    Stmt::For {
+        start: Box::into_inner(start),
+        test: Box::into_inner(test),
+        step: Box::into_inner(step),
+        body,
         line,
         column,
-    })
+    }
 }

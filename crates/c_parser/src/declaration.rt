@@ -7,7 +7,7 @@ ghost use Rattle.c_parse_rules.specs.Gives.{limit, place_of, initials_of, Reads,
 ghost use Rattle.c_grammar.specs.Phrase as phrase;
 ghost use Rattle.c_grammar.specs.Rules.{braces_rule};
 
-use crate::expression::{assignment, conditional};
+use c_expressions::expression::{assignment, conditional};
 use c_lexer::{Punct, Token, Word};
 use c_parse_rules::make;
 use c_parse_rules::token::{Stop, begins_with, name, next_punct, next_word, punct};

@@ -50,6 +50,16 @@ pub(crate) fn statement(
     }
 }
 
+// A statement in a box of its own.
+#[cycle(statements)]
+fn boxed(alloc: Global, level: u32, tokens: &[Token]) -> Result<(Box<Stmt>, &[Token]), Stop<'_>>
+    requires { level ≤ 256 }
+    ensures { Reads (phrase.statement level) (λ s. stmt_of s.value) tokens.now result }
+{
+    let (found, rest) = statement(alloc, level, tokens)?;
+    Ok((Box::new(alloc, found)?, rest))
+}
+
 // Behind the brace, which stands at that place.
 #[cycle(statements)]
 fn block(
@@ -99,7 +109,7 @@ fn branch(
     ensures { Follows (rules.if_rule level (place_of place)) (λ s. stmt_of s) tokens.now result }
 {
     let (test, rest) = test(alloc, level, tokens)?;
-    let (yes, rest) = statement(alloc, level, rest)?;
+    let (yes, rest) = boxed(alloc, level, rest)?;
     otherwise(alloc, level, test, yes, place, rest)
 }
 
@@ -108,22 +118,22 @@ fn branch(
 fn otherwise(
     alloc: Global,
     level: u32,
-    test: Expr,
-    yes: Stmt,
+    test: Box<Expr>,
+    yes: Box<Stmt>,
     place: Position,
     tokens: &[Token],
 ) -> Result<(Stmt, &[Token]), Stop<'_>>
     requires { level ≤ 256 }
-    ensures { Follows (rules.else_rule level (exp_of test) (stmt_of yes) (place_of place)) (λ s. stmt_of s) tokens.now result }
+    ensures { Follows (rules.else_rule level (exp_of test.value) (stmt_of yes.value) (place_of place)) (λ s. stmt_of s) tokens.now result }
 {
     if ends_open(&yes) {
-        return Ok((compose::branch(alloc, test, yes, place)?, tokens));
+        return Ok((compose::branch(test, yes, place), tokens));
     }
     let Some((_, rest)) = next_word(tokens, Word::Else, level)? else {
-        return Ok((compose::branch(alloc, test, yes, place)?, tokens));
+        return Ok((compose::branch(test, yes, place), tokens));
     };
-    let (no, rest) = statement(alloc, level, rest)?;
-    Ok((compose::branch_else(alloc, test, yes, no, place)?, rest))
+    let (no, rest) = boxed(alloc, level, rest)?;
+    Ok((compose::branch_else(test, yes, no, place), rest))
 }
 
 #[cycle(statements)]
@@ -138,8 +148,8 @@ fn while_loop(
     ensures { Follows (rules.while_rule level (place_of place)) (λ s. stmt_of s) tokens.now result }
 {
     let (test, rest) = test(alloc, level, tokens)?;
-    let (body, rest) = statement(alloc, level, rest)?;
-    Ok((compose::while_loop(alloc, test, body, place)?, rest))
+    let (body, rest) = boxed(alloc, level, rest)?;
+    Ok((compose::while_loop(test, body, place), rest))
 }
 
 #[cycle(statements)]
@@ -153,9 +163,9 @@ fn do_loop(
     requires { level ≤ 256 }
     ensures { Follows (rules.do_rule level (place_of place)) (λ s. stmt_of s) tokens.now result }
 {
-    let (body, rest) = statement(alloc, level, tokens)?;
+    let (body, rest) = boxed(alloc, level, tokens)?;
     let (test, rest) = do_end(alloc, level, rest)?;
-    Ok((compose::do_loop(alloc, body, test, place)?, rest))
+    Ok((compose::do_loop(body, test, place), rest))
 }
 
 #[cycle(statements)]
@@ -170,8 +180,8 @@ fn for_loop(
     ensures { Follows (rules.for_rule level (place_of place)) (λ s. stmt_of s) tokens.now result }
 {
     let (head, rest) = for_head_of(alloc, level, tokens)?;
-    let (body, rest) = statement(alloc, level, rest)?;
-    Ok((compose::for_loop(alloc, head, body, place)?, rest))
+    let (body, rest) = boxed(alloc, level, rest)?;
+    Ok((compose::for_loop(head, body, place), rest))
 }
 
 // One thing in a block.

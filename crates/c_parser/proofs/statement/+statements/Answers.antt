@@ -32,7 +32,7 @@ pub branch-returns : goal.branch-returns
 branch-returns t c =
     let P : Outcome Statement → Type 0 = λ o. Gives (λ (s : Stmt). stmt_of s) c.otherwise.result o in
     subst P
-    (sym (if_then c.args.level (place_of c.args.place) (lexemes c.args.tokens.now) (lexemes c.in_ok-test.rest.now) (lexemes c.in_ok-yes.rest.now) (exp_of c.in_ok-test.test) (stmt_of c.in_ok-yes.yes) c.in_ok-test.ensures c.in_ok-yes.ensures))
+    (sym (if_then c.args.level (place_of c.args.place) (lexemes c.args.tokens.now) (lexemes c.in_ok-test.rest.now) (lexemes c.in_ok-yes.rest.now) (exp_of c.in_ok-test.test.value) (stmt_of c.in_ok-yes.yes.value) c.in_ok-test.ensures c.in_ok-yes.ensures))
     c.otherwise.ensures
 
 pub statement-returns-in_err-found : goal.statement-returns-in_err-found

@@ -8,6 +8,9 @@ use Rattle.c_parser.proofs.statement.+statements.Given as goal
 abbrev pub decreases-statement : goal.decreases-statement
 decreases-statement l = 10 * (257 - l.level)
 
+abbrev pub decreases-boxed : goal.decreases-boxed
+decreases-boxed l = 10 * (257 - l.level) + 1
+
 abbrev pub decreases-control : goal.decreases-control
 decreases-control l = 10 * (257 - l.level) + 8
 

@@ -21,7 +21,7 @@ use rr_base::{List, Position};
 use std::alloc::Global;
 
 /// Where an expression begins.
-pub(crate) fn first_place(e: &Expr) -> Position
+pub fn first_place(e: &Expr) -> Position
     ensures { place_of result ≡ spec_first_place (exp_of e.now) }
 {
     match e {
@@ -51,26 +51,25 @@ pub(crate) fn first_place(e: &Expr) -> Position
     }
 }
 
+/// An expression, with commas outside of all parentheses.
 #[cycle(read)]
 #[tactic(auto, using(c_parse_rules::proofs::Steps::expression_rules))]
-pub(crate) fn expression(
-    alloc: Global,
-    level: u32,
-    tokens: &[Token],
-) -> Result<(Expr, &[Token]), Stop<'_>>
+pub fn expression(alloc: Global, level: u32, tokens: &[Token]) -> Result<(Expr, &[Token]), Stop<'_>>
     requires { level ≤ 257 }
     ensures { Reads (phrase.expression level) (λ e. exp_of e) tokens.now result }
 {
     let (first, rest) = assignment(alloc, level, tokens)?;
-    let Some((_, behind)) = next_punct(rest, Punct::Comma, level)? else {
+    if !begins_with(rest, Punct::Comma) {
         return Ok((first, rest));
-    };
-    let (second, rest) = assignment(alloc, level, behind)?;
+    }
+    let first = Box::new(alloc, first)?;
+    let (_, rest) = punct(rest, Punct::Comma, level)?;
+    let (second, rest) = assignment(alloc, level, rest)?;
     let mut others = List::new(alloc);
     others.push(second)?;
     let (others, rest) = more(alloc, level, others, rest)?;
     let place = first_place(&first);
-    Ok((make::comma(alloc, first, others, place)?, rest))
+    Ok((make::comma(first, others, place), rest))
 }
 
 // The assignments with a comma before each, behind those that were found.
@@ -94,13 +93,10 @@ fn more(
     Ok((found, rest))
 }
 
+/// An expression with no such comma.
 #[cycle(read)]
 #[tactic(auto, using(c_parse_rules::proofs::Steps::assignment_rules))]
-pub(crate) fn assignment(
-    alloc: Global,
-    level: u32,
-    tokens: &[Token],
-) -> Result<(Expr, &[Token]), Stop<'_>>
+pub fn assignment(alloc: Global, level: u32, tokens: &[Token]) -> Result<(Expr, &[Token]), Stop<'_>>
     requires { level ≤ 257 }
     ensures { Reads (phrase.assignment level) (λ e. exp_of e) tokens.now result }
 {
@@ -108,13 +104,26 @@ pub(crate) fn assignment(
     let Some(((op, place), behind)) = next_assign(rest, level + 2)? else {
         return Ok((left, rest));
     };
+    let left = Box::new(alloc, left)?;
     let (right, rest) = assignment(alloc, level + 2, behind)?;
-    Ok((make::assign(alloc, left, op, right, place)?, rest))
+    let right = Box::new(alloc, right)?;
+    let Position { line, column } = place;
+    Ok((
+        Expr::Assign {
+            left,
+            op,
+            right,
+            line,
+            column,
+        },
+        rest,
+    ))
 }
 
+/// One that assigns nothing outside of all parentheses.
 #[cycle(read)]
 #[tactic(auto, using(c_parse_rules::proofs::Steps::conditional_part_rules))]
-pub(crate) fn conditional(
+pub fn conditional(
     alloc: Global,
     level: u32,
     tokens: &[Token],
@@ -123,13 +132,26 @@ pub(crate) fn conditional(
     ensures { Reads (phrase.conditional_part level) (λ e. exp_of e) tokens.now result }
 {
     let (test, rest) = operands(alloc, level, tokens)?;
-    let Some((place, behind)) = next_punct(rest, Punct::Question, level + 2)? else {
+    if !begins_with(rest, Punct::Question) {
         return Ok((test, rest));
-    };
-    let (yes, rest) = expression(alloc, level + 2, behind)?;
+    }
+    let test = Box::new(alloc, test)?;
+    let (Position { line, column }, rest) = punct(rest, Punct::Question, level + 2)?;
+    let (yes, rest) = expression(alloc, level + 2, rest)?;
+    let yes = Box::new(alloc, yes)?;
     let (_, rest) = punct(rest, Punct::Colon, level + 2)?;
     let (no, rest) = conditional(alloc, level + 1, rest)?;
-    Ok((make::conditional(alloc, test, yes, no, place)?, rest))
+    let no = Box::new(alloc, no)?;
+    Ok((
+        Expr::Conditional {
+            test,
+            yes,
+            no,
+            line,
+            column,
+        },
+        rest,
+    ))
 }
 
 #[cycle(read)]
@@ -250,8 +272,14 @@ fn enclosed(
     ensures { Reads (phrase.enclosed level (place_of place)) (λ e. exp_of e) tokens.now result }
 {
     let (inner, rest) = expression(alloc, level + 1, tokens)?;
+    let inner = Box::new(alloc, inner)?;
     let (_, rest) = punct(rest, Punct::CloseParen, level + 1)?;
-    let base = make::paren(alloc, inner, place)?;
+    let Position { line, column } = place;
+    let base = Expr::Paren {
+        inner,
+        line,
+        column,
+    };
     postfix(alloc, level, base, rest)
 }
 
@@ -315,28 +343,70 @@ fn postfix(
     requires { level ≤ 257 }
     ensures { Reads (phrase.postfix level (exp_of base)) (λ e. exp_of e) tokens.now result }
 {
-    if let Some((place, rest)) = next_punct(tokens, Punct::OpenBracket, level + 2)? {
+    if begins_with(tokens, Punct::OpenBracket) {
+        let base = Box::new(alloc, base)?;
+        let (Position { line, column }, rest) = punct(tokens, Punct::OpenBracket, level + 2)?;
         let (index, rest) = expression(alloc, level + 2, rest)?;
+        let index = Box::new(alloc, index)?;
         let (_, rest) = punct(rest, Punct::CloseBracket, level + 2)?;
-        let base = make::element(alloc, base, index, place)?;
+        let base = Expr::Index {
+            base,
+            index,
+            line,
+            column,
+        };
         return postfix(alloc, level + 1, base, rest);
     }
-    if let Some((place, rest)) = next_punct(tokens, Punct::Dot, level + 2)? {
+    if begins_with(tokens, Punct::Dot) {
+        let base = Box::new(alloc, base)?;
+        let (Position { line, column }, rest) = punct(tokens, Punct::Dot, level + 2)?;
         let (name, rest) = name(alloc, rest, level + 2)?;
-        let base = make::member(alloc, base, name, place)?;
-        return postfix(alloc, level + 1, base, rest);
+        return postfix(
+            alloc,
+            level + 1,
+            Expr::Member {
+                base,
+                name,
+                line,
+                column,
+            },
+            rest,
+        );
     }
-    if let Some((place, rest)) = next_punct(tokens, Punct::Arrow, level + 2)? {
+    if begins_with(tokens, Punct::Arrow) {
+        let base = Box::new(alloc, base)?;
+        let (Position { line, column }, rest) = punct(tokens, Punct::Arrow, level + 2)?;
         let (name, rest) = name(alloc, rest, level + 2)?;
-        let base = make::arrow(alloc, base, name, place)?;
+        return postfix(
+            alloc,
+            level + 1,
+            Expr::Arrow {
+                base,
+                name,
+                line,
+                column,
+            },
+            rest,
+        );
+    }
+    if begins_with(tokens, Punct::PlusPlus) {
+        let operand = Box::new(alloc, base)?;
+        let (Position { line, column }, rest) = punct(tokens, Punct::PlusPlus, level + 2)?;
+        let base = Expr::PostIncrement {
+            operand,
+            line,
+            column,
+        };
         return postfix(alloc, level + 1, base, rest);
     }
-    if let Some((place, rest)) = next_punct(tokens, Punct::PlusPlus, level + 2)? {
-        let base = make::post_increment(alloc, base, place)?;
-        return postfix(alloc, level + 1, base, rest);
-    }
-    if let Some((place, rest)) = next_punct(tokens, Punct::MinusMinus, level + 2)? {
-        let base = make::post_decrement(alloc, base, place)?;
+    if begins_with(tokens, Punct::MinusMinus) {
+        let operand = Box::new(alloc, base)?;
+        let (Position { line, column }, rest) = punct(tokens, Punct::MinusMinus, level + 2)?;
+        let base = Expr::PostDecrement {
+            operand,
+            line,
+            column,
+        };
         return postfix(alloc, level + 1, base, rest);
     }
     Ok((base, tokens))
@@ -366,7 +436,7 @@ fn arguments(
 
 /// An expression, or none before this token.
 #[tactic(auto, using(c_parse_rules::proofs::Steps::maybe_expression_rules))]
-pub(crate) fn maybe_expression(
+pub fn maybe_expression(
     alloc: Global,
     level: u32,
     stop: Punct,

@@ -3,7 +3,7 @@ use Rattle.c_tree.specs.View.{exp_of}
 use Rattle.c_parse_rules.specs.Gives.{limit, lexemes}
 use Rattle.c_grammar.specs.Phrase as phrase
 use Rattle.c_grammar.specs.Rules.{read}
-use Rattle.c_parser.proofs.expression.+read.Given as goal
+use Rattle.c_expressions.proofs.expression.+read.Given as goal
 
 abbrev pub decreases-postfix : goal.decreases-postfix
 decreases-postfix l = 10 * (258 - l.level)
