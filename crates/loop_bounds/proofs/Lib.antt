@@ -1,5 +1,6 @@
 pub mod Borne
 pub mod Entered
+pub mod FirstLoops
 pub mod Innermost
 pub mod Making
 pub mod Marks

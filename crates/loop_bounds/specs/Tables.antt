@@ -1,5 +1,5 @@
 -- Tables of a function's instructions: what is asked again and again of them, found once.
-use Rattle.std.specs.Prelude.{◌≡◌, ℕ, zero, suc, nat_eq, if◌then◌else◌, ◌<◌, ◌≤◌, nat_lt, Bool, true, List, length, take, drop, Option, Some, None, slice_get, slice_index_or}
+use Rattle.std.specs.Prelude.{◌≡◌, ℕ, zero, suc, nat_eq, ◌==◌, if◌then◌else◌, ◌<◌, ◌≤◌, nat_lt, Bool, true, List, [], ◌∷◌, length, take, drop, Option, Some, None, slice_get, slice_index_or}
 use Rattle.std.specs.HashMap.{HashMap, get}
 use Rattle.std.specs.List.{filter}
 use Rattle.flow_code.specs.declared.act.Instr.{Instr}
@@ -42,6 +42,11 @@ calm_loops is ls = filter (is_calm is) ls
 abbrev pub AreCalm : List Instr → List LoopInfo → Type 0
 AreCalm is ls = (k : ℕ) (l : LoopInfo) → slice_get ls k ≡ Some l → is_calm is l ≡ true
 
+-- the first of the loops that begins at the place
+abbrev pub first_at : List LoopInfo → ℕ → Option LoopInfo
+first_at [] m = None
+first_at (l ∷ ls) m = if l.at == m then Some l else first_at ls m
+
 -- the only one of the first n instructions that assigns the register, or that there are several, if any does
 abbrev pub one_more : ℕ → Option (Option ℕ) → Option (Option ℕ)
 one_more n None = Some (Some n)
@@ -63,6 +68,10 @@ module _ {S : Type 0} where
   -- the table tells which instruction alone assigns each register
   abbrev pub AreMakers : List Instr → HashMap ℕ (Option ℕ) S → Type 0
   AreMakers is makers = (r : ℕ) → get nat_eq makers r ≡ makers_in is (length is) r
+
+  -- the table tells which loop is the first that begins at each place
+  abbrev pub AreHeads : List LoopInfo → HashMap ℕ LoopInfo S → Type 0
+  AreHeads ls heads = (m : ℕ) → get nat_eq heads m ≡ first_at ls m
 
 -- each has the last instructions before the move in its place, in its block, that assign the move's pointer and its number
 abbrev pub AreOperands : List Instr → List (Option ℕ × Option ℕ) → Type 0

@@ -5,11 +5,12 @@ ghost use Rattle.facts.specs.Blocks.{AreAmounts};
 ghost use Rattle.facts.specs.PointsTo.{list_at};
 ghost use Rattle.weak_facts.specs.Loops as loops;
 ghost use Rattle.flow_code.specs.declared.act.Instr.{Instr as Step};
-ghost use Rattle.loop_bounds.specs.Tables.{AreWays, AreMakers, AreOperands, AreRounds, AreCalm, calm_loops};
+ghost use Rattle.loop_bounds.specs.Tables.{AreWays, AreMakers, AreOperands, AreRounds, AreCalm, AreHeads, calm_loops};
 ghost use Rattle.weak_facts.specs.Ranges.{HasRegisters};
 ghost use Rattle.weak_facts.specs.Ranges as spec;
 
 use crate::acts::pointer_of;
+use crate::heads::{Heads, heads_of};
 use crate::loops::{counted_of, following};
 use crate::makers::{Makers, makers_of, only_maker};
 use crate::operands::operand_makers;
@@ -31,8 +32,8 @@ fn is_innermost(round: Option<usize>, at: usize, counted: &LoopInfo) -> bool
     at <= counted.last as usize && round == Some(counted.at as usize)
 }
 
-/// The first of these loops, which call nothing, that is the innermost one round the instruction.
-fn loop_round<'a>(
+// The first of these loops, which call nothing, that is the innermost one round the instruction, searched among all.
+fn searched_round<'a>(
     instrs: &[Instr],
     rounds: &[Option<usize>],
     at: usize,
@@ -51,6 +52,31 @@ fn loop_round<'a>(
         }
     }
     None
+}
+
+/// The first of these loops, which call nothing, that is the innermost one round the instruction: the first that begins at
+/// its Mark, unless that ends in front of the instruction.
+fn loop_round<'a>(
+    instrs: &[Instr],
+    rounds: &[Option<usize>],
+    at: usize,
+    loops: &'a [LoopInfo],
+    heads: &'a Heads,
+) -> Option<&'a LoopInfo>
+    requires rounds { AreRounds instrs.now rounds.now }
+    requires length { length rounds.now ≡ length instrs.now }
+    requires calm { AreCalm instrs.now loops.now }
+    requires heads { AreHeads loops.now heads.now }
+    requires at { at < length instrs.now }
+    ensures { option_copied result ≡ spec.loop_round instrs.now at loops.now }
+{
+    let mark = rounds[at]?;
+    let head = heads.get(&mark)?;
+    if at <= head.last as usize {
+        Some(head)
+    } else {
+        searched_round(instrs, rounds, at, loops)
+    }
 }
 
 // The loops that call nothing.
@@ -80,7 +106,8 @@ fn have_single_cells(code: &Code, places: &[Place]) -> bool
 }
 
 /// A function, with its number, what made the operands of its moves, the constants that its instructions add, the ways to
-/// them, the makers of its registers, the innermost loop round each instruction, and its counted loops that call nothing.
+/// them, the makers of its registers, the innermost loop round each instruction, and its counted loops that call nothing, with
+/// the first that begins at each place.
 #[derive(Clone, Copy)]
 struct Body<'a> {
     number: u32,
@@ -91,6 +118,7 @@ struct Body<'a> {
     makers: &'a Makers,
     rounds: &'a [Option<usize>],
     loops: &'a [LoopInfo],
+    heads: &'a Heads,
 }
 
 /// The places to which a register of the function may point.
@@ -162,13 +190,14 @@ fn range_at(code: &Code, points: &PointsTo, body: &Body<'_>, at: usize, act: &Ac
     requires rounds { AreRounds body.now.function.now.instrs body.now.rounds.now }
     requires rounds_length { length body.now.rounds.now ≡ length body.now.function.now.instrs }
     requires calm { AreCalm body.now.function.now.instrs body.now.loops.now }
+    requires heads { AreHeads body.now.loops.now body.now.heads.now }
     requires at { at < length body.now.function.now.instrs }
     requires number { at < 2 ^ 32 }
     ensures { result ≡ spec.range_at code.now points.now body.now.number body.now.function.now.instrs body.now.loops.now at act.now }
 {
     let instrs = body.function.instrs.as_slice();
     let register = pointer_of(act)?;
-    let counted = loop_round(instrs, body.rounds, at, body.loops)?;
+    let counted = loop_round(instrs, body.rounds, at, body.loops, body.heads)?;
     range_in(code, points, body, at, register, counted)
 }
 
@@ -199,6 +228,7 @@ fn push_ranges(
     requires rounds { AreRounds body.now.function.now.instrs body.now.rounds.now }
     requires rounds_length { length body.now.rounds.now ≡ length body.now.function.now.instrs }
     requires calm { AreCalm body.now.function.now.instrs body.now.loops.now }
+    requires heads { AreHeads body.now.loops.now body.now.heads.now }
     ensures { OnOk result (out.new ≡ out.old ++ spec.ranges_in code.now points.now body.now.number body.now.function.now.instrs body.now.loops.now 0 body.now.function.now.instrs) }
 {
     let instrs = body.function.instrs.as_slice();
@@ -232,6 +262,8 @@ fn push_function(
     let ways = ways_of(alloc, instrs)?;
     let counted = counted_of(alloc, function, &ways)?;
     let calm = calm_of(alloc, instrs, counted.as_slice())?;
+    let loops = calm.as_slice();
+    let heads = heads_of(alloc, loops)?;
     let starts = block_starts(alloc, instrs)?;
     let operands = operand_makers(alloc, instrs, starts.as_slice())?;
     let amounts = amounts(alloc, instrs, starts.as_slice())?;
@@ -245,7 +277,8 @@ fn push_function(
         ways: &ways,
         makers: &makers,
         rounds: rounds.as_slice(),
-        loops: calm.as_slice(),
+        loops,
+        heads: &heads,
     };
     push_ranges(code, points, &body, out)
 }

@@ -5,6 +5,7 @@
 mod accesses;
 mod acts;
 mod counted;
+mod heads;
 mod laws;
 mod loops;
 mod makers;

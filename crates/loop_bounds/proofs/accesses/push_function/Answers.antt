@@ -13,7 +13,7 @@ use Rattle.loop_bounds.proofs.accesses.push_function.Goals as goal
 pub push_ranges-requires-clause-calm : goal.push_ranges-requires-clause-calm
 push_ranges-requires-clause-calm c =
     let f = c.args.function.now in
-    let same : c.as_slice-7.result.now ≡ calm_loops f.instrs (counted_of f) = c.as_slice-7.ensures.value ∙ c.in_ok-calm.ensures ∙ ap (λ (z : List Instr). calm_loops z c.as_slice.result.now) c.as_slice-instrs.ensures ∙ ap (calm_loops f.instrs) (c.as_slice.ensures ∙ c.in_ok-counted.ensures) in
+    let same : c.as_slice-loops.result.now ≡ calm_loops f.instrs (counted_of f) = c.as_slice-loops.ensures.value ∙ c.in_ok-calm.ensures ∙ ap (λ (z : List Instr). calm_loops z c.as_slice.result.now) c.as_slice-instrs.ensures ∙ ap (calm_loops f.instrs) (c.as_slice.ensures ∙ c.in_ok-counted.ensures) in
     subst (AreCalm f.instrs) (sym same) (calm_all f.instrs (counted_of f))
 
 pub push_ranges-requires-clause-amounts : goal.push_ranges-requires-clause-amounts
@@ -26,7 +26,7 @@ push_ranges-requires-clause-amounts c =
 pub returns : goal.returns
 returns c =
     let f = c.args.function.now in
-    let same : c.as_slice-7.result.now ≡ calm_loops f.instrs (counted_of f) = c.as_slice-7.ensures.value ∙ c.in_ok-calm.ensures ∙ ap (λ (z : List Instr). calm_loops z c.as_slice.result.now) c.as_slice-instrs.ensures ∙ ap (calm_loops f.instrs) (c.as_slice.ensures ∙ c.in_ok-counted.ensures) in
+    let same : c.as_slice-loops.result.now ≡ calm_loops f.instrs (counted_of f) = c.as_slice-loops.ensures.value ∙ c.in_ok-calm.ensures ∙ ap (λ (z : List Instr). calm_loops z c.as_slice.result.now) c.as_slice-instrs.ensures ∙ ap (calm_loops f.instrs) (c.as_slice.ensures ∙ c.in_ok-counted.ensures) in
     subst (λ (z : List Range). OnOk c.push_ranges.result (c.push_ranges.new.out ≡ c.args.out.now ++ z))
     (ap (λ (z : List LoopInfo). ranges_in c.args.code.now c.args.points.now c.args.number f.instrs z 0 f.instrs) same ∙ ranges_calm c.args.code.now c.args.points.now c.args.number f.instrs (counted_of f) 0 f.instrs)
     c.push_ranges.ensures
