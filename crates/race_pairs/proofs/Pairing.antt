@@ -1,19 +1,22 @@
 -- Pairs of groups that stand in order, as loops find them.
 use Rattle.std.proofs.Common.{◌≡◌, ℕ, ◌+◌, ◌<◌, ◌≤◌, Bool, true, false, not, List, [], ◌∷◌, ◌++◌, length, get_or, refl, sym, ap, subst, ◌∙◌, arith, ◌⊎◌, inl, inr, ⊎_elim, Some}
 use Rattle.std.specs.Prelude.{slice_get, if◌then◌else◌, ◌↔◌}
+use Rattle.std.specs.Bool.{Decides}
+use Rattle.std.specs.Cmp.Lexicographic.{pointwise}
 use Rattle.std.specs.List.{Contains}
 use Rattle.std.proofs.lemmas.Bool.{cases_lt}
+use Rattle.std.proofs.lemmas.Slice.Eq.{slice_eq-Decides}
 use Rattle.rr_base.specs.declared.layout.Place.{Place}
 use Rattle.facts.specs.declared.pair.AccessAt.{AccessAt}
 use Rattle.facts.specs.declared.pair.Pair.{Pair}
-use Rattle.facts.specs.Pairs.{place_less, place_same, access_less}
+use Rattle.facts.specs.Pairs.{place_less, place_same, access_less, access_same}
 use Rattle.facts.proofs.TotalOrders.{orders_places}
 use Rattle.race_pairs.specs.declared.touch.Group.{Group}
 use Rattle.race_pairs.specs.Gains.{Gains, Below}
-use Rattle.race_pairs.specs.Races.{AreRacing, IsPairOf, IsRacingPair, pair_of, first_of, RowAt, RowFrom, PairAt, PairsFrom, PairsOf}
+use Rattle.race_pairs.specs.Races.{AreRacing, IsPairOf, IsRacingPair, pair_of, first_of, RowAt, RowFrom, PairAt, PairsFrom, PairsOf, ArePaired}
 use Rattle.race_pairs.specs.Groups.{HasPlacesInOrder}
 use Rattle.race_pairs.proofs.Elements.{got, gets, gets_at, held, holds}
-use Rattle.race_pairs.proofs.Gaining.{none, alike, more, all_below, pushed}
+use Rattle.race_pairs.proofs.Gaining.{none, nothing, alike, more, all_below, pushed}
 use Rattle.race_pairs.proofs.Orders.{orders_accesses}
 
 -- ---- a pair, either way round
@@ -120,6 +123,27 @@ racing g h xs ys r m = alike (IsPairOf g h) (IsRacingPair g h) xs ys (λ v p. (r
 
 pub not_racing : (g h : Group) (xs : List Pair) → (AreRacing g h → ⊥) → Gains (IsRacingPair g h) xs xs
 not_racing g h xs never = none (IsRacingPair g h) xs (λ v p. never p.0)
+
+-- ---- accesses with which a group has been paired
+
+pub accesses_same : (E : AccessAt → AccessAt → Bool) (xs ys : List AccessAt) (r : Bool) → r ≡ pointwise E xs ys → ((a b : AccessAt) → E a b ≡ access_same a b) → Decides r (xs ≡ ys)
+accesses_same E xs ys r e is = slice_eq-Decides decides xs ys r e
+  where
+    decides : (a b : AccessAt) → Decides (E a b) (a ≡ b)
+    decides a b = (λ h. orders_accesses.same_is a b (sym (is a b) ∙ h), λ h. is a b ∙ subst (λ z. access_same a z ≡ true) h (orders_accesses.same_self a))
+
+pub none_paired : (g : Group) (bs : List AccessAt) (vs : List Pair) → bs ≡ [] → ArePaired g bs vs
+none_paired g bs vs e a b ca cb = absurd (nothing b (subst (λ (cs : List AccessAt). Contains cs b) e cb))
+
+pub already_paired : (g h : Group) (bs : List AccessAt) (vs : List Pair) → h.accesses ≡ bs → ArePaired g bs vs → Gains (IsRacingPair g h) vs vs
+already_paired g h bs vs e all = record {
+  kept = λ v c. c;
+  gained = λ v p. subst (Contains vs) (sym p.1.is) (all p.1.a p.1.b p.1.of_g (subst (λ (cs : List AccessAt). Contains cs p.1.b) e p.1.of_h));
+  alone = λ v c. inl c;
+}
+
+pub now_paired : (g h : Group) (bs : List AccessAt) (xs ys : List Pair) → bs ≡ h.accesses → Gains (IsPairOf g h) xs ys → ArePaired g bs ys
+now_paired g h bs xs ys e m a b ca cb = m.gained (pair_of g.place a b) (record { a = a; b = b; of_g = ca; of_h = subst (λ (cs : List AccessAt). Contains cs b) e cb; is = refl })
 
 -- ---- group by group
 

@@ -71,3 +71,7 @@ PairsFrom gs i v = (j : ℕ) × PairAt gs i j v
 
 abbrev pub PairsOf : List Group → Pair → Type 0
 PairsOf gs v = (i : ℕ) × PairsFrom gs i v
+
+-- the pairs of the group's accesses with these are listed
+abbrev pub ArePaired : Group → List AccessAt → List Pair → Type 0
+ArePaired g bs vs = (a b : AccessAt) → Contains g.accesses a → Contains bs b → Contains vs (pair_of g.place a b)

@@ -1,5 +1,5 @@
 // The pairs that may race.
-ghost use Rattle.std.specs.Prelude.{◌≡◌, ◌↔◌, ◌<◌, ◌≤◌, ℕ, length, [], true, slice_get, Some, IfOk, OnOk};
+ghost use Rattle.std.specs.Prelude.{◌≡◌, ◌↔◌, ◌<◌, ◌≤◌, ℕ, length, [], true, slice_get, Some, IfOk, IsTrue, OnOk};
 ghost use Rattle.std.specs.List.{Contains};
 ghost use Rattle.std.specs.List.Sorted.{IsNonDecreasing};
 ghost use Rattle.facts.specs.declared.pair.Pair.{Pair};
@@ -8,6 +8,7 @@ ghost use Rattle.facts.specs.PointsTo.{HasRegisters};
 ghost use Rattle.race_pairs.specs.declared.touch.Group.{Group};
 ghost use Rattle.race_pairs.specs.Gains.{Gains};
 ghost use Rattle.race_pairs.specs.Races as races;
+ghost use Rattle.race_pairs.specs.Races.{ArePaired};
 ghost use Rattle.race_pairs.specs.Groups.{HasLocksInOrder, HasPlacesInOrder};
 
 use crate::access::touches;
@@ -85,21 +86,36 @@ fn add_all(
     Ok(())
 }
 
-/// Adds the pairs of two groups, if they may race.
-fn add_racing(
+/// Whether these are the group's accesses.
+fn has_accesses(group: &Group, accesses: &[AccessAt]) -> bool
+    ensures { IsTrue result ↔ (group.now.accesses ≡ accesses.now) }
+{
+    group.accesses.as_slice() == accesses
+}
+
+/// Adds the pairs of two groups, if they may race, unless the first has been paired with such accesses; and tells with which
+/// accesses it has been paired then.
+fn add_racing<'a>(
     group: &Group,
-    other: &Group,
+    other: &'a Group,
     is_same: bool,
+    paired: &'a [AccessAt],
     found: &mut Vec<Pair>,
-) -> Result<(), AllocError>
+) -> Result<&'a [AccessAt], AllocError>
     requires same { is_same ≡ true → other.now ≡ group.now }
     requires locks { IsNonDecreasing other.now.locks }
-    ensures { OnOk result (Gains (races.IsRacingPair group.now other.now) found.old.items found.new.items) }
+    requires paired { ArePaired group.now paired.now found.old.items }
+    ensures pairs { OnOk result (Gains (races.IsRacingPair group.now other.now) found.old.items found.new.items) }
+    ensures paired { IfOk result (λ accesses. ArePaired group.now accesses.now found.new.items) }
 {
-    if may_race(group, other) {
-        add_all(group, other, is_same, found)?;
+    if has_accesses(other, paired) {
+        return Ok(paired);
     }
-    Ok(())
+    if !may_race(group, other) {
+        return Ok(paired);
+    }
+    add_all(group, other, is_same, found)?;
+    Ok(other.accesses.as_slice())
 }
 
 /// Adds the pairs of a group with those from it on.
@@ -109,11 +125,12 @@ fn add_from(groups: &[Group], from: usize, found: &mut Vec<Pair>) -> Result<(), 
     requires locks { HasLocksInOrder groups.now }
     ensures { OnOk result (Gains (races.PairsFrom groups.now from) found.old.items found.new.items) }
 {
+    let mut paired: &[AccessAt] = &[];
     for other in from..groups.len() {
         if groups[other].place != groups[from].place {
             return Ok(());
         }
-        add_racing(&groups[from], &groups[other], other == from, found)?;
+        paired = add_racing(&groups[from], &groups[other], other == from, paired, found)?;
     }
     Ok(())
 }
