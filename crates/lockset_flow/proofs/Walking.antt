@@ -1,11 +1,12 @@
 -- Two lists of paths that ascend, walked through together.
 use Rattle.std.proofs.Common.{◌≡◌, ℕ, zero, suc, ◌+◌, ◌<◌, Bool, true, false, List, [], ◌∷◌, ◌++◌, length, get_or, drop, refl, sym, ap, ◌∙◌, subst, ⊎_elim, append_assoc}
 use Rattle.std.specs.Prelude.{◌||◌, ◌&&◌, if◌then◌else◌}
-use Rattle.std.specs.List.{filter}
+use Rattle.std.specs.List.{filter, list_all}
 use Rattle.std.proofs.lemmas.Bool.{true≢false}
 use Rattle.std.proofs.lemmas.List.{drop_more}
 use Rattle.facts.specs.declared.locks.LockPath.{LockPath}
-use Rattle.facts.specs.Locks.{is_less, is_same, has, are_ascending}
+use Rattle.facts.specs.declared.locks.Minus.TheVariants.{Listed}
+use Rattle.facts.specs.Locks.{is_less, is_same, has, with, union, both, are_ascending}
 use Rattle.facts.proofs.PathSets.{same_is, same_self, less_trans, less_other}
 use Rattle.facts.proofs.Orders.{path_irr}
 use Rattle.lockset_flow.specs.Meeting.{starts_behind, from_path, begins_with_path}
@@ -54,6 +55,26 @@ before_all p q qs h lt = by (has p qs) refl
     by : (b : Bool) → has p qs ≡ b → has p qs ≡ false
     by true e = absurd (path_irr p (less_trans p q p lt (later q p qs h e)))
     by false e = e
+
+-- ---- paths that are there
+
+with_there : (p : LockPath) (ps : List LockPath) → are_ascending ps ≡ true → has p ps ≡ true → with p ps ≡ ps
+with_there p [] h i = absurd (true≢false (sym i))
+with_there p (q ∷ qs) h i = by (with_there p qs (parts q qs h).1) (is_less p q) refl (is_same p q) refl
+  where
+    by : (has p qs ≡ true → with p qs ≡ qs) → (l : Bool) → is_less p q ≡ l → (s : Bool) → is_same p q ≡ s → (if l then p ∷ q ∷ qs else if s then q ∷ qs else q ∷ with p qs) ≡ q ∷ qs
+    by rest true e s f = absurd (true≢false (sym i ∙ ap (λ b. b || has p qs) (less_apart p q e) ∙ before_all p q qs h e))
+    by rest false e true f = refl
+    by rest false e false f = ap (λ z. q ∷ z) (rest (sym (ap (λ b. b || has p qs) f) ∙ i))
+
+union_there : (ps qs : List LockPath) → are_ascending ps ≡ true → list_all (λ q. has q ps) qs ≡ true → union ps qs ≡ ps
+union_there ps [] h all = refl
+union_there ps (q ∷ qs) h all =
+    let r = and_both (has q ps) (list_all (λ x. has x ps) qs) all in
+    ap (with q) (union_there ps qs h r.1) ∙ with_there q ps h r.0
+
+pub both_there : (ps qs : List LockPath) → are_ascending ps ≡ true → list_all (λ q. has q ps) qs ≡ true → both (Listed ps) (Listed qs) ≡ Listed ps
+both_there ps qs h all = ap Listed (union_there ps qs h all)
 
 -- ---- the walk
 

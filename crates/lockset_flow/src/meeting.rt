@@ -1,6 +1,6 @@
 //! Meets: what two sets of locks both know.
 ghost use Rattle.std.specs.Prelude.{◌≡◌, ◌<◌, ◌≤◌, true, false, length, IfOk, OnOk};
-ghost use Rattle.std.specs.List.{filter};
+ghost use Rattle.std.specs.List.{filter, list_all};
 ghost use Rattle.facts.specs.Locks.{has, both, are_ascending};
 ghost use Rattle.lockset_flow.specs.Meeting.{starts_behind, from_path, begins_with_path};
 ghost use Rattle.lockset_flow.specs.Rounds.{meet_of, minus_weight, weight, grows as grows_of};
@@ -108,6 +108,41 @@ fn keep(alloc: Global, paths: &mut List<LockPath>, others: &[LockPath]) -> Resul
     Ok(went)
 }
 
+// Whether the others have all of the paths, where both ascend, by one walk through both.
+fn are_among(paths: &[LockPath], others: &[LockPath]) -> bool
+    requires paths { are_ascending paths.now ≡ true }
+    requires others { are_ascending others.now ≡ true }
+    ensures { result ≡ list_all (λ p. has p others.now) paths.now }
+{
+    let mut rest = others;
+    for path in paths {
+        rest = from(rest, *path);
+        if !begins_with(rest, *path) {
+            return false;
+        }
+    }
+    true
+}
+
+// Whether it is seen, without a list of both, that the other has no locks beside those of the first.
+fn adds_nothing(minus: &Minus, other: &Minus) -> bool
+    ensures { result ≡ true → both minus.now other.now ≡ minus.now }
+{
+    let Minus::Listed(paths) = minus else {
+        return false;
+    };
+    let Minus::Listed(others) = other else {
+        return false;
+    };
+    if !ascend(paths.as_slice()) {
+        return false;
+    }
+    if !ascend(others.as_slice()) {
+        return false;
+    }
+    are_among(others.as_slice(), paths.as_slice())
+}
+
 // Whether the second has more paths, or any.
 fn grows(minus: &Minus, joined: &Minus) -> bool
     ensures value { result ≡ grows_of minus.now joined.now }
@@ -128,6 +163,9 @@ fn join(alloc: Global, minus: &mut Minus, other: &Minus) -> Result<bool, AllocEr
     ensures same { IfOk result (λ came. came ≡ false → minus.new ≡ minus.old) }
     ensures falls { IfOk result (λ came. came ≡ true → minus_weight minus.new < minus_weight minus.old) }
 {
+    if adds_nothing(minus, other) {
+        return Ok(false);
+    }
     let joined = minus.joined(alloc, other)?;
     let came = grows(minus, &joined);
     *minus = joined;
