@@ -10,10 +10,13 @@ abbrev blank : Pair
 blank = record { place = record { site = 0; class = 0 }; first = record { function = 0; instr = 0 }; second = record { function = 0; instr = 0 } }
 
 pub loop-pair-preserved : goal.loop-pair-preserved
-loop-pair-preserved c a =
-    c.in_ok-push_both.ensures a
-    ∙ ap (λ b. b || stands_in a (slice_index_or c.args.pairs.now c.loop-pair.pair-index blank)) (c.loop-pair.invariant a)
-    ∙ sym (list_any_more (λ p. stands_in a p) c.args.pairs.now c.loop-pair.pair-index blank c.loop-pair-test.true)
+loop-pair-preserved c = (
+  c.in_ok-push_both.ensures.agree,
+  λ a.
+      c.in_ok-push_both.ensures.listed a
+      ∙ ap (λ b. b || stands_in a (slice_index_or c.args.pairs.now c.loop-pair.pair-index blank)) (c.loop-pair.invariant.1 a)
+      ∙ sym (list_any_more (λ p. stands_in a p) c.args.pairs.now c.loop-pair.pair-index blank c.loop-pair-test.true),
+)
 
 pub returns : goal.returns
-returns c a = c.loop-pair.invariant a ∙ ap (λ (ps : List Pair). is_racy ps a) (take_all c.loop-pair.pair-index c.args.pairs.now (omega arith))
+returns c a = c.loop-pair.invariant.1 a ∙ ap (λ (ps : List Pair). is_racy ps a) (take_all c.loop-pair.pair-index c.args.pairs.now (omega arith))
