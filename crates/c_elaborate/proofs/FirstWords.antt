@@ -6,6 +6,7 @@ use Rattle.c_tree.specs.Tree.{listed_inits}
 use Rattle.c_tree.specs.View.{init_of}
 use Rattle.c_types.specs.Standing.{no_target}
 use Rattle.rr_base.specs.declared.position.Position.{Position}
+use Rattle.std.specs.Global.{Box}
 use Rattle.c_core.specs.declared.value.Value.{Value}
 use Rattle.c_core.specs.View.{exp_of}
 use Rattle.c_elaborate.specs.Here.{Here}
@@ -25,12 +26,12 @@ word_of_first h pointer at (x ∷ xs) parts i d same some first =
     ap (λ (z : List Initial). first_of_braces h pointer at (listed_inits (map init_of z))) (sym same)
     ∙ ap (λ (z : Initial). first_word h pointer no_target at (init_of z)) (sym first)
 
-pub word_within : {E : Type 0} (r : Result Value E) (h : Here) (pointer : Bool) (at : Position) (is parts : List Initial) (i d : Initial) →
-    is ≡ parts → 1 ≤ length is → i ≡ get_or is 0 d → IfOk r (λ v. exp_of v ≡ first_word h pointer no_target at (init_of i)) →
-    IfOk r (λ v. exp_of v ≡ first_of_braces h pointer at (listed_inits (map init_of parts)))
+pub word_within : {E : Type 0} (r : Result (Box Value) E) (h : Here) (pointer : Bool) (at : Position) (is parts : List Initial) (i d : Initial) →
+    is ≡ parts → 1 ≤ length is → i ≡ get_or is 0 d → IfOk r (λ v. exp_of v.value ≡ first_word h pointer no_target at (init_of i)) →
+    IfOk r (λ v. exp_of v.value ≡ first_of_braces h pointer at (listed_inits (map init_of parts)))
 word_within r h pointer at is parts i d same some first made =
     IfOk-weaker r
-    (λ (v : Value). exp_of v ≡ first_word h pointer no_target at (init_of i))
-    (λ (v : Value). exp_of v ≡ first_of_braces h pointer at (listed_inits (map init_of parts)))
+    (λ (v : Box Value). exp_of v.value ≡ first_word h pointer no_target at (init_of i))
+    (λ (v : Box Value). exp_of v.value ≡ first_of_braces h pointer at (listed_inits (map init_of parts)))
     (λ v e. e ∙ sym (word_of_first h pointer at is parts i d same some first))
     made

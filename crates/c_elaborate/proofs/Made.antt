@@ -10,10 +10,8 @@ use Rattle.c_programs.specs.Declarators.{after_params}
 use Rattle.c_types.specs.Scopes.{Known}
 use Rattle.c_core.specs.declared.program.CoreFunction.{CoreFunction}
 use Rattle.c_core.specs.declared.statement.Statement.{Statement as RustStatement}
-use Rattle.c_core.specs.declared.statement.Statement.TheBlock.{hidden-the_row-Statement-0}
 use Rattle.c_core.specs.Core as core
-use Rattle.c_core.specs.View.{function_of, stmt_of, stmts_of_row}
-use Rattle.c_core.proofs.Views.{stmts_of_row-list}
+use Rattle.c_core.specs.View.{function_of, stmt_of}
 use Rattle.c_elaborate.specs.declared.local.Local.{Local}
 use Rattle.c_elaborate.specs.Here.{Source, Frame, here_in, site_at}
 use Rattle.c_elaborate.specs.Statements.{block_of, all_elaborated}
@@ -39,10 +37,9 @@ objects_made sites fs ls start middle end s m e =
 pub body_made : (s : Source) (f : Frame) (outside inside : Known) (begun numbers : Numbered) (ps : List Param) (parts : Parts) (before made : List RustStatement) →
     before ≡ [] → inside ≡ after_params outside ps → begun ≡ record { next = f.first; scopes = [] ∷ [] } → numbers ≡ after_formals begun ps →
     map stmt_of made ≡ map stmt_of before ++ all_elaborated (here_in s f inside numbers) parts →
-    core.block (stmts_of_row (hidden-the_row-Statement-0 made)) ≡ block_of (all_elaborated (here_in s f (after_params outside ps) (numbered_from f.first ps)) parts)
+    block_of (map stmt_of made) ≡ block_of (all_elaborated (here_in s f (after_params outside ps) (numbered_from f.first ps)) parts)
 body_made s f outside inside begun numbers ps parts before made none known start named filled =
-    ap core.block (stmts_of_row-list made)
-    ∙ ap block_of
+    ap block_of
     (filled
     ∙ ap (λ (z : List RustStatement). map stmt_of z ++ all_elaborated (here_in s f inside numbers) parts) none
     ∙ ap (λ (z : Known). all_elaborated (here_in s f z numbers) parts) known

@@ -1,3 +1,4 @@
+pub mod Constants
 pub mod Held
 pub mod Here
 pub mod Operators
@@ -6,6 +7,7 @@ pub mod Commas
 pub mod Expressions
 pub mod Initials
 pub mod Statements
+pub mod Tails
 pub mod Functions
 pub mod Globals
 pub mod Turns

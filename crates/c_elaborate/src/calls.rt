@@ -131,11 +131,11 @@ pub fn push_argument(
     match wanted {
         Wanted::Fits(of) => {
             let value = part.into_wanted(alloc, is_pointer_wanted(of))?;
-            out.push(value)
+            out.push(Box::into_inner(value))
         }
         Wanted::Anything => {
             let value = part.into_value(alloc)?;
-            out.push(value)
+            out.push(Box::into_inner(value))
         }
         Wanted::Attribute | Wanted::Root | Wanted::Text => Ok(()),
     }
@@ -206,13 +206,17 @@ fn library_of(
 
 #[tactic(auto, using(crate::proofs::Pieces::first_met, crate::proofs::Pieces::first_there))]
 /// The first operand; 0 where there is none.
-fn first_of(mut arguments: List<Value>, at: Position) -> Value
-    ensures { exp_of result ≡ spec.first_of (map exp_of arguments) at }
+fn first_of(
+    alloc: Global,
+    mut arguments: List<Value>,
+    at: Position,
+) -> Result<Box<Value>, AllocError>
+    ensures { IfOk result (λ v. exp_of v.value ≡ spec.first_of (map exp_of arguments) at) }
 {
     if arguments.is_empty() {
-        make::number(0, at)
+        make::number(alloc, 0, at)
     } else {
-        arguments.remove(0)
+        make::boxed(alloc, arguments.remove(0))
     }
 }
 
@@ -226,15 +230,18 @@ fn library_called(
     es: &[Expr],
     arguments: List<Value>,
     at: Position,
-) -> Result<Value, AllocError>
-    ensures { IfOk result (λ v. exp_of v ≡ spec.library_called (known_of table.now) site call (listed (map tree.exp_of es.now)) (map exp_of arguments) at) }
+) -> Result<Box<Value>, AllocError>
+    ensures { IfOk result (λ v. exp_of v.value ≡ spec.library_called (known_of table.now) site call (listed (map tree.exp_of es.now)) (map exp_of arguments) at) }
 {
     match call {
-        None => Ok(make::number(0, at)),
-        Some(LibraryName::Malloc) => make::allocate(alloc, site, first_of(arguments, at), at),
+        None => make::number(alloc, 0, at),
+        Some(LibraryName::Malloc) => {
+            let size = first_of(alloc, arguments, at)?;
+            make::allocate(alloc, site, size, at)
+        }
         Some(call) => {
             let call = library_of(alloc, table, call, es)?;
-            Ok(make::library(call, arguments, at))
+            make::library(alloc, call, arguments, at)
         }
     }
 }
@@ -250,15 +257,21 @@ pub fn called(
     es: &[Expr],
     arguments: List<Value>,
     at: Position,
-) -> Result<Value, AllocError>
-    ensures { IfOk result (λ v. exp_of v ≡ spec.called (known_of table.now) site name.now call (shown_meaning seen.entry) (listed (map tree.exp_of es.now)) (map exp_of arguments) at) }
+) -> Result<Box<Value>, AllocError>
+    ensures { IfOk result (λ v. exp_of v.value ≡ spec.called (known_of table.now) site name.now call (shown_meaning seen.entry) (listed (map tree.exp_of es.now)) (map exp_of arguments) at) }
 {
     match seen {
         Some(Meaning::Function(signature)) => {
             let function = function_counted(table.function_numbered(name))?;
-            Ok(make::call(function, arguments, gives_pointer(signature.result), at))
+            make::call(
+                alloc,
+                function,
+                arguments,
+                gives_pointer(signature.result),
+                at,
+            )
         }
-        Some(Meaning::Variable(_)) => Ok(make::number(0, at)),
+        Some(Meaning::Variable(_)) => make::number(alloc, 0, at),
         None => library_called(alloc, table, site, call, es, arguments, at),
     }
 }

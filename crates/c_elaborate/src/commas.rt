@@ -1,8 +1,8 @@
 //! Expressions with commas between them (C99 6.5.17), joined so that none nests deep.
 ghost use Rattle.std.specs.Prelude.{◌≡◌, None, IfOk};
-ghost use Rattle.c_core.specs.View.{exp_of, maybe_of};
+ghost use Rattle.c_core.specs.View.{exp_of};
 ghost use Rattle.c_elaborate.specs.Commas as spec;
-ghost use Rattle.c_elaborate.specs.Views.{places_of};
+ghost use Rattle.c_elaborate.specs.Views.{maybe_word, places_of};
 
 use crate::make;
 use c_core::Value;
@@ -12,11 +12,11 @@ use std::alloc::{AllocError, Global};
 /// One word behind another, whose value is let go.
 fn behind(
     alloc: Global,
-    before: Option<Value>,
-    value: Option<Value>,
+    before: Option<Box<Value>>,
+    value: Option<Box<Value>>,
     at: Position,
-) -> Result<Option<Value>, AllocError>
-    ensures { IfOk result (λ v. maybe_of v ≡ spec.behind (maybe_of before) (maybe_of value) at) }
+) -> Result<Option<Box<Value>>, AllocError>
+    ensures { IfOk result (λ v. maybe_word v ≡ spec.behind (maybe_word before) (maybe_word value) at) }
 {
     match (before, value) {
         (None, value) => Ok(value),
@@ -31,11 +31,11 @@ fn behind(
 /// A word more behind those so far, of which the last place stands last.
 pub fn push_last(
     alloc: Global,
-    so_far: &mut List<Option<Value>>,
-    value: Value,
+    so_far: &mut List<Option<Box<Value>>>,
+    value: Box<Value>,
     at: Position,
 ) -> Result<(), AllocError>
-    ensures { IfOk result (λ u. places_of so_far.new ≡ spec.with_last (exp_of value) (places_of so_far.old) at) }
+    ensures { IfOk result (λ u. places_of so_far.new ≡ spec.with_last (exp_of value.value) (places_of so_far.old) at) }
 {
     match so_far.pop() {
         Some(Some(before)) => {
@@ -50,10 +50,10 @@ pub fn push_last(
 /// All words so far as one. Nothing where there is none.
 pub fn joined(
     alloc: Global,
-    so_far: List<Option<Value>>,
+    so_far: List<Option<Box<Value>>>,
     at: Position,
-) -> Result<Option<Value>, AllocError>
-    ensures { IfOk result (λ v. maybe_of v ≡ spec.joined (places_of so_far) None at) }
+) -> Result<Option<Box<Value>>, AllocError>
+    ensures { IfOk result (λ v. maybe_word v ≡ spec.joined (places_of so_far) None at) }
 {
     let mut so_far = so_far;
     let mut last = None;

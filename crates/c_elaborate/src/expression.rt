@@ -1,42 +1,39 @@
 //! The core tree of an expression (C99 6.5). Its calls stay out of line, so that a level of nesting takes little of the stack.
-ghost use Rattle.std.specs.Prelude.{◌≡◌, [], true, if◌then◌else◌, IfOk, map};
+ghost use Rattle.std.specs.Prelude.{◌≡◌, [], true, IfOk, None, map};
+ghost use Rattle.std.specs.Option.{option_map};
 ghost use Rattle.c_tree.specs.Tree.{listed};
 ghost use Rattle.rr_base.specs.Positions.{position_at};
 ghost use Rattle.c_tree.specs.Tree as trees;
 ghost use Rattle.c_tree.specs.View as tree;
-ghost use Rattle.c_types.specs.Shown.{shown_maybe, shown_meaning, shown_standing, shown_target, shown_wants};
-ghost use Rattle.c_types.specs.Numbers.{is_zero};
+ghost use Rattle.c_types.specs.Shown.{shown_standing, shown_target, shown_wants};
 ghost use Rattle.c_types.specs.Scopes as scopes;
 ghost use Rattle.c_types.specs.Standing as standings;
-ghost use Rattle.c_types.specs.Standing.{no_target, standing};
+ghost use Rattle.c_types.specs.Operands.{as_value, binary_standing};
+ghost use Rattle.c_types.specs.Standing.{no_target};
 ghost use Rattle.c_rules.specs.Faults as faults;
-ghost use Rattle.c_programs.specs.Table.{known_of};
-ghost use Rattle.c_core.specs.Core as core;
-ghost use Rattle.c_core.specs.View.{exp_of, maybe_of};
-ghost use Rattle.c_elaborate.specs.Held.{held_value, held_zero, operand_in, position_of, value_in};
-ghost use Rattle.c_elaborate.specs.Here.{home_of, offset_in};
+ghost use Rattle.c_core.specs.View.{exp_of};
+ghost use Rattle.c_elaborate.specs.Held.{held_value, operand_in, part_by, position_of, value_in};
+ghost use Rattle.c_elaborate.specs.Constants.{constant_of, no_constant, choice_constant, operation_constant, prefix_constant, cast_constant};
+ghost use Rattle.c_elaborate.specs.Here.{offset_in};
 ghost use Rattle.c_elaborate.specs.Operators.{arrow_in, assigned_in, binary_in, cast_in, conditional_in, index_in, member_in, prefix_in, stepped_in};
 ghost use Rattle.c_elaborate.specs.Expressions as spec;
-ghost use Rattle.c_elaborate.specs.Views.{held_of, here_of, part_of};
+ghost use Rattle.c_elaborate.specs.Tails as tails;
+ghost use Rattle.c_elaborate.specs.Views.{here_of, maybe_word, part_of};
 
-use crate::calls::{called, push_argument};
+use crate::calls::push_argument;
 use crate::commas::{joined, push_last};
-use crate::held::{Held, Part, is_pointing};
-use crate::here::{Here, site_at};
-use crate::home::Home;
+use crate::held::{Held, Part};
+use crate::here::Here;
 use crate::make;
-use crate::operators::{
-    arrow, assigned, binary, cast, conditional, index, member, prefix, stepped,
+use crate::parts::{
+    assignment, call_held, casting, changing, choice, element, folded_leaf, leaf, literal,
+    member_in_part, member_through, named, one_more, operation, prefixing, sequence, stepping,
 };
 use abstract_machine::BinaryOp as FlowOp;
 use c_core::Value;
-use c_programs::Table;
-use c_rules::{format_of, is_constant, judge, own_place, value_of, wants_of};
+use c_rules::{call_standing, fits_wanted, format_of, given_by_call, let_go, own_place, wants_of};
 use c_tree::{AssignOp, BinaryOp, CType, Expr, Name, PrefixOp};
-use c_types::{
-    Meaning, Names, Operand, Standing, Target, TypeRef, Wants, assigned_target, cast_target,
-    library_named, pointed_struct, struct_of, type_named,
-};
+use c_types::{Names, Standing, Target, Wants, assigned_target, cast_target, type_named};
 use rr_base::{List, Position};
 use std::alloc::{AllocError, Global};
 
@@ -55,163 +52,22 @@ fn place_of(e: &Expr) -> Position
     position(at.0, at.1)
 }
 
-/// What the expression is, where `target` is what a `malloc` in its place makes an object of.
-fn standing_of<'h>(table: &'h Table, target: Target<'h>, e: &Expr) -> Standing<'h>
-    ensures { shown_standing result ≡ standing (known_of table.now) (shown_target target.entry) (tree.exp_of e.now) }
-{
-    let mut unnoted = None;
-    judge(table, target, e, &mut unnoted)
-}
-
-/// What is constant is its value.
-fn folded(table: &Table, e: &Expr, at: Position, held: Held) -> Held
-    ensures { held_of result ≡ spec.folded (known_of table.now) (tree.exp_of e.now) at (held_of held) }
-{
-    if !is_constant(e) {
-        return held;
-    }
-    match value_of(table, e) {
-        Ok(number) => Held::Value(make::number(number, at)),
-        Err(_) => held,
-    }
-}
-
-fn held_in(home: Home, at: Position) -> Held
-    ensures { held_of result ≡ spec.held_in home at }
-{
-    match home {
-        Home::Register(number) => Held::Register { number, at },
-        Home::Object(number) => Held::Cells {
-            through: make::object(number, at),
-            at,
-        },
-    }
-}
-
-/// A variable: a formal or local, or a global.
-fn variable(here: Here, name: &[u8], at: Position) -> Held
-    ensures { held_of result ≡ spec.variable_held (here_of here.entry) name.now (home_of (here_of here.entry) name.now) at }
-{
-    match here.home_of(name) {
-        Some(home) => held_in(home, at),
-        None => Held::Cells {
-            through: make::global(here.source.global_named(name), at),
-            at,
-        },
-    }
-}
-
-fn named(here: Here, name: &[u8], at: Position) -> Held
-    ensures { held_of result ≡ spec.named_held (here_of here.entry) name.now (scopes.seen (here_of here.entry).known name.now) at }
-{
-    match here.table.seen(name) {
-        Some(Meaning::Variable(_)) => variable(here, name, at),
-        Some(Meaning::Function(_)) | None => Held::Zero { at },
-    }
-}
-
-/// Whether a type is a pointer.
-pub fn is_pointer_type(of: Option<TypeRef>) -> bool
-    ensures { result ≡ spec.is_pointer_type (shown_maybe of.entry) }
-{
-    match of {
-        None => false,
-        Some(of) => is_pointing(Operand::of_type(of)),
-    }
-}
-
-/// An expression with others behind it.
-fn sequence(
-    alloc: Global,
-    first: Part,
-    tail: Option<Value>,
-    at: Position,
-) -> Result<Held, AllocError>
-    ensures { IfOk result (λ h. held_of h ≡ held_value (spec.with_tail (value_in (part_of first.entry)) (maybe_of tail) at)) }
-{
-    let first = first.into_value(alloc)?;
-    match tail {
-        None => Ok(Held::Value(first)),
-        Some(tail) => {
-            let value = make::comma(alloc, first, tail, at)?;
-            Ok(Held::Value(value))
-        }
-    }
-}
-
-/// An assignment of which the sides are made.
-fn assignment(
-    alloc: Global,
-    here: Here,
-    op: AssignOp,
-    left: Part,
-    right: Part,
-    at: Position,
-) -> Result<Held, AllocError>
-    ensures { IfOk result (λ h. held_of h ≡ held_value (assigned_in (here_of here.entry).source op (part_of left.entry) (part_of right.entry) at)) }
-{
-    let value = assigned(alloc, here.source, op, left, right, at)?;
-    Ok(Held::Value(value))
-}
-
-/// `?:`, whose operands are made.
-fn choice(
-    alloc: Global,
-    here: Here,
-    e: &Expr,
-    test: Part,
-    yes: Part,
-    no: Part,
-    at: Position,
-) -> Result<Held, AllocError>
-    ensures { IfOk result (λ h. held_of h ≡ spec.folded (here_of here.entry).known (tree.exp_of e.now) at (held_value (conditional_in (part_of test.entry) (part_of yes.entry) (part_of no.entry) at))) }
-{
-    let value = conditional(alloc, test, yes, no, at)?;
-    Ok(folded(here.table, e, at, Held::Value(value)))
-}
-
-/// An operator with two operands, which are made.
-fn operation(
-    alloc: Global,
-    here: Here,
-    e: &Expr,
-    op: BinaryOp,
-    left: Part,
-    right: Part,
-    at: Position,
-) -> Result<Held, AllocError>
-    ensures { IfOk result (λ h. held_of h ≡ spec.folded (here_of here.entry).known (tree.exp_of e.now) at (held_value (binary_in (here_of here.entry).source op (part_of left.entry) (part_of right.entry) at))) }
-{
-    let value = binary(alloc, here.source, op, left, right, at)?;
-    Ok(folded(here.table, e, at, Held::Value(value)))
-}
-
-/// A literal. That of 0 is a null pointer where a pointer is wanted.
-fn literal(value: i64, at: Position) -> Held
-    ensures { held_of result ≡ (if is_zero value then held_zero at else held_value (core.number value at)) }
-{
-    if value == 0 {
-        Held::Zero { at }
-    } else {
-        Held::Value(make::number(value, at))
-    }
-}
-
-/// What stands for an expression, where `target` is what a `malloc` in its place makes an object of.
+/// An expression with what it is, where `target` is what a `malloc` in its place makes an object of.
 #[cycle(expression)]
-fn held<'h>(
+fn part<'h>(
     alloc: Global,
     here: Here<'h, '_>,
     target: Target<'h>,
     e: &Expr,
-) -> Result<Held, AllocError>
-    ensures { IfOk result (λ h. held_of h ≡ spec.held (here_of here.entry) (shown_target target.entry) (tree.exp_of e.now)) }
+) -> Result<Part<'h>, AllocError>
+    ensures part { IfOk result (λ p. part_of p ≡ spec.part (here_of here.entry) (shown_target target.entry) (tree.exp_of e.now)) }
+    ensures constant { IfOk result (λ p. p.constant ≡ constant_of (here_of here.entry).known (tree.exp_of e.now)) }
 {
     let at = place_of(e);
     match e {
         Expr::Comma { first, rest, .. } => {
-            let tail = tail_of(alloc, here, rest.as_slice(), at)?;
-            before_tail(alloc, here, first, tail, at)
+            let (tail, last) = tail_of(alloc, here, rest.as_slice(), at)?;
+            before_tail(alloc, here, first, tail, last, at)
         }
         Expr::Assign {
             left,
@@ -225,7 +81,7 @@ fn held<'h>(
         Expr::Conditional { test, yes, no, .. } => {
             let test = part(alloc, here, Target::No, test)?;
             let yes = part(alloc, here, Target::No, yes)?;
-            chosen(alloc, here, no, e, test, yes, at)
+            chosen(alloc, here, no, test, yes, at)
         }
         Expr::Binary {
             left,
@@ -234,7 +90,7 @@ fn held<'h>(
             ..
         } => {
             let left = part(alloc, here, Target::No, left)?;
-            operated(alloc, here, right, e, *op, left, at)
+            operated(alloc, here, right, *op, left, at)
         }
         Expr::Index {
             base,
@@ -244,42 +100,63 @@ fn held<'h>(
             let base = part(alloc, here, Target::No, base)?;
             indexed(alloc, here, by, base, at)
         }
-        Expr::Prefix { op, operand, .. } => prefixed(alloc, here, operand, *op, e, at),
-        Expr::Cast { to, operand, .. } => cast_to(alloc, here, operand, to, e, at),
+        Expr::Prefix { op, operand, .. } => prefixed(alloc, here, operand, *op, at),
+        Expr::Cast { to, operand, .. } => cast_to(alloc, here, operand, to, at),
         Expr::Member { base, name, .. } => member_of(alloc, here, base, name, at),
         Expr::Arrow { base, name, .. } => pointed_member(alloc, here, base, name, at),
         Expr::PostIncrement { operand, .. } => post(alloc, here, operand, FlowOp::Add, at),
         Expr::PostDecrement { operand, .. } => post(alloc, here, operand, FlowOp::Subtract, at),
-        Expr::Paren { inner, .. } => held(alloc, here, target, inner),
+        Expr::Paren { inner, .. } => part(alloc, here, target, inner),
         Expr::Call {
             name,
             arguments,
             ..
-        } => call_held(alloc, here, name.as_slice(), arguments.as_slice(), at),
-        Expr::Name { name, .. } => Ok(folded(here.table, e, at, named(here, name.as_slice(), at))),
-        Expr::SizeofExpr { .. } => Ok(folded(here.table, e, at, Held::Zero { at })),
-        Expr::SizeofType { .. } => Ok(folded(here.table, e, at, Held::Zero { at })),
-        Expr::Number { value, .. } => Ok(literal(*value, at)),
-        Expr::Letter { value, .. } => Ok(Held::Value(make::number(i64::from(*value), at))),
-        Expr::Text { .. } => Ok(Held::Zero { at }),
-        Expr::Null { .. } => Ok(Held::Value(make::null(at))),
+        } => call_of(
+            alloc,
+            here,
+            target,
+            name.as_slice(),
+            arguments.as_slice(),
+            at,
+        ),
+        Expr::Name { name, .. } => {
+            let held = named(alloc, here, name.as_slice(), at)?;
+            folded_leaf(alloc, here, e, at, held)
+        }
+        Expr::SizeofExpr { .. } => folded_leaf(alloc, here, e, at, Held::Zero { at }),
+        Expr::SizeofType { .. } => folded_leaf(alloc, here, e, at, Held::Zero { at }),
+        Expr::Number { value, .. } => {
+            let held = literal(alloc, *value, at)?;
+            Ok(leaf(here, e, held))
+        }
+        Expr::Letter { value, .. } => {
+            let value = make::number(alloc, i64::from(*value), at)?;
+            Ok(leaf(here, e, Held::Value(value)))
+        }
+        Expr::Text { .. } => Ok(leaf(here, e, Held::Zero { at })),
+        Expr::Null { .. } => {
+            let null = make::null(alloc, at)?;
+            Ok(leaf(here, e, Held::Value(null)))
+        }
     }
 }
 
-/// An expression with others behind it.
+/// An expression before others, which are made.
 #[cycle(expression)]
 #[inline(never)]
-fn before_tail(
+fn before_tail<'h>(
     alloc: Global,
-    here: Here,
+    here: Here<'h, '_>,
     first: &Expr,
-    tail: Option<Value>,
+    tail: Option<Box<Value>>,
+    last: Option<Standing<'h>>,
     at: Position,
-) -> Result<Held, AllocError>
-    ensures { IfOk result (λ h. held_of h ≡ held_value (spec.with_tail (spec.value_of (here_of here.entry) (tree.exp_of first.now)) (maybe_of tail) at)) }
+) -> Result<Part<'h>, AllocError>
+    ensures part { let h = here_of here.entry in let p = spec.part h no_target (tree.exp_of first.now) in IfOk result (λ r. part_of r ≡ part_by (as_value (tails.behind_first (standings.let_go p.standing) (option_map shown_standing last.entry))) (held_value (spec.with_tail (value_in p) (maybe_word tail) at))) }
+    ensures constant { IfOk result (λ r. r.constant ≡ no_constant) }
 {
     let first = part(alloc, here, Target::No, first)?;
-    sequence(alloc, first, tail, at)
+    sequence(alloc, first, tail, last, at)
 }
 
 /// An assignment to a place that is made.
@@ -292,8 +169,9 @@ fn assigned_to<'h>(
     op: AssignOp,
     left: Part<'h>,
     at: Position,
-) -> Result<Held, AllocError>
-    ensures { let h = here_of here.entry in let l = part_of left.entry in IfOk result (λ r. held_of r ≡ held_value (assigned_in h.source op l (spec.part h (standings.assigned_target op l.standing) (tree.exp_of right.now)) at)) }
+) -> Result<Part<'h>, AllocError>
+    ensures part { let h = here_of here.entry in let l = part_of left.entry in let p = spec.part h (standings.assigned_target op l.standing) (tree.exp_of right.now) in IfOk result (λ r. part_of r ≡ part_by (standings.assign_standing op l.standing (operand_in p)) (held_value (assigned_in h.source op l p at))) }
+    ensures constant { IfOk result (λ r. r.constant ≡ no_constant) }
 {
     let right = part(alloc, here, assigned_target(op, left.standing), right)?;
     assignment(alloc, here, op, left, right, at)
@@ -302,185 +180,169 @@ fn assigned_to<'h>(
 /// `?:`, of which the last operand is left.
 #[cycle(expression)]
 #[inline(never)]
-fn chosen(
+fn chosen<'h>(
     alloc: Global,
-    here: Here,
+    here: Here<'h, '_>,
     no: &Expr,
-    e: &Expr,
-    test: Part,
-    yes: Part,
+    test: Part<'h>,
+    yes: Part<'h>,
     at: Position,
-) -> Result<Held, AllocError>
-    ensures { let h = here_of here.entry in IfOk result (λ r. held_of r ≡ spec.folded h.known (tree.exp_of e.now) at (held_value (conditional_in (part_of test.entry) (part_of yes.entry) (spec.part h no_target (tree.exp_of no.now)) at))) }
+) -> Result<Part<'h>, AllocError>
+    ensures part { let h = here_of here.entry in let p = spec.part h no_target (tree.exp_of no.now) in let k = choice_constant test.entry.constant yes.entry.constant (constant_of h.known (tree.exp_of no.now)) in IfOk result (λ r. part_of r ≡ part_by (standings.conditional_standing (operand_in (part_of test.entry)) (operand_in (part_of yes.entry)) (operand_in p)) (spec.constant_by k.is_formed k.value at (held_value (conditional_in (part_of test.entry) (part_of yes.entry) p at)))) }
+    ensures constant { IfOk result (λ r. r.constant ≡ choice_constant test.entry.constant yes.entry.constant (constant_of (here_of here.entry).known (tree.exp_of no.now))) }
 {
     let no = part(alloc, here, Target::No, no)?;
-    choice(alloc, here, e, test, yes, no, at)
+    choice(alloc, test, yes, no, at)
 }
 
 /// An operator of which the second operand is left.
 #[cycle(expression)]
 #[inline(never)]
-fn operated(
+fn operated<'h>(
     alloc: Global,
-    here: Here,
+    here: Here<'h, '_>,
     right: &Expr,
-    e: &Expr,
     op: BinaryOp,
-    left: Part,
+    left: Part<'h>,
     at: Position,
-) -> Result<Held, AllocError>
-    ensures { let h = here_of here.entry in IfOk result (λ r. held_of r ≡ spec.folded h.known (tree.exp_of e.now) at (held_value (binary_in h.source op (part_of left.entry) (spec.part h no_target (tree.exp_of right.now)) at))) }
+) -> Result<Part<'h>, AllocError>
+    ensures part { let h = here_of here.entry in let p = spec.part h no_target (tree.exp_of right.now) in let k = operation_constant op left.entry.constant (constant_of h.known (tree.exp_of right.now)) in IfOk result (λ r. part_of r ≡ part_by (binary_standing op (operand_in (part_of left.entry)) (operand_in p)) (spec.constant_by k.is_formed k.value at (held_value (binary_in h.source op (part_of left.entry) p at)))) }
+    ensures constant { IfOk result (λ r. r.constant ≡ operation_constant op left.entry.constant (constant_of (here_of here.entry).known (tree.exp_of right.now))) }
 {
     let right = part(alloc, here, Target::No, right)?;
-    operation(alloc, here, e, op, left, right, at)
+    operation(alloc, here, op, left, right, at)
 }
 
 /// An element of what is made.
 #[cycle(expression)]
 #[inline(never)]
-fn indexed(
+fn indexed<'h>(
     alloc: Global,
-    here: Here,
+    here: Here<'h, '_>,
     by: &Expr,
-    base: Part,
+    base: Part<'h>,
     at: Position,
-) -> Result<Held, AllocError>
-    ensures { let h = here_of here.entry in IfOk result (λ r. held_of r ≡ index_in h.source (part_of base.entry) (spec.part h no_target (tree.exp_of by.now)) at) }
+) -> Result<Part<'h>, AllocError>
+    ensures part { let h = here_of here.entry in let p = spec.part h no_target (tree.exp_of by.now) in IfOk result (λ r. part_of r ≡ part_by (standings.index_standing (operand_in (part_of base.entry)) (operand_in p)) (index_in h.source (part_of base.entry) p at)) }
+    ensures constant { IfOk result (λ r. r.constant ≡ no_constant) }
 {
     let by = part(alloc, here, Target::No, by)?;
-    index(alloc, here.source, base, by, at)
+    element(alloc, here, base, by, at)
 }
 
 /// An operator before its operand.
 #[cycle(expression)]
 #[inline(never)]
-fn prefixed(
+fn prefixed<'h>(
     alloc: Global,
-    here: Here,
+    here: Here<'h, '_>,
     operand: &Expr,
     op: PrefixOp,
-    e: &Expr,
     at: Position,
-) -> Result<Held, AllocError>
-    ensures { IfOk result (λ h. held_of h ≡ spec.folded (here_of here.entry).known (tree.exp_of e.now) at (prefix_in (here_of here.entry).source op (spec.part (here_of here.entry) no_target (tree.exp_of operand.now)) at)) }
+) -> Result<Part<'h>, AllocError>
+    ensures part { let h = here_of here.entry in let p = spec.part h no_target (tree.exp_of operand.now) in let k = prefix_constant op (constant_of h.known (tree.exp_of operand.now)) in IfOk result (λ r. part_of r ≡ part_by (standings.prefix_standing op p.standing) (spec.constant_by k.is_formed k.value at (prefix_in h.source op p at))) }
+    ensures constant { IfOk result (λ r. r.constant ≡ prefix_constant op (constant_of (here_of here.entry).known (tree.exp_of operand.now))) }
 {
     let operand = part(alloc, here, Target::No, operand)?;
-    let held = prefix(alloc, here.source, op, operand, at)?;
-    Ok(folded(here.table, e, at, held))
+    prefixing(alloc, here, op, operand, at)
 }
 
 /// A cast.
 #[cycle(expression)]
 #[inline(never)]
-fn cast_to(
+fn cast_to<'h>(
     alloc: Global,
-    here: Here,
+    here: Here<'h, '_>,
     operand: &Expr,
     to: &CType,
-    e: &Expr,
     at: Position,
-) -> Result<Held, AllocError>
-    ensures { let h = here_of here.entry in let named = scopes.type_named h.known to.now in IfOk result (λ r. held_of r ≡ spec.folded h.known (tree.exp_of e.now) at (held_value (cast_in (spec.is_pointer_type named) (spec.part h (standings.cast_target named to.now.stars) (tree.exp_of operand.now)) at))) }
+) -> Result<Part<'h>, AllocError>
+    ensures part { let h = here_of here.entry in let named = scopes.type_named h.known to.now in let p = spec.part h (standings.cast_target named to.now.stars) (tree.exp_of operand.now) in let k = cast_constant to.now (constant_of h.known (tree.exp_of operand.now)) in IfOk result (λ r. part_of r ≡ part_by (standings.cast_standing named to.now.stars (operand_in p)) (spec.constant_by k.is_formed k.value at (held_value (cast_in (spec.is_pointer_type named) p at)))) }
+    ensures constant { IfOk result (λ r. r.constant ≡ cast_constant to.now (constant_of (here_of here.entry).known (tree.exp_of operand.now))) }
 {
-    let named = type_named(here.table, to);
-    let operand = part(alloc, here, cast_target(named, to.stars), operand)?;
-    let value = cast(alloc, is_pointer_type(named), operand, at)?;
-    Ok(folded(here.table, e, at, Held::Value(value)))
+    let target = cast_target(type_named(here.table, to), to.stars);
+    let operand = part(alloc, here, target, operand)?;
+    casting(alloc, here, to, operand, at)
 }
 
 /// A member of a struct.
 #[cycle(expression)]
 #[inline(never)]
-fn member_of(
+fn member_of<'h>(
     alloc: Global,
-    here: Here,
+    here: Here<'h, '_>,
     base: &Expr,
     name: &Name,
     at: Position,
-) -> Result<Held, AllocError>
-    ensures { let h = here_of here.entry in let p = spec.part h no_target (tree.exp_of base.now) in IfOk result (λ r. held_of r ≡ member_in p.held (offset_in h.source (standings.struct_of p.standing) name.now.text) at) }
+) -> Result<Part<'h>, AllocError>
+    ensures part { let h = here_of here.entry in let p = spec.part h no_target (tree.exp_of base.now) in let number = standings.struct_of p.standing in IfOk result (λ r. part_of r ≡ part_by (standings.member_standing h.known number name.now.text) (member_in p.held (offset_in h.source number name.now.text) at)) }
+    ensures constant { IfOk result (λ r. r.constant ≡ no_constant) }
 {
     let base = part(alloc, here, Target::No, base)?;
-    let by = here
-        .source
-        .offset_in(struct_of(base.standing), name.text.as_slice())?;
-    member(alloc, base.held, by, at)
+    member_in_part(alloc, here, name, base, at)
 }
 
 /// A member of a struct to which a pointer is given.
 #[cycle(expression)]
 #[inline(never)]
-fn pointed_member(
+fn pointed_member<'h>(
     alloc: Global,
-    here: Here,
+    here: Here<'h, '_>,
     base: &Expr,
     name: &Name,
     at: Position,
-) -> Result<Held, AllocError>
-    ensures { let h = here_of here.entry in let p = spec.part h no_target (tree.exp_of base.now) in IfOk result (λ r. held_of r ≡ arrow_in p (offset_in h.source (standings.pointed_struct (operand_in p)) name.now.text) at) }
+) -> Result<Part<'h>, AllocError>
+    ensures part { let h = here_of here.entry in let p = spec.part h no_target (tree.exp_of base.now) in let number = standings.pointed_struct (operand_in p) in IfOk result (λ r. part_of r ≡ part_by (standings.member_standing h.known number name.now.text) (arrow_in p (offset_in h.source number name.now.text) at)) }
+    ensures constant { IfOk result (λ r. r.constant ≡ no_constant) }
 {
     let base = part(alloc, here, Target::No, base)?;
-    let by = here
-        .source
-        .offset_in(pointed_struct(base.operand()), name.text.as_slice())?;
-    arrow(alloc, base, by, at)
+    member_through(alloc, here, name, base, at)
 }
 
 /// `++` and `--` behind their operand.
 #[cycle(expression)]
 #[inline(never)]
-fn post(
+fn post<'h>(
     alloc: Global,
-    here: Here,
+    here: Here<'h, '_>,
     operand: &Expr,
     op: FlowOp,
     at: Position,
-) -> Result<Held, AllocError>
-    ensures { IfOk result (λ h. held_of h ≡ held_value (stepped_in (here_of here.entry).source op (spec.part (here_of here.entry) no_target (tree.exp_of operand.now)) true at)) }
+) -> Result<Part<'h>, AllocError>
+    ensures part { let h = here_of here.entry in let p = spec.part h no_target (tree.exp_of operand.now) in IfOk result (λ r. part_of r ≡ part_by (standings.stepped p.standing) (held_value (stepped_in h.source op p true at))) }
+    ensures constant { IfOk result (λ r. r.constant ≡ no_constant) }
 {
     let place = part(alloc, here, Target::No, operand)?;
-    let value = stepped(alloc, here.source, op, place, true, at)?;
-    Ok(Held::Value(value))
+    stepping(alloc, here, op, place, at)
 }
 
-/// An expression with what it is.
-#[cycle(expression)]
-pub fn part<'h>(
-    alloc: Global,
-    here: Here<'h, '_>,
-    target: Target<'h>,
-    e: &Expr,
-) -> Result<Part<'h>, AllocError>
-    ensures { IfOk result (λ p. part_of p ≡ spec.part (here_of here.entry) (shown_target target.entry) (tree.exp_of e.now)) }
-{
-    let held = held(alloc, here, target, e)?;
-    Ok(Part {
-        standing: standing_of(here.table, target, e),
-        held,
-    })
-}
-
-/// Expressions with commas between them, behind a first one: each is computed. Nothing where there is none.
+/// Expressions with commas between them, behind a first one: each is computed. Nothing where there is none. With what the
+/// last is.
 #[cycle(expression)]
 #[inline(never)]
-fn tail_of(
+fn tail_of<'h>(
     alloc: Global,
-    here: Here,
+    here: Here<'h, '_>,
     es: &[Expr],
     at: Position,
-) -> Result<Option<Value>, AllocError>
-    ensures { IfOk result (λ v. maybe_of v ≡ spec.tail_of (here_of here.entry) (listed (map tree.exp_of es.now)) [] at) }
+) -> Result<(Option<Box<Value>>, Option<Standing<'h>>), AllocError>
+    ensures value { IfOk result (λ r. maybe_word r.0 ≡ spec.tail_of (here_of here.entry) (listed (map tree.exp_of es.now)) [] at) }
+    ensures last { IfOk result (λ r. option_map shown_standing r.1 ≡ tails.all_behind (here_of here.entry).known None (listed (map tree.exp_of es.now))) }
 {
     let mut so_far = List::new(alloc);
+    let mut last = None;
     for e in es {
         let next = part(alloc, here, Target::No, e)?;
+        let met = one_more(last, let_go(next.standing));
+        last = Some(met);
         let next = next.into_value(alloc)?;
         push_last(alloc, &mut so_far, next, at)?;
     }
-    joined(alloc, so_far, at)
+    let tail = joined(alloc, so_far, at)?;
+    Ok((tail, last))
 }
 
-/// The operands of a call, each as it is wanted.
+/// The operands of a call, each as it is wanted, and whether they fit.
 #[cycle(expression)]
 #[inline(never)]
 fn arguments(
@@ -488,56 +350,52 @@ fn arguments(
     here: Here,
     wanted: Wants,
     es: &[Expr],
-) -> Result<List<Value>, AllocError>
-    ensures { IfOk result (λ vs. map exp_of vs ≡ spec.arguments (here_of here.entry) (shown_wants wanted.entry) (listed (map tree.exp_of es.now))) }
+) -> Result<(List<Value>, bool), AllocError>
+    ensures values { IfOk result (λ r. map exp_of r.0 ≡ spec.arguments (here_of here.entry) (shown_wants wanted.entry) (listed (map tree.exp_of es.now))) }
+    ensures fit { IfOk result (λ r. r.1 ≡ standings.fit_wanted (here_of here.entry).known (shown_wants wanted.entry) (listed (map tree.exp_of es.now))) }
 {
     let mut wants = wanted;
+    let mut fit = true;
     let mut out = List::new(alloc);
     for e in es {
         match wants.next() {
-            None => return Ok(out),
+            None => return Ok((out, false)),
             Some((next, others)) => {
                 let operand = part(alloc, here, Target::No, e)?;
+                fit &= fits_wanted(here.table, next, e, operand.standing);
                 push_argument(alloc, next, operand, &mut out)?;
                 wants = others;
             }
         }
     }
-    Ok(out)
+    Ok((out, fit && wants.next().is_none()))
 }
 
 /// A call.
 #[cycle(expression)]
 #[inline(never)]
-fn call_held(
+fn call_of<'h>(
     alloc: Global,
-    here: Here,
+    here: Here<'h, '_>,
+    target: Target<'h>,
     name: &[u8],
     es: &[Expr],
     at: Position,
-) -> Result<Held, AllocError>
-    ensures { IfOk result (λ h. held_of h ≡ spec.held (here_of here.entry) no_target (trees.call name.now (listed (map tree.exp_of es.now)) (position_at at.line at.column))) }
+) -> Result<Part<'h>, AllocError>
+    ensures part { IfOk result (λ p. part_of p ≡ spec.part (here_of here.entry) (shown_target target.entry) (trees.call name.now (listed (map tree.exp_of es.now)) (position_at at.line at.column))) }
+    ensures constant { IfOk result (λ p. p.constant ≡ no_constant) }
 {
-    let wants = wants_of(here.table, name, format_of(es));
-    let operands = arguments(alloc, here, wants, es)?;
-    let site = site_at(here.source.sites, at.line, at.column)?;
-    let value = called(
-        alloc,
-        here.table,
-        site,
-        name,
-        library_named(name),
-        here.table.seen(name),
-        es,
-        operands,
-        position(at.line, at.column),
-    )?;
-    Ok(Held::Value(value))
+    let format = format_of(es);
+    let wants = wants_of(here.table, name, format);
+    let (operands, fit) = arguments(alloc, here, wants, es)?;
+    let held = call_held(alloc, here, name, es, operands, at)?;
+    let gives = given_by_call(here.table, target, name, format);
+    Ok(changing(call_standing(gives, fit), held))
 }
 
 /// The word of an expression.
-pub fn value(alloc: Global, here: Here, e: &Expr) -> Result<Value, AllocError>
-    ensures { IfOk result (λ v. exp_of v ≡ spec.value_of (here_of here.entry) (tree.exp_of e.now)) }
+pub fn value(alloc: Global, here: Here, e: &Expr) -> Result<Box<Value>, AllocError>
+    ensures { IfOk result (λ v. exp_of v.value ≡ spec.value_of (here_of here.entry) (tree.exp_of e.now)) }
 {
     let part = part(alloc, here, Target::No, e)?;
     part.into_value(alloc)
@@ -550,8 +408,8 @@ pub fn wanted<'h>(
     pointer: bool,
     target: Target<'h>,
     e: &Expr,
-) -> Result<Value, AllocError>
-    ensures { IfOk result (λ v. exp_of v ≡ spec.wanted_of (here_of here.entry) pointer (shown_target target.entry) (tree.exp_of e.now)) }
+) -> Result<Box<Value>, AllocError>
+    ensures { IfOk result (λ v. exp_of v.value ≡ spec.wanted_of (here_of here.entry) pointer (shown_target target.entry) (tree.exp_of e.now)) }
 {
     let part = part(alloc, here, target, e)?;
     part.into_wanted(alloc, pointer)

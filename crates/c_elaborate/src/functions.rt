@@ -19,6 +19,7 @@ use crate::here::{Frame, Source, site_at};
 use crate::home::Home;
 use crate::initials::sum;
 use crate::local::Local;
+use crate::make;
 use crate::statement::push_parts;
 use c_core::{Arrival, CoreFunction, Statement};
 use c_programs::{Table, declare_param};
@@ -350,15 +351,16 @@ fn body_of<'a>(
     table: &mut Table<'a>,
     params: &'a [Param],
     parts: &'a [Part],
-) -> Result<Statement, AllocError>
+) -> Result<Box<Statement>, AllocError>
     ensures known { OnOk result (known_of table.new ≡ after_parts (after_params (known_of table.old) params.now) (listed_parts (map tree.part_of parts.now))) }
-    ensures body { IfOk result (λ s. stmt_of s ≡ spec_statements.block_of (spec_statements.all_elaborated (here_in (source_in source.now) (frame_in frame.now) (after_params (known_of table.old) params.now) (numbering.numbered_from frame.now.first params.now)) (listed_parts (map tree.part_of parts.now)))) }
+    ensures body { IfOk result (λ s. stmt_of s.value ≡ spec_statements.block_of (spec_statements.all_elaborated (here_in (source_in source.now) (frame_in frame.now) (after_params (known_of table.old) params.now) (numbering.numbered_from frame.now.first params.now)) (listed_parts (map tree.part_of parts.now)))) }
 {
     let mut numbers = NumberTable::new(alloc, frame.first)?;
     pass_formals(alloc, table, &mut numbers, params)?;
     let mut body = List::new(alloc);
     push_parts(alloc, source, frame, table, &mut numbers, parts, &mut body)?;
-    Ok(Statement::Block(body))
+    let made = make::block(alloc, body)?;
+    Ok(made)
 }
 
 fn frame_of(
@@ -385,9 +387,9 @@ fn function_by(
     gives: Option<StarredType>,
     formals: &[Local],
     locals: &[Local],
-    body: Statement,
+    body: Box<Statement>,
 ) -> Result<CoreFunction, AllocError>
-    ensures { IfOk result (λ f. function_of f ≡ spec.function_by (source_in source.now).sites name.now gives formals.now locals.now (stmt_of body)) }
+    ensures { IfOk result (λ f. function_of f ≡ spec.function_by (source_in source.now).sites name.now gives formals.now locals.now (stmt_of body.value)) }
 {
     Ok(CoreFunction {
         name: Bytes::from_slice(alloc, name.text.as_slice())?,
@@ -400,7 +402,7 @@ fn function_by(
         objects: objects_of(alloc, source.sites, formals, locals)?,
         arrivals: arrivals_of(alloc, formals)?,
         gives_pointer: gives_pointer(gives),
-        body,
+        body: Box::into_inner(body),
     })
 }
 
@@ -434,6 +436,7 @@ pub fn definition<'a>(
     let formals = formals_of(alloc, marks, first, params)?;
     let behind_formals = behind(first, params.len())?;
     let locals = locals_of(alloc, marks, behind_formals, parts)?;
+    let behind_locals = behind(behind_formals, locals.len())?;
     let frame = frame_of(alloc, first, formals.as_slice(), locals.as_slice(), gives)?;
     let body = body_of(alloc, source, &frame, table, params, parts)?;
     let function = function_by(
@@ -445,6 +448,6 @@ pub fn definition<'a>(
         locals.as_slice(),
         body,
     )?;
-    *next = behind(behind_formals, locals.len())?;
+    *next = behind_locals;
     Ok(function)
 }

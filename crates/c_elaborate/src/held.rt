@@ -5,6 +5,7 @@ ghost use Rattle.c_core.specs.View.{exp_of};
 ghost use Rattle.c_elaborate.specs.Held as spec;
 ghost use Rattle.c_elaborate.specs.Views.{held_of, part_of};
 
+use crate::constant::Constant;
 use crate::make;
 use c_core::Value;
 use c_programs::is_array;
@@ -18,10 +19,10 @@ pub enum Held {
     /// A local or formal that is a register.
     Register { number: u32, at: Position },
     /// An object in cells, by a pointer to it, and the place at which it is loaded.
-    Cells { through: Value, at: Position },
+    Cells { through: Box<Value>, at: Position },
     /// The literal `0`, which is a null pointer where a pointer is wanted.
     Zero { at: Position },
-    Value(Value),
+    Value(Box<Value>),
 }
 
 pub fn is_pointing(of: Operand) -> bool
@@ -50,12 +51,12 @@ fn is_in_array(of: Standing) -> bool
 impl Held {
     /// The word that an expression of this standing gives: an array gives the pointer to its first element, and any
     /// other object what it holds.
-    pub fn into_value(self, alloc: Global, of: Standing) -> Result<Value, AllocError>
-        ensures { IfOk result (λ v. exp_of v ≡ spec.value_by (shown_standing of.entry) (held_of self)) }
+    pub fn into_value(self, alloc: Global, of: Standing) -> Result<Box<Value>, AllocError>
+        ensures { IfOk result (λ v. exp_of v.value ≡ spec.value_by (shown_standing of.entry) (held_of self)) }
     {
         match self {
             Held::Register { number, at } => {
-                Ok(make::register(number, is_pointing(Operand::of(of)), at))
+                make::register(alloc, number, is_pointing(Operand::of(of)), at)
             }
             Held::Cells { through, at } => {
                 if is_in_array(of) {
@@ -64,17 +65,17 @@ impl Held {
                     make::load(alloc, through, is_pointing(Operand::of(of)), at)
                 }
             }
-            Held::Zero { at } => Ok(make::number(0, at)),
+            Held::Zero { at } => make::number(alloc, 0, at),
             Held::Value(value) => Ok(value),
         }
     }
 
     /// The same where a pointer is wanted.
-    pub fn into_pointer(self, alloc: Global, of: Standing) -> Result<Value, AllocError>
-        ensures { IfOk result (λ v. exp_of v ≡ spec.pointer_by (shown_standing of.entry) (held_of self)) }
+    pub fn into_pointer(self, alloc: Global, of: Standing) -> Result<Box<Value>, AllocError>
+        ensures { IfOk result (λ v. exp_of v.value ≡ spec.pointer_by (shown_standing of.entry) (held_of self)) }
     {
         match self {
-            Held::Zero { at } => Ok(make::null(at)),
+            Held::Zero { at } => make::null(alloc, at),
             Held::Register { number, at } => Held::Register { number, at }.into_value(alloc, of),
             Held::Cells { through, at } => Held::Cells { through, at }.into_value(alloc, of),
             Held::Value(value) => Ok(value),
@@ -82,11 +83,12 @@ impl Held {
     }
 }
 
-/// An expression with what it is.
+/// An expression with what it is, and the value that it has where it is constant.
 #[derive(Drop)]
 pub struct Part<'a> {
     pub standing: Standing<'a>,
     pub held: Held,
+    pub constant: Constant,
 }
 
 impl<'a> Part<'a> {
@@ -98,18 +100,18 @@ impl<'a> Part<'a> {
     }
 
     /// The word that it gives.
-    pub fn into_value(self, alloc: Global) -> Result<Value, AllocError>
-        ensures { IfOk result (λ v. exp_of v ≡ spec.value_in (part_of self.entry)) }
+    pub fn into_value(self, alloc: Global) -> Result<Box<Value>, AllocError>
+        ensures { IfOk result (λ v. exp_of v.value ≡ spec.value_in (part_of self.entry)) }
     {
-        let Part { standing, held } = self;
+        let Part { standing, held, .. } = self;
         held.into_value(alloc, standing)
     }
 
     /// The word that it gives where a pointer is wanted or not.
-    pub fn into_wanted(self, alloc: Global, pointer: bool) -> Result<Value, AllocError>
-        ensures { IfOk result (λ v. exp_of v ≡ spec.wanted_in pointer (part_of self.entry)) }
+    pub fn into_wanted(self, alloc: Global, pointer: bool) -> Result<Box<Value>, AllocError>
+        ensures { IfOk result (λ v. exp_of v.value ≡ spec.wanted_in pointer (part_of self.entry)) }
     {
-        let Part { standing, held } = self;
+        let Part { standing, held, .. } = self;
         if pointer {
             held.into_pointer(alloc, standing)
         } else {

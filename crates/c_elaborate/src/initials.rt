@@ -10,10 +10,11 @@ ghost use Rattle.c_elaborate.specs.Expressions.{is_pointer_type};
 ghost use Rattle.c_elaborate.specs.Initials as spec;
 ghost use Rattle.c_elaborate.specs.Views.{here_of, source_in};
 
-use crate::expression::{is_pointer_type, wanted};
+use crate::expression::wanted;
 use crate::here::{Here, Source};
 use crate::home::Home;
 use crate::make;
+use crate::parts::is_pointer_type;
 use c_core::{Statement, Value};
 use c_programs::{part_at, ref_of, value_target};
 use c_tree::Initial;
@@ -63,14 +64,15 @@ fn push_stored(
     object: u32,
     at: Position,
     offset: u32,
-    value: Value,
+    value: Box<Value>,
     out: &mut List<Statement>,
 ) -> Result<(), AllocError>
-    ensures { OnOk result (map stmt_of out.new ≡ map stmt_of out.old ++ spec.cell_stored object at offset (exp_of value) ∷ []) }
+    ensures { OnOk result (map stmt_of out.new ≡ map stmt_of out.old ++ spec.cell_stored object at offset (exp_of value.value) ∷ []) }
 {
-    let through = make::member(alloc, make::object(object, at), offset, at)?;
+    let begin = make::object(alloc, object, at)?;
+    let through = make::member(alloc, begin, offset, at)?;
     let store = make::store(alloc, through, value, at)?;
-    out.push(Statement::Compute(store))
+    out.push(Statement::Compute(Box::into_inner(store)))
 }
 
 fn push_cleared_cell(
@@ -84,8 +86,14 @@ fn push_cleared_cell(
     ensures { OnOk result (map stmt_of out.new ≡ map stmt_of out.old ++ spec.cell_cleared object at offset kind) }
 {
     match kind {
-        CellKind::Whole => push_stored(alloc, object, at, offset, make::number(0, at), out),
-        CellKind::Pointer => push_stored(alloc, object, at, offset, make::null(at), out),
+        CellKind::Whole => {
+            let zero = make::number(alloc, 0, at)?;
+            push_stored(alloc, object, at, offset, zero, out)
+        }
+        CellKind::Pointer => {
+            let null = make::null(alloc, at)?;
+            push_stored(alloc, object, at, offset, null, out)
+        }
         CellKind::Mutex | CellKind::Cond | CellKind::Barrier => Ok(()),
     }
 }
@@ -204,13 +212,13 @@ fn push_parts<'h>(
     push_rest(alloc, here.source, object, at, of, begin, offset, out)
 }
 
-fn zero_word(pointer: bool, at: Position) -> Value
-    ensures { exp_of result ≡ spec.zero_word pointer at }
+fn zero_word(alloc: Global, pointer: bool, at: Position) -> Result<Box<Value>, AllocError>
+    ensures { IfOk result (λ v. exp_of v.value ≡ spec.zero_word pointer at) }
 {
     if pointer {
-        make::null(at)
+        make::null(alloc, at)
     } else {
-        make::number(0, at)
+        make::number(alloc, 0, at)
     }
 }
 
@@ -222,16 +230,16 @@ fn first_word<'h>(
     target: Target<'h>,
     at: Position,
     initial: &Initial,
-) -> Result<Value, AllocError>
-    ensures { IfOk result (λ v. exp_of v ≡ spec.first_word (here_of here.entry) pointer (shown_target target.entry) at (init_of initial.now)) }
+) -> Result<Box<Value>, AllocError>
+    ensures { IfOk result (λ v. exp_of v.value ≡ spec.first_word (here_of here.entry) pointer (shown_target target.entry) at (init_of initial.now)) }
 {
     match initial {
         Initial::Value(e) => wanted(alloc, here, pointer, target, e),
         Initial::Braces { parts, .. } => match parts.as_slice() {
-            [] => Ok(zero_word(pointer, at)),
+            [] => zero_word(alloc, pointer, at),
             [first, ..] => first_word(alloc, here, pointer, Target::No, at, first),
         },
-        Initial::Mutex { .. } | Initial::Cond { .. } => Ok(zero_word(pointer, at)),
+        Initial::Mutex { .. } | Initial::Cond { .. } => zero_word(alloc, pointer, at),
     }
 }
 
@@ -250,8 +258,9 @@ fn push_object<'h>(
     match initial {
         Initial::Value(e) => {
             let value = wanted(alloc, here, is_pointer_type(of), value_target(of), e)?;
-            let store = make::store(alloc, make::object(object, at), value, at)?;
-            out.push(Statement::Compute(store))
+            let begin = make::object(alloc, object, at)?;
+            let store = make::store(alloc, begin, value, at)?;
+            out.push(Statement::Compute(Box::into_inner(store)))
         }
         Initial::Braces { parts, .. } => {
             push_parts(alloc, here, object, at, of, 0, parts.as_slice(), out)
@@ -281,7 +290,7 @@ fn push_register<'h>(
         initial,
     )?;
     let set = make::set_register(alloc, register, word, at)?;
-    out.push(Statement::Compute(set))
+    out.push(Statement::Compute(Box::into_inner(set)))
 }
 
 /// The local of the type that is kept there starts as this.

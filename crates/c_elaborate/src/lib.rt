@@ -4,6 +4,7 @@
 
 mod calls;
 mod commas;
+mod constant;
 mod expression;
 mod functions;
 mod globals;
@@ -15,6 +16,7 @@ mod laws;
 mod local;
 mod make;
 mod operators;
+mod parts;
 mod statement;
 mod whole;
 

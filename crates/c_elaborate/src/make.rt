@@ -2,422 +2,502 @@
 ghost use Rattle.std.specs.Prelude.{◌≡◌, IfOk, map};
 ghost use Rattle.c_core.specs.Core as core;
 ghost use Rattle.c_core.specs.View.{exp_of, maybe_of, stmt_of};
+ghost use Rattle.c_elaborate.specs.Views.{maybe_word};
 
 use abstract_machine::{BinaryOp, LibraryCall};
 use c_core::{Assignment, Call, Change, Choice, Operation, Simple, Statement, UnaryOp, Value};
 use rr_base::{List, Position, PtrWord};
 use std::alloc::{AllocError, Global};
 
-pub fn number(number: i64, at: Position) -> Value
-    ensures { exp_of result ≡ core.number number at }
+/// A word in a box of its own.
+pub fn boxed(alloc: Global, value: Value) -> Result<Box<Value>, AllocError>
+    ensures { IfOk result (λ v. exp_of v.value ≡ exp_of value) }
 {
-    Value::Simple {
-        simple: Simple::Number(number),
-        at,
-    }
+    let boxed = Box::new(alloc, value)?;
+    Ok(boxed)
 }
 
-pub fn null(at: Position) -> Value
-    ensures { exp_of result ≡ core.null at }
+pub fn number(alloc: Global, number: i64, at: Position) -> Result<Box<Value>, AllocError>
+    ensures { IfOk result (λ v. exp_of v.value ≡ core.number number at) }
 {
-    Value::Simple {
-        simple: Simple::Null,
-        at,
-    }
+    let simple = Simple::Number(number);
+    boxed(alloc, Value::Simple { simple, at })
 }
 
-pub fn register(number: u32, pointer: bool, at: Position) -> Value
-    ensures { exp_of result ≡ core.register number pointer at }
+pub fn null(alloc: Global, at: Position) -> Result<Box<Value>, AllocError>
+    ensures { IfOk result (λ v. exp_of v.value ≡ core.null at) }
 {
-    Value::Simple {
-        simple: Simple::Register { number, pointer },
-        at,
-    }
+    let simple = Simple::Null;
+    boxed(alloc, Value::Simple { simple, at })
 }
 
-pub fn object(number: u32, at: Position) -> Value
-    ensures { exp_of result ≡ core.object number at }
+pub fn register(
+    alloc: Global,
+    number: u32,
+    pointer: bool,
+    at: Position,
+) -> Result<Box<Value>, AllocError>
+    ensures { IfOk result (λ v. exp_of v.value ≡ core.register number pointer at) }
 {
-    Value::Simple {
-        simple: Simple::Object(number),
-        at,
-    }
+    let simple = Simple::Register { number, pointer };
+    boxed(alloc, Value::Simple { simple, at })
 }
 
-pub fn global(address: PtrWord, at: Position) -> Value
-    ensures { exp_of result ≡ core.global address at }
+pub fn object(alloc: Global, number: u32, at: Position) -> Result<Box<Value>, AllocError>
+    ensures { IfOk result (λ v. exp_of v.value ≡ core.object number at) }
 {
-    Value::Simple {
-        simple: Simple::Global(address),
-        at,
-    }
+    let simple = Simple::Object(number);
+    boxed(alloc, Value::Simple { simple, at })
 }
 
-pub fn load(alloc: Global, through: Value, pointer: bool, at: Position) -> Result<Value, AllocError>
-    ensures { IfOk result (λ v. exp_of v ≡ core.load (exp_of through) pointer at) }
+pub fn global(alloc: Global, address: PtrWord, at: Position) -> Result<Box<Value>, AllocError>
+    ensures { IfOk result (λ v. exp_of v.value ≡ core.global address at) }
 {
-    Ok(Value::Operates(Operation::Load {
-        through: Box::new(alloc, through)?,
-        pointer,
-        at,
-    }))
+    let simple = Simple::Global(address);
+    boxed(alloc, Value::Simple { simple, at })
 }
 
-pub fn unary(alloc: Global, op: UnaryOp, operand: Value, at: Position) -> Result<Value, AllocError>
-    ensures { IfOk result (λ v. exp_of v ≡ core.unary op (exp_of operand) at) }
+pub fn load(
+    alloc: Global,
+    through: Box<Value>,
+    pointer: bool,
+    at: Position,
+) -> Result<Box<Value>, AllocError>
+    ensures { IfOk result (λ v. exp_of v.value ≡ core.load (exp_of through.value) pointer at) }
 {
-    Ok(Value::Operates(Operation::Unary {
-        op,
-        operand: Box::new(alloc, operand)?,
-        at,
-    }))
+    boxed(
+        alloc,
+        Value::Operates(Operation::Load {
+            through,
+            pointer,
+            at,
+        }),
+    )
+}
+
+pub fn unary(
+    alloc: Global,
+    op: UnaryOp,
+    operand: Box<Value>,
+    at: Position,
+) -> Result<Box<Value>, AllocError>
+    ensures { IfOk result (λ v. exp_of v.value ≡ core.unary op (exp_of operand.value) at) }
+{
+    boxed(alloc, Value::Operates(Operation::Unary { op, operand, at }))
 }
 
 pub fn binary(
     alloc: Global,
     op: BinaryOp,
-    left: Value,
-    right: Value,
+    left: Box<Value>,
+    right: Box<Value>,
     at: Position,
-) -> Result<Value, AllocError>
-    ensures { IfOk result (λ v. exp_of v ≡ core.binary op (exp_of left) (exp_of right) at) }
+) -> Result<Box<Value>, AllocError>
+    ensures { IfOk result (λ v. exp_of v.value ≡ core.binary op (exp_of left.value) (exp_of right.value) at) }
 {
-    Ok(Value::Operates(Operation::Binary {
-        op,
-        left: Box::new(alloc, left)?,
-        right: Box::new(alloc, right)?,
-        at,
-    }))
+    boxed(
+        alloc,
+        Value::Operates(Operation::Binary {
+            op,
+            left,
+            right,
+            at,
+        }),
+    )
 }
 
 pub fn move_by(
     alloc: Global,
-    pointer: Value,
-    by: Value,
+    pointer: Box<Value>,
+    by: Box<Value>,
     element: u32,
     back: bool,
     at: Position,
-) -> Result<Value, AllocError>
-    ensures { IfOk result (λ v. exp_of v ≡ core.move (exp_of pointer) (exp_of by) element back at) }
+) -> Result<Box<Value>, AllocError>
+    ensures { IfOk result (λ v. exp_of v.value ≡ core.move (exp_of pointer.value) (exp_of by.value) element back at) }
 {
-    Ok(Value::Operates(Operation::Move {
-        pointer: Box::new(alloc, pointer)?,
-        by: Box::new(alloc, by)?,
-        element,
-        back,
-        at,
-    }))
+    boxed(
+        alloc,
+        Value::Operates(Operation::Move {
+            pointer,
+            by,
+            element,
+            back,
+            at,
+        }),
+    )
 }
 
 pub fn advance(
     alloc: Global,
-    by: Value,
-    pointer: Value,
+    by: Box<Value>,
+    pointer: Box<Value>,
     element: u32,
     at: Position,
-) -> Result<Value, AllocError>
-    ensures { IfOk result (λ v. exp_of v ≡ core.advance (exp_of by) (exp_of pointer) element at) }
+) -> Result<Box<Value>, AllocError>
+    ensures { IfOk result (λ v. exp_of v.value ≡ core.advance (exp_of by.value) (exp_of pointer.value) element at) }
 {
-    Ok(Value::Operates(Operation::Advance {
-        by: Box::new(alloc, by)?,
-        pointer: Box::new(alloc, pointer)?,
-        element,
-        at,
-    }))
+    boxed(
+        alloc,
+        Value::Operates(Operation::Advance {
+            by,
+            pointer,
+            element,
+            at,
+        }),
+    )
 }
 
-pub fn member(alloc: Global, pointer: Value, by: u32, at: Position) -> Result<Value, AllocError>
-    ensures { IfOk result (λ v. exp_of v ≡ core.member (exp_of pointer) by at) }
+pub fn member(
+    alloc: Global,
+    pointer: Box<Value>,
+    by: u32,
+    at: Position,
+) -> Result<Box<Value>, AllocError>
+    ensures { IfOk result (λ v. exp_of v.value ≡ core.member (exp_of pointer.value) by at) }
 {
-    Ok(Value::Operates(Operation::Member {
-        pointer: Box::new(alloc, pointer)?,
-        by,
-        at,
-    }))
+    boxed(
+        alloc,
+        Value::Operates(Operation::Member { pointer, by, at }),
+    )
 }
 
 pub fn between(
     alloc: Global,
-    left: Value,
-    right: Value,
+    left: Box<Value>,
+    right: Box<Value>,
     element: u32,
     at: Position,
-) -> Result<Value, AllocError>
-    ensures { IfOk result (λ v. exp_of v ≡ core.between (exp_of left) (exp_of right) element at) }
+) -> Result<Box<Value>, AllocError>
+    ensures { IfOk result (λ v. exp_of v.value ≡ core.between (exp_of left.value) (exp_of right.value) element at) }
 {
-    Ok(Value::Operates(Operation::Between {
-        left: Box::new(alloc, left)?,
-        right: Box::new(alloc, right)?,
-        element,
-        at,
-    }))
+    boxed(
+        alloc,
+        Value::Operates(Operation::Between {
+            left,
+            right,
+            element,
+            at,
+        }),
+    )
 }
 
-pub fn to_pointer(alloc: Global, operand: Value, at: Position) -> Result<Value, AllocError>
-    ensures { IfOk result (λ v. exp_of v ≡ core.to_pointer (exp_of operand) at) }
+pub fn to_pointer(
+    alloc: Global,
+    operand: Box<Value>,
+    at: Position,
+) -> Result<Box<Value>, AllocError>
+    ensures { IfOk result (λ v. exp_of v.value ≡ core.to_pointer (exp_of operand.value) at) }
 {
-    Ok(Value::Operates(Operation::ToPointer {
-        operand: Box::new(alloc, operand)?,
-        at,
-    }))
+    boxed(alloc, Value::Operates(Operation::ToPointer { operand, at }))
 }
 
-pub fn to_number(alloc: Global, operand: Value, at: Position) -> Result<Value, AllocError>
-    ensures { IfOk result (λ v. exp_of v ≡ core.to_number (exp_of operand) at) }
+pub fn to_number(alloc: Global, operand: Box<Value>, at: Position) -> Result<Box<Value>, AllocError>
+    ensures { IfOk result (λ v. exp_of v.value ≡ core.to_number (exp_of operand.value) at) }
 {
-    Ok(Value::Operates(Operation::ToNumber {
-        operand: Box::new(alloc, operand)?,
-        at,
-    }))
+    boxed(alloc, Value::Operates(Operation::ToNumber { operand, at }))
 }
 
-pub fn copy(alloc: Global, operand: Value, at: Position) -> Result<Value, AllocError>
-    ensures { IfOk result (λ v. exp_of v ≡ core.copy (exp_of operand) at) }
+pub fn copy(alloc: Global, operand: Box<Value>, at: Position) -> Result<Box<Value>, AllocError>
+    ensures { IfOk result (λ v. exp_of v.value ≡ core.copy (exp_of operand.value) at) }
 {
-    Ok(Value::Operates(Operation::Copy {
-        operand: Box::new(alloc, operand)?,
-        at,
-    }))
+    boxed(alloc, Value::Operates(Operation::Copy { operand, at }))
 }
 
-pub fn both(alloc: Global, left: Value, right: Value, at: Position) -> Result<Value, AllocError>
-    ensures { IfOk result (λ v. exp_of v ≡ core.both (exp_of left) (exp_of right) at) }
+pub fn both(
+    alloc: Global,
+    left: Box<Value>,
+    right: Box<Value>,
+    at: Position,
+) -> Result<Box<Value>, AllocError>
+    ensures { IfOk result (λ v. exp_of v.value ≡ core.both (exp_of left.value) (exp_of right.value) at) }
 {
-    Ok(Value::Chooses(Choice::And {
-        left: Box::new(alloc, left)?,
-        right: Box::new(alloc, right)?,
-        at,
-    }))
+    boxed(alloc, Value::Chooses(Choice::And { left, right, at }))
 }
 
-pub fn either(alloc: Global, left: Value, right: Value, at: Position) -> Result<Value, AllocError>
-    ensures { IfOk result (λ v. exp_of v ≡ core.either (exp_of left) (exp_of right) at) }
+pub fn either(
+    alloc: Global,
+    left: Box<Value>,
+    right: Box<Value>,
+    at: Position,
+) -> Result<Box<Value>, AllocError>
+    ensures { IfOk result (λ v. exp_of v.value ≡ core.either (exp_of left.value) (exp_of right.value) at) }
 {
-    Ok(Value::Chooses(Choice::Or {
-        left: Box::new(alloc, left)?,
-        right: Box::new(alloc, right)?,
-        at,
-    }))
+    boxed(alloc, Value::Chooses(Choice::Or { left, right, at }))
 }
 
 pub fn conditional(
     alloc: Global,
-    test: Value,
-    yes: Value,
-    no: Value,
+    test: Box<Value>,
+    yes: Box<Value>,
+    no: Box<Value>,
     at: Position,
-) -> Result<Value, AllocError>
-    ensures { IfOk result (λ v. exp_of v ≡ core.conditional (exp_of test) (exp_of yes) (exp_of no) at) }
+) -> Result<Box<Value>, AllocError>
+    ensures { IfOk result (λ v. exp_of v.value ≡ core.conditional (exp_of test.value) (exp_of yes.value) (exp_of no.value) at) }
 {
-    Ok(Value::Chooses(Choice::Conditional {
-        test: Box::new(alloc, test)?,
-        yes: Box::new(alloc, yes)?,
-        no: Box::new(alloc, no)?,
-        at,
-    }))
+    boxed(
+        alloc,
+        Value::Chooses(Choice::Conditional { test, yes, no, at }),
+    )
 }
 
-pub fn comma(alloc: Global, before: Value, value: Value, at: Position) -> Result<Value, AllocError>
-    ensures { IfOk result (λ v. exp_of v ≡ core.comma (exp_of before) (exp_of value) at) }
+pub fn comma(
+    alloc: Global,
+    before: Box<Value>,
+    value: Box<Value>,
+    at: Position,
+) -> Result<Box<Value>, AllocError>
+    ensures { IfOk result (λ v. exp_of v.value ≡ core.comma (exp_of before.value) (exp_of value.value) at) }
 {
-    Ok(Value::Chooses(Choice::Comma {
-        before: Box::new(alloc, before)?,
-        value: Box::new(alloc, value)?,
-        at,
-    }))
+    boxed(alloc, Value::Chooses(Choice::Comma { before, value, at }))
 }
 
 pub fn set_register(
     alloc: Global,
     register: u32,
-    value: Value,
+    value: Box<Value>,
     at: Position,
-) -> Result<Value, AllocError>
-    ensures { IfOk result (λ v. exp_of v ≡ core.set_register register (exp_of value) at) }
+) -> Result<Box<Value>, AllocError>
+    ensures { IfOk result (λ v. exp_of v.value ≡ core.set_register register (exp_of value.value) at) }
 {
-    Ok(Value::Assigns(Assignment::Set {
-        register,
-        value: Box::new(alloc, value)?,
-        at,
-    }))
+    boxed(
+        alloc,
+        Value::Assigns(Assignment::Set {
+            register,
+            value,
+            at,
+        }),
+    )
 }
 
-pub fn store(alloc: Global, through: Value, value: Value, at: Position) -> Result<Value, AllocError>
-    ensures { IfOk result (λ v. exp_of v ≡ core.store (exp_of through) (exp_of value) at) }
+pub fn store(
+    alloc: Global,
+    through: Box<Value>,
+    value: Box<Value>,
+    at: Position,
+) -> Result<Box<Value>, AllocError>
+    ensures { IfOk result (λ v. exp_of v.value ≡ core.store (exp_of through.value) (exp_of value.value) at) }
 {
-    Ok(Value::Assigns(Assignment::Store {
-        through: Box::new(alloc, through)?,
-        value: Box::new(alloc, value)?,
-        at,
-    }))
+    boxed(
+        alloc,
+        Value::Assigns(Assignment::Store { through, value, at }),
+    )
 }
 
 pub fn change_register(
     alloc: Global,
     register: u32,
     change: Change,
-    operand: Value,
+    operand: Box<Value>,
     gives_old: bool,
     at: Position,
-) -> Result<Value, AllocError>
-    ensures { IfOk result (λ v. exp_of v ≡ core.change_register register change (exp_of operand) gives_old at) }
+) -> Result<Box<Value>, AllocError>
+    ensures { IfOk result (λ v. exp_of v.value ≡ core.change_register register change (exp_of operand.value) gives_old at) }
 {
-    Ok(Value::Assigns(Assignment::ChangeRegister {
-        register,
-        change,
-        operand: Box::new(alloc, operand)?,
-        gives_old,
-        at,
-    }))
+    boxed(
+        alloc,
+        Value::Assigns(Assignment::ChangeRegister {
+            register,
+            change,
+            operand,
+            gives_old,
+            at,
+        }),
+    )
 }
 
 pub fn change_cell(
     alloc: Global,
-    through: Value,
+    through: Box<Value>,
     loaded_at: Position,
     change: Change,
-    operand: Value,
+    operand: Box<Value>,
     gives_old: bool,
     at: Position,
-) -> Result<Value, AllocError>
-    ensures { IfOk result (λ v. exp_of v ≡ core.change_cell (exp_of through) loaded_at change (exp_of operand) gives_old at) }
+) -> Result<Box<Value>, AllocError>
+    ensures { IfOk result (λ v. exp_of v.value ≡ core.change_cell (exp_of through.value) loaded_at change (exp_of operand.value) gives_old at) }
 {
-    Ok(Value::Assigns(Assignment::ChangeCell {
-        through: Box::new(alloc, through)?,
-        loaded_at,
-        change,
-        operand: Box::new(alloc, operand)?,
-        gives_old,
-        at,
-    }))
+    boxed(
+        alloc,
+        Value::Assigns(Assignment::ChangeCell {
+            through,
+            loaded_at,
+            change,
+            operand,
+            gives_old,
+            at,
+        }),
+    )
 }
 
-pub fn call(function: u32, arguments: List<Value>, gives_pointer: bool, at: Position) -> Value
-    ensures { exp_of result ≡ core.call function (core.listed (map exp_of arguments)) gives_pointer at }
+pub fn call(
+    alloc: Global,
+    function: u32,
+    arguments: List<Value>,
+    gives_pointer: bool,
+    at: Position,
+) -> Result<Box<Value>, AllocError>
+    ensures { IfOk result (λ v. exp_of v.value ≡ core.call function (core.listed (map exp_of arguments)) gives_pointer at) }
 {
-    Value::Calls(Call::Function {
-        function,
-        arguments,
-        gives_pointer,
-        at,
-    })
+    boxed(
+        alloc,
+        Value::Calls(Call::Function {
+            function,
+            arguments,
+            gives_pointer,
+            at,
+        }),
+    )
 }
 
-pub fn library(call: LibraryCall, arguments: List<Value>, at: Position) -> Value
-    ensures { exp_of result ≡ core.library call (core.listed (map exp_of arguments)) at }
+pub fn library(
+    alloc: Global,
+    call: LibraryCall,
+    arguments: List<Value>,
+    at: Position,
+) -> Result<Box<Value>, AllocError>
+    ensures { IfOk result (λ v. exp_of v.value ≡ core.library call (core.listed (map exp_of arguments)) at) }
 {
-    Value::Calls(Call::Library {
-        call,
-        arguments,
-        at,
-    })
+    boxed(
+        alloc,
+        Value::Calls(Call::Library {
+            call,
+            arguments,
+            at,
+        }),
+    )
 }
 
-pub fn allocate(alloc: Global, site: u16, size: Value, at: Position) -> Result<Value, AllocError>
-    ensures { IfOk result (λ v. exp_of v ≡ core.allocate site (exp_of size) at) }
+pub fn allocate(
+    alloc: Global,
+    site: u16,
+    size: Box<Value>,
+    at: Position,
+) -> Result<Box<Value>, AllocError>
+    ensures { IfOk result (λ v. exp_of v.value ≡ core.allocate site (exp_of size.value) at) }
 {
-    Ok(Value::Calls(Call::Allocate {
-        site,
-        size: Box::new(alloc, size)?,
-        at,
-    }))
+    boxed(alloc, Value::Calls(Call::Allocate { site, size, at }))
 }
 
-pub fn break_at(at: Position) -> Statement
-    ensures { stmt_of result ≡ core.break_at at }
+/// A statement in a box of its own.
+fn placed(alloc: Global, statement: Statement) -> Result<Box<Statement>, AllocError>
+    ensures { IfOk result (λ s. stmt_of s.value ≡ stmt_of statement) }
 {
-    Statement::Break { at }
+    let placed = Box::new(alloc, statement)?;
+    Ok(placed)
 }
 
-pub fn continue_at(at: Position) -> Statement
-    ensures { stmt_of result ≡ core.continue_at at }
+/// No word, or one in no box.
+fn unboxed(value: Option<Box<Value>>) -> Option<Value>
+    ensures { maybe_of result ≡ maybe_word value }
 {
-    Statement::Continue { at }
+    match value {
+        None => None,
+        Some(value) => Some(Box::into_inner(value)),
+    }
+}
+
+pub fn block(alloc: Global, inner: List<Statement>) -> Result<Box<Statement>, AllocError>
+    ensures { IfOk result (λ s. stmt_of s.value ≡ core.block (core.listed_statements (map stmt_of inner))) }
+{
+    placed(alloc, Statement::Block(inner))
+}
+
+pub fn compute(alloc: Global, value: Box<Value>) -> Result<Box<Statement>, AllocError>
+    ensures { IfOk result (λ s. stmt_of s.value ≡ core.compute (exp_of value.value)) }
+{
+    placed(alloc, Statement::Compute(Box::into_inner(value)))
+}
+
+pub fn break_at(alloc: Global, at: Position) -> Result<Box<Statement>, AllocError>
+    ensures { IfOk result (λ s. stmt_of s.value ≡ core.break_at at) }
+{
+    placed(alloc, Statement::Break { at })
+}
+
+pub fn continue_at(alloc: Global, at: Position) -> Result<Box<Statement>, AllocError>
+    ensures { IfOk result (λ s. stmt_of s.value ≡ core.continue_at at) }
+{
+    placed(alloc, Statement::Continue { at })
+}
+
+/// A `return`.
+pub fn gives(
+    alloc: Global,
+    value: Option<Box<Value>>,
+    at: Position,
+) -> Result<Box<Statement>, AllocError>
+    ensures { IfOk result (λ s. stmt_of s.value ≡ core.gives (maybe_word value) at) }
+{
+    let value = unboxed(value);
+    placed(alloc, Statement::Return { value, at })
 }
 
 /// An `if`.
 pub fn branch(
     alloc: Global,
-    test: Value,
-    yes: Statement,
-    no: Statement,
+    test: Box<Value>,
+    yes: Box<Statement>,
+    no: Box<Statement>,
     at: Position,
-) -> Result<Statement, AllocError>
-    ensures { IfOk result (λ s. stmt_of s ≡ core.branch (exp_of test) (stmt_of yes) (stmt_of no) at) }
+) -> Result<Box<Statement>, AllocError>
+    ensures { IfOk result (λ s. stmt_of s.value ≡ core.branch (exp_of test.value) (stmt_of yes.value) (stmt_of no.value) at) }
 {
-    Ok(Statement::If {
-        test,
-        yes: Box::new(alloc, yes)?,
-        no: Box::new(alloc, no)?,
-        at,
-    })
+    let test = Box::into_inner(test);
+    placed(alloc, Statement::If { test, yes, no, at })
 }
 
 pub fn while_loop(
     alloc: Global,
-    test: Value,
-    body: Statement,
+    test: Box<Value>,
+    body: Box<Statement>,
     at: Position,
-) -> Result<Statement, AllocError>
-    ensures { IfOk result (λ s. stmt_of s ≡ core.while_loop (exp_of test) (stmt_of body) at) }
+) -> Result<Box<Statement>, AllocError>
+    ensures { IfOk result (λ s. stmt_of s.value ≡ core.while_loop (exp_of test.value) (stmt_of body.value) at) }
 {
-    Ok(Statement::While {
-        test,
-        body: Box::new(alloc, body)?,
-        at,
-    })
+    let test = Box::into_inner(test);
+    placed(alloc, Statement::While { test, body, at })
 }
 
 pub fn do_loop(
     alloc: Global,
-    body: Statement,
-    test: Value,
+    body: Box<Statement>,
+    test: Box<Value>,
     at: Position,
-) -> Result<Statement, AllocError>
-    ensures { IfOk result (λ s. stmt_of s ≡ core.do_loop (stmt_of body) (exp_of test) at) }
+) -> Result<Box<Statement>, AllocError>
+    ensures { IfOk result (λ s. stmt_of s.value ≡ core.do_loop (stmt_of body.value) (exp_of test.value) at) }
 {
-    Ok(Statement::Do {
-        body: Box::new(alloc, body)?,
-        test,
-        at,
-    })
+    let test = Box::into_inner(test);
+    placed(alloc, Statement::Do { body, test, at })
 }
 
 /// What stands in the parentheses of a `for`.
 #[derive(Drop)]
 pub struct ForHead {
     pub start: Box<Statement>,
-    pub test: Option<Value>,
-    pub step: Option<Value>,
-}
-
-fn for_of(
-    start: Box<Statement>,
-    test: Option<Value>,
-    step: Option<Value>,
-    body: Box<Statement>,
-    at: Position,
-) -> Statement
-    ensures { stmt_of result ≡ core.for_loop (stmt_of start.value) (maybe_of test) (maybe_of step) (stmt_of body.value) at }
-{
-    Statement::For {
-        start,
-        test,
-        step,
-        body,
-        at,
-    }
+    pub test: Option<Box<Value>>,
+    pub step: Option<Box<Value>>,
 }
 
 pub fn for_loop(
     alloc: Global,
     head: ForHead,
-    body: Statement,
+    body: Box<Statement>,
     at: Position,
-) -> Result<Statement, AllocError>
-    ensures { IfOk result (λ s. stmt_of s ≡ core.for_loop (stmt_of head.start.value) (maybe_of head.test) (maybe_of head.step) (stmt_of body) at) }
+) -> Result<Box<Statement>, AllocError>
+    ensures { IfOk result (λ s. stmt_of s.value ≡ core.for_loop (stmt_of head.start.value) (maybe_word head.test) (maybe_word head.step) (stmt_of body.value) at) }
 {
-    let body = Box::new(alloc, body)?;
     let ForHead { start, test, step } = head;
-    Ok(for_of(start, test, step, body, at))
+    let test = unboxed(test);
+    let step = unboxed(step);
+    placed(
+        alloc,
+        Statement::For {
+            start,
+            test,
+            step,
+            body,
+            at,
+        },
+    )
 }

@@ -65,9 +65,9 @@ fn both_wanted(
     pointer: bool,
     left: Part,
     right: Part,
-) -> Result<(Value, Value), AllocError>
-    ensures left { IfOk result (λ r. exp_of r.0 ≡ wanted_in pointer (part_of left.entry)) }
-    ensures right { IfOk result (λ r. exp_of r.1 ≡ wanted_in pointer (part_of right.entry)) }
+) -> Result<(Box<Value>, Box<Value>), AllocError>
+    ensures left { IfOk result (λ r. exp_of r.0.value ≡ wanted_in pointer (part_of left.entry)) }
+    ensures right { IfOk result (λ r. exp_of r.1.value ≡ wanted_in pointer (part_of right.entry)) }
 {
     let left = left.into_wanted(alloc, pointer)?;
     let right = right.into_wanted(alloc, pointer)?;
@@ -81,8 +81,8 @@ fn sum(
     left: Part,
     right: Part,
     at: Position,
-) -> Result<Value, AllocError>
-    ensures { IfOk result (λ v. exp_of v ≡ spec.sum_in (source_in source.now) (part_of left.entry) (part_of right.entry) at) }
+) -> Result<Box<Value>, AllocError>
+    ensures { IfOk result (λ v. exp_of v.value ≡ spec.sum_in (source_in source.now) (part_of left.entry) (part_of right.entry) at) }
 {
     let (a, b) = (left.operand(), right.operand());
     let (left, right) = both_wanted(alloc, false, left, right)?;
@@ -113,8 +113,8 @@ fn difference(
     left: Part,
     right: Part,
     at: Position,
-) -> Result<Value, AllocError>
-    ensures { IfOk result (λ v. exp_of v ≡ spec.difference_in (source_in source.now) (part_of left.entry) (part_of right.entry) at) }
+) -> Result<Box<Value>, AllocError>
+    ensures { IfOk result (λ v. exp_of v.value ≡ spec.difference_in (source_in source.now) (part_of left.entry) (part_of right.entry) at) }
 {
     let (a, b) = (left.operand(), right.operand());
     if is_pointing(a) && b.is_whole() {
@@ -136,8 +136,8 @@ fn operated(
     left: Part,
     right: Part,
     at: Position,
-) -> Result<Value, AllocError>
-    ensures { IfOk result (λ v. exp_of v ≡ spec.operated_in op (part_of left.entry) (part_of right.entry) at) }
+) -> Result<Box<Value>, AllocError>
+    ensures { IfOk result (λ v. exp_of v.value ≡ spec.operated_in op (part_of left.entry) (part_of right.entry) at) }
 {
     let pointer = !are_whole(left.operand(), right.operand());
     let (left, right) = both_wanted(alloc, pointer, left, right)?;
@@ -152,8 +152,8 @@ pub fn binary(
     left: Part,
     right: Part,
     at: Position,
-) -> Result<Value, AllocError>
-    ensures { IfOk result (λ v. exp_of v ≡ spec.binary_in (source_in source.now) op (part_of left.entry) (part_of right.entry) at) }
+) -> Result<Box<Value>, AllocError>
+    ensures { IfOk result (λ v. exp_of v.value ≡ spec.binary_in (source_in source.now) op (part_of left.entry) (part_of right.entry) at) }
 {
     match op {
         BinaryOp::LogicalOr => {
@@ -177,8 +177,8 @@ pub fn conditional(
     yes: Part,
     no: Part,
     at: Position,
-) -> Result<Value, AllocError>
-    ensures { IfOk result (λ v. exp_of v ≡ spec.conditional_in (part_of test.entry) (part_of yes.entry) (part_of no.entry) at) }
+) -> Result<Box<Value>, AllocError>
+    ensures { IfOk result (λ v. exp_of v.value ≡ spec.conditional_in (part_of test.entry) (part_of yes.entry) (part_of no.entry) at) }
 {
     let pointer = !are_whole(yes.operand(), no.operand());
     let test = test.into_value(alloc)?;
@@ -219,11 +219,11 @@ fn changed_by(
     alloc: Global,
     change: Change,
     place: Held,
-    by: Value,
+    by: Box<Value>,
     gives_old: bool,
     at: Position,
-) -> Result<Value, AllocError>
-    ensures { IfOk result (λ v. exp_of v ≡ spec.changed_by change (held_of place) (exp_of by) gives_old at) }
+) -> Result<Box<Value>, AllocError>
+    ensures { IfOk result (λ v. exp_of v.value ≡ spec.changed_by change (held_of place) (exp_of by.value) gives_old at) }
 {
     match place {
         Held::Register { number, .. } => {
@@ -242,11 +242,11 @@ fn changed(
     source: &Source,
     op: FlowOp,
     place: Part,
-    by: Value,
+    by: Box<Value>,
     gives_old: bool,
     at: Position,
-) -> Result<Value, AllocError>
-    ensures { IfOk result (λ v. exp_of v ≡ spec.changed_in (source_in source.now) op (part_of place.entry) (exp_of by) gives_old at) }
+) -> Result<Box<Value>, AllocError>
+    ensures { IfOk result (λ v. exp_of v.value ≡ spec.changed_in (source_in source.now) op (part_of place.entry) (exp_of by.value) gives_old at) }
 {
     let change = change_of(source, place.operand(), op);
     let Part { held, .. } = place;
@@ -261,15 +261,21 @@ pub fn stepped(
     place: Part,
     gives_old: bool,
     at: Position,
-) -> Result<Value, AllocError>
-    ensures { IfOk result (λ v. exp_of v ≡ spec.stepped_in (source_in source.now) op (part_of place.entry) gives_old at) }
+) -> Result<Box<Value>, AllocError>
+    ensures { IfOk result (λ v. exp_of v.value ≡ spec.stepped_in (source_in source.now) op (part_of place.entry) gives_old at) }
 {
-    changed(alloc, source, op, place, make::number(1, at), gives_old, at)
+    let by = make::number(alloc, 1, at)?;
+    changed(alloc, source, op, place, by, gives_old, at)
 }
 
 /// An object gets a word.
-fn stored(alloc: Global, place: Held, value: Value, at: Position) -> Result<Value, AllocError>
-    ensures { IfOk result (λ v. exp_of v ≡ spec.stored_in (held_of place) (exp_of value) at) }
+fn stored(
+    alloc: Global,
+    place: Held,
+    value: Box<Value>,
+    at: Position,
+) -> Result<Box<Value>, AllocError>
+    ensures { IfOk result (λ v. exp_of v.value ≡ spec.stored_in (held_of place) (exp_of value.value) at) }
 {
     match place {
         Held::Register { number, .. } => make::set_register(alloc, number, value, at),
@@ -286,8 +292,8 @@ pub fn assigned(
     left: Part,
     right: Part,
     at: Position,
-) -> Result<Value, AllocError>
-    ensures { IfOk result (λ v. exp_of v ≡ spec.assigned_in (source_in source.now) op (part_of left.entry) (part_of right.entry) at) }
+) -> Result<Box<Value>, AllocError>
+    ensures { IfOk result (λ v. exp_of v.value ≡ spec.assigned_in (source_in source.now) op (part_of left.entry) (part_of right.entry) at) }
 {
     match op {
         AssignOp::Assign => {
@@ -382,8 +388,8 @@ pub fn cast(
     to_pointer: bool,
     operand: Part,
     at: Position,
-) -> Result<Value, AllocError>
-    ensures { IfOk result (λ v. exp_of v ≡ spec.cast_in to_pointer (part_of operand.entry) at) }
+) -> Result<Box<Value>, AllocError>
+    ensures { IfOk result (λ v. exp_of v.value ≡ spec.cast_in to_pointer (part_of operand.entry) at) }
 {
     let from_pointer = is_some_address(operand.operand());
     let operand = operand.into_value(alloc)?;

@@ -10,12 +10,12 @@ ghost use Rattle.c_programs.specs.Statements as statements;
 ghost use Rattle.c_programs.specs.Table.{known_of};
 ghost use Rattle.c_tree.specs.Tree as trees;
 ghost use Rattle.c_core.specs.Core as core;
-ghost use Rattle.c_core.specs.View.{exp_of, maybe_of, stmt_of};
+ghost use Rattle.c_core.specs.View.{exp_of, stmt_of};
 ghost use Rattle.c_elaborate.specs.Expressions.{value_of};
 ghost use Rattle.c_elaborate.specs.Held.{position_of};
 ghost use Rattle.c_elaborate.specs.Here.{here_in};
 ghost use Rattle.c_elaborate.specs.Statements as spec;
-ghost use Rattle.c_elaborate.specs.Views.{frame_in, here_of, source_in};
+ghost use Rattle.c_elaborate.specs.Views.{frame_in, here_of, maybe_word, source_in};
 
 use crate::expression::{position, value, wanted};
 use crate::here::{Frame, Here, Source};
@@ -146,10 +146,10 @@ fn push_declares<'a>(
 }
 
 /// No statement.
-fn nothing(alloc: Global) -> Statement
-    ensures { stmt_of result ≡ spec.block_of [] }
+fn nothing(alloc: Global) -> Result<Box<Statement>, AllocError>
+    ensures { IfOk result (λ s. stmt_of s.value ≡ spec.block_of []) }
 {
-    Statement::Block(List::new(alloc))
+    make::block(alloc, List::new(alloc))
 }
 
 /// The word of an expression at this place.
@@ -160,8 +160,8 @@ fn value_at<'a>(
     table: &Table<'a>,
     numbers: &NumberTable<'a>,
     e: &Expr,
-) -> Result<Value, AllocError>
-    ensures { IfOk result (λ v. exp_of v ≡ value_of (here_in (source_in source.now) (frame_in frame.now) (known_of table.now) (numbered_of numbers.now)) (tree.exp_of e.now)) }
+) -> Result<Box<Value>, AllocError>
+    ensures { IfOk result (λ v. exp_of v.value ≡ value_of (here_in (source_in source.now) (frame_in frame.now) (known_of table.now) (numbered_of numbers.now)) (tree.exp_of e.now)) }
 {
     value(alloc, here(source, frame, table, numbers), e)
 }
@@ -174,20 +174,24 @@ fn computed<'a>(
     table: &Table<'a>,
     numbers: &NumberTable<'a>,
     e: &Option<Expr>,
-) -> Result<Statement, AllocError>
-    ensures { IfOk result (λ s. stmt_of s ≡ spec.computed (here_in (source_in source.now) (frame_in frame.now) (known_of table.now) (numbered_of numbers.now)) (tree.maybe_of e.now)) }
+) -> Result<Box<Statement>, AllocError>
+    ensures { IfOk result (λ s. stmt_of s.value ≡ spec.computed (here_in (source_in source.now) (frame_in frame.now) (known_of table.now) (numbered_of numbers.now)) (tree.maybe_of e.now)) }
 {
     match e {
-        None => Ok(nothing(alloc)),
+        None => nothing(alloc),
         Some(e) => {
             let value = value_at(alloc, source, frame, table, numbers, e)?;
-            Ok(Statement::Compute(value))
+            make::compute(alloc, value)
         }
     }
 }
 
-fn maybe_value(alloc: Global, here: Here, e: &Option<Expr>) -> Result<Option<Value>, AllocError>
-    ensures { IfOk result (λ v. maybe_of v ≡ spec.maybe_value (here_of here.entry) (tree.maybe_of e.now)) }
+fn maybe_value(
+    alloc: Global,
+    here: Here,
+    e: &Option<Expr>,
+) -> Result<Option<Box<Value>>, AllocError>
+    ensures { IfOk result (λ v. maybe_word v ≡ spec.maybe_value (here_of here.entry) (tree.maybe_of e.now)) }
 {
     match e {
         None => Ok(None),
@@ -206,8 +210,8 @@ fn given<'a>(
     table: &Table<'a>,
     numbers: &NumberTable<'a>,
     e: &Option<Expr>,
-) -> Result<Option<Value>, AllocError>
-    ensures { IfOk result (λ v. maybe_of v ≡ spec.given (here_in (source_in source.now) (frame_in frame.now) (known_of table.now) (numbered_of numbers.now)) (tree.maybe_of e.now)) }
+) -> Result<Option<Box<Value>>, AllocError>
+    ensures { IfOk result (λ v. maybe_word v ≡ spec.given (here_in (source_in source.now) (frame_in frame.now) (known_of table.now) (numbered_of numbers.now)) (tree.maybe_of e.now)) }
 {
     match e {
         None => Ok(None),
@@ -228,14 +232,11 @@ fn returned<'a>(
     numbers: &NumberTable<'a>,
     e: &Option<Expr>,
     at: (u32, u32),
-) -> Result<Statement, AllocError>
-    ensures { IfOk result (λ s. stmt_of s ≡ core.gives (spec.given (here_in (source_in source.now) (frame_in frame.now) (known_of table.now) (numbered_of numbers.now)) (tree.maybe_of e.now)) (position_of (position_at at.0 at.1))) }
+) -> Result<Box<Statement>, AllocError>
+    ensures { IfOk result (λ s. stmt_of s.value ≡ core.gives (spec.given (here_in (source_in source.now) (frame_in frame.now) (known_of table.now) (numbered_of numbers.now)) (tree.maybe_of e.now)) (position_of (position_at at.0 at.1))) }
 {
     let value = given(alloc, source, frame, table, numbers, e)?;
-    Ok(Statement::Return {
-        value,
-        at: position(at.0, at.1),
-    })
+    make::gives(alloc, value, position(at.0, at.1))
 }
 
 /// How a `for` begins.
@@ -246,10 +247,10 @@ fn start<'a>(
     table: &mut Table<'a>,
     numbers: &mut NumberTable<'a>,
     start: &'a ForStart,
-) -> Result<Statement, AllocError>
+) -> Result<Box<Statement>, AllocError>
     ensures known { OnOk result (known_of table.new ≡ statements.after_start (known_of table.old) (tree.start_of start.now)) }
     ensures numbers { OnOk result (numbered_of numbers.new ≡ numbering.after_for_start (numbered_of numbers.old) (tree.start_of start.now)) }
-    ensures statement { IfOk result (λ s. stmt_of s ≡ spec.start_elaborated (here_in (source_in source.now) (frame_in frame.now) (known_of table.old) (numbered_of numbers.old)) (tree.start_of start.now)) }
+    ensures statement { IfOk result (λ s. stmt_of s.value ≡ spec.start_elaborated (here_in (source_in source.now) (frame_in frame.now) (known_of table.old) (numbered_of numbers.old)) (tree.start_of start.now)) }
 {
     match start {
         ForStart::Declares(declaration) => {
@@ -263,7 +264,8 @@ fn start<'a>(
                 declaration,
                 &mut begun,
             )?;
-            Ok(Statement::Block(begun))
+            let made = make::block(alloc, begun)?;
+            Ok(made)
         }
         ForStart::Computes(e) => { computed(alloc, source, frame, &*table, &*numbers, e) }
     }
@@ -278,18 +280,19 @@ fn block<'a>(
     table: &mut Table<'a>,
     numbers: &mut NumberTable<'a>,
     parts: &'a [Part],
-) -> Result<Statement, AllocError>
+) -> Result<Box<Statement>, AllocError>
     ensures known { OnOk result (known_of table.new ≡ known_of table.old) }
     ensures numbers { OnOk result (numbered_of numbers.new ≡ numbering.behind (numbered_of numbers.old) (numbering.count_of_parts (listed_parts (map tree.part_of parts.now)))) }
-    ensures statement { IfOk result (λ s. stmt_of s ≡ spec.block_of (spec.all_elaborated (spec.here_inside (here_in (source_in source.now) (frame_in frame.now) (known_of table.old) (numbered_of numbers.old))) (listed_parts (map tree.part_of parts.now)))) }
+    ensures statement { IfOk result (λ s. stmt_of s.value ≡ spec.block_of (spec.all_elaborated (spec.here_inside (here_in (source_in source.now) (frame_in frame.now) (known_of table.old) (numbered_of numbers.old))) (listed_parts (map tree.part_of parts.now)))) }
 {
     table.open(alloc)?;
     numbers.open(alloc)?;
     let mut inner = List::new(alloc);
     push_parts(alloc, source, frame, table, numbers, parts, &mut inner)?;
+    let made = make::block(alloc, inner)?;
     table.close();
     numbers.close();
-    Ok(Statement::Block(inner))
+    Ok(made)
 }
 
 #[cycle(statement)]
@@ -302,10 +305,10 @@ fn while_loop<'a>(
     body: &'a Stmt,
     test: &Expr,
     at: (u32, u32),
-) -> Result<Statement, AllocError>
+) -> Result<Box<Statement>, AllocError>
     ensures known { OnOk result (known_of table.new ≡ known_of table.old) }
     ensures numbers { OnOk result (numbered_of numbers.new ≡ numbering.behind_statement (numbered_of numbers.old) (tree.stmt_of body.now)) }
-    ensures statement { IfOk result (λ s. stmt_of s ≡ spec.elaborated (here_in (source_in source.now) (frame_in frame.now) (known_of table.old) (numbered_of numbers.old)) (trees.while_loop (tree.exp_of test.now) (tree.stmt_of body.now) (position_at at.0 at.1))) }
+    ensures statement { IfOk result (λ s. stmt_of s.value ≡ spec.elaborated (here_in (source_in source.now) (frame_in frame.now) (known_of table.old) (numbered_of numbers.old)) (trees.while_loop (tree.exp_of test.now) (tree.stmt_of body.now) (position_at at.0 at.1))) }
 {
     let test = value_at(alloc, source, frame, &*table, &*numbers, test)?;
     let body = statement(alloc, source, frame, table, numbers, body)?;
@@ -322,10 +325,10 @@ fn do_loop<'a>(
     body: &'a Stmt,
     test: &Expr,
     at: (u32, u32),
-) -> Result<Statement, AllocError>
+) -> Result<Box<Statement>, AllocError>
     ensures known { OnOk result (known_of table.new ≡ known_of table.old) }
     ensures numbers { OnOk result (numbered_of numbers.new ≡ numbering.behind_statement (numbered_of numbers.old) (tree.stmt_of body.now)) }
-    ensures statement { IfOk result (λ s. stmt_of s ≡ spec.elaborated (here_in (source_in source.now) (frame_in frame.now) (known_of table.old) (numbered_of numbers.old)) (trees.do_loop (tree.stmt_of body.now) (tree.exp_of test.now) (position_at at.0 at.1))) }
+    ensures statement { IfOk result (λ s. stmt_of s.value ≡ spec.elaborated (here_in (source_in source.now) (frame_in frame.now) (known_of table.old) (numbered_of numbers.old)) (trees.do_loop (tree.stmt_of body.now) (tree.exp_of test.now) (position_at at.0 at.1))) }
 {
     let body = statement(alloc, source, frame, table, numbers, body)?;
     let test = value_at(alloc, source, frame, &*table, &*numbers, test)?;
@@ -341,9 +344,9 @@ fn for_parts<'a>(
     numbers: &NumberTable<'a>,
     test: &Option<Expr>,
     step: &Option<Expr>,
-) -> Result<(Option<Value>, Option<Value>), AllocError>
-    ensures test { IfOk result (λ r. maybe_of r.0 ≡ spec.maybe_value (here_in (source_in source.now) (frame_in frame.now) (known_of table.now) (numbered_of numbers.now)) (tree.maybe_of test.now)) }
-    ensures step { IfOk result (λ r. maybe_of r.1 ≡ spec.maybe_value (here_in (source_in source.now) (frame_in frame.now) (known_of table.now) (numbered_of numbers.now)) (tree.maybe_of step.now)) }
+) -> Result<(Option<Box<Value>>, Option<Box<Value>>), AllocError>
+    ensures test { IfOk result (λ r. maybe_word r.0 ≡ spec.maybe_value (here_in (source_in source.now) (frame_in frame.now) (known_of table.now) (numbered_of numbers.now)) (tree.maybe_of test.now)) }
+    ensures step { IfOk result (λ r. maybe_word r.1 ≡ spec.maybe_value (here_in (source_in source.now) (frame_in frame.now) (known_of table.now) (numbered_of numbers.now)) (tree.maybe_of step.now)) }
 {
     let here = here(source, frame, table, numbers);
     let test = maybe_value(alloc, here, test)?;
@@ -365,11 +368,10 @@ fn for_head<'a>(
     ensures known { OnOk result (known_of table.new ≡ statements.after_start (known_of table.old) (tree.start_of begin.now)) }
     ensures numbers { OnOk result (numbered_of numbers.new ≡ numbering.after_for_start (numbered_of numbers.old) (tree.start_of begin.now)) }
     ensures start { IfOk result (λ h. stmt_of h.start.value ≡ spec.start_elaborated (here_in (source_in source.now) (frame_in frame.now) (known_of table.old) (numbered_of numbers.old)) (tree.start_of begin.now)) }
-    ensures test { IfOk result (λ h. maybe_of h.test ≡ spec.maybe_value (spec.here_after_start (here_in (source_in source.now) (frame_in frame.now) (known_of table.old) (numbered_of numbers.old)) (tree.start_of begin.now)) (tree.maybe_of test.now)) }
-    ensures step { IfOk result (λ h. maybe_of h.step ≡ spec.maybe_value (spec.here_after_start (here_in (source_in source.now) (frame_in frame.now) (known_of table.old) (numbered_of numbers.old)) (tree.start_of begin.now)) (tree.maybe_of step.now)) }
+    ensures test { IfOk result (λ h. maybe_word h.test ≡ spec.maybe_value (spec.here_after_start (here_in (source_in source.now) (frame_in frame.now) (known_of table.old) (numbered_of numbers.old)) (tree.start_of begin.now)) (tree.maybe_of test.now)) }
+    ensures step { IfOk result (λ h. maybe_word h.step ≡ spec.maybe_value (spec.here_after_start (here_in (source_in source.now) (frame_in frame.now) (known_of table.old) (numbered_of numbers.old)) (tree.start_of begin.now)) (tree.maybe_of step.now)) }
 {
-    let begun = start(alloc, source, frame, table, numbers, begin)?;
-    let start = Box::new(alloc, begun)?;
+    let start = start(alloc, source, frame, table, numbers, begin)?;
     let parts = for_parts(alloc, source, frame, &*table, &*numbers, test, step)?;
     Ok(ForHead {
         start,
@@ -391,10 +393,10 @@ fn for_loop<'a>(
     test: &Option<Expr>,
     step: &Option<Expr>,
     at: (u32, u32),
-) -> Result<Statement, AllocError>
+) -> Result<Box<Statement>, AllocError>
     ensures known { OnOk result (known_of table.new ≡ statements.after_start (known_of table.old) (tree.start_of begin.now)) }
     ensures numbers { OnOk result (numbered_of numbers.new ≡ numbering.behind_statement (numbering.after_for_start (numbered_of numbers.old) (tree.start_of begin.now)) (tree.stmt_of body.now)) }
-    ensures statement { let h = (here_in (source_in source.now) (frame_in frame.now) (known_of table.old) (numbered_of numbers.old)) in let after = spec.here_after_start h (tree.start_of begin.now) in IfOk result (λ s. stmt_of s ≡ core.for_loop (spec.start_elaborated h (tree.start_of begin.now)) (spec.maybe_value after (tree.maybe_of test.now)) (spec.maybe_value after (tree.maybe_of step.now)) (spec.elaborated after (tree.stmt_of body.now)) (position_of (position_at at.0 at.1))) }
+    ensures statement { let h = (here_in (source_in source.now) (frame_in frame.now) (known_of table.old) (numbered_of numbers.old)) in let after = spec.here_after_start h (tree.start_of begin.now) in IfOk result (λ s. stmt_of s.value ≡ core.for_loop (spec.start_elaborated h (tree.start_of begin.now)) (spec.maybe_value after (tree.maybe_of test.now)) (spec.maybe_value after (tree.maybe_of step.now)) (spec.elaborated after (tree.stmt_of body.now)) (position_of (position_at at.0 at.1))) }
 {
     let head = for_head(alloc, source, frame, table, numbers, begin, test, step)?;
     let body = statement(alloc, source, frame, table, numbers, body)?;
@@ -414,10 +416,10 @@ fn for_statement<'a>(
     test: &Option<Expr>,
     step: &Option<Expr>,
     at: (u32, u32),
-) -> Result<Statement, AllocError>
+) -> Result<Box<Statement>, AllocError>
     ensures known { OnOk result (known_of table.new ≡ known_of table.old) }
     ensures numbers { OnOk result (numbered_of numbers.new ≡ numbering.behind_statement (numbered_of numbers.old) (trees.for_loop (tree.start_of begin.now) (tree.maybe_of test.now) (tree.maybe_of step.now) (tree.stmt_of body.now) (position_at at.0 at.1))) }
-    ensures statement { IfOk result (λ s. stmt_of s ≡ spec.elaborated (here_in (source_in source.now) (frame_in frame.now) (known_of table.old) (numbered_of numbers.old)) (trees.for_loop (tree.start_of begin.now) (tree.maybe_of test.now) (tree.maybe_of step.now) (tree.stmt_of body.now) (position_at at.0 at.1))) }
+    ensures statement { IfOk result (λ s. stmt_of s.value ≡ spec.elaborated (here_in (source_in source.now) (frame_in frame.now) (known_of table.old) (numbered_of numbers.old)) (trees.for_loop (tree.start_of begin.now) (tree.maybe_of test.now) (tree.maybe_of step.now) (tree.stmt_of body.now) (position_at at.0 at.1))) }
 {
     table.open(alloc)?;
     numbers.open(alloc)?;
@@ -455,10 +457,10 @@ fn statement<'a>(
     table: &mut Table<'a>,
     numbers: &mut NumberTable<'a>,
     stmt: &'a Stmt,
-) -> Result<Statement, AllocError>
+) -> Result<Box<Statement>, AllocError>
     ensures known { OnOk result (known_of table.new ≡ known_of table.old) }
     ensures numbers { OnOk result (numbered_of numbers.new ≡ numbering.behind_statement (numbered_of numbers.old) (tree.stmt_of stmt.now)) }
-    ensures statement { IfOk result (λ s. stmt_of s ≡ spec.elaborated (here_in (source_in source.now) (frame_in frame.now) (known_of table.old) (numbered_of numbers.old)) (tree.stmt_of stmt.now)) }
+    ensures statement { IfOk result (λ s. stmt_of s.value ≡ spec.elaborated (here_in (source_in source.now) (frame_in frame.now) (known_of table.old) (numbered_of numbers.old)) (tree.stmt_of stmt.now)) }
 {
     let at = place_of(stmt);
     match stmt {
@@ -468,8 +470,8 @@ fn statement<'a>(
         Stmt::Expression { value, .. } => {
             computed(alloc, source, frame, &*table, &*numbers, value)
         }
-        Stmt::Break { .. } => Ok(make::break_at(position(at.0, at.1))),
-        Stmt::Continue { .. } => Ok(make::continue_at(position(at.0, at.1))),
+        Stmt::Break { .. } => make::break_at(alloc, position(at.0, at.1)),
+        Stmt::Continue { .. } => make::continue_at(alloc, position(at.0, at.1)),
         Stmt::Return { value, .. } => {
             returned(alloc, source, frame, &*table, &*numbers, value, at)
         }
@@ -477,7 +479,10 @@ fn statement<'a>(
             let test = value_at(alloc, source, frame, &*table, &*numbers, test)?;
             let yes = statement(alloc, source, frame, table, numbers, yes)?;
             match no {
-                None => make::branch(alloc, test, yes, nothing(alloc), position(at.0, at.1)),
+                None => {
+                    let no = nothing(alloc)?;
+                    make::branch(alloc, test, yes, no, position(at.0, at.1))
+                }
                 Some(no) => {
                     let no = statement(alloc, source, frame, table, numbers, no)?;
                     make::branch(alloc, test, yes, no, position(at.0, at.1))
@@ -524,7 +529,7 @@ pub fn push_parts<'a>(
             }
             Part::Does(stmt) => {
                 let made = statement(alloc, source, frame, table, numbers, stmt)?;
-                out.push(made)?;
+                out.push(Box::into_inner(made))?;
             }
         }
     }

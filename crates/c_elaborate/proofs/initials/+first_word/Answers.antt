@@ -1,5 +1,7 @@
-use Rattle.std.proofs.Common.{sym, ◌∙◌}
+use Rattle.std.proofs.Common.{◌≡◌, IfOk, sym, subst}
 use Rattle.c_tree.proofs.Views.{inits_of_row-list}
+use Rattle.c_core.specs.Core as core
+use Rattle.c_core.specs.View.{exp_of}
 use Rattle.c_elaborate.specs.Views.{here_of}
 use Rattle.c_elaborate.proofs.FirstWords.{word_of_none, word_within}
 use Rattle.c_elaborate.proofs.initials.+first_word.Goals as goal
@@ -7,7 +9,9 @@ use Rattle.c_elaborate.proofs.initials.+first_word.Goals as goal
 pub returns-in-empty : goal.returns-in-empty
 returns-in-empty t c =
     rw (c.in-Braces.is, inits_of_row-list)
-    (c.zero_word.ensures ∙ sym (word_of_none (here_of c.args.here) c.args.pointer c.args.at _ _ c.as_slice.ensures c.in-empty.len_below))
+    (subst (λ (x : core.Exp). IfOk c.zero_word.result (λ v. exp_of v.value ≡ x))
+    (sym (word_of_none (here_of c.args.here) c.args.pointer c.args.at _ _ c.as_slice.ensures c.in-empty.len_below))
+    c.zero_word.ensures)
 
 pub returns-in-len1-up : goal.returns-in-len1-up
 returns-in-len1-up t c =

@@ -21,8 +21,8 @@ returns-in_ok-by-in_default c =
     let s = source_in c.args.source.now in
     let a = part_of c.args.left in
     let b = part_of c.args.right in
-    let same : spec.changed_in s c.changing_operator.result a (exp_of c.in_ok-by-in_default.by) false c.args.at ≡ spec.assigned_in s c.args.op a b c.args.at =
-    ap (λ o. spec.changed_in s o a (exp_of c.in_ok-by-in_default.by) false c.args.at) c.changing_operator.ensures
+    let same : spec.changed_in s c.changing_operator.result a (exp_of c.in_ok-by-in_default.by.value) false c.args.at ≡ spec.assigned_in s c.args.op a b c.args.at =
+    ap (λ o. spec.changed_in s o a (exp_of c.in_ok-by-in_default.by.value) false c.args.at) c.changing_operator.ensures
     ∙ ap (λ e. spec.changed_in s (spec.changing_operator c.args.op) a e false c.args.at) c.in_ok-by-in_default.ensures
     ∙ assigned_other s c.args.op a b c.args.at c.in_default.not-Assign in
-    subst (λ (x : core.Exp). IfOk c.changed.result (λ v. exp_of v ≡ x)) same c.changed.ensures
+    subst (λ (x : core.Exp). IfOk c.changed.result (λ v. exp_of v.value ≡ x)) same c.changed.ensures

@@ -10,4 +10,4 @@ pub returns : goal.returns
 returns c =
     let s = source_in c.args.source.now in
     let change : c.change_of-change.result ≡ spec.change_of s (operand_in (part_of c.args.place)) c.args.op = c.change_of-change.ensures ∙ ap (λ o. spec.change_of s o c.args.op) c.operand.ensures in
-    subst (λ (x : Change). IfOk c.changed_by.result (λ v. exp_of v ≡ spec.changed_by x (held_of c.args.place.held) (exp_of c.args.by) c.args.gives_old c.args.at)) change c.changed_by.ensures
+    subst (λ (x : Change). IfOk c.changed_by.result (λ v. exp_of v.value ≡ spec.changed_by x (held_of c.args.place.held) (exp_of c.args.by.value) c.args.gives_old c.args.at)) change c.changed_by.ensures

@@ -12,7 +12,6 @@ use Rattle.c_programs.specs.Table.{known_of}
 use Rattle.c_sites.proofs.Numbering.{behind_none, block_numbers, for_numbers}
 use Rattle.c_programs.proofs.Within.{closed_parts, closed_start}
 use Rattle.c_core.specs.View as core_view
-use Rattle.c_core.proofs.Views.{stmts_of_row-list}
 use Rattle.c_elaborate.specs.Here.{here_in}
 use Rattle.c_elaborate.specs.Statements.{elaborated}
 use Rattle.c_elaborate.specs.Views.{frame_in, source_in}
@@ -33,9 +32,9 @@ block-returns-clause-numbers t c =
 
 pub block-returns-clause-statement : goal.block-returns-clause-statement
 block-returns-clause-statement t c =
-    rw stmts_of_row-list
-    (block_made (source_in c.args.source.now) (frame_in c.args.frame.now) (known_of c.args.table.now) _ (numbered_of c.args.numbers.now) _ (listed_parts (map part_of c.args.parts.now)) _
-    c.in_ok-open.ensures c.in_ok-open-2.ensures (rw c.new-inner.ensures at c.in_ok-push_parts.ensures.out))
+    c.in_ok-made.ensures
+    ∙ block_made (source_in c.args.source.now) (frame_in c.args.frame.now) (known_of c.args.table.now) _ (numbered_of c.args.numbers.now) _ (listed_parts (map part_of c.args.parts.now)) _
+    c.in_ok-open.ensures c.in_ok-open-2.ensures (rw c.new-inner.ensures at c.in_ok-push_parts.ensures.out)
 
 pub for_statement-returns-clause-known : goal.for_statement-returns-clause-known
 for_statement-returns-clause-known t c =
@@ -63,7 +62,7 @@ statement-returns-in-Block-clause-numbers t c =
 pub statement-returns-in-Block-clause-statement : goal.statement-returns-in-Block-clause-statement
 statement-returns-in-Block-clause-statement t c =
     let same = ap (λ (z : Parts). block_tree z (position_at c.in-Block.line c.in-Block.column)) (ap (λ z. listed_parts (map part_of z)) c.as_slice.ensures ∙ sym (parts_of_row-list c.in-Block.parts)) ∙ sym (ap stmt_of c.in-Block.is) in
-    subst (λ (z : Statement). IfOk c.block.result (λ s. core_view.stmt_of s ≡ elaborated (here_in (source_in c.args.source.now) (frame_in c.args.frame.now) (known_of c.args.table.now) (numbered_of c.args.numbers.now)) z)) same c.block.ensures.statement
+    subst (λ (z : Statement). IfOk c.block.result (λ s. core_view.stmt_of s.value ≡ elaborated (here_in (source_in c.args.source.now) (frame_in c.args.frame.now) (known_of c.args.table.now) (numbered_of c.args.numbers.now)) z)) same c.block.ensures.statement
 
 pub statement-returns-in-Expression-clause-numbers : goal.statement-returns-in-Expression-clause-numbers
 statement-returns-in-Expression-clause-numbers t c =
@@ -73,12 +72,12 @@ statement-returns-in-Expression-clause-numbers t c =
 pub statement-returns-in-Break-clause-numbers : goal.statement-returns-in-Break-clause-numbers
 statement-returns-in-Break-clause-numbers t c =
     let n = numbered_of c.args.numbers.now in
-    sym (behind_none n) ∙ ap (behind_statement n) (sym (ap stmt_of c.in-Break.is))
+    whenever c.break_at.result (sym (behind_none n) ∙ ap (behind_statement n) (sym (ap stmt_of c.in-Break.is)))
 
 pub statement-returns-in-Continue-clause-numbers : goal.statement-returns-in-Continue-clause-numbers
 statement-returns-in-Continue-clause-numbers t c =
     let n = numbered_of c.args.numbers.now in
-    sym (behind_none n) ∙ ap (behind_statement n) (sym (ap stmt_of c.in-Continue.is))
+    whenever c.continue_at.result (sym (behind_none n) ∙ ap (behind_statement n) (sym (ap stmt_of c.in-Continue.is)))
 
 pub statement-returns-in-Return-clause-numbers : goal.statement-returns-in-Return-clause-numbers
 statement-returns-in-Return-clause-numbers t c =

@@ -6,4 +6,4 @@ use Rattle.c_elaborate.specs.Expressions.{value_of}
 use Rattle.c_elaborate.proofs.statement.value_at.Goals as goal
 
 pub returns : goal.returns
-returns c = subst (λ (x : Here). IfOk c.value.result (λ v. exp_of v ≡ value_of x (tree.exp_of c.args.e.now))) c.here.ensures c.value.ensures
+returns c = subst (λ (x : Here). IfOk c.value.result (λ v. exp_of v.value ≡ value_of x (tree.exp_of c.args.e.now))) c.here.ensures c.value.ensures
