@@ -129,3 +129,20 @@ walked_on p ps rest others next h was is r there =
 pub kept_on : (t : LockPath → Bool) (p : LockPath) (ps kept next left whole : List LockPath) (b : Bool) → left ≡ p ∷ ps → t p ≡ b → next ≡ (if b then kept ++ p ∷ [] else kept) → kept ++ filter t left ≡ whole → next ++ filter t ps ≡ whole
 kept_on t p ps kept next left whole true split e is was = ap (λ z. z ++ filter t ps) is ∙ append_assoc kept (p ∷ []) (filter t ps) ∙ ap (λ b. kept ++ (if b then p ∷ filter t ps else filter t ps)) (sym e) ∙ ap (λ z. kept ++ filter t z) (sym split) ∙ was
 kept_on t p ps kept next left whole false split e is was = ap (λ z. z ++ filter t ps) is ∙ ap (λ b. kept ++ (if b then p ∷ filter t ps else filter t ps)) (sym e) ∙ ap (λ z. kept ++ filter t z) (sym split) ∙ was
+
+-- what the paths from one on have, all of them have
+pub from_has : (p q : LockPath) (qs : List LockPath) → has q (from_path p qs) ≡ true → has q qs ≡ true
+from_has p q [] h = h
+from_has p q (x ∷ qs) h = by (from_has p q qs) (is_less x p) h
+  where
+    right : (a b : Bool) → b ≡ true → (a || b) ≡ true
+    right true b e = refl
+    right false b e = e
+
+    by : (has q (from_path p qs) ≡ true → has q qs ≡ true) → (b : Bool) → has q (if b then from_path p qs else x ∷ qs) ≡ true → has q (x ∷ qs) ≡ true
+    by rest true g = right (is_same q x) (has q qs) (rest g)
+    by rest false g = g
+
+pub begins_has : (p : LockPath) (qs : List LockPath) → begins_with_path p qs ≡ true → has p qs ≡ true
+begins_has p [] h = h
+begins_has p (q ∷ qs) h = ap (λ b. b || has p qs) h

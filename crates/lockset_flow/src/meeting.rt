@@ -108,11 +108,9 @@ fn keep(alloc: Global, paths: &mut List<LockPath>, others: &[LockPath]) -> Resul
     Ok(went)
 }
 
-// Whether the others have all of the paths, where both ascend, by one walk through both.
+// Whether it is seen, by one walk through both, that the others have all of the paths. Where both ascend it is seen.
 fn are_among(paths: &[LockPath], others: &[LockPath]) -> bool
-    requires paths { are_ascending paths.now ≡ true }
-    requires others { are_ascending others.now ≡ true }
-    ensures { result ≡ list_all (λ p. has p others.now) paths.now }
+    ensures { result ≡ true → list_all (λ p. has p others.now) paths.now ≡ true }
 {
     let mut rest = others;
     for path in paths {
@@ -134,13 +132,10 @@ fn adds_nothing(minus: &Minus, other: &Minus) -> bool
     let Minus::Listed(others) = other else {
         return false;
     };
-    if !ascend(paths.as_slice()) {
+    if !are_among(others.as_slice(), paths.as_slice()) {
         return false;
     }
-    if !ascend(others.as_slice()) {
-        return false;
-    }
-    are_among(others.as_slice(), paths.as_slice())
+    ascend(paths.as_slice())
 }
 
 // Whether the second has more paths, or any.
