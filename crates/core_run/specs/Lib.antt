@@ -4,6 +4,7 @@ pub mod Histories
 pub mod Kept
 pub mod Machine
 pub mod Parts
+pub mod Passing
 pub mod Pieces
 pub mod Shown
 pub mod Stacks

@@ -1,27 +1,37 @@
 // Quiet steps that need no room: instructions that compute, jump and branch.
 ghost use Rattle.std.specs.Prelude.{◌≡◌, ℕ, ◌<◌, ◌^◌, ◌+◌, true, false, pos, Some};
 ghost use Rattle.abstract_machine.specs.declared.event.Due.TheVariants as due;
-ghost use Rattle.flow_code.specs.Next.{act_due, act_after, computed, phase_after, phase_due, pointers_of, quiet_unless};
+ghost use Rattle.core_run.specs.Passing.{Passes, StepsIf};
+ghost use Rattle.flow_code.specs.Next.{act_due, act_after, computed, pointers_of, quiet_unless};
+ghost use Rattle.flow_code.specs.Threads.{instr_at};
 ghost use Rattle.flow_code.specs.Works.{work_of};
+ghost use Rattle.flow_code.specs.declared.thread.Phase.TheVariants as phase;
 
-use crate::place::{instr_at, pointers_at};
+use crate::place::{instrs_at, pointers_at};
 use crate::state::ThreadState;
-use flow_code::{Act, Code, Phase, Work, compute};
+use flow_code::{Act, Code, Instr, Phase, Work, compute};
 use sync_objects::Setup;
 
 impl ThreadState {
     // Computes into a register and goes on, unless that traps.
-    fn work_alone(&mut self, code: &Code, setup: &Setup, into: u32, work: &Work) -> bool
-        requires { self.old.thread.top.instr + 1 < 2 ^ 64 }
+    fn work_alone(
+        &mut self,
+        code: &Code,
+        setup: &Setup,
+        pointers: &[bool],
+        into: u32,
+        work: &Work,
+    ) -> bool
+        requires instr { self.old.thread.top.instr + 1 < 2 ^ 64 }
+        requires pointers { pointers.now ≡ pointers_of code.now self.old.thread.top }
         ensures quiet { result ≡ true → quiet_unless (work_of setup.now.slots code.now.sites (pointers_of code.now self.old.thread.top) self.old.thread.top.registers work.now) ≡ due.Quiet }
         ensures thread { result ≡ true → self.new.thread ≡ computed self.old.thread into (work_of setup.now.slots code.now.sites (pointers_of code.now self.old.thread.top) self.old.thread.top.registers work.now) }
         ensures same { result ≡ false → self.new.thread ≡ self.old.thread }
     {
-        let (function, _) = self.top.place();
         let value = compute(
             setup.slots(),
             code.sites.as_slice(),
-            pointers_at(code, function),
+            pointers,
             self.top.registers(),
             work,
         );
@@ -30,14 +40,17 @@ impl ThreadState {
         is_quiet
     }
 
-    fn act_alone(&mut self, code: &Code, setup: &Setup, act: &Act) -> bool
-        requires { self.old.thread.top.instr + 1 < 2 ^ 64 }
+    fn act_alone(&mut self, code: &Code, setup: &Setup, pointers: &[bool], act: &Act) -> bool
+        requires instr { self.old.thread.top.instr + 1 < 2 ^ 64 }
+        requires pointers { pointers.now ≡ pointers_of code.now self.old.thread.top }
         ensures quiet { result ≡ true → (t : ℕ) → act_due code.now setup.now t self.old.thread (Some act.now) ≡ due.Quiet }
         ensures thread { result ≡ true → (t : ℕ) → self.new.thread ≡ act_after code.now setup.now t self.old.thread (Some act.now) (pos 0) }
         ensures same { result ≡ false → self.new.thread ≡ self.old.thread }
+        ensures phase { self.new.thread.phase ≡ self.old.thread.phase }
+        ensures function { self.new.thread.top.function ≡ self.old.thread.top.function }
     {
         match act {
-            Act::Compute { into, work } => self.work_alone(code, setup, *into, work),
+            Act::Compute { into, work } => self.work_alone(code, setup, pointers, *into, work),
             Act::Jump { to } => {
                 self.top.jump(*to);
                 true
@@ -54,19 +67,36 @@ impl ThreadState {
         }
     }
 
-    /// One quiet step that needs no room. False, and nothing is made, where no such step comes next.
-    pub(crate) fn step_alone(&mut self, code: &Code, setup: &Setup) -> bool
-        ensures quiet { result ≡ true → (t : ℕ) → phase_due code.now setup.now t self.old.thread self.old.thread.phase ≡ due.Quiet }
-        ensures thread { result ≡ true → (t : ℕ) → self.new.thread ≡ phase_after code.now setup.now t self.old.thread self.old.thread.phase (pos 0) }
-        ensures same { result ≡ false → self.new.thread ≡ self.old.thread }
+    // One quiet step of a running thread that needs no room. False, and nothing is made, where no such step comes next.
+    fn step_alone(&mut self, code: &Code, setup: &Setup, pointers: &[bool], instr: &Instr) -> bool
+        requires running { self.old.thread.phase ≡ phase.Running }
+        requires stands { instr_at code.now self.old.thread.top ≡ Some instr.now }
+        requires instr { self.old.thread.top.instr + 1 < 2 ^ 64 }
+        requires pointers { pointers.now ≡ pointers_of code.now self.old.thread.top }
+        ensures steps { StepsIf result code.now setup.now self.old.thread self.new.thread }
+        ensures phase { self.new.thread.phase ≡ phase.Running }
+        ensures function { self.new.thread.top.function ≡ self.old.thread.top.function }
+    {
+        self.act_alone(code, setup, pointers, &instr.act)
+    }
+
+    #[tactic(auto, using(crate::proofs::StepsAlone::passes_none, crate::proofs::StepsAlone::passes_on))]
+    /// Quiet steps that need no room: all up to the first step of another kind, or to a jump back.
+    pub(crate) fn pass_alone(&mut self, code: &Code, setup: &Setup)
+        ensures { Passes code.now setup.now self.old.thread self.new.thread }
     {
         if !matches!(self.phase, Phase::Running) {
-            return false;
+            return;
         }
-        let (function, instr) = self.top.place();
-        match instr_at(code, function, instr) {
-            Some(instr) => self.act_alone(code, setup, &instr.act),
-            None => false,
+        let (function, mut at) = self.top.place();
+        let instrs = instrs_at(code, function);
+        let pointers = pointers_at(code, function);
+        while at < instrs.len() {
+            let is_made = self.step_alone(code, setup, pointers, &instrs[at]);
+            if !is_made || self.top.instr <= at {
+                return;
+            }
+            at = self.top.instr;
         }
     }
 }

@@ -1,6 +1,6 @@
 // The interpreter of one thread.
 ghost use Rattle.std.specs.Prelude.{◌≡◌, ◌<◌, ◌≤◌, ◌^◌, ◌+◌, true, false, OnOk, IfOk, ◌≢◌, length};
-ghost use Rattle.flow_code.specs.Next.{action_at, stepped, gave_up, stopped, shut, has_ended, has_begun, holds as holds_stripe};
+ghost use Rattle.flow_code.specs.Next.{action_at, due_of, stepped, gave_up, stopped, shut, has_ended, has_begun, holds as holds_stripe};
 ghost use Rattle.abstract_machine.specs.Limits.{most_entries, most_revokes};
 ghost use Rattle.flow_code.specs.Settle.{IsRunnable, weight, settled};
 ghost use Rattle.core_run.specs.Flows.{is_ready, needs};
@@ -15,7 +15,7 @@ use crate::next::main_function;
 use crate::outcome::Ending;
 use crate::place::arena_start;
 use crate::state::ThreadState;
-use abstract_machine::Action;
+use abstract_machine::{Action, Due};
 use flow_code::{Code, Phase};
 use rr_base::{Bytes, List, Trap};
 use std::alloc::{AllocError, Global};
@@ -44,11 +44,15 @@ impl<'a> Model for Flow<'a> {
 
 impl<'a> Flow<'a> {
     #[tactic(auto, unfolding(flow_code::specs::Next::action_at))]
+    #[inline(always)]
     /// What comes next: a quiet step, or what the thread does to the words.
     pub fn next_action(&self) -> Action
         ensures { result ≡ action_at self.now.code self.now.setup self.now.number self.now.kept.thread }
     {
-        action_of(self.state.due(self.code, self.setup, self.thread))
+        match self.state.next_event(self.code, self.setup) {
+            Some(next) => next,
+            None => action_of(self.state.due(self.code, self.setup, self.thread)),
+        }
     }
 
     /// One step: a quiet one, or what comes next, with its answer.
@@ -62,6 +66,34 @@ impl<'a> Flow<'a> {
         ensures same { action_at self.old.code self.old.setup self.old.number self.old.kept.thread ≡ Action.Quiet → settled self.new.code self.new.setup self.new.number self.new.kept.thread ≡ settled self.old.code self.old.setup self.old.number self.old.kept.thread }
     {
         let due = self.state.due(self.code, self.setup, self.thread);
+        self.state.step(self.alloc, self.code, self.setup, self.thread, due, answer);
+    }
+
+    #[tactic(auto, using(crate::proofs::FlowFacts::known_load, crate::proofs::FlowFacts::known_store, crate::proofs::FlowFacts::known_mark))]
+    // What is due where this comes next.
+    fn due_of(&self, next: Action) -> Due
+        requires { next ≡ action_at self.now.code self.now.setup self.now.number self.now.kept.thread }
+        ensures { result ≡ due_of self.now.code self.now.setup self.now.number self.now.kept.thread }
+    {
+        match next {
+            Action::Load { cell } => Due::Load { cell },
+            Action::Store { cell, value } => Due::Store { cell, value },
+            Action::Mark => Due::Mark,
+            _ => self.state.due(self.code, self.setup, self.thread),
+        }
+    }
+
+    #[inline(always)]
+    /// One step of which it is known that it comes next, with its answer.
+    pub fn take_next(&mut self, next: Action, answer: i64)
+        requires ready { is_ready self.old.code self.old.kept ≡ true }
+        requires next { next ≡ action_at self.old.code self.old.setup self.old.number self.old.kept.thread }
+        ensures code { self.new.code ≡ self.old.code }
+        ensures setup { self.new.setup ≡ self.old.setup }
+        ensures number { self.new.number ≡ self.old.number }
+        ensures thread { self.new.kept.thread ≡ stepped self.old.code self.old.setup self.old.number self.old.kept.thread answer }
+    {
+        let due = self.due_of(next);
         self.state.step(self.alloc, self.code, self.setup, self.thread, due, answer);
     }
 
@@ -156,19 +188,7 @@ impl<'a> Flow<'a> {
         }
     }
 
-    // One quiet step that needs no room. False, and nothing is made, where no such step comes next.
-    fn step_alone(&mut self) -> bool
-        ensures code { self.new.code ≡ self.old.code }
-        ensures setup { self.new.setup ≡ self.old.setup }
-        ensures number { self.new.number ≡ self.old.number }
-        ensures same { settled self.new.code self.new.setup self.new.number self.new.kept.thread ≡ settled self.old.code self.old.setup self.old.number self.old.kept.thread }
-        ensures falls { result ≡ true → weight self.new.code self.new.setup self.new.number self.new.kept.thread < weight self.old.code self.old.setup self.old.number self.old.kept.thread }
-        ensures stays { result ≡ false → self.new.kept.thread ≡ self.old.kept.thread }
-    {
-        self.state.step_alone(self.code, self.setup)
-    }
-
-    // The quiet steps that need no room, up to the first that needs some.
+    // Quiet steps that need no room.
     fn pass_alone(&mut self)
         ensures code { self.new.code ≡ self.old.code }
         ensures setup { self.new.setup ≡ self.old.setup }
@@ -176,7 +196,32 @@ impl<'a> Flow<'a> {
         ensures same { settled self.new.code self.new.setup self.new.number self.new.kept.thread ≡ settled self.old.code self.old.setup self.old.number self.old.kept.thread }
         ensures falls { weight self.new.code self.new.setup self.new.number self.new.kept.thread ≤ weight self.old.code self.old.setup self.old.number self.old.kept.thread }
     {
-        while self.step_alone() {}
+        self.state.pass_alone(self.code, self.setup);
+    }
+
+    #[inline(always)]
+    /// All quiet steps, and what comes next behind them. After an Err some of the quiet steps are made, and the others are still to
+    /// come.
+    pub fn settle_to_next(&mut self) -> Result<Action, AllocError>
+        ensures code { self.new.code ≡ self.old.code }
+        ensures setup { self.new.setup ≡ self.old.setup }
+        ensures number { self.new.number ≡ self.old.number }
+        ensures thread { OnOk result (self.new.kept.thread ≡ settled self.old.code self.old.setup self.old.number self.old.kept.thread) }
+        ensures rest { settled self.new.code self.new.setup self.new.number self.new.kept.thread ≡ settled self.old.code self.old.setup self.old.number self.old.kept.thread }
+        ensures next { IfOk result (λ next. next ≡ action_at self.new.code self.new.setup self.new.number self.new.kept.thread) }
+        ensures quiet { IfOk result (λ next. next ≢ Action.Quiet) }
+    {
+        self.pass_alone();
+        loop {
+            match self.next_action() {
+                Action::Quiet => {
+                    self.reserve()?;
+                    self.take_answer(0);
+                    self.pass_alone();
+                }
+                next => return Ok(next),
+            }
+        }
     }
 
     /// All quiet steps. After an Err some of them are made, and the others are still to come.
@@ -188,12 +233,7 @@ impl<'a> Flow<'a> {
         ensures rest { settled self.new.code self.new.setup self.new.number self.new.kept.thread ≡ settled self.old.code self.old.setup self.old.number self.old.kept.thread }
         ensures quiet { OnOk result (action_at self.new.code self.new.setup self.new.number self.new.kept.thread ≢ Action.Quiet) }
     {
-        self.pass_alone();
-        while let Action::Quiet = self.next_action() {
-            self.reserve()?;
-            self.take_answer(0);
-            self.pass_alone();
-        }
+        let _next = self.settle_to_next()?;
         Ok(())
     }
 

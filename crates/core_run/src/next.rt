@@ -1,9 +1,11 @@
 // What is due in a thread.
-ghost use Rattle.std.specs.Prelude.{◌≡◌, ◌<◌, ◌≤◌, ◌^◌, ◌+◌, length, slice_get};
+ghost use Rattle.std.specs.Prelude.{◌≡◌, ◌<◌, ◌≤◌, ◌^◌, ◌+◌, ℕ, nat_le, true, false, length, slice_get};
 ghost use Rattle.std.specs.Option.{option_copied};
 ghost use Rattle.sync_objects.specs.Setup.{IsWithinLimits};
-ghost use Rattle.flow_code.specs.Threads.{arena_end as arena_end_of, is_main as is_main_of, is_main_in};
-ghost use Rattle.flow_code.specs.Next.{quiet_unless as quiet_unless_of, load_due as load_due_of, store_due as store_due_of, malloc_due as malloc_due_of, enter_due as enter_due_of, end_due as end_due_of, return_due as return_due_of, act_due as act_due_of, act_in, act_at, begun_due as begun_due_of, phase_due as phase_due_of, due_of, value_of as value_of_register, pointers_of, caller as caller_of};
+ghost use Rattle.flow_code.specs.Threads.{instr_at as instr_of_frame, arena_end as arena_end_of, is_main as is_main_of, is_main_in};
+ghost use Rattle.flow_code.specs.Next.{quiet_unless as quiet_unless_of, load_due as load_due_of, store_due as store_due_of, malloc_due as malloc_due_of, enter_due as enter_due_of, end_due as end_due_of, return_due as return_due_of, act_due as act_due_of, act_in, act_at, begun_due as begun_due_of, phase_due as phase_due_of, due_of, value_of as value_of_register, pointers_of, caller as caller_of, action_of as action_of_due, first_owed as first_owed_of};
+ghost use Rattle.sync_objects.specs.Setup.{SetupView};
+ghost use Rattle.abstract_machine.specs.Limits.{most_entries};
 ghost use Rattle.abstract_machine.specs.Cells.{is_size as is_size_of, cells_in as cells_in_of, access_kind as access_kind_of};
 ghost use Rattle.abstract_machine.specs.Registers.{words_of};
 ghost use Rattle.abstract_machine.specs.Library.{library_due as library_due_of};
@@ -18,9 +20,9 @@ use crate::due::{first_owed, limited, listed, owing};
 use crate::place::{arena_end, function_at, instr_at, instrs_at, pointers_at};
 use crate::state::ThreadState;
 use abstract_machine::{
-    Caller, Due, LibraryCall, library_due, number, register, resolved, size_of,
+    Action, Caller, Due, LibraryCall, library_due, number, register, resolved, size_of,
 };
-use flow_code::{Act, Code, Function, Phase, compute, fitted_in, is_main, is_pointer};
+use flow_code::{Act, Code, Function, Instr, Phase, compute, fitted_in, is_main, is_pointer};
 use rr_base::{CellKind, Trap};
 use sync_objects::{ObjId, Op, Setup};
 
@@ -328,19 +330,73 @@ impl ThreadState {
         }
     }
 
+    // Whether no limit is reached and no stripe owed.
+    fn is_free(&self, setup: &Setup) -> bool
+        ensures limit { result ≡ true → nat_le setup.now.limit self.now.thread.count ≡ false }
+        ensures entries { result ≡ true → nat_le most_entries self.now.thread.entries ≡ false }
+        ensures owed { result ≡ true → first_owed_of self.now.thread.stripes ≡ None }
+    {
+        self.count < setup.limit()
+            && self.entries < MOST_ENTRIES
+            && first_owed(&self.stripes).is_none()
+    }
+
+    // What comes next by the act alone, where it is an access or a mark that doesn't trap.
+    fn event_of(&self, code: &Code, act: &Act) -> Option<Action>
+        ensures { (s : SetupView) (t : ℕ) → IfSome result (λ a. a ≡ action_of_due (act_due_of code.now s t self.now.thread (Some act.now))) }
+    {
+        match act {
+            Act::LoadCell { into, through } => match self.access_due(code, *through, *into) {
+                Ok(cell) => Some(Action::Load { cell }),
+                Err(_) => None,
+            },
+            Act::StoreCell { through, from } => match self.access_due(code, *through, *from) {
+                Ok(cell) => {
+                    let value = register(self.top.registers(), *from);
+                    Some(Action::Store { cell, value })
+                }
+                Err(_) => None,
+            },
+            Act::Mark => Some(Action::Mark),
+            _ => None,
+        }
+    }
+
+    // The instruction of the thread's frame.
+    fn instr_here<'b>(&self, code: &'b Code) -> Option<&'b Instr>
+        ensures { option_copied result ≡ instr_of_frame code.now self.now.thread.top }
+    {
+        let (function, instr) = self.top.place();
+        instr_at(code, function, instr)
+    }
+
+    #[inline(always)]
+    // What comes next, where it is an access or a mark of a running thread and nothing stands in its place.
+    pub(crate) fn next_event(&self, code: &Code, setup: &Setup) -> Option<Action>
+        ensures { (t : ℕ) → IfSome result (λ a. a ≡ action_of_due (due_of code.now setup.now t self.now.thread)) }
+    {
+        if !matches!(self.phase, Phase::Running) || !self.is_free(setup) {
+            return None;
+        }
+        match self.instr_here(code) {
+            Some(instr) => self.event_of(code, &instr.act),
+            None => None,
+        }
+    }
+
     // What is due: by the code, then by the limit of events, by owed stripes, and by the limit of entries.
     pub(crate) fn due(&self, code: &Code, setup: &Setup, thread: u8) -> Due
         requires globals { length code.now.globals ≤ 2 ^ 20 }
         requires thread { thread < setup.now.slots }
         ensures { result ≡ due_of code.now setup.now thread self.now.thread }
     {
-        let due = limited(
-            setup.limit() <= self.count,
-            self.phase_due(code, setup, thread),
-        );
-        listed(
-            MOST_ENTRIES <= self.entries,
-            owing(first_owed(&self.stripes), due),
-        )
+        let due = self.phase_due(code, setup, thread);
+        let at_limit = setup.limit() <= self.count;
+        let is_full = MOST_ENTRIES <= self.entries;
+        let owed = first_owed(&self.stripes);
+        if at_limit || is_full || owed.is_some() {
+            return listed(is_full, owing(owed, limited(at_limit, due)));
+        }
+        due
     }
 }

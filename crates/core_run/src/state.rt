@@ -150,11 +150,25 @@ impl ThreadState {
         self.pairs.reserve(needed)
     }
 
+    // Whether there is room for one more step.
+    fn has_room(&self, code: &Code) -> bool
+        ensures { result ≡ is_ready code.now self.now }
+    {
+        self.below.len() < self.below.capacity()
+            && self.needed(code) as usize <= self.spare.capacity()
+            && self.stripes.len() < self.stripes.capacity()
+            && self.regions.len() < self.regions.capacity()
+            && self.needed_pairs(code) <= self.pairs.capacity()
+    }
+
     /// Makes room for one more step.
     pub(crate) fn reserve(&mut self, code: &Code) -> Result<(), AllocError>
         ensures same { self.new.thread ≡ self.old.thread }
         ensures ready { OnOk result (is_ready code.now self.new ≡ true) }
     {
+        if self.has_room(code) {
+            return Ok(());
+        }
         self.reserve_frame(code)?;
         self.reserve_stripes(code)
     }

@@ -295,6 +295,7 @@ impl ThreadState {
         self.count += 1;
     }
 
+    #[inline(always)]
     /// What becomes of the thread by what is due, with its answer.
     pub(crate) fn step(
         &mut self,

@@ -1,6 +1,6 @@
 use Rattle.std.proofs.Common.{◌≡◌}
 use Rattle.flow_code.specs.Settle.{weight, settled}
-use Rattle.core_run.proofs.flow.Flow.settle.Given as goal
+use Rattle.core_run.proofs.flow.Flow.settle_to_next.Given as goal
 
 abbrev pub invariant-loop-self : goal.invariant-loop-self
 invariant-loop-self l = record {
