@@ -9,6 +9,7 @@ ghost use Rattle.flow_code.specs.declared.thread.Phase.TheVariants as phase;
 
 use crate::place::{instrs_at, pointers_at};
 use crate::state::ThreadState;
+use abstract_machine::word;
 use flow_code::{Act, Code, Instr, Phase, Work, compute};
 use sync_objects::Setup;
 
@@ -28,6 +29,11 @@ impl ThreadState {
         ensures thread { result ≡ true → self.new.thread ≡ computed self.old.thread into (work_of setup.now.slots code.now.sites (pointers_of code.now self.old.thread.top) self.old.thread.top.registers work.now) }
         ensures same { result ≡ false → self.new.thread ≡ self.old.thread }
     {
+        if let Work::Constant(value) = work {
+            self.top.set_register(into, word(*value));
+            self.top.pass();
+            return true;
+        }
         let value = compute(
             setup.slots(),
             code.sites.as_slice(),

@@ -211,13 +211,12 @@ impl<'a> Flow<'a> {
         ensures next { IfOk result (λ next. next ≡ action_at self.new.code self.new.setup self.new.number self.new.kept.thread) }
         ensures quiet { IfOk result (λ next. next ≢ Action.Quiet) }
     {
-        self.pass_alone();
         loop {
+            self.pass_alone();
             match self.next_action() {
                 Action::Quiet => {
                     self.reserve()?;
                     self.take_answer(0);
-                    self.pass_alone();
                 }
                 next => return Ok(next),
             }

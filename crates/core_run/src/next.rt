@@ -14,6 +14,7 @@ ghost use Rattle.flow_code.specs.Works.{is_pointer as is_pointer_of};
 ghost use Rattle.abstract_machine.specs.Registers.{register as register_of};
 ghost use Rattle.flow_code.specs.declared.act.Act.TheVariants as act;
 ghost use Rattle.std.specs.Prelude.{Some, None, position, IfSome};
+ghost use Rattle.core_run.specs.Flows.{needs, needs_pairs};
 ghost use Rattle.core_run.specs.Machine.{main_of};
 
 use crate::due::{first_owed, limited, listed, owing};
@@ -363,11 +364,29 @@ impl ThreadState {
     }
 
     // The instruction of the thread's frame.
-    fn instr_here<'b>(&self, code: &'b Code) -> Option<&'b Instr>
-        ensures { option_copied result ≡ instr_of_frame code.now self.now.thread.top }
+    pub(crate) fn instr_here<'b>(&self, code: &'b Code) -> Option<&'b Instr>
+        ensures value { option_copied result ≡ instr_of_frame code.now self.now.thread.top }
+        ensures within { IfSome result (λ _. self.now.thread.top.instr + 1 < 2 ^ 64) }
     {
         let (function, instr) = self.top.place();
         instr_at(code, function, instr)
+    }
+
+    // Whether an access or a mark of a running thread comes next, which needs no registers and no room for a region's stripes.
+    pub(crate) fn needs_none(&self, code: &Code) -> bool
+        ensures registers { result ≡ true → needs code.now self.now.thread ≡ 0 }
+        ensures pairs { result ≡ true → needs_pairs code.now self.now.thread ≡ 0 }
+    {
+        if !matches!(self.phase, Phase::Running) {
+            return false;
+        }
+        match self.instr_here(code) {
+            Some(instr) => matches!(
+                instr.act,
+                Act::LoadCell { .. } | Act::StoreCell { .. } | Act::Mark
+            ),
+            None => false,
+        }
     }
 
     #[inline(always)]

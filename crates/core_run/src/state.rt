@@ -150,15 +150,25 @@ impl ThreadState {
         self.pairs.reserve(needed)
     }
 
-    // Whether there is room for one more step.
+    // Whether there is room for what the next step needs of registers and of a region's stripes.
     fn has_room(&self, code: &Code) -> bool
-        ensures { result ≡ is_ready code.now self.now }
+        ensures registers { result ≡ true → needs code.now self.now.thread ≤ self.now.registers }
+        ensures pairs { result ≡ true → needs_pairs code.now self.now.thread ≤ self.now.pairs }
+    {
+        if self.needs_none(code) {
+            return true;
+        }
+        self.needed(code) as usize <= self.spare.capacity()
+            && self.needed_pairs(code) <= self.pairs.capacity()
+    }
+
+    // Whether there is room for one more frame, one more stripe and one more open region.
+    fn has_places(&self) -> bool
+        ensures { result ≡ true → (self.now.has_place ≡ true) × (self.now.has_stripe ≡ true) × (self.now.has_region ≡ true) }
     {
         self.below.len() < self.below.capacity()
-            && self.needed(code) as usize <= self.spare.capacity()
             && self.stripes.len() < self.stripes.capacity()
             && self.regions.len() < self.regions.capacity()
-            && self.needed_pairs(code) <= self.pairs.capacity()
     }
 
     /// Makes room for one more step.
@@ -166,7 +176,7 @@ impl ThreadState {
         ensures same { self.new.thread ≡ self.old.thread }
         ensures ready { OnOk result (is_ready code.now self.new ≡ true) }
     {
-        if self.has_room(code) {
+        if self.has_places() && self.has_room(code) {
             return Ok(());
         }
         self.reserve_frame(code)?;

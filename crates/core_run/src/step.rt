@@ -1,5 +1,6 @@
 // One step of a thread, with its answer.
-ghost use Rattle.std.specs.Prelude.{◌≡◌, ◌<◌, ◌≤◌, ◌^◌, ◌+◌, ◌-◌, length, slice_get, true, Some};
+ghost use Rattle.std.specs.Prelude.{◌≡◌, ◌<◌, ◌≤◌, ◌^◌, ◌+◌, ◌-◌, ℕ, length, slice_get, true, false, Some};
+ghost use Rattle.sync_objects.specs.Setup.{SetupView};
 ghost use Rattle.flow_code.specs.Threads.{registers_in, Frame as FrameView, line_of as line_of_phase, instrs_in};
 ghost use Rattle.flow_code.specs.Next.{returned as returned_of, act_after, call_after, phase_after, after_due as after_due_of, branch_to as branch_to_of, computed, pointers_of, allocated, in_frame, past as past_of, with_register, jumped, counted, repaid};
 ghost use Rattle.abstract_machine.specs.Cells.{cells_in as cells_in_of};
@@ -258,6 +259,51 @@ impl ThreadState {
         }
     }
 
+    // Goes on from an access or a mark of a running thread. False, and nothing is made, elsewhere.
+    fn go_alone(&mut self, code: &Code, answer: i64) -> bool
+        ensures thread { result ≡ true → (s : SetupView) (t : ℕ) → self.new.thread ≡ phase_after code.now s t self.old.thread self.old.thread.phase answer }
+        ensures same { result ≡ false → self.new ≡ self.old }
+    {
+        if !matches!(self.phase, Phase::Running) {
+            return false;
+        }
+        let Some(instr) = self.instr_here(code) else {
+            return false;
+        };
+        match &instr.act {
+            Act::LoadCell { into, through: _ } => {
+                self.take_load(*into, answer);
+                true
+            }
+            Act::StoreCell { .. } | Act::Mark => {
+                self.pass();
+                true
+            }
+            _ => false,
+        }
+    }
+
+    // What becomes of the thread by an access or a mark; most of them are a running thread's.
+    fn go_event(&mut self, alloc: Global, code: &Code, setup: &Setup, thread: u8, answer: i64)
+        requires globals { length code.now.globals ≤ 2 ^ 20 }
+        requires thread { thread < setup.now.slots }
+        requires place { self.old.has_place ≡ true }
+        requires room { needs code.now self.old.thread ≤ self.old.registers }
+        requires stripe { self.old.has_stripe ≡ true }
+        requires region { self.old.has_region ≡ true }
+        requires pairs { needs_pairs code.now self.old.thread ≤ self.old.pairs }
+        requires before { self.old.thread.top.made + 1 < 2 ^ 8 }
+        requires caller { (f : FrameView) → slice_get self.old.thread.below (length self.old.thread.below - 1) ≡ Some f → f.instr < length (instrs_in (slice_get code.now.functions f.function)) }
+        requires made { (phase_after code.now setup.now thread self.old.thread self.old.thread.phase answer).top.made < 2 ^ 8 }
+        requires arena { (phase_after code.now setup.now thread self.old.thread self.old.thread.phase answer).arena < 2 ^ 32 }
+        requires printed { (phase_after code.now setup.now thread self.old.thread self.old.thread.phase answer).printed < 2 ^ 32 }
+        ensures { self.new.thread ≡ phase_after code.now setup.now thread self.old.thread self.old.thread.phase answer }
+    {
+        if !self.go_alone(code, answer) {
+            self.go(alloc, code, setup, thread, answer);
+        }
+    }
+
     // The line at which the thread stands.
     fn line(&self, code: &Code) -> u32
         ensures { result ≡ line_of_phase code.now self.now.thread.phase self.now.thread.top }
@@ -322,7 +368,7 @@ impl ThreadState {
             Due::Nothing => {}
             Due::Quiet => self.go(alloc, code, setup, thread, answer),
             Due::Load { .. } | Due::Store { .. } | Due::Mark => {
-                self.go(alloc, code, setup, thread, answer);
+                self.go_event(alloc, code, setup, thread, answer);
                 self.count += 1;
             }
             Due::Operate { op, obj: _ } => {

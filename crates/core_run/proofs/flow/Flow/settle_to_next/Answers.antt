@@ -4,4 +4,5 @@ use Rattle.core_run.proofs.flow.Flow.settle_to_next.Goals as goal
 
 pub returns-in_default-clause-thread : goal.returns-in_default-clause-thread
 returns-in_default-clause-thread c =
-    sym (settled_end c.loop-self.self.code c.loop-self.self.setup c.loop-self.self.number c.loop-self.self.kept.thread (λ e. c.in_default.not-Quiet (c.next_action.ensures ∙ e))) ∙ (c.loop-self.invariant.same ∙ c.pass_alone.ensures.same)
+    let now = c.pass_alone.new.self in
+    sym (settled_end now.code now.setup now.number now.kept.thread (λ e. c.in_default.not-Quiet (c.next_action.ensures ∙ e))) ∙ (c.pass_alone.ensures.same ∙ c.loop-self.invariant.same)

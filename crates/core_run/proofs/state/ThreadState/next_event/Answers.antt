@@ -13,6 +13,6 @@ returns-in-Some c =
     let th = c.args.self.now.thread in
     let i = c.in-Some.instr.now in
     let runs : th.phase ≡ phase.Running = search rules in
-    let at : instr_at code th.top ≡ Some i = sym c.in-Some.ensures in
+    let at : instr_at code th.top ≡ Some i = sym c.in-Some.ensures.value in
     λ t. subst (λ d. IfSome c.event_of.result (λ a. a ≡ action_of d)) (due_free code setup t th i (c.if-not-is_free.ensures.limit refl) (c.if-not-is_free.ensures.entries refl) (c.if-not-is_free.ensures.owed refl) runs at)
     (c.event_of.ensures setup t)
