@@ -6,6 +6,7 @@ ghost use Rattle.flow_code.specs.Next.{gave_up, stopped, shut, has_ended, has_be
 ghost use Rattle.flow_code.specs.Settle.{IsRunnable, settled};
 ghost use Rattle.abstract_machine.specs.Limits.{most_entries, most_revokes};
 ghost use Rattle.core_run.specs.Endings.{ending_of, trap_of};
+ghost use Rattle.core_run.specs.Flows.{is_ready};
 ghost use Rattle.core_run.specs.Machine.{access_of, start_thread, entry_of, operated, marked};
 ghost use Rattle.core_run.specs.Pieces.{piece_at};
 ghost use Rattle.core_run.specs.Shown.{with_read};
@@ -171,8 +172,9 @@ impl<'a> ThreadRun<'a> {
         self.next
     }
 
-    // Finds the next step, and has ready what it prints.
-    fn look_ahead(&mut self) -> Result<(), AllocError>
+    // Keeps what comes next, and has ready what it prints.
+    fn look_ahead(&mut self, next: Action) -> Result<(), AllocError>
+        requires { next ≡ next_of self.old }
         ensures flow { self.new.flow ≡ self.old.flow }
         ensures entries { self.new.entries ≡ self.old.entries }
         ensures pieces { self.new.pieces ≡ self.old.pieces }
@@ -183,11 +185,27 @@ impl<'a> ThreadRun<'a> {
         ensures next { self.new.next ≡ next_of self.new }
         ensures bytes { OnOk result (IsPiece self.new.flow.code self.new.flow.kept.thread self.new.ready (next_of self.new)) }
     {
-        self.next = self.flow.next_action();
+        self.next = next;
         if let Action::Operate { op: Op::Print, .. } = self.next {
             self.ready = self.flow.piece()?;
         }
         Ok(())
+    }
+
+    // Makes room for what the interpreter needs, an entry, a piece and an access.
+    fn make_room(&mut self) -> Result<(), AllocError>
+        ensures same { IsSameRun self.old self.new }
+        ensures told { told_of self.new ≡ told_of self.old }
+        ensures reads { self.new.reads ≡ self.old.reads }
+        ensures frame { OnOk result (is_ready self.new.flow.code self.new.flow.kept ≡ true) }
+        ensures entry { OnOk result (self.new.has_entry ≡ true) }
+        ensures piece { OnOk result (self.new.has_piece ≡ true) }
+        ensures read { OnOk result (self.new.has_read ≡ true) }
+    {
+        self.flow.reserve()?;
+        self.noted.reserve(1)?;
+        self.pieces.reserve(1)?;
+        self.reads.reserve(1)
     }
 
     /// Makes room for one more step: for what the interpreter needs, an entry, a piece and an access. A quiet step is one too.
@@ -197,11 +215,23 @@ impl<'a> ThreadRun<'a> {
         ensures reads { self.new.reads ≡ self.old.reads }
         ensures ready { OnOk result (IsReady self.new) }
     {
-        self.flow.reserve()?;
-        self.noted.reserve(1)?;
-        self.pieces.reserve(1)?;
-        self.reads.reserve(1)?;
-        self.look_ahead()
+        self.make_room()?;
+        let next = self.flow.next_action();
+        self.look_ahead(next)
+    }
+
+    #[inline(always)]
+    /// All quiet steps, and room for the step behind them. After an Err some of the quiet steps may be made.
+    pub fn prepare(&mut self) -> Result<(), AllocError>
+        ensures same { IsSameRun self.old self.new }
+        ensures lists { (self.new.entries ≡ self.old.entries) × (self.new.pieces ≡ self.old.pieces) × (self.new.reads ≡ self.old.reads) }
+        ensures thread { OnOk result (self.new.flow.kept.thread ≡ settled self.old.flow.code self.old.flow.setup self.old.flow.number self.old.flow.kept.thread) }
+        ensures rest { settled self.new.flow.code self.new.flow.setup self.new.flow.number self.new.flow.kept.thread ≡ settled self.old.flow.code self.old.flow.setup self.old.flow.number self.old.flow.kept.thread }
+        ensures ready { OnOk result (IsReady self.new) }
+    {
+        let next = self.flow.settle_to_next()?;
+        self.make_room()?;
+        self.look_ahead(next)
     }
 
     // Notes an entry of the thread as it stands.
@@ -235,6 +265,7 @@ impl<'a> ThreadRun<'a> {
         put_piece(&mut self.pieces, piece);
     }
 
+    #[inline(always)]
     // Keeps an access of the thread as it stands, if it meets the formula.
     fn keep(&mut self, cell: u32, value: u64, store: bool)
         requires { self.old.has_read ≡ true }
@@ -254,6 +285,7 @@ impl<'a> ThreadRun<'a> {
         keep_access(&mut self.reads, &self.formula, access);
     }
 
+    #[inline(always)]
     /// One step, with its answer: a quiet one, or what comes next. An operation is noted as an entry with its number among
     /// those of its object, a print with what it prints, and an access is kept if it meets the formula.
     pub fn take_answer(&mut self, answer: i64, number: u32)
@@ -262,7 +294,8 @@ impl<'a> ThreadRun<'a> {
         ensures told { told_of self.new ≡ after self.old.flow.code self.old.flow.setup self.old.flow.number (told_of self.old) (next_of self.old) answer number }
         ensures reads { self.new.reads ≡ reads_after self.old.formula self.old.flow.number self.old.flow.kept.thread (next_of self.old) answer self.old.reads }
     {
-        match self.next {
+        let next = self.next;
+        match next {
             Action::Load { cell } => self.keep(cell, answer.cast_unsigned(), false),
             Action::Store { cell, value } => self.keep(cell, value, true),
             Action::Operate { op, obj } => {
@@ -273,7 +306,7 @@ impl<'a> ThreadRun<'a> {
             }
             Action::Quiet | Action::Mark | Action::Ended => {}
         }
-        self.flow.take_answer(answer);
+        self.flow.take_next(next, answer);
     }
 
     /// All quiet steps. After an Err some of them are made, and the others are still to come.

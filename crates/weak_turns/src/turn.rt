@@ -16,6 +16,7 @@ use std::alloc::AllocError;
 use sync_objects::{ObjId, Op};
 use thread_step::ThreadRun;
 
+#[inline(always)]
 /// The thread's quiet steps, and room for one step more. After an Err some of them may be made.
 pub fn prepare(run: &mut ThreadRun) -> Result<(), AllocError>
     requires open { has_ended run.old.flow.kept.thread.phase ≡ false }
@@ -23,8 +24,7 @@ pub fn prepare(run: &mut ThreadRun) -> Result<(), AllocError>
     ensures settled { OnOk result (IsSettled run.new) }
     ensures ready { OnOk result (IsReady run.new) }
 {
-    run.settle()?;
-    run.reserve()
+    run.prepare()
 }
 
 /// An end that is due is attempted.
