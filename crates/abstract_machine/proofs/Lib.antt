@@ -1,3 +1,4 @@
 pub mod Calls
+pub mod Offsets
 pub mod Printed
 pub mod Prints

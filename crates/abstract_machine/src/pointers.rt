@@ -1,5 +1,5 @@
 // Pointer words in a code: the cells that they point to, how they are moved and how they compare.
-ghost use Rattle.std.specs.Prelude.{◌≡◌, ◌<◌, ◌^◌, ◌*ℤ◌, pos};
+ghost use Rattle.std.specs.Prelude.{◌≡◌, ◌<◌, ◌^◌, ◌%◌, ◌*ℤ◌, pos};
 ghost use Rattle.std.specs.Option.{option_copied};
 ghost use Rattle.rr_base.specs.Words.{pack};
 ghost use Rattle.abstract_machine.specs.Pointers as spec;
@@ -38,6 +38,15 @@ fn is_kind(found: Option<CellKind>, want: CellKind) -> bool
     }
 }
 
+#[tactic(auto, using(crate::proofs::Offsets::within_one))]
+// The rest of an offset by a size, without a division where it is below.
+fn within(offset: u32, size: u32) -> u32
+    requires { 0 < size }
+    ensures { result ≡ offset % size }
+{
+    if offset < size { offset } else { offset % size }
+}
+
 fn kind_at(layout: &Layout, offset: u16) -> Option<CellKind>
     ensures { result ≡ spec.kind_at layout.now offset }
 {
@@ -46,7 +55,7 @@ fn kind_at(layout: &Layout, offset: u16) -> Option<CellKind>
     }
     layout
         .kinds
-        .get((u32::from(offset) % layout.size) as usize)
+        .get(within(u32::from(offset), layout.size) as usize)
         .copied()
 }
 
