@@ -5,8 +5,8 @@ use Rattle.c_types.specs.declared.fault.Found.{Found}
 use Rattle.c_types.specs.declared.fault.FaultKind.TheVariants as fault
 use Rattle.c_tree.specs.Tree.{Exp, sizeof_exp, sizeof_type}
 use Rattle.rr_base.specs.declared.position.Position.{Position}
-use Rattle.c_types.specs.Numbers.{Computed}
-use Rattle.c_types.specs.Constants.{is_constant, value_of}
+use Rattle.c_types.specs.Numbers.{Computed, is_zero}
+use Rattle.c_types.specs.Constants.{is_constant, and_then, value_of}
 use Rattle.c_types.specs.Scopes.{Known, type_named, cells_of_type, cells_of_some}
 use Rattle.c_types.specs.Operands.{Standing, no_type, zero_literal, null_literal, a_value, a_place}
 use Rattle.c_types.specs.Standing.{no_target, standing}
@@ -29,6 +29,10 @@ size_here known _ = 0
 
 abbrev pub value_here : Known → Exp → Computed
 value_here known e = value_of (size_here known) e
+
+-- of the last two values the one that the first chooses
+abbrev pub chosen_value : Computed → Computed → Computed → Computed
+chosen_value a b c = and_then a (λ n. if is_zero n then c else b)
 
 abbrev pub is_trap : Computed → Bool
 is_trap (Ok n) = false

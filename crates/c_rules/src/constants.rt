@@ -3,7 +3,8 @@ ghost use Rattle.std.specs.Prelude.{◌≡◌, map};
 ghost use Rattle.c_lexer.specs.Names.{entry_of};
 ghost use Rattle.c_tree.specs.View.{exp_of};
 ghost use Rattle.c_types.specs.Constants as spec;
-ghost use Rattle.c_rules.specs.Sizes.{value_here};
+ghost use Rattle.c_types.specs.Numbers.{prefixed};
+ghost use Rattle.c_rules.specs.Sizes.{chosen_value, value_here};
 
 use crate::sizes::size_here;
 use c_tree::{BinaryOp, CType, Expr, PrefixOp, Specifier};
@@ -94,33 +95,58 @@ pub fn is_constant(e: &Expr) -> bool
     }
 }
 
+/// What `?:` gives, by the values of its operands (C99 6.5.15).
+pub fn chosen_value(
+    test: Result<i64, Trap>,
+    yes: Result<i64, Trap>,
+    no: Result<i64, Trap>,
+) -> Result<i64, Trap>
+    ensures { result ≡ chosen_value test yes no }
+{
+    if test? == 0 { no } else { yes }
+}
+
+/// What an operator with two operands gives, by their values. `&&` and `||` leave out the second where the first decides.
+pub fn operation_value(
+    op: BinaryOp,
+    left: Result<i64, Trap>,
+    right: Result<i64, Trap>,
+) -> Result<i64, Trap>
+    ensures { result ≡ spec.binary_value op left right }
+{
+    let a = left?;
+    match op {
+        BinaryOp::LogicalOr if a != 0 => Ok(1),
+        BinaryOp::LogicalAnd if a == 0 => Ok(0),
+        _ => binary_of(op, a, right?),
+    }
+}
+
+/// What an operator before its operand gives, by the operand's value.
+pub fn prefix_value(op: PrefixOp, operand: Result<i64, Trap>) -> Result<i64, Trap>
+    ensures { result ≡ spec.and_then operand (prefixed op) }
+{
+    prefix_of(op, operand?)
+}
+
 /// The value of a constant expression at its place, or the trap that computing it meets. It is 0 for what isn't
 /// constant.
 pub fn value_of<N: Names>(names: &N, e: &Expr) -> Result<i64, Trap>
     ensures { result ≡ value_here (N.known names.now) (exp_of e.now) }
 {
     match e {
-        Expr::Conditional { test, yes, no, .. } => {
-            if value_of(names, test)? == 0 {
-                value_of(names, no)
-            } else {
-                value_of(names, yes)
-            }
-        }
+        Expr::Conditional { test, yes, no, .. } => chosen_value(
+            value_of(names, test),
+            value_of(names, yes),
+            value_of(names, no),
+        ),
         Expr::Binary {
             left,
             op,
             right,
             ..
-        } => {
-            let a = value_of(names, left)?;
-            match op {
-                BinaryOp::LogicalOr if a != 0 => Ok(1),
-                BinaryOp::LogicalAnd if a == 0 => Ok(0),
-                _ => binary_of(*op, a, value_of(names, right)?),
-            }
-        }
-        Expr::Prefix { op, operand, .. } => prefix_of(*op, value_of(names, operand)?),
+        } => operation_value(*op, value_of(names, left), value_of(names, right)),
+        Expr::Prefix { op, operand, .. } => prefix_value(*op, value_of(names, operand)),
         Expr::SizeofExpr { .. } | Expr::SizeofType { .. } => Ok(i64::from(size_here(names, e))),
         Expr::Cast { operand, .. } => value_of(names, operand),
         Expr::Paren { inner, .. } => value_of(names, inner),

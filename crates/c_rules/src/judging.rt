@@ -1,11 +1,14 @@
 //! What an expression is, and the first rule that it breaks (C99 6.5).
 #![tactic(auto, using(c_types::proofs::First::first_of_both))]
 
-ghost use Rattle.std.specs.Prelude.{◌≡◌, ◌++◌, map};
+ghost use Rattle.std.specs.Prelude.{◌≡◌, ◌++◌, not, map};
+ghost use Rattle.c_tree.specs.Tree as trees;
 ghost use Rattle.c_tree.specs.Tree.{listed};
 ghost use Rattle.rr_base.specs.Positions.{position_at};
 ghost use Rattle.c_tree.specs.View.{exp_of};
 ghost use Rattle.c_types.specs.Found.{first_among};
+ghost use Rattle.c_types.specs.Constants as constants;
+ghost use Rattle.c_types.specs.Scopes.{seen, type_named};
 ghost use Rattle.c_types.specs.Standing as standings;
 ghost use Rattle.c_rules.specs.Faults as spec;
 ghost use Rattle.c_types.specs.Shown.{shown_standing, shown_target, shown_wants};
@@ -19,7 +22,7 @@ use crate::calls::{
     behind, call_standing, can_go, fits_wanted, format_of, given_by_call, let_go, number_standing,
 };
 use crate::constants::constant_named;
-use c_tree::Expr;
+use c_tree::{CType, Expr, Name, PrefixOp};
 use c_types::{
     FaultKind, Found, Names, Operand, Standing, Target, Wanted, Wants, assign_standing,
     assigned_target, binary_standing, can_choose, can_index, cast_standing, cast_target,
@@ -34,6 +37,34 @@ pub fn note_going(e: &Expr, of: Standing, first: &mut Option<Found>)
 {
     let at = own_place(e);
     note_mismatch(first, !can_go(of), at.0, at.1);
+}
+
+// A name as an expression (C99 6.5.1).
+fn judge_name<'a, N: Names>(
+    names: &'a N,
+    name: &[u8],
+    at: (u32, u32),
+    first: &mut Option<Found>,
+) -> Standing<'a>
+    ensures standing { shown_standing result ≡ standings.named_standing (seen (N.known names.now) name.now) (constants.constant_named name.now) }
+    ensures first { first.new ≡ first_among first.old (spec.named_faults (N.known names.now) (seen (N.known names.now) name.now) name.now (position_at at.0 at.1)) }
+{
+    note_named(names, name, at, first);
+    named_standing(names.seen(name), constant_named(name))
+}
+
+// `sizeof(of)` (C99 6.5.3.4).
+fn judge_sizeof_type<'a, N: Names>(
+    names: &'a N,
+    of: &CType,
+    at: (u32, u32),
+    first: &mut Option<Found>,
+) -> Standing<'a>
+    ensures standing { shown_standing result ≡ standings.sizeof_type_standing (N.known names.now) (type_named (N.known names.now) of.now) }
+    ensures first { first.new ≡ first_among first.old (spec.sizeof_type_faults (N.known names.now) of.now (position_at at.0 at.1)) }
+{
+    note_sizeof_type(names, of, at, first);
+    sizeof_type_standing(names, type_named(names, of))
 }
 
 /// What the expression is, where `target` is what a `malloc` in its place makes an object of. Its faults are noted.
@@ -87,53 +118,21 @@ pub fn judge<'a, N: Names>(
             note_mismatch(first, !takes(*op, a, b), at.0, at.1);
             binary_standing(*op, a, b)
         }
-        Expr::Prefix { op, operand, .. } => {
-            let of = judge(names, Target::No, operand, first);
-            note_prefix(names, *op, operand, of, at, first);
-            prefix_standing(*op, of)
-        }
-        Expr::SizeofExpr { operand, .. } => {
-            let of = judge(names, Target::No, operand, first);
-            note_mismatch(first, !is_sized(names, of), at.0, at.1);
-            sizeof_standing(names, of)
-        }
-        Expr::SizeofType { of, .. } => {
-            note_sizeof_type(names, of, at, first);
-            sizeof_type_standing(names, type_named(names, of))
-        }
-        Expr::Cast { to, operand, .. } => {
-            let named = type_named(names, to);
-            let from = Operand::of(judge(names, cast_target(named, to.stars), operand, first));
-            note_cast(names, to, from, at, first);
-            cast_standing(named, to.stars, from)
-        }
+        Expr::Prefix { op, operand, .. } => judge_prefix(names, *op, operand, at, first),
+        Expr::SizeofExpr { operand, .. } => judge_sizeof(names, operand, at, first),
+        Expr::SizeofType { of, .. } => judge_sizeof_type(names, of, at, first),
+        Expr::Cast { to, operand, .. } => judge_cast(names, operand, to, at, first),
         Expr::Index { base, index, .. } => {
             let a = Operand::of(judge(names, Target::No, base, first));
             let b = Operand::of(judge(names, Target::No, index, first));
             note_mismatch(first, !can_index(a, b), at.0, at.1);
             index_standing(a, b)
         }
-        Expr::Member { base, name, .. } => {
-            let of = judge(names, Target::No, base, first);
-            let number = struct_of(of);
-            note_member(names, Operand::of(of), number, name, at, first);
-            member_standing(names, number, name.text.as_slice())
-        }
-        Expr::Arrow { base, name, .. } => {
-            let of = Operand::of(judge(names, Target::No, base, first));
-            let number = pointed_struct(of);
-            note_member(names, of, number, name, at, first);
-            member_standing(names, number, name.text.as_slice())
-        }
-        Expr::PostIncrement { operand, .. } | Expr::PostDecrement { operand, .. } => {
-            let of = judge(names, Target::No, operand, first);
-            note_step(names, operand, of, at, first);
-            stepped(of)
-        }
-        Expr::Name { name, .. } => {
-            note_named(names, name.as_slice(), at, first);
-            named_standing(names.seen(name.as_slice()), constant_named(name.as_slice()))
-        }
+        Expr::Member { base, name, .. } => judge_member(names, base, name, at, first),
+        Expr::Arrow { base, name, .. } => judge_arrow(names, base, name, at, first),
+        Expr::PostIncrement { operand, .. } => judge_step(names, operand, at, first),
+        Expr::PostDecrement { operand, .. } => judge_step(names, operand, at, first),
+        Expr::Name { name, .. } => judge_name(names, name.as_slice(), at, first),
         Expr::Call {
             name,
             arguments,
@@ -157,6 +156,109 @@ pub fn judge<'a, N: Names>(
         Expr::Null { .. } => Standing::Null,
         Expr::Paren { inner, .. } => judge(names, target, inner, first),
     }
+}
+
+// `op operand`, an operator before its operand (C99 6.5.3).
+#[cycle(judge)]
+fn judge_prefix<'a, N: Names>(
+    names: &'a N,
+    op: PrefixOp,
+    operand: &Expr,
+    at: (u32, u32),
+    first: &mut Option<Found>,
+) -> Standing<'a>
+    ensures standing { shown_standing result ≡ standings.prefix_standing op (standings.standing (N.known names.now) standings.no_target (exp_of operand.now)) }
+    ensures first { first.new ≡ first_among first.old (spec.faults (N.known names.now) standings.no_target (exp_of operand.now) ++ spec.prefix_faults (N.known names.now) op (exp_of operand.now) (standings.standing (N.known names.now) standings.no_target (exp_of operand.now)) (position_at at.0 at.1)) }
+{
+    let of = judge(names, Target::No, operand, first);
+    note_prefix(names, op, operand, of, at, first);
+    prefix_standing(op, of)
+}
+
+// `sizeof operand` (C99 6.5.3.4).
+#[cycle(judge)]
+fn judge_sizeof<'a, N: Names>(
+    names: &'a N,
+    operand: &Expr,
+    at: (u32, u32),
+    first: &mut Option<Found>,
+) -> Standing<'a>
+    ensures standing { shown_standing result ≡ standings.sizeof_standing (N.known names.now) (standings.standing (N.known names.now) standings.no_target (exp_of operand.now)) }
+    ensures first { first.new ≡ first_among first.old (spec.faults (N.known names.now) standings.no_target (exp_of operand.now) ++ spec.mismatch (not (standings.is_sized (N.known names.now) (standings.standing (N.known names.now) standings.no_target (exp_of operand.now)))) (position_at at.0 at.1)) }
+{
+    let of = judge(names, Target::No, operand, first);
+    note_mismatch(first, !is_sized(names, of), at.0, at.1);
+    sizeof_standing(names, of)
+}
+
+// `(to)operand` (C99 6.5.4).
+#[cycle(judge)]
+fn judge_cast<'a, N: Names>(
+    names: &'a N,
+    operand: &Expr,
+    to: &CType,
+    at: (u32, u32),
+    first: &mut Option<Found>,
+) -> Standing<'a>
+    ensures standing { shown_standing result ≡ standings.standing (N.known names.now) standings.no_target (trees.cast to.now (exp_of operand.now) (position_at at.0 at.1)) }
+    ensures first { first.new ≡ first_among first.old (spec.faults (N.known names.now) standings.no_target (trees.cast to.now (exp_of operand.now) (position_at at.0 at.1))) }
+{
+    let named = type_named(names, to);
+    let from = Operand::of(judge(names, cast_target(named, to.stars), operand, first));
+    note_cast(names, to, from, at, first);
+    cast_standing(named, to.stars, from)
+}
+
+// `base.name` (C99 6.5.2.3).
+#[cycle(judge)]
+fn judge_member<'a, N: Names>(
+    names: &'a N,
+    base: &Expr,
+    name: &Name,
+    at: (u32, u32),
+    first: &mut Option<Found>,
+) -> Standing<'a>
+    ensures standing { shown_standing result ≡ standings.standing (N.known names.now) standings.no_target (trees.member (exp_of base.now) name.now (position_at at.0 at.1)) }
+    ensures first { first.new ≡ first_among first.old (spec.faults (N.known names.now) standings.no_target (trees.member (exp_of base.now) name.now (position_at at.0 at.1))) }
+{
+    let of = judge(names, Target::No, base, first);
+    let number = struct_of(of);
+    note_member(names, Operand::of(of), number, name, at, first);
+    member_standing(names, number, name.text.as_slice())
+}
+
+// `base->name` (C99 6.5.2.3).
+#[cycle(judge)]
+fn judge_arrow<'a, N: Names>(
+    names: &'a N,
+    base: &Expr,
+    name: &Name,
+    at: (u32, u32),
+    first: &mut Option<Found>,
+) -> Standing<'a>
+    ensures standing { shown_standing result ≡ standings.standing (N.known names.now) standings.no_target (trees.arrow (exp_of base.now) name.now (position_at at.0 at.1)) }
+    ensures first { first.new ≡ first_among first.old (spec.faults (N.known names.now) standings.no_target (trees.arrow (exp_of base.now) name.now (position_at at.0 at.1))) }
+{
+    let of = Operand::of(judge(names, Target::No, base, first));
+    let number = pointed_struct(of);
+    note_member(names, of, number, name, at, first);
+    member_standing(names, number, name.text.as_slice())
+}
+
+// `operand++` or `operand--` (C99 6.5.2.4).
+#[cycle(judge)]
+fn judge_step<'a, N: Names>(
+    names: &'a N,
+    operand: &Expr,
+    at: (u32, u32),
+    first: &mut Option<Found>,
+) -> Standing<'a>
+    ensures standing { shown_standing result ≡ standings.stepped (standings.standing (N.known names.now) standings.no_target (exp_of operand.now)) }
+    ensures first { first.new ≡ first_among first.old (spec.faults (N.known names.now) standings.no_target (exp_of operand.now) ++ spec.step_faults (N.known names.now) (exp_of operand.now) (standings.standing (N.known names.now) standings.no_target (exp_of operand.now)) (position_at at.0 at.1)) }
+{
+    let of = judge(names, Target::No, operand, first);
+    note_step(names, operand, of, at, first);
+    stepped(of)
 }
 
 // An expression before a comma, or behind one.
