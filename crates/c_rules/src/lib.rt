@@ -15,8 +15,8 @@ pub use calls::{
     behind, call_standing, can_go, fits_wanted, format_of, given_by_call, is_main, let_go,
 };
 pub use constants::{
-    chosen_value, constant_named, is_constant, is_int, is_of_numbers, operation_value, prefix_value,
-    value_of,
+    chosen_value, constant_named, is_constant, is_int, is_of_numbers, operation_value,
+    prefix_value, value_of,
 };
 pub use judging::judge;
 pub use sizes::{length_of, note_constant, note_length};

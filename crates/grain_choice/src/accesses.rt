@@ -38,12 +38,12 @@ pub(crate) fn has(listed: &[AccessAt], access: AccessAt) -> bool
 }
 
 /// The functions and instructions of accesses.
-type Known = HashSet<(u32, u32)>;
+type AccessSet = HashSet<(u32, u32)>;
 
 // Lists an access, unless it is known.
 fn push_new(
     listed: &mut Vec<AccessAt>,
-    known: &mut Known,
+    known: &mut AccessSet,
     access: AccessAt,
 ) -> Result<(), AllocError>
     requires { Agree known.old listed.old.items }
@@ -56,7 +56,11 @@ fn push_new(
     Ok(())
 }
 
-fn push_both(listed: &mut Vec<AccessAt>, known: &mut Known, pair: &Pair) -> Result<(), AllocError>
+fn push_both(
+    listed: &mut Vec<AccessAt>,
+    known: &mut AccessSet,
+    pair: &Pair,
+) -> Result<(), AllocError>
     requires { Agree known.old listed.old.items }
     ensures agree { OnOk result (Agree known.new listed.new.items) }
     ensures listed { OnOk result ((a : Access) → is_listed listed.new.items a ≡ (is_listed listed.old.items a || spec.stands_in a pair.now)) }

@@ -13,8 +13,8 @@ use Rattle.facts.specs.Paths.{naming_at, actual_of, arguments_of, namings_from, 
 use Rattle.facts.specs.Locks.{nothing, after, successors, returns, Below, Points, PointsBelow, IsSolution, locks_are_sized}
 use Rattle.lockset_flow.specs.Flow.{FlowsWithin, all_sized}
 use Rattle.lockset_flow.specs.Rounds.{after_by, meet_of, weight, weights, with_row, with_exit, HasNext, Agree, Leaves, MetAt, MetTo, MetAll, Good, FallsTo, Relaxes}
-use Rattle.lockset_flow.specs.declared.next.Next.{Next}
-use Rattle.lockset_flow.specs.declared.next.Next.TheVariants as next
+use Rattle.lockset_flow.specs.declared.next.Successors.{Successors}
+use Rattle.lockset_flow.specs.declared.next.Successors.TheVariants as next
 use Rattle.lockset_flow.proofs.Meets.{below_refl, below_trans, meet_down, meet_under, meet_most, good_meet}
 use Rattle.lockset_flow.proofs.Effects.{after_mono, after_same}
 use Rattle.lockset_flow.proofs.Sizes.{names_fit, actuals_small, after_sized}
@@ -194,13 +194,13 @@ neither ns n e h = of (subst (λ z. Contains z n) e h)
 differ : (b : Bool) → b ≡ false → b ≡ true → ⊥
 differ b h k = cc
 
-abbrev pub Ways : Function → ℕ → Next → Type 0
+abbrev pub Ways : Function → ℕ → Successors → Type 0
 Ways f k r = (i : Instr) → slice_get f.instrs k ≡ Some i → HasNext r k i.act
 
-pub ways_of : (is : List Instr) (f : Function) (k : ℕ) (r : Next) → is ≡ f.instrs → ((i : Instr) → slice_get is k ≡ Some i → HasNext r k i.act) → Ways f k r
+pub ways_of : (is : List Instr) (f : Function) (k : ℕ) (r : Successors) → is ≡ f.instrs → ((i : Instr) → slice_get is k ≡ Some i → HasNext r k i.act) → Ways f k r
 ways_of is f k r e h i at = h i (ap (λ z. slice_get z k) e ∙ at)
 
-pub met_one : (exits : List RelLocks) (f : Function) (k to : ℕ) (r : Next) (old new : Points) (a : Bool) → Ways f k r → r ≡ next.One to → Relaxes exits f (Agree exits f k to) old new a → Relaxes exits f (MetAt exits f k) old new a
+pub met_one : (exits : List RelLocks) (f : Function) (k to : ℕ) (r : Successors) (old new : Points) (a : Bool) → Ways f k r → r ≡ next.One to → Relaxes exits f (Agree exits f k to) old new a → Relaxes exits f (MetAt exits f k) old new a
 met_one exits f k to r old new a ways is s = weaker exits f (Agree exits f k to) (MetAt exits f k) old new a (λ m. record {
   flows = λ q i at h. subst (λ z. Agree exits f k z new) (sym (only (successors k i.act) to q (has i at).0 h)) m;
   left = λ i at h. absurd (differ (returns i.act) (has i at).1 h);
@@ -209,7 +209,7 @@ met_one exits f k to r old new a ways is s = weaker exits f (Agree exits f k to)
     has : (i : Instr) → slice_get f.instrs k ≡ Some i → (successors k i.act ≡ to ∷ []) × (returns i.act ≡ false)
     has i at = subst (λ z. HasNext z k i.act) is (ways i at)
 
-pub met_two : (exits : List RelLocks) (f : Function) (k to other : ℕ) (r : Next) (old mid new : Points) (a b : Bool) → Ways f k r → r ≡ next.Two to other → Relaxes exits f (Agree exits f k to) old mid a → Relaxes exits f (Agree exits f k other) mid new b → Relaxes exits f (MetAt exits f k) old new (a || b)
+pub met_two : (exits : List RelLocks) (f : Function) (k to other : ℕ) (r : Successors) (old mid new : Points) (a b : Bool) → Ways f k r → r ≡ next.Two to other → Relaxes exits f (Agree exits f k to) old mid a → Relaxes exits f (Agree exits f k other) mid new b → Relaxes exits f (MetAt exits f k) old new (a || b)
 met_two exits f k to other r old mid new a b ways is s t = weaker exits f (λ x. Agree exits f k to x × Agree exits f k other x) (MetAt exits f k) old new (a || b) (λ m. record {
   flows = λ q i at h. ⊎_elim (λ (e : q ≡ to). subst (λ z. Agree exits f k z new) (sym e) m.0) (λ (e : q ≡ other). subst (λ z. Agree exits f k z new) (sym e) m.1) (either (successors k i.act) to other q (has i at).0 h);
   left = λ i at h. absurd (differ (returns i.act) (has i at).1 h);
@@ -218,7 +218,7 @@ met_two exits f k to other r old mid new a b ways is s t = weaker exits f (λ x.
     has : (i : Instr) → slice_get f.instrs k ≡ Some i → (successors k i.act ≡ to ∷ other ∷ []) × (returns i.act ≡ false)
     has i at = subst (λ z. HasNext z k i.act) is (ways i at)
 
-pub met_exit : (exits : List RelLocks) (f : Function) (k : ℕ) (r : Next) (old new : Points) (a : Bool) → k < length f.instrs → Ways f k r → r ≡ next.Exit → ((es : List RelLocks) (g : Function) (i : Instr) → slice_get g.instrs k ≡ Some i → returns i.act ≡ true → Relaxes es g (Leaves k) old new a) → Relaxes exits f (MetAt exits f k) old new a
+pub met_exit : (exits : List RelLocks) (f : Function) (k : ℕ) (r : Successors) (old new : Points) (a : Bool) → k < length f.instrs → Ways f k r → r ≡ next.Exit → ((es : List RelLocks) (g : Function) (i : Instr) → slice_get g.instrs k ≡ Some i → returns i.act ≡ true → Relaxes es g (Leaves k) old new a) → Relaxes exits f (MetAt exits f k) old new a
 met_exit exits f k r old new a lt ways is s =
     let p = some_at f.instrs k lt in
     weaker exits f (Leaves k) (MetAt exits f k) old new a (λ m. record { flows = λ q i at h. absurd (neither (successors k i.act) q (has i at).0 h); left = λ i at h. m }) (s exits f p.0 p.1 (has p.0 p.1).1)
@@ -232,22 +232,22 @@ first_of ns a rest e = subst (λ z. Contains z a) (sym e) (0, omega arith, refl)
 second_of : (ns : List ℕ) (a b : ℕ) (rest : List ℕ) → ns ≡ a ∷ b ∷ rest → Contains ns b
 second_of ns a b rest e = subst (λ z. Contains z b) (sym e) (1, omega arith, refl)
 
-pub one_follows : (f : Function) (k to : ℕ) (r : Next) → Ways f k r → r ≡ next.One to → (i : Instr) → slice_get f.instrs k ≡ Some i → Contains (successors k i.act) to
+pub one_follows : (f : Function) (k to : ℕ) (r : Successors) → Ways f k r → r ≡ next.One to → (i : Instr) → slice_get f.instrs k ≡ Some i → Contains (successors k i.act) to
 one_follows f k to r ways is i at = first_of (successors k i.act) to [] (has i at).0
   where
     has : (i : Instr) → slice_get f.instrs k ≡ Some i → (successors k i.act ≡ to ∷ []) × (returns i.act ≡ false)
     has i at = subst (λ z. HasNext z k i.act) is (ways i at)
 
-pub two_follow : (f : Function) (k to other : ℕ) (r : Next) → Ways f k r → r ≡ next.Two to other → (i : Instr) → slice_get f.instrs k ≡ Some i → Contains (successors k i.act) to × Contains (successors k i.act) other
+pub two_follow : (f : Function) (k to other : ℕ) (r : Successors) → Ways f k r → r ≡ next.Two to other → (i : Instr) → slice_get f.instrs k ≡ Some i → Contains (successors k i.act) to × Contains (successors k i.act) other
 two_follow f k to other r ways is i at = (first_of (successors k i.act) to (other ∷ []) (has i at).0, second_of (successors k i.act) to other [] (has i at).0)
   where
     has : (i : Instr) → slice_get f.instrs k ≡ Some i → (successors k i.act ≡ to ∷ other ∷ []) × (returns i.act ≡ false)
     has i at = subst (λ z. HasNext z k i.act) is (ways i at)
 
-pub one_within : (f : Function) (k to : ℕ) (r : Next) → FlowsWithin f → k < length f.instrs → Ways f k r → r ≡ next.One to → to < length f.instrs
+pub one_within : (f : Function) (k to : ℕ) (r : Successors) → FlowsWithin f → k < length f.instrs → Ways f k r → r ≡ next.One to → to < length f.instrs
 one_within f k to r flows lt ways is = let p = some_at f.instrs k lt in flows k to p.0 p.1 (one_follows f k to r ways is p.0 p.1)
 
-pub two_within : (f : Function) (k to other : ℕ) (r : Next) → FlowsWithin f → k < length f.instrs → Ways f k r → r ≡ next.Two to other → (to < length f.instrs) × (other < length f.instrs)
+pub two_within : (f : Function) (k to other : ℕ) (r : Successors) → FlowsWithin f → k < length f.instrs → Ways f k r → r ≡ next.Two to other → (to < length f.instrs) × (other < length f.instrs)
 two_within f k to other r flows lt ways is = let p = some_at f.instrs k lt in let c = two_follow f k to other r ways is p.0 p.1 in (flows k to p.0 p.1 c.0, flows k other p.0 p.1 c.1)
 
 -- ---- by the names of arguments

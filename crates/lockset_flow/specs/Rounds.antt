@@ -13,8 +13,8 @@ use Rattle.facts.specs.declared.locks.Minus.TheVariants.{All, Listed}
 use Rattle.facts.specs.declared.locks.Naming.{Naming}
 use Rattle.facts.specs.declared.locks.RelLocks.{RelLocks}
 use Rattle.facts.specs.Paths.{actual_of}
-use Rattle.lockset_flow.specs.declared.next.Next.{Next}
-use Rattle.lockset_flow.specs.declared.next.Next.TheVariants as next
+use Rattle.lockset_flow.specs.declared.next.Successors.{Successors}
+use Rattle.lockset_flow.specs.declared.next.Successors.TheVariants as next
 use Rattle.facts.specs.Locks.{has, both, locked, unlocked, after_call, nothing, topmost, after, successors, returns, Below, Points, PointsBelow, IsSolution, ascends, locks_are_sized}
 
 -- ---- the locks behind an instruction, where the arguments have these names
@@ -75,7 +75,7 @@ abbrev pub with_exit : Points → RelLocks → Points
 with_exit x l = record { before = x.before; exit = l }
 
 -- the ways from an instruction
-abbrev pub HasNext : Next → ℕ → Act → Type 0
+abbrev pub HasNext : Successors → ℕ → Act → Type 0
 HasNext (next.One to) k a = (successors k a ≡ to ∷ []) × (returns a ≡ false)
 HasNext (next.Two to other) k a = (successors k a ≡ to ∷ other ∷ []) × (returns a ≡ false)
 HasNext next.Exit k a = (successors k a ≡ []) × (returns a ≡ true)

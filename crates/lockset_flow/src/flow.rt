@@ -11,7 +11,7 @@ ghost use Rattle.lockset_flow.specs.Rounds.{Agree, Leaves, MetAt, MetAll, Relaxe
 
 use crate::effect::after;
 use crate::flow_facts::FlowFacts;
-use crate::next::{Next, next_of};
+use crate::next::{Successors, next_of};
 use facts::{LockPath, Naming, RelLocks};
 use flow_code::Function;
 use rr_base::List;
@@ -74,13 +74,13 @@ fn step(
     ensures { IfOk result (λ changed. Relaxes exits.now function.now (MetAt exits.now function.now k) facts.old facts.new changed) }
 {
     match next_of(function.instrs.as_slice(), k) {
-        Next::One(to) => relax(alloc, function, names, exits, facts, k, to),
-        Next::Two(to, other) => {
+        Successors::One(to) => relax(alloc, function, names, exits, facts, k, to),
+        Successors::Two(to, other) => {
             let mut changed = relax(alloc, function, names, exits, facts, k, to)?;
             changed |= relax(alloc, function, names, exits, facts, k, other)?;
             Ok(changed)
         }
-        Next::Exit => leave(alloc, facts, k),
+        Successors::Exit => leave(alloc, facts, k),
     }
 }
 

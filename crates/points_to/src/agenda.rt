@@ -2,7 +2,7 @@
 ghost use Rattle.std.specs.Prelude.{◌≤◌, ◌^◌, length};
 
 use crate::nodes::{place_at, spot_of};
-use crate::sets::{Sets, Spot};
+use crate::sets::{RowIndex, Sets};
 use facts::{Constraint, Node};
 use flow_code::Code;
 use std::alloc::{AllocError, Global};
@@ -108,7 +108,7 @@ impl Agenda {
         Ok(())
     }
 
-    fn add_reader(&mut self, spot: Spot, k: usize) -> Result<(), AllocError> {
+    fn add_reader(&mut self, spot: RowIndex, k: usize) -> Result<(), AllocError> {
         if spot.block < self.readers.len() {
             push_at(&mut self.readers[spot.block], spot.at, k)?;
         }
@@ -145,7 +145,7 @@ impl Agenda {
     }
 
     /// The constraint loads the cells of the places of a row.
-    fn load(&mut self, code: &Code, sets: &Sets, spot: Spot, k: usize) -> Result<(), AllocError>
+    fn load(&mut self, code: &Code, sets: &Sets, spot: RowIndex, k: usize) -> Result<(), AllocError>
         requires { length code.now.functions ≤ 2 ^ 20 }
     {
         for j in 0..sets.len_of(spot) {
@@ -159,7 +159,7 @@ impl Agenda {
     fn load_place(&mut self, code: &Code, place: u16, k: usize) -> Result<(), AllocError>
         requires { length code.now.functions ≤ 2 ^ 20 }
     {
-        if k < self.loaded.count(0) && self.loaded.add(Spot { block: 0, at: k }, place)? {
+        if k < self.loaded.count(0) && self.loaded.add(RowIndex { block: 0, at: k }, place)? {
             self.add_reader(spot_of(code, Node::Cells(place_at(place))), k)?;
         }
         Ok(())
@@ -192,7 +192,7 @@ impl Agenda {
     }
 
     /// The readers of the cells of the places of a row wait.
-    fn wake_cells(&mut self, code: &Code, sets: &Sets, spot: Spot) -> Result<(), AllocError>
+    fn wake_cells(&mut self, code: &Code, sets: &Sets, spot: RowIndex) -> Result<(), AllocError>
         requires { length code.now.functions ≤ 2 ^ 20 }
     {
         for j in 0..sets.len_of(spot) {
@@ -204,7 +204,7 @@ impl Agenda {
     }
 
     /// The j-th reader of a row.
-    fn reader_at(&self, spot: Spot, j: usize) -> Option<usize> {
+    fn reader_at(&self, spot: RowIndex, j: usize) -> Option<usize> {
         let Some(rows) = self.readers.get(spot.block) else {
             return None;
         };
@@ -215,7 +215,7 @@ impl Agenda {
     }
 
     /// The readers of a row wait.
-    fn wake(&mut self, spot: Spot) -> Result<(), AllocError> {
+    fn wake(&mut self, spot: RowIndex) -> Result<(), AllocError> {
         for j in 0..usize::MAX {
             let Some(k) = self.reader_at(spot, j) else {
                 return Ok(());

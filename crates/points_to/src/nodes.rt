@@ -4,33 +4,33 @@ ghost use Rattle.abstract_machine.specs.Pointers.{directed as directed_by};
 ghost use Rattle.facts.specs.PointsTo as spec;
 ghost use Rattle.points_to.specs.Nodes.{number_of as number_for, place_from, block_at, index_at, IsPlace};
 
-use crate::sets::Spot;
+use crate::sets::RowIndex;
 use abstract_machine::site_at;
 use facts::Node;
 use flow_code::Code;
 use rr_base::{Place, Site};
 
 /// Where the row of a node stands.
-pub fn spot_of(code: &Code, node: Node) -> Spot
+pub fn spot_of(code: &Code, node: Node) -> RowIndex
     requires { length code.now.functions ≤ 2 ^ 20 }
     ensures block { result.block ≡ block_at (length code.now.functions) node }
     ensures at { result.at ≡ index_at (length code.now.functions) node }
 {
     let functions = code.functions.len();
     match node {
-        Node::Register { function, register } => Spot {
+        Node::Register { function, register } => RowIndex {
             block: function as usize + 1,
             at: register as usize,
         },
-        Node::Result(function) => Spot {
+        Node::Result(function) => RowIndex {
             block: 0,
             at: function as usize,
         },
-        Node::Ended => Spot {
+        Node::Ended => RowIndex {
             block: 0,
             at: functions,
         },
-        Node::Cells(place) => Spot {
+        Node::Cells(place) => RowIndex {
             block: functions + usize::from(place.site),
             at: usize::from(place.class),
         },

@@ -9,7 +9,7 @@ use std::marker::Model;
 
 /// Where the row of a node stands.
 #[derive(Clone, Copy, Debug)]
-pub struct Spot {
+pub struct RowIndex {
     pub block: usize,
     pub at: usize,
 }
@@ -51,7 +51,7 @@ impl Sets {
     }
 
     /// The k-th number of a row.
-    pub fn get(&self, spot: Spot, k: usize) -> Option<u16>
+    pub fn get(&self, spot: RowIndex, k: usize) -> Option<u16>
         ensures { result ≡ slice_get (row_at self.now spot.block spot.at) k }
     {
         match self.blocks.get(spot.block) {
@@ -60,7 +60,7 @@ impl Sets {
         }
     }
 
-    pub fn len_of(&self, spot: Spot) -> usize
+    pub fn len_of(&self, spot: RowIndex) -> usize
         ensures { result ≡ length (row_at self.now spot.block spot.at) }
     {
         match self.blocks.get(spot.block) {
@@ -86,7 +86,7 @@ impl Sets {
     }
 
     /// Adds a number to a row, and tells whether it wasn't there.
-    pub fn add(&mut self, spot: Spot, p: u16) -> Result<bool, AllocError>
+    pub fn add(&mut self, spot: RowIndex, p: u16) -> Result<bool, AllocError>
         requires { spot.at < length (block_of self.old spot.block) }
         ensures widths { widths self.new ≡ widths self.old }
         ensures in_it { IfOk result (λ added. Contains (row_at self.new spot.block spot.at) p) }

@@ -4,12 +4,12 @@ ghost use Rattle.points_to.specs.Ascending.{block_of, row_at};
 ghost use Rattle.points_to.specs.Nodes.{place_from, listed};
 
 use crate::nodes::place_at;
-use crate::sets::{Sets, Spot};
+use crate::sets::{RowIndex, Sets};
 use rr_base::{List, Place};
 use std::alloc::{AllocError, Global};
 
 /// The places of a row.
-fn places_of(alloc: Global, sets: &Sets, spot: Spot) -> Result<List<Place>, AllocError>
+fn places_of(alloc: Global, sets: &Sets, spot: RowIndex) -> Result<List<Place>, AllocError>
     ensures { IfOk result (λ ps. ps ≡ map place_from (row_at sets.now spot.block spot.at)) }
 {
     let mut places = List::new(alloc);
@@ -28,7 +28,7 @@ fn block_places(alloc: Global, sets: &Sets, block: usize) -> Result<List<List<Pl
 {
     let mut lists = List::new(alloc);
     for at in 0..sets.count(block) {
-        lists.push(places_of(alloc, sets, Spot { block, at })?)?;
+        lists.push(places_of(alloc, sets, RowIndex { block, at })?)?;
     }
     Ok(lists)
 }
