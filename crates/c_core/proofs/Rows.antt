@@ -13,7 +13,7 @@ use Rattle.abstract_machine.specs.declared.library_call.LibraryCall.TheVariants 
 use Rattle.abstract_machine.specs.declared.library_call.Piece.TheVariants as piece
 use Rattle.rr_base.specs.declared.position.Position.{Position}
 use Rattle.c_core.specs.declared.value.Change.TheVariants as change
-use Rattle.c_core.specs.Core.{Exp, number, register, object, global, load, binary, copy, both, store, set_register, change_register, change_cell, call, library, no_exp, and_exp, Statement, block, compute, gives, branch, while_loop, do_loop, for_loop, continue_at, no_statement, and_statement, arrives, Function, Program}
+use Rattle.c_core.specs.Core.{Exp, number, register, object, global, load, binary, copy, both, store, set_register, change_register, change_cell, call, library, no_exp, and_exp, Statement, block, compute, gives, branch, branch_else, while_loop, do_loop, for_loop, continue_at, no_statement, and_statement, arrives, Function, Program}
 use Rattle.c_core.specs.Runs.{events, done, trapped}
 use Rattle.c_core.specs.Meaning.{run_of}
 
@@ -71,12 +71,23 @@ answers k = replicate k (pos 0)
 abbrev for_program : Program
 for_program = program_of (
     for_loop (compute (set_register 0 (z 0) (at 3))) (Some (binary binary_op.Less n (z 2) (at 3))) (Some (change_register 0 (change.Compute binary_op.Add) (z 1) true (at 3)))
-    (block (and_statement (branch n (continue_at (at 4)) (block no_statement) (at 4)) (and_statement (compute (store g (z 7) (at 5))) no_statement))) (at 3))
+    (block (and_statement (branch n (continue_at (at 4)) (at 4)) (and_statement (compute (store g (z 7) (at 5))) no_statement))) (at 3))
 
 -- three turns are begun, and the second goes on past the store
 pub for_events_are : events (run_of for_program (setup 10) 0) (answers 6) ≡
     done action.Mark [] (pos 0) ∷ done action.Mark [] (pos 0) ∷ done (action.Store 2 7) [] (pos 0) ∷ done action.Mark [] (pos 0) ∷ done action.Mark [] (pos 0) ∷ done (action.Operate op.HaltAll object_id.Halt) [] (pos 0) ∷ []
 for_events_are = refl
+
+-- int main(void) { int n; if (n) g = 1; else g = 7; if (n) g = 8; return 0; }
+abbrev if_program : Program
+if_program = program_of (block (and_statement
+    (branch_else n (compute (store g (z 1) (at 3))) (compute (store g (z 7) (at 4))) (at 3))
+    (and_statement (branch n (compute (store g (z 8) (at 5))) (at 5)) no_statement)))
+
+-- n is 0: the second part is done, and the `if` without one does nothing
+pub if_events_are : events (run_of if_program (setup 10) 0) (answers 3) ≡
+    done action.Mark [] (pos 0) ∷ done (action.Store 2 7) [] (pos 0) ∷ done (action.Operate op.HaltAll object_id.Halt) [] (pos 0) ∷ []
+if_events_are = refl
 
 -- int main(void) { do g += 5; while (0); return 0; } where g holds 4
 abbrev do_program : Program

@@ -57,7 +57,9 @@ mutual
   pub data Statement : Type 0 where
     block : Statements → Statement
     compute : Exp → Statement
-    branch : Exp → Statement → Statement → Position → Statement
+    -- an `if` without `else`, and one with it
+    branch : Exp → Statement → Position → Statement
+    branch_else : Exp → Statement → Statement → Position → Statement
     while_loop : Exp → Statement → Position → Statement
     do_loop : Statement → Exp → Position → Statement
     for_loop : Statement → Option Exp → Option Exp → Statement → Position → Statement

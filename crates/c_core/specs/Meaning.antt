@@ -26,7 +26,7 @@ use Rattle.c_core.specs.declared.value.UnaryOp.TheVariants as unary_op
 use Rattle.c_core.specs.declared.value.Change.{Change}
 use Rattle.c_core.specs.declared.value.Change.TheVariants as change
 use Rattle.c_core.specs.Core as core
-use Rattle.c_core.specs.Core.{Exp, null, register, object, global, load, unary, binary, move, advance, member, between, to_pointer, to_number, copy, both, either, conditional, comma, set_register, store, change_register, change_cell, call, library, allocate, Exps, no_exp, and_exp, Statement, block, compute, branch, while_loop, do_loop, for_loop, break_at, continue_at, gives, Statements, no_statement, and_statement, Arrival, arrives, Function, Program}
+use Rattle.c_core.specs.Core.{Exp, null, register, object, global, load, unary, binary, move, advance, member, between, to_pointer, to_number, copy, both, either, conditional, comma, set_register, store, change_register, change_cell, call, library, allocate, Exps, no_exp, and_exp, Statement, block, compute, branch, branch_else, while_loop, do_loop, for_loop, break_at, continue_at, gives, Statements, no_statement, and_statement, Arrival, arrives, Function, Program}
 use Rattle.c_core.specs.Runs.{Run, does, traps, ends, State, M, ◌>>=◌, ◌>>◌, pure, trap_at, result_at, printing, event, read_register, write_register, read_object, choose}
 
 -- ---- kinds
@@ -306,7 +306,8 @@ module _ (p : Program) (s : SetupView) (t : ℕ) where
     pub meaning : Calls → Statement → M Flow
     meaning calls (block ss) = meanings calls ss
     meaning calls (compute e) = value calls e >> pure goes
-    meaning calls (branch e a b at) = value calls e >>= λ w. choose w (meaning calls a) (meaning calls b)
+    meaning calls (branch e a at) = value calls e >>= λ w. choose w (meaning calls a) (pure goes)
+    meaning calls (branch_else e a b at) = value calls e >>= λ w. choose w (meaning calls a) (meaning calls b)
     meaning calls (while_loop e a at) = turns s.limit at.line (value calls e) (meaning calls a) (pure 0)
     meaning calls (do_loop a e at) = turns_behind s.limit at.line (meaning calls a) (value calls e)
     meaning calls (for_loop start test step a at) =

@@ -9,11 +9,11 @@ use Rattle.c_core.specs.declared.value.Choice.{Choice}
 use Rattle.c_core.specs.declared.value.Assignment.{Assignment}
 use Rattle.c_core.specs.declared.value.Call.{Call}
 use Rattle.c_core.specs.declared.value.Assignment.TheBlock.{Simple, Operates, Chooses, Assigns, Calls, Load', Unary', Binary', Move', Advance', Member', Between', ToPointer', ToNumber', Copy', And', Or', Conditional', Comma', Set', Store', ChangeRegister', ChangeCell', Function', Library', Allocate', Row_of-Value, end_of-Value, more_of-Value}
-use Rattle.c_core.specs.declared.statement.Statement.{Statement as RustStatement, Block', Compute, If', While', Do', For', Break, Continue, Return, Row_of-Statement, end_of-Statement, more_of-Statement}
+use Rattle.c_core.specs.declared.statement.Statement.{Statement as RustStatement, Block', Compute, If', IfElse', While', Do', For', Break, Continue, Return, Row_of-Statement, end_of-Statement, more_of-Statement}
 use Rattle.c_core.specs.declared.program.Arrival.{Arrival as RustArrival}
 use Rattle.c_core.specs.declared.program.CoreFunction.{CoreFunction}
 use Rattle.c_core.specs.declared.program.Core.{Core}
-use Rattle.c_core.specs.Core.{Exp, number, null, register, object, global, load, unary, binary, move, advance, member, between, to_pointer, to_number, copy, both, either, conditional, comma, set_register, store, change_register, change_cell, call, library, allocate, Exps, no_exp, and_exp, Statement, block, compute, branch, while_loop, do_loop, for_loop, break_at, continue_at, gives, Statements, no_statement, and_statement, Arrival, arrives, Function, Program}
+use Rattle.c_core.specs.Core.{Exp, number, null, register, object, global, load, unary, binary, move, advance, member, between, to_pointer, to_number, copy, both, either, conditional, comma, set_register, store, change_register, change_cell, call, library, allocate, Exps, no_exp, and_exp, Statement, block, compute, branch, branch_else, while_loop, do_loop, for_loop, break_at, continue_at, gives, Statements, no_statement, and_statement, Arrival, arrives, Function, Program}
 
 abbrev pub simple_of : RustSimple → Position → Exp
 simple_of (simple.Number z) at = number z at
@@ -71,7 +71,8 @@ abbrev mutual
   pub stmt_of : RustStatement → Statement
   stmt_of (Block' shape row) = block (stmts_of_row row)
   stmt_of (Compute e) = compute (exp_of e)
-  stmt_of (If' e p a q b at) = branch (exp_of e) (stmt_of a) (stmt_of b) at
+  stmt_of (If' e p a at) = branch (exp_of e) (stmt_of a) at
+  stmt_of (IfElse' e p a q b at) = branch_else (exp_of e) (stmt_of a) (stmt_of b) at
   stmt_of (While' e p a at) = while_loop (exp_of e) (stmt_of a) at
   stmt_of (Do' p a e at) = do_loop (stmt_of a) (exp_of e) at
   stmt_of (For' p start test step q a at) = for_loop (stmt_of start) (maybe_of test) (maybe_of step) (stmt_of a) at

@@ -6,8 +6,13 @@ use rr_base::{List, Position};
 pub enum Statement {
     Block(List<Statement>),
     Compute(Value),
-    /// Without an `else`, `no` is an empty block.
+    /// An `if` without `else`.
     If {
+        test: Value,
+        yes: Box<Statement>,
+        at: Position,
+    },
+    IfElse {
         test: Value,
         yes: Box<Statement>,
         no: Box<Statement>,

@@ -8,7 +8,7 @@ use Rattle.flow_code.specs.declared.code.LoopInfo.{LoopInfo}
 use Rattle.flow_code.specs.declared.region.Bound.{Bound}
 use Rattle.flow_code.specs.Threads.{objects_of}
 use Rattle.weak_code.specs.Stripped.{is_plain}
-use Rattle.c_core.specs.Core.{Exp, Statement, block, compute, branch, while_loop, do_loop, for_loop, break_at, continue_at, gives, Statements, no_statement, and_statement, Function, Program}
+use Rattle.c_core.specs.Core.{Exp, Statement, block, compute, branch, branch_else, while_loop, do_loop, for_loop, break_at, continue_at, gives, Statements, no_statement, and_statement, Function, Program}
 use Rattle.flow_lower.specs.Kept.{kept, maybe_kept}
 use Rattle.flow_lower.specs.Sizes.{exp_size, maybe_size, test_size}
 use Rattle.flow_lower.specs.Loops.{lowered_size, limit_of, step_of, loop_of, statement_loops, statements_loops}
@@ -47,7 +47,8 @@ module _ (m : ℕ) where
     statement_behind : (s : Statement) (pc : ℕ) → m ≤ pc → LoopsBehind m (statement_loops s pc)
     statement_behind (block ss) pc le = statements_behind ss pc le
     statement_behind (compute e) pc le = tt
-    statement_behind (branch e a b at) pc le =
+    statement_behind (branch e a at) pc le = statement_behind a (pc + exp_size (kept e) + 1) (omega (arith, le))
+    statement_behind (branch_else e a b at) pc le =
         let yes' = pc + exp_size (kept e) + 1 in
         let no' = yes' + lowered_size a + 1 in
         joined (statement_loops a yes') (statement_loops b no') (statement_behind a yes' (omega (arith, le))) (statement_behind b no' (omega (arith, le)))

@@ -6,7 +6,7 @@ use Rattle.flow_code.specs.declared.code.Code.{Code}
 use Rattle.flow_code.specs.declared.code.Function.{Function as FlowFunction}
 use Rattle.flow_code.specs.Kinds.{has_register, has_kind}
 use Rattle.rr_base.specs.declared.position.Position.{Position}
-use Rattle.c_core.specs.Core.{Exp, Statement, block, compute, branch, while_loop, do_loop, for_loop, break_at, continue_at, gives, Statements, no_statement, and_statement, Function, Program}
+use Rattle.c_core.specs.Core.{Exp, Statement, block, compute, branch, branch_else, while_loop, do_loop, for_loop, break_at, continue_at, gives, Statements, no_statement, and_statement, Function, Program}
 use Rattle.c_core.specs.Meaning.{is_pointer}
 use Rattle.flow_lower.specs.Lowered.{held, instr, one, exp_kinds, maybe_kinds, width, exp_size, maybe_size, test_size, exp_code, maybe_code, test_code, return_code, statement_kinds, statements_kinds, statement_size, statements_size, statement_code, statements_code}
 use Rattle.flow_lower.specs.Sound.{IsAddress, IsSoundExp, IsSoundMaybe, IsSoundResult, IsSoundStatement, AreSoundStatements}
@@ -74,7 +74,19 @@ module _ (p : Program) (home : ℕ → Option ℕ) (f : Function) (code : Code) 
         → pc + statement_size a ≤ out → out < total → pc + statement_size a ≤ on → on < total → Good pc (statement_code first a r pc out on)
     statement_good (block ss) r pc out on s h c le in_out le' in_on = statements_good ss r pc out on s h c le in_out le' in_on
     statement_good (compute e) r pc out on s h c le in_out le' in_on = exp_good p home f code g first image e r pc s h (omega (arith, le, in_out))
-    statement_good (branch e a b at) r pc out on s h c le in_out le' in_on =
+    statement_good (branch e a at) r pc out on s h c le in_out le' in_on =
+        let yes' = pc + exp_size e + 1 in
+        let end = yes' + statement_size a in
+        let x = r + width e in
+        let behind_e = instr at (act.Branch (held first e r) yes' end) ∷ statement_code first a x yes' out on in
+        let ke = has_front ks r (exp_kinds e) (statement_kinds a) h in
+        let ka = has_back ks r (exp_kinds e) (statement_kinds a) h in
+        let ca = (after_exp e r pc behind_e c).1 in
+        behind_exp p home f code g first image e r pc behind_e (exp_good p home f code g first image e r pc s.0 ke (omega (arith, le, in_out))) (
+          branches_on code g (IsAddress p home) (pc + exp_size e) (held first e r) yes' end (tested e r s.0 ke) (omega arith) (omega arith) (omega (arith, le, in_out)) (omega (arith, le, in_out)),
+          statement_good a x yes' out on s.1 ka ca (omega (arith, le)) in_out (omega (arith, le')) in_on,
+        )
+    statement_good (branch_else e a b at) r pc out on s h c le in_out le' in_on =
         let yes' = pc + exp_size e + 1 in
         let no' = yes' + statement_size a + 1 in
         let x = r + width e in

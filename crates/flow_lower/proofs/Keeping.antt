@@ -7,7 +7,7 @@ use Rattle.abstract_machine.specs.Pointers.{moved, moved_by, directed, compared,
 use Rattle.abstract_machine.specs.Operators.{either_binary_of}
 use Rattle.abstract_machine.specs.Cells.{access_kind}
 use Rattle.c_core.specs.Core as core
-use Rattle.c_core.specs.Core.{Exp, null, load, unary, binary, move, advance, member, between, to_pointer, to_number, copy, both, either, conditional, comma, set_register, store, change_register, change_cell, call, library, allocate, Exps, no_exp, and_exp, Statement, block, compute, branch, while_loop, do_loop, for_loop, break_at, continue_at, gives, Statements, no_statement, and_statement, Program}
+use Rattle.c_core.specs.Core.{Exp, null, load, unary, binary, move, advance, member, between, to_pointer, to_number, copy, both, either, conditional, comma, set_register, store, change_register, change_cell, call, library, allocate, Exps, no_exp, and_exp, Statement, block, compute, branch, branch_else, while_loop, do_loop, for_loop, break_at, continue_at, gives, Statements, no_statement, and_statement, Program}
 use Rattle.c_core.specs.Runs.{M, ◌>>=◌, ◌>>◌, pure, result_at, read_register, write_register, choose}
 use Rattle.c_core.specs.Meaning as meaning
 use Rattle.c_core.specs.Meaning.{Calls, Flow, goes, returns, if_goes, is_pointer, is_pointer_change, unary_of, changed, load_at, store_at, library_call, allocated, value, values, test_value, step_value}
@@ -193,7 +193,8 @@ module _ (p : Program) (s : SetupView) (t : ℕ) (calls : Calls) where
     pub meaning_kept : (a : Statement) → meaning.meaning p s t calls (statement_kept a) ≡ meaning.meaning p s t calls a
     meaning_kept (block ss) = meanings_kept ss
     meaning_kept (compute e) = ap (λ (m : M ℕ). m >> pure goes) (value_kept e)
-    meaning_kept (branch e a b at) =
+    meaning_kept (branch e a at) = alike (λ (m : M ℕ) (n : M Flow). m >>= (λ w. choose w n (pure goes))) (value_kept e) (meaning_kept a)
+    meaning_kept (branch_else e a b at) =
         alike (λ (m : M ℕ) (n : M Flow). m >>= (λ w. choose w n (meaning.meaning p s t calls (statement_kept b)))) (value_kept e) (meaning_kept a)
         ∙ ap (λ (n : M Flow). value p s t calls e >>= (λ w. choose w (meaning.meaning p s t calls a) n)) (meaning_kept b)
     meaning_kept (while_loop e a at) = alike (λ (m : M ℕ) (n : M Flow). meaning.turns p s t s.limit at.line m n (pure 0)) (value_kept e) (meaning_kept a)

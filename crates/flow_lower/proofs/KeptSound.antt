@@ -7,7 +7,7 @@ use Rattle.c_core.specs.declared.value.UnaryOp.TheVariants as unary_op
 use Rattle.c_core.specs.declared.value.Change.{Change}
 use Rattle.c_core.specs.declared.value.Change.TheVariants as change
 use Rattle.c_core.specs.Core as core
-use Rattle.c_core.specs.Core.{Exp, null, load, unary, binary, move, advance, member, between, to_pointer, to_number, copy, both, either, conditional, comma, set_register, store, change_register, change_cell, call, library, allocate, Exps, no_exp, and_exp, Statement, block, compute, branch, while_loop, do_loop, for_loop, break_at, continue_at, gives, Statements, no_statement, and_statement, Function, Program}
+use Rattle.c_core.specs.Core.{Exp, null, load, unary, binary, move, advance, member, between, to_pointer, to_number, copy, both, either, conditional, comma, set_register, store, change_register, change_cell, call, library, allocate, Exps, no_exp, and_exp, Statement, block, compute, branch, branch_else, while_loop, do_loop, for_loop, break_at, continue_at, gives, Statements, no_statement, and_statement, Function, Program}
 use Rattle.c_core.specs.Meaning.{is_pointer}
 use Rattle.flow_lower.specs.Kept.{assigns, any_assigns, loses, copied_if, kept, all_kept, maybe_kept, statement_kept, statements_kept}
 use Rattle.flow_lower.specs.Sound.{IsCallable, HasRegister, SuitsUnary, SuitBinary, SuitsChange, value_kinds, IsSoundExp, AreSound, IsSoundMaybe, IsSoundResult, IsSoundStatement, AreSoundStatements}
@@ -86,7 +86,8 @@ module _ (p : Program) (home : ℕ → Option ℕ) (f : Function) where
     pub statement_sound : (a : Statement) → IsSoundStatement p home f a → IsSoundStatement p home f (statement_kept a)
     statement_sound (block ss) s = statements_sound ss s
     statement_sound (compute e) s = exp_sound e s
-    statement_sound (branch e a b at) s = (exp_sound e s.0, statement_sound a s.1, statement_sound b s.2)
+    statement_sound (branch e a at) s = (exp_sound e s.0, statement_sound a s.1)
+    statement_sound (branch_else e a b at) s = (exp_sound e s.0, statement_sound a s.1, statement_sound b s.2)
     statement_sound (while_loop e a at) s = (exp_sound e s.0, statement_sound a s.1)
     statement_sound (do_loop a e at) s = (statement_sound a s.0, exp_sound e s.1)
     statement_sound (for_loop start test step a at) s = (statement_sound start s.0, maybe_sound test s.1, maybe_sound step s.2, statement_sound a s.3)

@@ -5,7 +5,7 @@ use Rattle.abstract_machine.specs.declared.library_call.LibraryCall.{LibraryCall
 use Rattle.flow_code.specs.declared.work.Work.TheVariants as work
 use Rattle.rr_base.specs.declared.position.Position.{Position}
 use Rattle.c_core.specs.Core as core
-use Rattle.c_core.specs.Core.{Exp, null, load, unary, binary, move, advance, member, between, to_pointer, to_number, copy, both, either, conditional, comma, set_register, store, change_register, change_cell, call, library, allocate, Exps, no_exp, and_exp, Statement, block, compute, branch, while_loop, do_loop, for_loop, break_at, continue_at, gives, Statements, no_statement, and_statement, Arrival, arrives}
+use Rattle.c_core.specs.Core.{Exp, null, load, unary, binary, move, advance, member, between, to_pointer, to_number, copy, both, either, conditional, comma, set_register, store, change_register, change_cell, call, library, allocate, Exps, no_exp, and_exp, Statement, block, compute, branch, branch_else, while_loop, do_loop, for_loop, break_at, continue_at, gives, Statements, no_statement, and_statement, Arrival, arrives}
 use Rattle.flow_lower.specs.Lowered.{held, instr, one, computes, gives_nothing, library_size, library_code, width, exp_size, exps_size, exp_code, exps_code, value_registers, statement_kinds, maybe_kinds, statement_size, statements_size, statement_code, statements_code, maybe_size, test_size, maybe_code, test_code, objects_code, arrivals_code}
 
 pub joined : {X : Type 0} (xs ys : List X) (m n : ℕ) → length xs ≡ m → length ys ≡ n → length (xs ++ ys) ≡ m + n
@@ -74,7 +74,12 @@ mutual
   pub statement_length : (first : ℕ) (a : Statement) (r pc out on : ℕ) → length (statement_code first a r pc out on) ≡ statement_size a
   statement_length first (block ss) r pc out on = statements_length first ss r pc out on
   statement_length first (compute e) r pc out on = exp_length first e r pc
-  statement_length first (branch e a b at) r pc out on =
+  statement_length first (branch e a at) r pc out on =
+      let yes' = pc + exp_size e + 1 in
+      let code_a = statement_code first a (r + width e) yes' out on in
+      joined (exp_code first e r pc) (instr at (act.Branch (held first e r) yes' (yes' + statement_size a)) ∷ code_a) _ _ (exp_length first e r pc)
+      (behind (instr at (act.Branch (held first e r) yes' (yes' + statement_size a))) code_a _ (statement_length first a (r + width e) yes' out on))
+  statement_length first (branch_else e a b at) r pc out on =
       let yes' = pc + exp_size e + 1 in
       let no' = yes' + statement_size a + 1 in
       let code_b = statement_code first b (r + width e + length (statement_kinds a)) no' out on in

@@ -12,7 +12,7 @@ use Rattle.flow_code.specs.Kinds.{has_register, has_instr}
 use Rattle.flow_code.specs.Regions.{bound_is_register, loop_fits}
 use Rattle.flow_code.specs.Valid.{loops_fit}
 use Rattle.c_core.specs.Core as core
-use Rattle.c_core.specs.Core.{Exp, register, binary, Statement, block, compute, branch, while_loop, do_loop, for_loop, break_at, continue_at, gives, Statements, no_statement, and_statement}
+use Rattle.c_core.specs.Core.{Exp, register, binary, Statement, block, compute, branch, branch_else, while_loop, do_loop, for_loop, break_at, continue_at, gives, Statements, no_statement, and_statement}
 use Rattle.flow_lower.specs.Kept.{kept, maybe_kept, statements_kept}
 use Rattle.flow_lower.specs.Sizes.{exp_size, maybe_size, test_size, statements_size}
 use Rattle.flow_lower.specs.Loops.{lowered_size, register_of, bound_of, limit_of, step_of, loop_of, statement_loops, statements_loops}
@@ -85,7 +85,8 @@ module _ (g : FlowFunction) (rs : List Bool) (os fs : ℕ) (few : length rs ≤ 
     pub statement_fits : (s : Statement) (pc : ℕ) → IsWithinStatement rs os fs s → pc + lowered_size s ≤ length g.instrs → loops_fit g (statement_loops s pc) ≡ true
     statement_fits (block ss) pc w le = statements_fit ss pc w le
     statement_fits (compute e) pc w le = refl
-    statement_fits (branch e a b at) pc w le =
+    statement_fits (branch e a at) pc w le = statement_fits a (pc + exp_size (kept e) + 1) w.1 (omega (arith, le))
+    statement_fits (branch_else e a b at) pc w le =
         let yes' = pc + exp_size (kept e) + 1 in
         let no' = yes' + lowered_size a + 1 in
         joined (statement_loops a yes') (statement_loops b no') (statement_fits a yes' w.1 (omega (arith, le))) (statement_fits b no' w.2 (omega (arith, le)))

@@ -12,7 +12,7 @@ use Rattle.flow_code.specs.Threads.{Object, object, object_of, and_objects, obje
 use Rattle.abstract_machine.specs.Cells.{size_of}
 use Rattle.rr_base.specs.declared.position.Position.{Position}
 use Rattle.c_core.specs.Core as core
-use Rattle.c_core.specs.Core.{Exp, null, load, unary, binary, move, advance, member, between, to_pointer, to_number, copy, both, either, conditional, comma, set_register, store, change_register, change_cell, call, library, allocate, Exps, no_exp, and_exp, Statement, block, compute, branch, while_loop, do_loop, for_loop, break_at, continue_at, gives, Statements, no_statement, and_statement, Arrival, arrives}
+use Rattle.c_core.specs.Core.{Exp, null, load, unary, binary, move, advance, member, between, to_pointer, to_number, copy, both, either, conditional, comma, set_register, store, change_register, change_cell, call, library, allocate, Exps, no_exp, and_exp, Statement, block, compute, branch, branch_else, while_loop, do_loop, for_loop, break_at, continue_at, gives, Statements, no_statement, and_statement, Arrival, arrives}
 use Rattle.c_core.specs.Meaning.{made_objects, with_first, listed_word}
 use Rattle.flow_lower.specs.Lowered.{instr, one, computes, gives_nothing, library_code, width, exp_size, exp_code, exps_code, value_registers, statement_kinds, statement_size, statement_code, statements_code, objects_code, arrivals_code}
 use Rattle.flow_lower.proofs.Machine.{same_register, other_register}
@@ -76,7 +76,8 @@ mutual
   pub statement_begins : (first : ℕ) (a : Statement) (r pc out on : ℕ) (rest : List Instr) → Begins rest → Begins (statement_code first a r pc out on ++ rest)
   statement_begins first (block ss) r pc out on rest h = statements_begin first ss r pc out on rest h
   statement_begins first (compute e) r pc out on rest h = begins_append (exp_code first e r pc) rest (exp_begins first e r pc) h
-  statement_begins first (branch e a b at) r pc out on rest h = begins_append (statement_code first (branch e a b at) r pc out on) rest (begins_append (exp_code first e r pc) _ (exp_begins first e r pc) refl) h
+  statement_begins first (branch e a at) r pc out on rest h = begins_append (statement_code first (branch e a at) r pc out on) rest (begins_append (exp_code first e r pc) _ (exp_begins first e r pc) refl) h
+  statement_begins first (branch_else e a b at) r pc out on rest h = begins_append (statement_code first (branch_else e a b at) r pc out on) rest (begins_append (exp_code first e r pc) _ (exp_begins first e r pc) refl) h
   statement_begins first (while_loop e a at) r pc out on rest h = refl
   statement_begins first (do_loop a e at) r pc out on rest h = refl
   statement_begins first (for_loop start test step a at) r pc out on rest h =

@@ -16,7 +16,7 @@ use Rattle.abstract_machine.specs.Cells.{size_of}
 use Rattle.flow_code.specs.Valid.{is_valid}
 use Rattle.rr_base.specs.declared.position.Position.{Position}
 use Rattle.c_core.specs.declared.value.Change.TheVariants as change
-use Rattle.c_core.specs.Core.{Exp, number, null, register, global, load, binary, copy, both, set_register, store, change_register, call, library, no_exp, and_exp, Statement, block, compute, while_loop, for_loop, break_at, gives, no_statement, and_statement, Function, Program}
+use Rattle.c_core.specs.Core.{Exp, number, null, register, global, load, binary, copy, both, set_register, store, change_register, call, library, no_exp, and_exp, Statement, block, compute, branch, branch_else, while_loop, for_loop, break_at, gives, no_statement, and_statement, Function, Program}
 use Rattle.c_core.specs.Meaning.{is_main}
 use Rattle.flow_lower.specs.Lowered.{lowered, body_code, function_code}
 use Rattle.flow_lower.specs.Sound.{IsAddress, IsSoundExp, IsSoundFunction, LiesAt, IsSound}
@@ -106,6 +106,27 @@ pub loop_code : acts_of (while_loop (both (register 0 false (at 3)) (number (pos
     ∷ act.Return None
     ∷ []
 loop_code = refl
+
+-- if (n) n = 1; the branch goes right behind the first part
+pub if_code : acts_of (branch (register 0 false (at 3)) (compute (set_register 0 (number (pos 1) (at 3)) (at 3))) (at 3)) ≡
+    act.Branch 0 1 4
+    ∷ act.Compute 2 (work.Constant (pos 1))
+    ∷ act.Compute 0 (work.Copy 2)
+    ∷ act.Compute 1 (work.Copy 2)
+    ∷ act.Return None
+    ∷ []
+if_code = refl
+
+-- if (n) n = 1; else {} with a jump over the second part, though nothing is in it
+pub if_else_code : acts_of (branch_else (register 0 false (at 3)) (compute (set_register 0 (number (pos 1) (at 3)) (at 3))) (block no_statement) (at 3)) ≡
+    act.Branch 0 1 5
+    ∷ act.Compute 2 (work.Constant (pos 1))
+    ∷ act.Compute 0 (work.Copy 2)
+    ∷ act.Compute 1 (work.Copy 2)
+    ∷ act.Jump 5
+    ∷ act.Return None
+    ∷ []
+if_else_code = refl
 
 abbrev loops_of : Statement → List LoopInfo
 loops_of body = (function_code (main_of body)).loops

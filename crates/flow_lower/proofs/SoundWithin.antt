@@ -4,7 +4,7 @@ use Rattle.std.specs.List.{position_or_len}
 use Rattle.std.proofs.lemmas.Bool.{ltb-true}
 use Rattle.std.proofs.lemmas.Option.{slice_get_within}
 use Rattle.c_core.specs.Core as core
-use Rattle.c_core.specs.Core.{Exp, null, load, unary, binary, move, advance, member, between, to_pointer, to_number, copy, both, either, conditional, comma, set_register, store, change_register, change_cell, call, library, allocate, Exps, no_exp, and_exp, Statement, block, compute, branch, while_loop, do_loop, for_loop, break_at, continue_at, gives, Statements, no_statement, and_statement, Arrival, arrives, Function, Program}
+use Rattle.c_core.specs.Core.{Exp, null, load, unary, binary, move, advance, member, between, to_pointer, to_number, copy, both, either, conditional, comma, set_register, store, change_register, change_cell, call, library, allocate, Exps, no_exp, and_exp, Statement, block, compute, branch, branch_else, while_loop, do_loop, for_loop, break_at, continue_at, gives, Statements, no_statement, and_statement, Arrival, arrives, Function, Program}
 use Rattle.c_core.specs.Meaning.{is_main}
 use Rattle.flow_lower.specs.Within.{IsWithinExp, AreWithin, IsWithinMaybe, IsWithinStatement, AreWithinStatements, AreWithinArrivals, IsWithinFunction, IsWithin}
 use Rattle.flow_lower.specs.Sound.{IsSoundExp, AreSound, IsSoundMaybe, IsSoundResult, IsSoundStatement, AreSoundStatements, IsSoundArrival, IsSoundFunction, IsSound}
@@ -64,7 +64,8 @@ module _ (p : Program) (home : ℕ → Option ℕ) (f : Function) where
     pub statement_within : (a : Statement) → IsSoundStatement p home f a → IsWithinStatement rs os fs a
     statement_within (block ss) s = statements_within ss s
     statement_within (compute e) s = exp_within e s
-    statement_within (branch e a b at) s = (exp_within e s.0, statement_within a s.1, statement_within b s.2)
+    statement_within (branch e a at) s = (exp_within e s.0, statement_within a s.1)
+    statement_within (branch_else e a b at) s = (exp_within e s.0, statement_within a s.1, statement_within b s.2)
     statement_within (while_loop e a at) s = (exp_within e s.0, statement_within a s.1)
     statement_within (do_loop a e at) s = (statement_within a s.0, exp_within e s.1)
     statement_within (for_loop start test step a at) s = (statement_within start s.0, maybe_within test s.1, maybe_within step s.2, statement_within a s.3)

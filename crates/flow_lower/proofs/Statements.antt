@@ -5,7 +5,7 @@ use Rattle.flow_code.specs.declared.act.Act.TheVariants as act
 use Rattle.flow_code.specs.declared.act.Instr.{Instr}
 use Rattle.flow_code.specs.Threads.{Frame, Thread}
 use Rattle.rr_base.specs.declared.position.Position.{Position}
-use Rattle.c_core.specs.Core.{Exp, Statement, block, compute, branch, while_loop, do_loop, for_loop, break_at, continue_at, gives, Statements, no_statement, and_statement, Function, Program}
+use Rattle.c_core.specs.Core.{Exp, Statement, block, compute, branch, branch_else, while_loop, do_loop, for_loop, break_at, continue_at, gives, Statements, no_statement, and_statement, Function, Program}
 use Rattle.c_core.specs.Runs.{Run, State, M, pure}
 use Rattle.c_core.specs.Meaning as meaning
 use Rattle.c_core.specs.Meaning.{Calls, Flow, goes, breaks, continues, returns, if_goes, value, test_value, step_value}
@@ -117,8 +117,20 @@ module _ (p : Program) (s : SetupView) (t : ℕ) (i : ℕ) (f : Function) (is : 
       lead_all (r + length (statement_kinds a)) (pc + statement_size a) out on (behind_statement a r pc out on _ code) (has_back kinds r (statement_kinds a) (statements_kinds ss) ks) (omega (arith, le)) k o σ' place' shows (λ q fl σ'' x.
       go q fl σ'' (ends_on m o q σ'' fl (pc + statement_size a + statements_size ss) (pc + (statement_size a + statements_size ss)) out on (omega arith) later x))) go)
 
-  branch_leads : (e : Exp) (a b : Statement) (at : Position) → Follow e → Leads a → Leads b → Leads (branch e a b at)
-  branch_leads e a b at w leads_a leads_b r pc out on code ks le k m σ place h go =
+  branch_leads : (e : Exp) (a : Statement) (at : Position) → Follow e → Leads a → Leads (branch e a at)
+  branch_leads e a at w leads r pc out on code ks le k m σ place h go =
+      let yes' = pc + exp_size e + 1 in
+      let no' = yes' + statement_size a in
+      let end = pc + (exp_size e + (1 + statement_size a)) in
+      let is_end : no' ≡ end = omega arith in
+      test_follows e at r pc no' _ w code (has_front kinds r (exp_kinds e) _ ks) le _ _ k m σ place h
+      (λ o σ' place' shows later.
+      leads (r + width e) yes' out on (behind_exp e r pc _ code).1 (has_back kinds r (exp_kinds e) (statement_kinds a) ks) (omega (arith, le)) _ o σ' place' shows
+      (λ q fl σ'' x. go q fl σ'' (ends_on m o q σ'' fl no' end out on is_end later x)))
+      (λ o σ' place' shows later. go o goes σ' (record { reached = place' ∙ is_end; shows = shows; later = later }))
+
+  branch_else_leads : (e : Exp) (a b : Statement) (at : Position) → Follow e → Leads a → Leads b → Leads (branch_else e a b at)
+  branch_else_leads e a b at w leads_a leads_b r pc out on code ks le k m σ place h go =
       let yes' = pc + exp_size e + 1 in
       let no' = yes' + statement_size a + 1 in
       let x_a = r + width e in
@@ -238,7 +250,8 @@ module _ (p : Program) (s : SetupView) (t : ℕ) (i : ℕ) (f : Function) (is : 
     pub statement_leads : (a : Statement) → Within a → Leads (statement_kept a)
     statement_leads (block ss) w = statements_lead ss w
     statement_leads (compute e) w = compute_leads (kept e) (follow e w)
-    statement_leads (branch e a b at) w = branch_leads (kept e) (statement_kept a) (statement_kept b) at (follow e w.0) (statement_leads a w.1) (statement_leads b w.2)
+    statement_leads (branch e a at) w = branch_leads (kept e) (statement_kept a) at (follow e w.0) (statement_leads a w.1)
+    statement_leads (branch_else e a b at) w = branch_else_leads (kept e) (statement_kept a) (statement_kept b) at (follow e w.0) (statement_leads a w.1) (statement_leads b w.2)
     statement_leads (while_loop e a at) w = while_leads (kept e) (statement_kept a) at (follow e w.0) (statement_leads a w.1)
     statement_leads (do_loop a e at) w = do_leads (statement_kept a) (kept e) at (follow e w.1) (statement_leads a w.0)
     statement_leads (for_loop start test step a at) w = for_leads (statement_kept start) (maybe_kept test) (maybe_kept step) (statement_kept a) at (may_follow test w.1) (may_follow step w.2) (statement_leads start w.0) (statement_leads a w.3)

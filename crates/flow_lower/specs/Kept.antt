@@ -3,7 +3,7 @@
 use Rattle.std.specs.Prelude.{ℕ, ◌==◌, ◌||◌, Bool, false, if◌then◌else◌, Option, Some, None}
 use Rattle.rr_base.specs.declared.position.Position.{Position}
 use Rattle.c_core.specs.Core as core
-use Rattle.c_core.specs.Core.{Exp, null, register, object, global, load, unary, binary, move, advance, member, between, to_pointer, to_number, copy, both, either, conditional, comma, set_register, store, change_register, change_cell, call, library, allocate, Exps, no_exp, and_exp, Statement, block, compute, branch, while_loop, do_loop, for_loop, break_at, continue_at, gives, Statements, no_statement, and_statement}
+use Rattle.c_core.specs.Core.{Exp, null, register, object, global, load, unary, binary, move, advance, member, between, to_pointer, to_number, copy, both, either, conditional, comma, set_register, store, change_register, change_cell, call, library, allocate, Exps, no_exp, and_exp, Statement, block, compute, branch, branch_else, while_loop, do_loop, for_loop, break_at, continue_at, gives, Statements, no_statement, and_statement}
 
 -- a part of the expression assigns register n
 abbrev mutual
@@ -99,7 +99,8 @@ abbrev mutual
   pub statement_kept : Statement → Statement
   statement_kept (block ss) = block (statements_kept ss)
   statement_kept (compute e) = compute (kept e)
-  statement_kept (branch e a b at) = branch (kept e) (statement_kept a) (statement_kept b) at
+  statement_kept (branch e a at) = branch (kept e) (statement_kept a) at
+  statement_kept (branch_else e a b at) = branch_else (kept e) (statement_kept a) (statement_kept b) at
   statement_kept (while_loop e a at) = while_loop (kept e) (statement_kept a) at
   statement_kept (do_loop a e at) = do_loop (statement_kept a) (kept e) at
   statement_kept (for_loop start test step a at) = for_loop (statement_kept start) (maybe_kept test) (maybe_kept step) (statement_kept a) at

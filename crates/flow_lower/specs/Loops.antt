@@ -8,7 +8,7 @@ use Rattle.flow_code.specs.declared.region.Bound.TheVariants as bound
 use Rattle.abstract_machine.specs.declared.operator.BinaryOp.TheVariants as binary_op
 use Rattle.c_core.specs.declared.value.Change.TheVariants as change
 use Rattle.c_core.specs.Core as core
-use Rattle.c_core.specs.Core.{Exp, register, binary, set_register, change_register, Statement, block, compute, branch, while_loop, do_loop, for_loop, break_at, continue_at, gives, Statements, no_statement, and_statement}
+use Rattle.c_core.specs.Core.{Exp, register, binary, set_register, change_register, Statement, block, compute, branch, branch_else, while_loop, do_loop, for_loop, break_at, continue_at, gives, Statements, no_statement, and_statement}
 use Rattle.flow_lower.specs.Kept.{kept, maybe_kept, statement_kept}
 use Rattle.flow_lower.specs.Sizes.{exp_size, maybe_size, test_size, statement_size}
 
@@ -70,7 +70,8 @@ abbrev mutual
   pub statement_loops : Statement → (pc : ℕ) → List LoopInfo
   statement_loops (block ss) pc = statements_loops ss pc
   statement_loops (compute e) pc = []
-  statement_loops (branch e a b at) pc =
+  statement_loops (branch e a at) pc = statement_loops a (pc + exp_size (kept e) + 1)
+  statement_loops (branch_else e a b at) pc =
       let yes' = pc + exp_size (kept e) + 1 in
       statement_loops a yes' ++ statement_loops b (yes' + lowered_size a + 1)
   statement_loops (while_loop e a at) pc = statement_loops a (pc + 1 + exp_size (kept e) + 1)

@@ -14,7 +14,7 @@ use Rattle.c_core.specs.declared.value.UnaryOp.TheVariants as unary_op
 use Rattle.c_core.specs.declared.value.Change.{Change}
 use Rattle.c_core.specs.declared.value.Change.TheVariants as change
 use Rattle.c_core.specs.Core as core
-use Rattle.c_core.specs.Core.{Exp, null, register, object, global, load, unary, binary, move, advance, member, between, to_pointer, to_number, copy, both, either, conditional, comma, set_register, store, change_register, change_cell, call, library, allocate, Exps, no_exp, and_exp, Statement, block, compute, branch, while_loop, do_loop, for_loop, break_at, continue_at, gives, Statements, no_statement, and_statement, Arrival, arrives, Function, Program}
+use Rattle.c_core.specs.Core.{Exp, null, register, object, global, load, unary, binary, move, advance, member, between, to_pointer, to_number, copy, both, either, conditional, comma, set_register, store, change_register, change_cell, call, library, allocate, Exps, no_exp, and_exp, Statement, block, compute, branch, branch_else, while_loop, do_loop, for_loop, break_at, continue_at, gives, Statements, no_statement, and_statement, Arrival, arrives, Function, Program}
 use Rattle.c_core.specs.Meaning.{is_pointer, is_pointer_change}
 use Rattle.flow_lower.specs.Kept.{statement_kept}
 use Rattle.flow_lower.specs.Loops.{statement_loops}
@@ -78,7 +78,8 @@ abbrev mutual
   pub statement_kinds : Statement → List Bool
   statement_kinds (block ss) = statements_kinds ss
   statement_kinds (compute e) = exp_kinds e
-  statement_kinds (branch e a b at) = exp_kinds e ++ (statement_kinds a ++ statement_kinds b)
+  statement_kinds (branch e a at) = exp_kinds e ++ statement_kinds a
+  statement_kinds (branch_else e a b at) = exp_kinds e ++ (statement_kinds a ++ statement_kinds b)
   statement_kinds (while_loop e a at) = exp_kinds e ++ statement_kinds a
   statement_kinds (do_loop a e at) = statement_kinds a ++ exp_kinds e
   statement_kinds (for_loop start test step a at) = statement_kinds start ++ (maybe_kinds test ++ (statement_kinds a ++ maybe_kinds step))
@@ -191,7 +192,11 @@ abbrev mutual
   pub statement_code : (first : ℕ) → Statement → (r pc out on : ℕ) → List Instr
   statement_code first (block ss) r pc out on = statements_code first ss r pc out on
   statement_code first (compute e) r pc out on = exp_code first e r pc
-  statement_code first (branch e a b at) r pc out on =
+  -- nothing is jumped over behind it
+  statement_code first (branch e a at) r pc out on =
+      let yes' = pc + exp_size e + 1 in
+      exp_code first e r pc ++ (instr at (act.Branch (held first e r) yes' (yes' + statement_size a)) ∷ statement_code first a (r + width e) yes' out on)
+  statement_code first (branch_else e a b at) r pc out on =
       let yes' = pc + exp_size e + 1 in
       let no' = yes' + statement_size a + 1 in
       exp_code first e r pc ++ (instr at (act.Branch (held first e r) yes' no') ∷

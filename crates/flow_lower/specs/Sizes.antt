@@ -3,7 +3,7 @@ use Rattle.std.specs.Prelude.{ℕ, ◌+◌, Bool, true, false, if◌then◌else�
 use Rattle.abstract_machine.specs.declared.library_call.LibraryCall.{LibraryCall}
 use Rattle.abstract_machine.specs.declared.library_call.LibraryCall.TheVariants as library_call
 use Rattle.c_core.specs.Core as core
-use Rattle.c_core.specs.Core.{Exp, null, register, object, global, load, unary, binary, move, advance, member, between, to_pointer, to_number, copy, both, either, conditional, comma, set_register, store, change_register, change_cell, call, library, allocate, Exps, no_exp, and_exp, Statement, block, compute, branch, while_loop, do_loop, for_loop, break_at, continue_at, gives, Statements, no_statement, and_statement}
+use Rattle.c_core.specs.Core.{Exp, null, register, object, global, load, unary, binary, move, advance, member, between, to_pointer, to_number, copy, both, either, conditional, comma, set_register, store, change_register, change_cell, call, library, allocate, Exps, no_exp, and_exp, Statement, block, compute, branch, branch_else, while_loop, do_loop, for_loop, break_at, continue_at, gives, Statements, no_statement, and_statement}
 
 -- whether a call of the library gives nothing
 abbrev pub gives_nothing : LibraryCall → Bool
@@ -61,7 +61,8 @@ abbrev mutual
   pub statement_size : Statement → ℕ
   statement_size (block ss) = statements_size ss
   statement_size (compute e) = exp_size e
-  statement_size (branch e a b at) = exp_size e + (1 + (statement_size a + (1 + statement_size b)))
+  statement_size (branch e a at) = exp_size e + (1 + statement_size a)
+  statement_size (branch_else e a b at) = exp_size e + (1 + (statement_size a + (1 + statement_size b)))
   statement_size (while_loop e a at) = 1 + (exp_size e + (1 + (statement_size a + 1)))
   statement_size (do_loop a e at) = 1 + (statement_size a + (exp_size e + 1))
   statement_size (for_loop start test step a at) = statement_size start + (1 + (test_size test + (statement_size a + (maybe_size step + 1))))

@@ -17,7 +17,7 @@ use Rattle.c_core.specs.declared.value.UnaryOp.TheVariants as unary_op
 use Rattle.c_core.specs.declared.value.Change.{Change}
 use Rattle.c_core.specs.declared.value.Change.TheVariants as change
 use Rattle.c_core.specs.Core as core
-use Rattle.c_core.specs.Core.{Exp, null, register, object, global, load, unary, binary, move, advance, member, between, to_pointer, to_number, copy, both, either, conditional, comma, set_register, store, change_register, change_cell, call, library, allocate, Exps, no_exp, and_exp, Statement, block, compute, branch, while_loop, do_loop, for_loop, break_at, continue_at, gives, Statements, no_statement, and_statement, Arrival, arrives, Function, Program}
+use Rattle.c_core.specs.Core.{Exp, null, register, object, global, load, unary, binary, move, advance, member, between, to_pointer, to_number, copy, both, either, conditional, comma, set_register, store, change_register, change_cell, call, library, allocate, Exps, no_exp, and_exp, Statement, block, compute, branch, branch_else, while_loop, do_loop, for_loop, break_at, continue_at, gives, Statements, no_statement, and_statement, Arrival, arrives, Function, Program}
 use Rattle.c_core.specs.Meaning.{is_pointer, is_pointer_change, is_main}
 
 -- ---- kinds
@@ -126,7 +126,8 @@ module _ (p : Program) (home : ℕ → Option ℕ) (f : Function) where
     pub IsSoundStatement : Statement → Type 0
     IsSoundStatement (block ss) = AreSoundStatements ss
     IsSoundStatement (compute e) = IsSoundExp e
-    IsSoundStatement (branch e a b at) = IsSoundExp e × IsSoundStatement a × IsSoundStatement b
+    IsSoundStatement (branch e a at) = IsSoundExp e × IsSoundStatement a
+    IsSoundStatement (branch_else e a b at) = IsSoundExp e × IsSoundStatement a × IsSoundStatement b
     IsSoundStatement (while_loop e a at) = IsSoundExp e × IsSoundStatement a
     IsSoundStatement (do_loop a e at) = IsSoundStatement a × IsSoundExp e
     IsSoundStatement (for_loop start test step a at) = IsSoundStatement start × IsSoundMaybe test × IsSoundMaybe step × IsSoundStatement a

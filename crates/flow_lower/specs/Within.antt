@@ -1,7 +1,7 @@
 -- What a core tree names is there.
 use Rattle.std.specs.Prelude.{◌≡◌, ℕ, ◌<◌, Bool, List, [], ◌∷◌, length, slice_get, Option, Some, None}
 use Rattle.c_core.specs.Core as core
-use Rattle.c_core.specs.Core.{Exp, null, register, object, global, load, unary, binary, move, advance, member, between, to_pointer, to_number, copy, both, either, conditional, comma, set_register, store, change_register, change_cell, call, library, allocate, Exps, no_exp, and_exp, Statement, block, compute, branch, while_loop, do_loop, for_loop, break_at, continue_at, gives, Statements, no_statement, and_statement, Arrival, arrives, Function, Program}
+use Rattle.c_core.specs.Core.{Exp, null, register, object, global, load, unary, binary, move, advance, member, between, to_pointer, to_number, copy, both, either, conditional, comma, set_register, store, change_register, change_cell, call, library, allocate, Exps, no_exp, and_exp, Statement, block, compute, branch, branch_else, while_loop, do_loop, for_loop, break_at, continue_at, gives, Statements, no_statement, and_statement, Arrival, arrives, Function, Program}
 use Rattle.c_core.specs.Meaning.{main_of}
 
 -- Objects and functions, of which there are so many, and registers, of which it is told whether they are pointers. A register
@@ -47,7 +47,8 @@ abbrev mutual
   pub IsWithinStatement : (registers : List Bool) (objects functions : ℕ) → Statement → Type 0
   IsWithinStatement rs os fs (block ss) = AreWithinStatements rs os fs ss
   IsWithinStatement rs os fs (compute e) = IsWithinExp rs os fs e
-  IsWithinStatement rs os fs (branch e a b at) = IsWithinExp rs os fs e × IsWithinStatement rs os fs a × IsWithinStatement rs os fs b
+  IsWithinStatement rs os fs (branch e a at) = IsWithinExp rs os fs e × IsWithinStatement rs os fs a
+  IsWithinStatement rs os fs (branch_else e a b at) = IsWithinExp rs os fs e × IsWithinStatement rs os fs a × IsWithinStatement rs os fs b
   IsWithinStatement rs os fs (while_loop e a at) = IsWithinExp rs os fs e × IsWithinStatement rs os fs a
   IsWithinStatement rs os fs (do_loop a e at) = IsWithinStatement rs os fs a × IsWithinExp rs os fs e
   IsWithinStatement rs os fs (for_loop start test step a at) = IsWithinStatement rs os fs start × IsWithinMaybe rs os fs test × IsWithinMaybe rs os fs step × IsWithinStatement rs os fs a

@@ -188,7 +188,10 @@ pub fn push_statement_loops(
     match stmt {
         Statement::Block(stmts) => push_loops(stmts.as_slice(), place, out),
         Statement::Compute(value) => sum(place, value_size(value)?),
-        Statement::If { test, yes, no, .. } => {
+        Statement::If { test, yes, .. } => {
+            push_statement_loops(yes, behind_branch(place, test)?, out)
+        }
+        Statement::IfElse { test, yes, no, .. } => {
             let jump = push_statement_loops(yes, behind_branch(place, test)?, out)?;
             push_statement_loops(no, sum(jump, 1)?, out)
         }

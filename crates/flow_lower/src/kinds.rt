@@ -288,7 +288,11 @@ pub fn push_statement_kinds(stmt: &Statement, out: &mut List<bool>) -> Result<()
     match stmt {
         Statement::Block(stmts) => push_statements_kinds(stmts.as_slice(), out),
         Statement::Compute(value) => push_kinds(value, out),
-        Statement::If { test, yes, no, .. } => {
+        Statement::If { test, yes, .. } => {
+            push_kinds(test, out)?;
+            push_statement_kinds(yes, out)
+        }
+        Statement::IfElse { test, yes, no, .. } => {
             push_kinds(test, out)?;
             push_statement_kinds(yes, out)?;
             push_statement_kinds(no, out)

@@ -226,7 +226,8 @@ pub fn statement_size(stmt: &Statement) -> Result<u32, AllocError>
     match stmt {
         Statement::Block(stmts) => statements_size(stmts.as_slice()),
         Statement::Compute(value) => value_size(value),
-        Statement::If { test, yes, no, .. } => {
+        Statement::If { test, yes, .. } => sum_of(value_size(test)?, 1, statement_size(yes)?),
+        Statement::IfElse { test, yes, no, .. } => {
             let rest = sum_of(statement_size(yes)?, 1, statement_size(no)?)?;
             sum_of(value_size(test)?, 1, rest)
         }

@@ -123,6 +123,14 @@ fn push_return(
     }
 }
 
+/// Where an `if` without `else` ends.
+fn end_of_if(place: u32, test: &Value, yes: &Statement) -> Result<u32, AllocError>
+    ensures { IfOk result (λ n. n ≡ place + spec.exp_size (kept (exp_of test.now)) + 1 + spec.statement_size (statement_kept (stmt_of yes.now))) }
+{
+    let then_at = sum(sum(place, value_size(test)?)?, 1)?;
+    sum(then_at, statement_size(yes)?)
+}
+
 /// Where the second branch of an `if` begins, and where it ends.
 fn places_of_if(
     place: u32,
@@ -182,8 +190,26 @@ struct Head {
     inside: Around,
 }
 
-/// The condition of an `if`, and where its second branch ends.
+/// The condition of an `if` without `else`: its branch goes right behind the statement.
 fn push_if_head(
+    alloc: Global,
+    first: u32,
+    test: &Value,
+    yes: &Statement,
+    at: Position,
+    from: Next,
+    out: &mut List<Instr>,
+) -> Result<Next, AllocError>
+    ensures register { IfOk result (λ n. n.register ≡ from.register + spec.width (kept (exp_of test.now))) }
+    ensures place { IfOk result (λ n. n.place ≡ from.place + spec.exp_size (kept (exp_of test.now)) + 1) }
+    ensures out { OnOk result (out.new ≡ out.old ++ (spec.exp_code first (kept (exp_of test.now)) from.register from.place ++ spec.one at (act.Branch (spec.held first (kept (exp_of test.now)) from.register) (from.place + spec.exp_size (kept (exp_of test.now)) + 1) (from.place + spec.exp_size (kept (exp_of test.now)) + 1 + spec.statement_size (statement_kept (stmt_of yes.now)))))) }
+{
+    let else_at = end_of_if(from.place, test, yes)?;
+    push_condition(alloc, first, test, at, from, else_at, out)
+}
+
+/// The condition of an `if` with `else`, and where its second branch ends.
+fn push_if_else_head(
     alloc: Global,
     first: u32,
     test: &Value,
@@ -308,8 +334,12 @@ pub fn push_statement(
             push_statements(alloc, first, stmts.as_slice(), from, around, out)
         }
         Statement::Compute(value) => Ok(push_value(alloc, first, value, from, out)?.behind),
-        Statement::If { test, yes, no, at } => {
-            let (inner, to) = push_if_head(alloc, first, test, yes, no, *at, from, out)?;
+        Statement::If { test, yes, at } => {
+            let inner = push_if_head(alloc, first, test, yes, *at, from, out)?;
+            push_statement(alloc, first, yes, inner, around, out)
+        }
+        Statement::IfElse { test, yes, no, at } => {
+            let (inner, to) = push_if_else_head(alloc, first, test, yes, no, *at, from, out)?;
             let behind = push_statement(alloc, first, yes, inner, around, out)?;
             let behind = push_last(out, *at, behind, Act::Jump { to })?;
             push_statement(alloc, first, no, behind, around, out)

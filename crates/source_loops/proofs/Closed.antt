@@ -9,7 +9,7 @@ use Rattle.flow_code.specs.declared.act.Instr.{Instr}
 use Rattle.flow_code.specs.declared.code.Function.{Function as FlowFunction}
 use Rattle.flow_code.specs.declared.code.LoopInfo.{LoopInfo}
 use Rattle.flow_code.specs.declared.region.Bound.{Bound}
-use Rattle.c_core.specs.Core.{Exp, Function, Program, Statement, block, compute, branch, while_loop, do_loop, for_loop, break_at, continue_at, gives, Statements, no_statement, and_statement}
+use Rattle.c_core.specs.Core.{Exp, Function, Program, Statement, block, compute, branch, branch_else, while_loop, do_loop, for_loop, break_at, continue_at, gives, Statements, no_statement, and_statement}
 use Rattle.flow_lower.specs.Kept.{kept, maybe_kept, statement_kept, statements_kept}
 use Rattle.flow_lower.specs.Sizes.{exp_size, maybe_size, test_size, statement_size, statements_size}
 use Rattle.flow_lower.specs.Loops.{lowered_size, limit_of, step_of, loop_of, statement_loops, statements_loops}
@@ -143,7 +143,17 @@ module _ (first : ℕ) where
     statement_closed : (s : Statement) (r pc out on : ℕ) → pc + lowered_size s ≤ out → pc + lowered_size s ≤ on → Each (IsKept pc (statement_code first (statement_kept s) r pc out on)) (statement_loops s pc)
     statement_closed (block ss) r pc out on o c = statements_closed ss r pc out on o c
     statement_closed (compute e) r pc out on o c = tt
-    statement_closed (branch e a b at) r pc out on o c =
+    statement_closed (branch e a at) r pc out on o c =
+        let e' = kept e in
+        let a' = statement_kept a in
+        let yes' = pc + exp_size e' + 1 in
+        let code_a = statement_code first a' (r + width e') yes' out on in
+        let choice = instr at (act.Branch (held first e' r) yes' (yes' + statement_size a')) in
+        let ls = statement_loops a yes' in
+        after pc (pc + exp_size e') (exp_code first e' r pc) (choice ∷ code_a) ls (omega (arith, exp_length first e' r pc))
+        (after (pc + exp_size e') yes' (choice ∷ []) code_a ls (omega arith)
+        (statement_closed a (r + width e') yes' out on (omega (arith, o)) (omega (arith, c))))
+    statement_closed (branch_else e a b at) r pc out on o c =
         let e' = kept e in
         let a' = statement_kept a in
         let b' = statement_kept b in

@@ -8,7 +8,7 @@ use Rattle.flow_code.specs.declared.work.Work.TheVariants as work
 use Rattle.abstract_machine.specs.declared.library_call.LibraryCall.{LibraryCall}
 use Rattle.rr_base.specs.declared.position.Position.{Position}
 use Rattle.c_core.specs.Core as core
-use Rattle.c_core.specs.Core.{Exp, null, load, unary, binary, move, advance, member, between, to_pointer, to_number, copy, both, either, conditional, comma, set_register, store, change_register, change_cell, call, library, allocate, Exps, no_exp, and_exp, Statement, block, compute, branch, while_loop, do_loop, for_loop, break_at, continue_at, gives, Statements, no_statement, and_statement}
+use Rattle.c_core.specs.Core.{Exp, null, load, unary, binary, move, advance, member, between, to_pointer, to_number, copy, both, either, conditional, comma, set_register, store, change_register, change_cell, call, library, allocate, Exps, no_exp, and_exp, Statement, block, compute, branch, branch_else, while_loop, do_loop, for_loop, break_at, continue_at, gives, Statements, no_statement, and_statement}
 use Rattle.flow_lower.specs.Lowered.{held, instr, one, computes, gives_nothing, library_code, truth_code, width, value_registers, exp_size, exps_size, maybe_size, test_size, statement_size, statements_size, exp_code, exps_code, maybe_code, test_code, return_code, statement_kinds, maybe_kinds, statement_code, statements_code}
 
 -- each place to which the act may jump is such a one
@@ -111,7 +111,13 @@ module _ (P : ℕ → Type 0) (lo hi : ℕ) (inside : (k : ℕ) → lo ≤ k →
     pub statement_jumps : (s : Statement) (r pc out on : ℕ) → lo ≤ pc → pc + statement_size s ≤ hi → P out → P on → Jumps P (statement_code first s r pc out on)
     statement_jumps (block ss) r pc out on l h o c = statements_jumps ss r pc out on l h o c
     statement_jumps (compute e) r pc out on l h o c = exp_jumps e r pc l h
-    statement_jumps (branch e a b at) r pc out on l h o c =
+    statement_jumps (branch e a at) r pc out on l h o c =
+        let yes' = pc + exp_size e + 1 in
+        joined P _ _ (exp_jumps e r pc l (omega (arith, h))) (
+          (inside yes' (omega (arith, l)) (omega (arith, h)), inside (yes' + statement_size a) (omega (arith, l)) (omega (arith, h))),
+          statement_jumps a (r + width e) yes' out on (omega (arith, l)) (omega (arith, h)) o c,
+        )
+    statement_jumps (branch_else e a b at) r pc out on l h o c =
         let yes' = pc + exp_size e + 1 in
         let no' = yes' + statement_size a + 1 in
         joined P _ _ (exp_jumps e r pc l (omega (arith, h))) (

@@ -6,7 +6,7 @@ use Rattle.std.proofs.lemmas.Bool.Decides.{nat_tests}
 use Rattle.flow_code.specs.declared.code.Function.{Function as FlowFunction}
 use Rattle.flow_code.specs.declared.code.LoopInfo.{LoopInfo}
 use Rattle.flow_code.specs.declared.region.Bound.{Bound}
-use Rattle.c_core.specs.Core.{Exp, Function, Program, Statement, block, compute, branch, while_loop, do_loop, for_loop, break_at, continue_at, gives, Statements, no_statement, and_statement}
+use Rattle.c_core.specs.Core.{Exp, Function, Program, Statement, block, compute, branch, branch_else, while_loop, do_loop, for_loop, break_at, continue_at, gives, Statements, no_statement, and_statement}
 use Rattle.flow_lower.specs.Kept.{kept, maybe_kept, statements_kept}
 use Rattle.flow_lower.specs.Sizes.{exp_size, maybe_size, test_size, statements_size}
 use Rattle.flow_lower.specs.Loops.{lowered_size, limit_of, step_of, loop_of, statement_loops, statements_loops}
@@ -71,13 +71,16 @@ mutual
   statement_between : (s : Statement) (pc : ℕ) → Between pc (pc + lowered_size s) (statement_loops s pc)
   statement_between (block ss) pc = statements_between ss pc
   statement_between (compute e) pc = omega arith
-  statement_between (branch e a b at) pc =
+  statement_between (branch e a at) pc =
+      let body = pc + exp_size (kept e) + 1 in
+      sooner pc body (pc + lowered_size (branch e a at)) (statement_loops a body) (omega arith) (later body (body + lowered_size a) (pc + lowered_size (branch e a at)) (statement_loops a body) (omega arith) (statement_between a body))
+  statement_between (branch_else e a b at) pc =
       let yes' = pc + exp_size (kept e) + 1 in
       let no' = yes' + lowered_size a + 1 in
-      sooner pc yes' (pc + lowered_size (branch e a b at)) (statement_loops a yes' ++ statement_loops b no') (omega arith)
-      (joined yes' no' (pc + lowered_size (branch e a b at)) (statement_loops a yes') (statement_loops b no')
+      sooner pc yes' (pc + lowered_size (branch_else e a b at)) (statement_loops a yes' ++ statement_loops b no') (omega arith)
+      (joined yes' no' (pc + lowered_size (branch_else e a b at)) (statement_loops a yes') (statement_loops b no')
       (later yes' (yes' + lowered_size a) no' (statement_loops a yes') (omega arith) (statement_between a yes'))
-      (later no' (no' + lowered_size b) (pc + lowered_size (branch e a b at)) (statement_loops b no') (omega arith) (statement_between b no')))
+      (later no' (no' + lowered_size b) (pc + lowered_size (branch_else e a b at)) (statement_loops b no') (omega arith) (statement_between b no')))
   statement_between (while_loop e a at) pc =
       let body = pc + 1 + exp_size (kept e) + 1 in
       sooner pc body (pc + lowered_size (while_loop e a at)) (statement_loops a body) (omega arith) (later body (body + lowered_size a) (pc + lowered_size (while_loop e a at)) (statement_loops a body) (omega arith) (statement_between a body))

@@ -27,7 +27,7 @@ use Rattle.abstract_machine.specs.Limits.{most_frames}
 use Rattle.flow_lower.proofs.Calls.{IsPlain, plain_due}
 use Rattle.abstract_machine.proofs.Calls.{CallOperates, goes as goes_on, ends_slot, leaves_all, CallGoes, call_goes}
 use Rattle.c_core.specs.Core as core
-use Rattle.c_core.specs.Core.{Exp, null, register, object, global, load, unary, binary, move, advance, member, between, to_pointer, to_number, copy, both, either, conditional, comma, set_register, store, change_register, change_cell, call, library, allocate, Exps, no_exp, and_exp, Statement, block, compute, branch, while_loop, do_loop, for_loop, break_at, continue_at, gives, Statements, no_statement, and_statement, Arrival, arrives, Function, Program}
+use Rattle.c_core.specs.Core.{Exp, null, register, object, global, load, unary, binary, move, advance, member, between, to_pointer, to_number, copy, both, either, conditional, comma, set_register, store, change_register, change_cell, call, library, allocate, Exps, no_exp, and_exp, Statement, block, compute, branch, branch_else, while_loop, do_loop, for_loop, break_at, continue_at, gives, Statements, no_statement, and_statement, Arrival, arrives, Function, Program}
 use Rattle.c_core.specs.Runs.{Run, does, traps, ends, State, M, counted, is_free, printing, event, choose, result_at}
 use Rattle.c_core.specs.Meaning as meaning
 use Rattle.c_core.specs.Meaning.{Flow, goes, breaks, continues, returns, if_goes, if_turns, Calls, made_objects, arena_end, is_main, line_given, word_given, line_of_function, entered}
@@ -258,7 +258,8 @@ module _ (p : Program) (s : SetupView) (t : ℕ) where
       meaning_proper : (a : Statement) → Keeps (meaning.meaning p s t calls a)
       meaning_proper (block ss) σ k h = meanings_proper ss σ k h
       meaning_proper (compute e) σ k h = value_proper calls keep e σ _ (λ w σ1. h goes σ1)
-      meaning_proper (branch e a b at) σ k h = value_proper calls keep e σ _ (λ w σ1. choose_proper w _ _ (meaning_proper a) (meaning_proper b) σ1 k h)
+      meaning_proper (branch e a at) σ k h = value_proper calls keep e σ _ (λ w σ1. choose_proper w _ _ (meaning_proper a) (λ σ2 k2 h2. h2 goes σ2) σ1 k h)
+      meaning_proper (branch_else e a b at) σ k h = value_proper calls keep e σ _ (λ w σ1. choose_proper w _ _ (meaning_proper a) (meaning_proper b) σ1 k h)
       meaning_proper (while_loop e a at) σ k h = turns_proper s.limit at.line _ _ _ (value_proper calls keep e) (meaning_proper a) (λ σ1 k1 h1. h1 0 σ1) σ k h
       meaning_proper (do_loop a e at) σ k h = turns_behind_proper s.limit at.line _ _ (meaning_proper a) (value_proper calls keep e) σ k h
       meaning_proper (for_loop start test step a at) σ k h =
