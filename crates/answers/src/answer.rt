@@ -3,7 +3,6 @@
 ghost use Rattle.std.specs.Prelude.{◌≡◌, ◌++◌, [], decimal, codes, IfOk, OnOk};
 ghost use Rattle.answers.specs.Answers as spec;
 
-use itoa::Buffer;
 use rr_base::{Bytes, List, Trap};
 use std::alloc::{AllocError, Global};
 
@@ -77,9 +76,7 @@ impl Answer {
 pub(crate) fn push_numbered(out: &mut Bytes, word: &[u8], n: u32) -> Result<(), AllocError>
     ensures { OnOk result (out.new ≡ out.old ++ (word.now ++ decimal n)) }
 {
-    let mut buffer = Buffer::new();
-    out.extend_from_slice(word)?;
-    out.extend_from_slice(buffer.format(n).as_bytes())
+    number_text::push_numbered(out, word, u64::from(n))
 }
 
 fn push_source_refused(

@@ -1,5 +1,5 @@
 // The text of lines.
-ghost use Rattle.std.specs.Prelude.{◌≡◌, ◌∷◌, ◌++◌, [], decimal, IfOk, OnOk};
+ghost use Rattle.std.specs.Prelude.{◌≡◌, ◌∷◌, ◌++◌, [], IfOk, OnOk};
 ghost use Rattle.listing.specs.Text as listing;
 
 use crate::line::{Line, Shown};
@@ -7,18 +7,9 @@ use crate::lines::sorted;
 use abstract_machine::site_at;
 use facts::Pair;
 use flow_code::Code;
-use itoa::Buffer;
+use number_text::push_numbered;
 use rr_base::{Bytes, List, Place};
 use std::alloc::{AllocError, Global};
-
-/// A number behind a word.
-pub(crate) fn push_numbered(out: &mut Bytes, word: &[u8], number: u64) -> Result<(), AllocError>
-    ensures { OnOk result (out.new ≡ out.old ++ (word.now ++ decimal number)) }
-{
-    let mut buffer = Buffer::new();
-    out.extend_from_slice(word)?;
-    out.extend_from_slice(buffer.format(number).as_bytes())
-}
 
 /// A place by the name of its site, and its class.
 pub(crate) fn push_place(out: &mut Bytes, code: &Code, place: Place) -> Result<(), AllocError>

@@ -6,9 +6,10 @@ ghost use Rattle.listing.specs.WeakText as listing;
 
 use crate::line::Shown;
 use crate::lines::shown;
-use crate::text::{kind, push_numbered, push_place};
+use crate::text::{kind, push_place};
 use facts::AccessAt;
 use flow_code::{Code, LockInfo};
+use number_text::push_numbered;
 use rr_base::{Bytes, List, Place};
 use std::alloc::{AllocError, Global};
 use weak_facts::{Grain, Grained};

@@ -7,7 +7,6 @@ ghost use Rattle.order_log.specs.Text.{number_text, hex_digit, hex_text, object_
 use crate::log::Log;
 use crate::operation::op_text;
 use facts::Profile;
-use itoa::Buffer;
 use rr_base::{Bytes, List};
 use std::alloc::{AllocError, Global};
 use sync_objects::{Entry, ObjId};
@@ -16,9 +15,7 @@ use sync_objects::{Entry, ObjId};
 fn push_numbered(out: &mut Bytes, word: &[u8], n: u64) -> Result<(), AllocError>
     ensures { OnOk result (out.new ≡ out.old ++ (word.now ++ number_text n)) }
 {
-    let mut buffer = Buffer::new();
-    out.extend_from_slice(word)?;
-    out.extend_from_slice(buffer.format(n).as_bytes())
+    number_text::push_numbered(out, word, n)
 }
 
 // A number behind a word, alone in its line.

@@ -2,7 +2,6 @@
 ghost use Rattle.std.specs.Prelude.{◌≡◌, ◌≤◌, ◌++◌, ◌+◌, ◌*◌, ◌∷◌, [], length, map, sum_by, decimal, IfOk, OnOk};
 ghost use Rattle.workload.specs.Program as program;
 
-use itoa::Buffer;
 use rr_base::{Bytes, List};
 use std::alloc::{AllocError, Global};
 
@@ -10,9 +9,7 @@ use std::alloc::{AllocError, Global};
 fn push_numbered(out: &mut Bytes, word: &[u8], number: u32) -> Result<(), AllocError>
     ensures { OnOk result (out.new ≡ out.old ++ (word.now ++ decimal number)) }
 {
-    let mut buffer = Buffer::new();
-    out.extend_from_slice(word)?;
-    out.extend_from_slice(buffer.format(number).as_bytes())
+    number_text::push_numbered(out, word, u64::from(number))
 }
 
 fn push_function(out: &mut Bytes, number: u32) -> Result<(), AllocError>
