@@ -1,4 +1,7 @@
 pub mod Cells
+pub mod Entries
+pub mod Kinds
+pub mod Layouts
 pub mod Library
 pub mod Limits
 pub mod Operators

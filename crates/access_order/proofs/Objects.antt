@@ -13,7 +13,7 @@ use Rattle.flow_code.specs.Valid.{is_valid}
 use Rattle.flow_code.proofs.Runnable.{valid_runnable}
 use Rattle.facts.specs.declared.locks.Summary.{Summary}
 use Rattle.facts.specs.declared.pair.Pair.{Pair}
-use Rattle.facts.specs.declared.profile.Profile.{Profile}
+use Rattle.profiles.specs.declared.profile.Profile.{Profile}
 use Rattle.facts.specs.Pairs.{MayRace, ArePairs, places_of}
 use Rattle.facts.specs.PointsTo.{Tables, IsPointsTo, element_of, place}
 use Rattle.facts.specs.Summaries.{AreSummaries}

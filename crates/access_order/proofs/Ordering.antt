@@ -9,7 +9,7 @@ use Rattle.flow_code.specs.Valid.{is_valid}
 use Rattle.flow_code.proofs.Runnable.{valid_runnable}
 use Rattle.facts.specs.declared.locks.Summary.{Summary}
 use Rattle.facts.specs.declared.pair.Pair.{Pair}
-use Rattle.facts.specs.declared.profile.Profile.{Profile}
+use Rattle.profiles.specs.declared.profile.Profile.{Profile}
 use Rattle.facts.specs.Pairs.{ArePairs}
 use Rattle.facts.specs.PointsTo.{Tables, IsPointsTo}
 use Rattle.facts.specs.Summaries.{AreSummaries}

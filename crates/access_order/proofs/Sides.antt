@@ -19,7 +19,7 @@ use Rattle.flow_code.specs.Works.{is_pointer}
 use Rattle.facts.specs.Accesses.{access_of as code_access}
 use Rattle.facts.specs.declared.locks.Summary.{Summary}
 use Rattle.facts.specs.declared.pair.Pair.{Pair}
-use Rattle.facts.specs.declared.profile.Profile.{Profile}
+use Rattle.profiles.specs.declared.profile.Profile.{Profile}
 use Rattle.facts.specs.Pairs.{ArePairs, access_in, act_of, places_of}
 use Rattle.facts.specs.PointsTo.{Tables, IsPointsTo, element_of, place}
 use Rattle.facts.specs.Summaries.{AreSummaries, StandsAt}

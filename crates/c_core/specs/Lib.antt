@@ -1,4 +1,7 @@
 pub mod Core
 pub mod Meaning
 pub mod Runs
+pub mod Sound
+pub mod SourceRuns
 pub mod View
+pub mod Within

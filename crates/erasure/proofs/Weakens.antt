@@ -17,7 +17,7 @@ use Rattle.weak_code.proofs.Stripping.{strip-weakened}
 use Rattle.c_core.specs.Core.{Program}
 use Rattle.c_core.specs.Meaning as meaning
 use Rattle.flow_lower.specs.Lowered.{lowered}
-use Rattle.flow_lower.specs.Sound.{IsSound}
+use Rattle.c_core.specs.Sound.{IsSound}
 use Rattle.flow_lower.specs.Follows.{Follows}
 use Rattle.flow_lower.proofs.SoundWithin.{sound_within}
 use Rattle.flow_lower.proofs.Valid.{valid}
@@ -26,7 +26,7 @@ use Rattle.core_run.specs.Machine.{Told, start_thread, start_state}
 use Rattle.core_run.specs.Walks.{walk_of, out_of}
 use Rattle.runs.specs.Labels.{Label}
 use Rattle.runs.specs.Steps.{State}
-use Rattle.source_runs.specs.SourceRuns.{IsSourceRun, bytes_of}
+use Rattle.c_core.specs.SourceRuns.{IsSourceRun, bytes_of}
 use Rattle.source_runs.proofs.Proper.{HasEvents, run_proper}
 use Rattle.source_runs.proofs.Starts.{starts_run}
 use Rattle.erasure.specs.Erased.{erased_events, erased_walk, IsAnywhere}

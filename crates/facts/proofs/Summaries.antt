@@ -14,8 +14,8 @@ use Rattle.facts.specs.Locks.{is_less, is_same, has, are_ascending, minus_ascend
 use Rattle.facts.specs.Pairs.{pair_less, pairs_ascend, ArePairs}
 use Rattle.facts.specs.PointsTo.{Tables}
 use Rattle.facts.specs.Summaries.{ListsKnown, AllListsKnown, AreSolution, AreGreatest, in_order, guarded_less, guarded_ascend, IsSummary, AreSummaries}
-use Rattle.facts.proofs.Ascending as ascending
-use Rattle.facts.proofs.Ascending.{and_left, and_right}
+use Rattle.profiles.proofs.Ascending as ascending
+use Rattle.profiles.proofs.Ascending.{and_left, and_right}
 use Rattle.facts.proofs.Orders.{path_irr, path_trans, path_same, path_self, guarded_irr, guarded_trans, pair_irr, pair_trans}
 
 -- ---- sets of paths

@@ -7,7 +7,7 @@ use Rattle.rr_base.specs.declared.layout.Site.{Site}
 use Rattle.flow_code.specs.declared.code.Code.{Code}
 use Rattle.flow_code.specs.declared.code.Function.{Function}
 use Rattle.facts.specs.PointsTo.{is_before, are_ascending, Lists, Tables, list_at, IsPointsTo, classes_of}
-use Rattle.facts.proofs.Ascending as ascending
+use Rattle.profiles.proofs.Ascending as ascending
 
 irr : (p : Place) → is_before p p ≡ true → ⊥
 irr p e = absurd (grind (arith, e))

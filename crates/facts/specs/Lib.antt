@@ -6,5 +6,4 @@ pub mod Merges
 pub mod Pairs
 pub mod Paths
 pub mod PointsTo
-pub mod Profile
 pub mod Summaries

@@ -1,7 +1,6 @@
 //! The results of the analyses as types, each of which keeps what it is, and their definitions. It stands on `rr_base` and
-//! `flow_code`. It has profiles, whose pairs of functions always ascend; blocks of instructions, and the constants in them;
-//! points-to: its constraints and its answer; names of locks, relative locksets and summaries of functions; and pairs of
-//! accesses that may race. The answer of each analysis is the only one that its definition allows.
+//! `flow_code`. It has blocks of instructions, and the constants in them; points-to: its constraints and its answer; names of
+//! locks, relative locksets and summaries of functions; and pairs of accesses that may race. The answer of each analysis is the only one that its definition allows.
 #![tactic(auto)]
 
 mod access;
@@ -15,7 +14,6 @@ mod names;
 mod pair;
 mod paths;
 mod points;
-mod profile;
 mod relative;
 
 pub use access::{places_of, through};
@@ -28,4 +26,3 @@ pub use names::argument_names;
 pub use pair::{AccessAt, Pair};
 pub use paths::{add_path, add_paths, has_path, substitute};
 pub use points::PointsTo;
-pub use profile::{FunctionPairs, Profile};

@@ -5,17 +5,15 @@ use Rattle.flow_code.specs.declared.act.Act.{Act}
 use Rattle.flow_code.specs.declared.act.Act.TheVariants as act
 use Rattle.abstract_machine.specs.declared.library_call.LibraryCall.{LibraryCall}
 use Rattle.abstract_machine.specs.declared.library_call.LibraryCall.TheVariants as call
-use Rattle.abstract_machine.specs.declared.library_call.Piece.{Piece}
-use Rattle.abstract_machine.specs.declared.library_call.Piece.TheVariants as piece
 use Rattle.flow_code.specs.declared.code.Code.{Code}
 use Rattle.flow_code.specs.declared.code.Function.{Function}
 use Rattle.flow_code.specs.declared.work.Work.{Work}
 use Rattle.flow_code.specs.declared.work.Work.TheVariants as work
 use Rattle.abstract_machine.specs.declared.operator.BinaryOp.{BinaryOp}
-use Rattle.abstract_machine.specs.declared.operator.BinaryOp.TheVariants as op
 use Rattle.flow_code.specs.Works.{is_pointer}
 use Rattle.flow_code.specs.Threads.{is_main_in}
 use Rattle.abstract_machine.specs.Cells.{size_of}
+use Rattle.abstract_machine.specs.Kinds.{is_comparison, library_kinds}
 
 -- ---- registers
 
@@ -45,16 +43,6 @@ have_kinds f (r ∷ rs) (k ∷ ks) = has_kind f k r && have_kinds f rs ks
 have_kinds f _ _ = false
 
 -- ---- what an instruction computes (C99 6.5.2.3 to 6.5.12)
-
--- the comparisons, which take two pointers as well
-abbrev pub is_comparison : BinaryOp → Bool
-is_comparison op.Less = true
-is_comparison op.LessEqual = true
-is_comparison op.Greater = true
-is_comparison op.GreaterEqual = true
-is_comparison op.Equal = true
-is_comparison op.NotEqual = true
-is_comparison _ = false
 
 abbrev pub is_null : ℤ → Bool
 is_null (pos n) = n == 0
@@ -118,37 +106,6 @@ may_start (Some g) = not (is_main_in (Some g)) && (g.formals == 1) && is_pointer
 abbrev pub starts_fit : Code → LibraryCall → Bool
 starts_fit code (call.Create g) = may_start (slice_get code.functions g)
 starts_fit code _ = true
-
--- a whole number for each number and letter of a format
-abbrev pub format_kinds : List Piece → List Bool
-format_kinds [] = []
-format_kinds (piece.Byte b ∷ ps) = format_kinds ps
-format_kinds (piece.Number ∷ ps) = false ∷ format_kinds ps
-format_kinds (piece.Letter ∷ ps) = false ∷ format_kinds ps
-
--- the kinds of a library call's arguments; attributes, formats and the name of a started function aren't among them
-abbrev pub library_kinds : LibraryCall → List Bool
-library_kinds (call.Create g) = true ∷ true ∷ []
-library_kinds call.Join = false ∷ true ∷ []
-library_kinds call.Exit = true ∷ []
-library_kinds call.SelfNumber = []
-library_kinds call.SameThread = false ∷ false ∷ []
-library_kinds call.MutexInit = true ∷ []
-library_kinds call.MutexLock = true ∷ []
-library_kinds call.MutexUnlock = true ∷ []
-library_kinds call.MutexTryLock = true ∷ []
-library_kinds call.MutexDestroy = true ∷ []
-library_kinds call.CondInit = true ∷ []
-library_kinds call.CondWait = true ∷ true ∷ []
-library_kinds call.CondSignal = true ∷ []
-library_kinds call.CondDestroy = true ∷ []
-library_kinds call.BarrierInit = true ∷ false ∷ []
-library_kinds call.BarrierWait = true ∷ []
-library_kinds call.BarrierDestroy = true ∷ []
-library_kinds call.Free = true ∷ []
-library_kinds call.GetChar = []
-library_kinds (call.Print format) = format_kinds format
-library_kinds call.PutChar = false ∷ []
 
 -- a value of a library call is a whole number; two calls have none
 abbrev pub library_value_fits : Function → Option ℕ → LibraryCall → Bool

@@ -1,23 +1,18 @@
 -- Which codes are valid.
 use Rattle.std.specs.Prelude.{ℕ, ◌%◌, ◌^◌, ◌==◌, nat_le, ◌&&◌, ◌||◌, Bool, not, List, length, count_by, Some}
 use Rattle.std.specs.List.{list_all}
-use Rattle.rr_base.specs.declared.layout.Layout.{Layout}
-use Rattle.rr_base.specs.declared.layout.Site.{Site}
 use Rattle.flow_code.specs.declared.act.Instr.{Instr}
 use Rattle.flow_code.specs.declared.code.Code.{Code}
 use Rattle.flow_code.specs.declared.code.Function.{Function}
 use Rattle.flow_code.specs.declared.code.LockInfo.{LockInfo}
 use Rattle.flow_code.specs.declared.code.LoopInfo.{LoopInfo}
 use Rattle.flow_code.specs.declared.region.Region.{Region}
+use Rattle.abstract_machine.specs.Layouts.{sites_fit}
 use Rattle.flow_code.specs.Threads.{is_main_in}
 use Rattle.flow_code.specs.Kinds.{act_fits}
 use Rattle.flow_code.specs.Order.{order_fits}
 use Rattle.flow_code.specs.Regions.{loop_fits, region_fits, lock_fits}
 use Rattle.flow_code.specs.Addresses.{globals_fit}
-
--- an object of the site has 1 to 65,535 cells with a kind for each, and is a whole number of elements
-abbrev pub layout_fits : Layout → Bool
-layout_fits l = nat_le 1 l.size && nat_le l.size 65535 && (length l.kinds == l.size) && nat_le 1 l.element && (l.size % l.element == 0)
 
 -- formals are registers, and each register has a kind
 abbrev pub registers_fit : Function → Bool
@@ -37,9 +32,6 @@ function_fits code f = registers_fit f && order_fits f.instrs && acts_fit code f
 
 abbrev pub functions_fit : Code → List Function → Bool
 functions_fit code fs = list_all (function_fits code) fs
-
-abbrev pub sites_fit : List Site → Bool
-sites_fit sites = list_all (λ s. layout_fits s.layout) sites
 
 abbrev pub all_locks_fit : Code → List LockInfo → Bool
 all_locks_fit code locks = list_all (lock_fits code) locks

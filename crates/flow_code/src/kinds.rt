@@ -1,6 +1,7 @@
 // The registers, functions and sites that an instruction names, and the kinds of its registers.
 ghost use Rattle.std.specs.Prelude.{◌≡◌, take, Some, None};
 ghost use Rattle.std.specs.Option.{option_copied};
+ghost use Rattle.abstract_machine.specs.Kinds as kinds;
 ghost use Rattle.flow_code.specs.Kinds as spec;
 
 use crate::act::Act;
@@ -65,7 +66,7 @@ fn have_kinds(function: &Function, arguments: &[u32], kinds: &[bool]) -> bool
 }
 
 fn is_comparison(op: BinaryOp) -> bool
-    ensures { result ≡ spec.is_comparison op }
+    ensures { result ≡ kinds.is_comparison op }
 {
     matches!(
         op,
@@ -228,7 +229,7 @@ fn starts_fit(code: &Code, call: &LibraryCall) -> bool
 
 // Whether the arguments are whole numbers, one for each number and letter of a format.
 fn fit_format(function: &Function, arguments: &[u32], format: &[Piece]) -> bool
-    ensures { result ≡ spec.have_kinds function.now arguments.now (spec.format_kinds format.now) }
+    ensures { result ≡ spec.have_kinds function.now arguments.now (kinds.format_kinds format.now) }
 {
     let mut rest = arguments;
     let mut pieces = format;
@@ -252,7 +253,7 @@ fn fit_format(function: &Function, arguments: &[u32], format: &[Piece]) -> bool
 
 // Whether the arguments of a call of the library are as many as it has, and of their kinds.
 fn arguments_fit(function: &Function, arguments: &[u32], call: &LibraryCall) -> bool
-    ensures { result ≡ spec.have_kinds function.now arguments.now (spec.library_kinds call.now) }
+    ensures { result ≡ spec.have_kinds function.now arguments.now (kinds.library_kinds call.now) }
 {
     match call {
         LibraryCall::Create { function: _ } => have_kinds(function, arguments, &[true, true]),

@@ -1,5 +1,6 @@
 // Which codes are valid.
 ghost use Rattle.std.specs.Prelude.{◌≡◌, true};
+ghost use Rattle.abstract_machine.specs.Layouts as layouts;
 ghost use Rattle.flow_code.specs.Constants.{constants_fit as constants_fit_of};
 ghost use Rattle.flow_code.specs.Settle.{IsRunnable};
 ghost use Rattle.flow_code.specs.Valid as spec;
@@ -17,7 +18,7 @@ use rr_base::{Layout, Site};
 
 // Whether an object of the layout has 1 to 65,535 cells with a kind for each, and is a whole number of elements.
 fn layout_fits(layout: &Layout) -> bool
-    ensures { result ≡ spec.layout_fits layout.now }
+    ensures { result ≡ layouts.layout_fits layout.now }
 {
     1 <= layout.size
         && layout.size <= 65_535
@@ -27,7 +28,7 @@ fn layout_fits(layout: &Layout) -> bool
 }
 
 fn sites_fit(sites: &[Site]) -> bool
-    ensures { result ≡ spec.sites_fit sites.now }
+    ensures { result ≡ layouts.sites_fit sites.now }
 {
     sites.iter().all(|site| layout_fits(&site.layout))
 }

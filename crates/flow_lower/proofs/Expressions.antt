@@ -24,7 +24,7 @@ use Rattle.c_core.specs.Meaning as meaning
 use Rattle.c_core.specs.Meaning.{Calls, value, values}
 use Rattle.flow_lower.specs.Kept.{assigns, any_assigns, loses, copied_if, kept, all_kept}
 use Rattle.flow_lower.specs.Lowered.{held, instr, lowered, function_kinds, body_code, exp_kinds, exps_kinds, width, exp_size, exps_size, exp_code, exps_code, value_registers, library_code}
-use Rattle.flow_lower.specs.Within.{IsWithinExp, AreWithin}
+use Rattle.c_core.specs.Within.{IsWithinExp, AreWithin}
 use Rattle.flow_lower.specs.Follows.{Follows}
 use Rattle.flow_lower.proofs.Machine.{same_register, other_register, Shows, act_of, line_at, by_quiet, by_trap}
 use Rattle.flow_lower.proofs.Places.{HasAt, has_at, has_front, has_back}

@@ -7,7 +7,8 @@ use Rattle.flow_code.specs.declared.code.Function.{Function}
 use Rattle.flow_code.specs.declared.work.Work.TheVariants as work
 use Rattle.abstract_machine.specs.declared.operator.BinaryOp.{BinaryOp}
 use Rattle.flow_code.specs.Works.{is_pointer}
-use Rattle.flow_code.specs.Kinds.{has_register, has_pointer, has_whole, has_kind, same_register_kind, is_comparison, is_null, binary_fits, move_fits, between_fits, work_fits}
+use Rattle.flow_code.specs.Kinds.{has_register, has_pointer, has_whole, has_kind, same_register_kind, is_null, binary_fits, move_fits, between_fits, work_fits}
+use Rattle.abstract_machine.specs.Kinds.{is_comparison}
 use Rattle.c_core.specs.declared.value.UnaryOp.{UnaryOp}
 use Rattle.c_core.specs.declared.value.UnaryOp.TheVariants as unary_op
 use Rattle.c_core.specs.declared.value.Change.{Change}
@@ -15,7 +16,7 @@ use Rattle.c_core.specs.declared.value.Change.TheVariants as change
 use Rattle.c_core.specs.Core.{Exp}
 use Rattle.c_core.specs.Meaning as meaning
 use Rattle.flow_lower.specs.Lowered.{unary_work, change_work}
-use Rattle.flow_lower.specs.Sound.{SuitsUnary, SuitsChange}
+use Rattle.c_core.specs.Sound.{SuitsUnary, SuitsChange}
 use Rattle.flow_lower.proofs.Places.{is_kind}
 
 module _ (f : Function) (sized : length f.pointers ≡ f.registers) where

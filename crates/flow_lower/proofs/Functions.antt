@@ -25,7 +25,7 @@ use Rattle.c_core.specs.Runs.{Run, State, M, counted}
 use Rattle.c_core.specs.Meaning as meaning
 use Rattle.c_core.specs.Meaning.{Calls, Flow, goes, breaks, continues, returns, word_given, line_given, made_objects, listed_word, left}
 use Rattle.flow_lower.specs.Lowered.{body_kept, one, lowered, function_code, function_kinds, body_code, statement_kinds, arrivals_code}
-use Rattle.flow_lower.specs.Within.{IsWithin, IsWithinFunction, AreWithinArrivals}
+use Rattle.c_core.specs.Within.{IsWithin, IsWithinFunction, AreWithinArrivals}
 use Rattle.flow_lower.specs.Follows.{Follows, here}
 use Rattle.flow_lower.proofs.Machine.{Shows, by_quiet}
 use Rattle.flow_lower.proofs.Places.{HasAt, has_front, first_of, start_of, body_at, end_at, statement_part, behind_objects, has_arrivals, has_body, has_end, has_kinds}

@@ -16,7 +16,7 @@ use Rattle.rr_base.specs.declared.position.Position.{Position}
 use Rattle.c_core.specs.Core.{Arrival, arrives, Function, Program}
 use Rattle.flow_lower.specs.Lowered.{body_kept, instr, one, lowered, function_code, function_kinds, body_code, statement_kinds, statement_size, objects_code, arrivals_code}
 use Rattle.flow_lower.specs.Loops.{statement_loops}
-use Rattle.flow_lower.specs.Sound.{HasSite, IsCallable, IsAddress, IsSoundArrival, IsSoundFunction}
+use Rattle.c_core.specs.Sound.{HasSite, IsCallable, IsAddress, IsSoundArrival, IsSoundFunction}
 use Rattle.flow_lower.proofs.Lengths.{statement_length, arrivals_length}
 use Rattle.flow_lower.proofs.Places.{HasAt, has_front, start_of, body_at, end_at, statement_part, behind_objects, has_body, has_end, has_kinds}
 use Rattle.flow_lower.proofs.Fitting.{pointer}

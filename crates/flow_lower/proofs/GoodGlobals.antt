@@ -16,10 +16,10 @@ use Rattle.abstract_machine.specs.Pointers.{site_at, same_kind}
 use Rattle.abstract_machine.specs.Cells.{size_in, size_of}
 use Rattle.flow_code.specs.Kinds.{is_site, is_address}
 use Rattle.flow_code.specs.Addresses.{address_in, address_at, of_site, or_next, first_in_instrs, first_in_functions, first_in_words, address_of, lie_apart, agrees, words_agree, instrs_agree, functions_agree, all_agree, begin_with, cells_fit, stands_alone, sites_stand_alone, word_fits, words_fit, globals_fit}
-use Rattle.flow_code.specs.Valid.{layout_fits, sites_fit}
+use Rattle.abstract_machine.specs.Layouts.{layout_fits, sites_fit}
 use Rattle.c_core.specs.Core.{Function, Program}
 use Rattle.flow_lower.specs.Lowered.{lowered, function_code, body_code}
-use Rattle.flow_lower.specs.Sound.{IsAddress, AreAtHome}
+use Rattle.c_core.specs.Sound.{IsAddress, AreAtHome}
 use Rattle.flow_lower.proofs.Good.{Each, HaveAddresses}
 
 -- ---- addresses that are all such ones

@@ -10,7 +10,7 @@ use Rattle.flow_code.specs.Works.{is_pointer}
 use Rattle.flow_code.specs.Threads.{is_main_in}
 use Rattle.flow_code.specs.Kinds.{formal_kinds, have_kinds, value_fits, call_fits, may_start, starts_fit, act_fits, is_site, is_address}
 use Rattle.c_core.specs.Core.{Function, Program}
-use Rattle.flow_lower.specs.Sound.{IsCallable, Starts, HasSite, IsAddress}
+use Rattle.c_core.specs.Sound.{IsCallable, Starts, HasSite, IsAddress}
 use Rattle.flow_lower.proofs.Fitting.{kinded}
 
 -- a function other than `main` that takes values of these kinds and gives a pointer or not

@@ -16,7 +16,7 @@ use Rattle.c_core.specs.Core.{Exp, register, binary, Statement, block, compute, 
 use Rattle.flow_lower.specs.Kept.{kept, maybe_kept, statements_kept}
 use Rattle.flow_lower.specs.Sizes.{exp_size, maybe_size, test_size, statements_size}
 use Rattle.flow_lower.specs.Loops.{lowered_size, register_of, bound_of, limit_of, step_of, loop_of, statement_loops, statements_loops}
-use Rattle.flow_lower.specs.Within.{IsWithinExp, IsWithinMaybe, IsWithinStatement, AreWithinStatements}
+use Rattle.c_core.specs.Within.{IsWithinExp, IsWithinMaybe, IsWithinStatement, AreWithinStatements}
 
 module _ (g : FlowFunction) (rs : List Bool) (os fs : ℕ) (few : length rs ≤ g.registers) where
   -- ---- the registers

@@ -19,7 +19,7 @@ use Rattle.c_core.specs.declared.value.Change.TheVariants as change
 use Rattle.c_core.specs.Core.{Exp, number, null, register, global, load, binary, copy, both, set_register, store, change_register, call, library, no_exp, and_exp, Statement, block, compute, branch, branch_else, while_loop, for_loop, break_at, gives, no_statement, and_statement, Function, Program}
 use Rattle.c_core.specs.Meaning.{is_main}
 use Rattle.flow_lower.specs.Lowered.{lowered, body_code, function_code}
-use Rattle.flow_lower.specs.Sound.{IsAddress, IsSoundExp, IsSoundFunction, LiesAt, IsSound}
+use Rattle.c_core.specs.Sound.{IsAddress, IsSoundExp, IsSoundFunction, LiesAt, IsSound}
 
 abbrev at : ℕ → Position
 at line = record { line = line; column = 1 }

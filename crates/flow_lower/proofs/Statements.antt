@@ -11,7 +11,7 @@ use Rattle.c_core.specs.Meaning as meaning
 use Rattle.c_core.specs.Meaning.{Calls, Flow, goes, breaks, continues, returns, if_goes, value, test_value, step_value}
 use Rattle.flow_lower.specs.Kept.{kept, maybe_kept, statement_kept, statements_kept}
 use Rattle.flow_lower.specs.Lowered.{held, instr, one, lowered, function_kinds, body_code, exp_kinds, maybe_kinds, width, exp_size, maybe_size, test_size, exp_code, maybe_code, test_code, statement_kinds, statements_kinds, statement_size, statements_size, statement_code, statements_code}
-use Rattle.flow_lower.specs.Within.{IsWithinExp, IsWithinMaybe, IsWithinStatement, AreWithinStatements}
+use Rattle.c_core.specs.Within.{IsWithinExp, IsWithinMaybe, IsWithinStatement, AreWithinStatements}
 use Rattle.flow_lower.specs.Follows.{Follows}
 use Rattle.flow_lower.proofs.Machine.{Shows}
 use Rattle.flow_lower.proofs.Places.{HasAt, has_at, has_front, has_back}

@@ -26,7 +26,7 @@ use Rattle.c_core.specs.Runs.{Run, does, traps, ends, State}
 use Rattle.c_core.specs.Meaning as meaning
 use Rattle.c_core.specs.Meaning.{word_given, line_given, made_objects, main_of}
 use Rattle.flow_lower.specs.Lowered.{lowered, function_code}
-use Rattle.flow_lower.specs.Within.{IsWithin}
+use Rattle.c_core.specs.Within.{IsWithin}
 use Rattle.flow_lower.specs.Follows.{Prints, Follows, here, IsAtStart}
 use Rattle.flow_lower.proofs.Functions.{in_code, objects_here, fits_here, shows_entered, enter_follows, body_follows, served}
 use Rattle.flow_lower.proofs.Objects.{count_of_objects}

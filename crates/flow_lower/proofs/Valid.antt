@@ -4,11 +4,12 @@ use Rattle.std.proofs.lemmas.Bool.{and_from, le-leb, eq-eqb}
 use Rattle.std.proofs.lemmas.List.{length-map}
 use Rattle.flow_code.specs.declared.code.Code.{Code}
 use Rattle.flow_code.specs.Addresses.{globals_fit}
-use Rattle.flow_code.specs.Valid.{function_fits, functions_fit, sites_fit, is_main_function, mains_in, mains_have_no_formals, has_one_main, is_within_limits, is_valid}
+use Rattle.flow_code.specs.Valid.{function_fits, functions_fit, is_main_function, mains_in, mains_have_no_formals, has_one_main, is_within_limits, is_valid}
+use Rattle.abstract_machine.specs.Layouts.{sites_fit}
 use Rattle.c_core.specs.Core.{Function, Program}
 use Rattle.c_core.specs.Meaning.{is_main}
 use Rattle.flow_lower.specs.Lowered.{lowered, function_code}
-use Rattle.flow_lower.specs.Sound.{IsAddress, IsSound}
+use Rattle.c_core.specs.Sound.{IsAddress, IsSound}
 use Rattle.flow_lower.proofs.GoodFunctions.{function_is, function_addresses}
 use Rattle.flow_lower.proofs.GoodGlobals.{address_is, globals_are, functions_have}
 

@@ -1,7 +1,6 @@
 -- A code makes the events of a run.
 use Rattle.std.specs.Prelude.{◌≡◌, ℕ, zero, suc, nat_le, Bool, true, false, not, ℤ, pos, List, [], ◌⊎◌, Option, Some}
 use Rattle.sync_objects.specs.Setup.{SetupView}
-use Rattle.sync_objects.specs.Names.{name_of, is_ending}
 use Rattle.sync_objects.specs.declared.operation.Op.TheVariants as op
 use Rattle.rr_base.specs.declared.trap.Trap.TheVariants as trap
 use Rattle.flow_code.specs.declared.act.Act.TheVariants as act
@@ -16,15 +15,11 @@ use Rattle.flow_code.specs.declared.thread.Phase.{Phase}
 use Rattle.flow_code.specs.declared.thread.Phase.TheVariants as phase
 use Rattle.flow_code.specs.Threads.{Thread, line_of}
 use Rattle.flow_code.specs.Next.{act_at, due_of, action_at, stepped}
+use Rattle.abstract_machine.specs.Entries.{is_entry}
 use Rattle.abstract_machine.specs.Limits.{most_entries}
 use Rattle.c_core.specs.Core.{Program}
 use Rattle.c_core.specs.Runs.{Run, does, traps, ends}
 use Rattle.c_core.specs.Meaning.{main_of, arena_start}
-
--- an operation that is listed in the log
-abbrev pub is_entry : Action → Bool
-is_entry (action.Operate o obj) = not (is_ending (name_of o))
-is_entry _ = false
 
 -- from one state a thread comes to another by quiet steps
 pub data Comes (code : Code) (s : SetupView) (t : ℕ) : Thread → Thread → Type 0 where

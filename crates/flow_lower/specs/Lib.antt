@@ -3,5 +3,3 @@ pub mod Kept
 pub mod Loops
 pub mod Lowered
 pub mod Sizes
-pub mod Sound
-pub mod Within

@@ -6,9 +6,9 @@ ghost use Rattle.flow_code.specs.Valid.{is_valid};
 ghost use Rattle.c_core.specs.Core.{Program};
 ghost use Rattle.c_core.specs.Meaning.{run_of};
 ghost use Rattle.flow_lower.specs.Lowered.{lowered};
-ghost use Rattle.flow_lower.specs.Within.{IsWithin};
+ghost use Rattle.c_core.specs.Within.{IsWithin};
 ghost use Rattle.flow_lower.specs.Follows.{Follows, IsAtStart};
-ghost use Rattle.flow_lower.specs.Sound.{IsSound};
+ghost use Rattle.c_core.specs.Sound.{IsSound};
 
 /// From its start on, each thread of a core tree's code makes the events of the tree's thread whatever is answered: loads,
 /// stores, marks and operations in their order, each with the bytes that it prints, each trap with its kind and line, and

@@ -21,7 +21,7 @@ use Rattle.flow_code.specs.Threads.{Thread}
 use Rattle.flow_code.specs.Valid.{is_valid}
 use Rattle.flow_code.proofs.Runnable.{valid_runnable}
 use Rattle.flow_lower.specs.Lowered.{lowered}
-use Rattle.flow_lower.specs.Sound.{IsSound}
+use Rattle.c_core.specs.Sound.{IsSound}
 use Rattle.flow_lower.specs.Follows.{Follows, IsAtStart}
 use Rattle.flow_lower.proofs.Valid.{valid}
 use Rattle.flow_lower.proofs.SoundWithin.{sound_within}

@@ -2,7 +2,7 @@
 use Rattle.std.proofs.Common.{◌≡◌, List, true, subst}
 use Rattle.facts.specs.declared.locks.Summary.{Summary}
 use Rattle.facts.specs.declared.pair.Pair.{Pair}
-use Rattle.facts.specs.declared.profile.Profile.{Profile}
+use Rattle.profiles.specs.declared.profile.Profile.{Profile}
 use Rattle.facts.specs.Pairs.{pairs_ascend, ArePairs}
 use Rattle.facts.specs.PointsTo.{Tables, HasRegisters, IsPointsTo}
 use Rattle.facts.specs.Summaries.{AreSummaries}

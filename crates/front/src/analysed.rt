@@ -9,13 +9,13 @@ ghost use Rattle.front.specs.Readings.{IsRefusedFor};
 
 use crate::code::plain;
 use crate::reading::CompileFault;
-use facts::Profile;
 use flow_code::{Code, constants_fit};
 use grain_choice::choose;
 use lock_sound::{Weakened, copied_profile};
 use lockset_summary::summaries;
 use loop_bounds::ranges;
 use points_to::solve;
+use profiles::Profile;
 use race_pairs::pairs;
 use std::alloc::{AllocError, Global};
 use weaken::weaken;

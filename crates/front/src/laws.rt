@@ -6,7 +6,7 @@ ghost use Rattle.c_lexer.specs.Bytes.{Text};
 ghost use Rattle.c_tree.specs.Tree.{Outer};
 ghost use Rattle.flow_code.specs.Threads.{Thread};
 ghost use Rattle.flow_lower.specs.Follows.{Follows, IsAtStart};
-ghost use Rattle.flow_lower.specs.Sound.{IsSound};
+ghost use Rattle.c_core.specs.Sound.{IsSound};
 ghost use Rattle.front.specs.Plain.{plain_code};
 ghost use Rattle.front.specs.Readings.{sound, IsReading};
 ghost use Rattle.lock_sound.specs.Weakened.{Analysed, IsAnalysed};

@@ -4,10 +4,10 @@ use Rattle.std.specs.List.{Contains}
 use Rattle.flow_code.specs.declared.code.Code.{Code}
 use Rattle.facts.specs.declared.pair.AccessAt.{AccessAt}
 use Rattle.facts.specs.declared.pair.Pair.{Pair}
-use Rattle.facts.specs.declared.profile.Profile.{Profile}
+use Rattle.profiles.specs.declared.profile.Profile.{Profile}
 use Rattle.facts.specs.Pairs.{access_less}
-use Rattle.facts.proofs.Ascending as ascending
-use Rattle.facts.proofs.Ascending.{and_left, and_right}
+use Rattle.profiles.proofs.Ascending as ascending
+use Rattle.profiles.proofs.Ascending.{and_left, and_right}
 use Rattle.weak_facts.specs.declared.grain.Grained.{Grained}
 use Rattle.weak_facts.specs.declared.range.Range.{Range}
 use Rattle.weak_facts.specs.Grains.{grain_of, rows_ascend, AreGrains}

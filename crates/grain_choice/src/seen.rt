@@ -1,10 +1,11 @@
 // Pairs of which a profile has the functions.
 ghost use Rattle.std.specs.Prelude.{◌≡◌, filter, List, ℕ, IfOk};
-ghost use Rattle.facts.specs.Profile as names;
+ghost use Rattle.profiles.specs.Profile as names;
 ghost use Rattle.weak_facts.specs.Grains as spec;
 
-use facts::{Pair, Profile};
+use facts::Pair;
 use flow_code::Code;
+use profiles::Profile;
 use rr_base::Bytes;
 use std::alloc::{AllocError, Global};
 

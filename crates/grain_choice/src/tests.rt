@@ -2,8 +2,9 @@ ghost use Rattle.std.specs.Prelude.{◌≡◌, IfOk};
 
 use super::*;
 use abstract_machine::LibraryCall;
-use facts::{AccessAt, FunctionPairs, Pair, Profile};
+use facts::{AccessAt, Pair};
 use flow_code::{Act, Code, Function, Instr, Work};
+use profiles::{FunctionPairs, Profile};
 use rr_base::{Bytes, List, Place};
 use std::alloc::{AllocError, Global};
 use std::test::Fail;

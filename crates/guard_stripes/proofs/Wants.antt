@@ -15,7 +15,7 @@ use Rattle.flow_code.specs.declared.region.Region.TheVariants as region
 use Rattle.flow_code.specs.Stripes.{guards, points_to_cell, base_word, cell_wants, among, stripes_in, wants}
 use Rattle.flow_code.specs.Valid.{is_valid}
 use Rattle.facts.specs.declared.pair.Pair.{Pair}
-use Rattle.facts.specs.declared.profile.Profile.{Profile}
+use Rattle.profiles.specs.declared.profile.Profile.{Profile}
 use Rattle.facts.specs.PointsTo.{Tables}
 use Rattle.weak_facts.specs.declared.grain.Grained.{Grained}
 use Rattle.weak_facts.specs.declared.range.Range.{Range}

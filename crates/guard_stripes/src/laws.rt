@@ -10,7 +10,7 @@ ghost use Rattle.flow_code.specs.declared.region.Region.{Region};
 ghost use Rattle.flow_code.specs.Stripes.{guards, points_to_cell, wants};
 ghost use Rattle.flow_code.specs.Valid.{is_valid};
 ghost use Rattle.facts.specs.declared.pair.Pair.{Pair};
-ghost use Rattle.facts.specs.declared.profile.Profile.{Profile};
+ghost use Rattle.profiles.specs.declared.profile.Profile.{Profile};
 ghost use Rattle.facts.specs.PointsTo.{Tables};
 ghost use Rattle.weak_facts.specs.declared.grain.Grained.{Grained};
 ghost use Rattle.weak_facts.specs.declared.range.Range.{Range};

@@ -15,7 +15,8 @@ use Rattle.abstract_machine.specs.Library.{Caller, is_misuse, at_cell, cell_of, 
 use Rattle.abstract_machine.specs.Pointers.{resolved}
 use Rattle.abstract_machine.specs.Registers.{register, words_of}
 use Rattle.flow_code.specs.declared.code.Function.{Function}
-use Rattle.flow_code.specs.Kinds.{have_kinds, library_kinds, has_kind}
+use Rattle.flow_code.specs.Kinds.{have_kinds, has_kind}
+use Rattle.abstract_machine.specs.Kinds.{library_kinds}
 use Rattle.facts.specs.Locks.{locked, unlocked, after_library}
 use Rattle.facts.specs.Paths.{naming_at}
 use Rattle.facts.specs.declared.locks.LockPath.{LockPath}

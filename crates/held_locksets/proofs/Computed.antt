@@ -19,7 +19,8 @@ use Rattle.flow_code.specs.declared.code.Function.{Function}
 use Rattle.flow_code.specs.declared.work.Work.{Work}
 use Rattle.flow_code.specs.declared.work.Work.TheVariants as work
 use Rattle.flow_code.specs.Constants.{constant_fits}
-use Rattle.flow_code.specs.Kinds.{has_register, has_pointer, has_whole, has_kind, is_comparison, is_address, work_fits}
+use Rattle.flow_code.specs.Kinds.{has_register, has_pointer, has_whole, has_kind, is_address, work_fits}
+use Rattle.abstract_machine.specs.Kinds.{is_comparison}
 use Rattle.flow_code.specs.Works.{work_of, is_pointer}
 use Rattle.facts.specs.Blocks.{assigned, assigns, is_register, constant_of}
 use Rattle.facts.specs.Paths.{Root, global, Known, known_on, known_on_by, at_cells, known_of}

@@ -29,7 +29,8 @@ use Rattle.flow_code.specs.declared.thread.Phase.{Phase}
 use Rattle.flow_code.specs.declared.thread.Phase.TheVariants as phase
 use Rattle.flow_code.specs.declared.thread.Stripe.{Stripe}
 use Rattle.flow_code.specs.Holding.{region_of, lacked, take_or_quiet, taken, to_give, give_or_quiet, gives_at, open_place, parting, owes, parting_due, left_behind}
-use Rattle.flow_code.specs.Kinds.{act_fits, have_kinds, library_kinds, library_value_fits, may_start, starts_fit}
+use Rattle.flow_code.specs.Kinds.{act_fits, have_kinds, library_value_fits, may_start, starts_fit}
+use Rattle.abstract_machine.specs.Kinds.{library_kinds}
 use Rattle.flow_code.specs.Next.{act_at, act_due, past, given, value_of, pointers_of, in_frame, computed, one_made, entered, result_of, back_in, end_onward, went_on, call_after, on_unless, act_after, caller, has_ended, phase_due}
 use Rattle.flow_code.specs.Threads.{Frame, Thread, arena_end, is_main, is_main_in}
 use Rattle.flow_code.specs.Valid.{is_valid}

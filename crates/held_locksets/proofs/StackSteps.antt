@@ -26,7 +26,8 @@ use Rattle.flow_code.specs.declared.code.Function.{Function}
 use Rattle.flow_code.specs.declared.region.Region.{Region}
 use Rattle.flow_code.specs.declared.thread.Stripe.{Stripe}
 use Rattle.flow_code.specs.Holding.{region_of, lacked, take_or_quiet, taken, to_give, give_or_quiet, gives_at, gave, open_place, parting, owes, parting_due, left_behind}
-use Rattle.flow_code.specs.Kinds.{act_fits, have_kinds, library_kinds, library_value_fits, starts_fit}
+use Rattle.flow_code.specs.Kinds.{act_fits, have_kinds, library_value_fits, starts_fit}
+use Rattle.abstract_machine.specs.Kinds.{library_kinds}
 use Rattle.flow_code.specs.Next.{act_in, act_at, act_due, past, jumped, given, value_of, pointers_of, quiet_unless, in_frame, computed, one_made, result_of, back_in, end_onward, went_on, call_after, on_unless, act_after, caller}
 use Rattle.flow_code.specs.Threads.{Frame, Thread, instr_in, arena_end, is_main, first_frame}
 use Rattle.flow_code.specs.Valid.{is_valid}

@@ -6,7 +6,7 @@ use Rattle.std.specs.Cmp.{IsTotalOrder}
 use Rattle.std.specs.Prelude.{◌↔◌, IsTrue, filter}
 use Rattle.std.specs.List.{AllByRecursion}
 use Rattle.std.specs.Ordering.{is_lt}
-use Rattle.facts.specs.Profile.{Text, Pair, pair_order, ComesBefore, AreAscending, IsLesserFirst, ArePairs}
+use Rattle.profiles.specs.Profile.{Text, Pair, pair_order, ComesBefore, AreAscending, IsLesserFirst, ArePairs}
 use Rattle.order_log.proofs.Parts.{is_name-true, IsName-is_name}
 use Rattle.order_log.specs.Line.{is_name}
 use Rattle.order_log.specs.Log.{IsNamePair}

@@ -3,7 +3,7 @@
 ghost use Rattle.std.specs.Prelude.{◌≡◌, filter, Some, IfErr, IfOk, MatchResult, Ok, option_map};
 ghost use Rattle.job_profiles.specs.Profiles.{IsProfile, IsSpelled, LacksProfile, are_names, named as named_of};
 ghost use Rattle.answers.specs.declared.answer.Answer.TheVariants as answer;
-ghost use Rattle.facts.specs.declared.profile.Profile.TheVariants as profile;
+ghost use Rattle.profiles.specs.declared.profile.Profile.TheVariants as profile;
 ghost use Rattle.order_log.specs.Line as line;
 ghost use Rattle.order_log.specs.Log.{HasNames};
 ghost use Rattle.outcomes.specs.Faults.{IsPure, ShelfStops};
@@ -11,10 +11,10 @@ ghost use Rattle.outcomes.specs.Steps.{Finds};
 ghost use Rattle.outcomes.specs.declared.stop.Stop.TheVariants as stop;
 
 use answers::{Answer, Part};
-use facts::{FunctionPairs, Profile};
 use order_log::is_name;
 use outcomes::{Keeper, Stop, file};
 use profile_book::{ProfileFault, read_profile};
+use profiles::{FunctionPairs, Profile};
 use rr_base::{Bytes, List};
 use std::alloc::{AllocError, Global};
 

@@ -12,8 +12,8 @@ use Rattle.answers.specs.declared.answer.Part.TheVariants as part
 use Rattle.c_tree.specs.Tree.{Outer}
 use Rattle.core_run.specs.declared.outcome.Walk.{Walk}
 use Rattle.core_run.specs.declared.outcome.Walk.TheVariants as walk
-use Rattle.facts.specs.declared.profile.Profile.{Profile as ProfileOf}
-use Rattle.facts.specs.declared.profile.Profile.TheVariants as profile
+use Rattle.profiles.specs.declared.profile.Profile.{Profile as ProfileOf}
+use Rattle.profiles.specs.declared.profile.Profile.TheVariants as profile
 use Rattle.job_profiles.specs.Profiles.{IsProfile, IsSpelled, named}
 use Rattle.core_run.specs.Walks.{WalkIs}
 use Rattle.lock_sound.specs.Weakened.{Analysed}

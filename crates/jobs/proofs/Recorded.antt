@@ -8,7 +8,7 @@ use Rattle.c_tree.specs.Tree.{Outer}
 use Rattle.core_run.specs.declared.access.Formula.{Formula}
 use Rattle.core_run.specs.Histories.{run_of, HaveEnded, lists_of, entries_in}
 use Rattle.core_run.specs.Machine.{Told}
-use Rattle.facts.specs.declared.profile.Profile.{Profile}
+use Rattle.profiles.specs.declared.profile.Profile.{Profile}
 use Rattle.flow_code.specs.declared.code.Code.{Code}
 use Rattle.lock_sound.specs.Weakened.{Analysed}
 use Rattle.order_log.specs.Log.{AreWithin, LogView}

@@ -19,7 +19,7 @@ use Rattle.outcomes.specs.declared.outcome.Outcome.{Outcome}
 use Rattle.outcomes.specs.declared.stop.Stop.{Stop}
 use Rattle.outcomes.specs.declared.stop.Stop.TheVariants as stop
 use Rattle.runs.specs.Steps.{State}
-use Rattle.source_runs.specs.SourceRuns.{IsSourceRun, bytes_of}
+use Rattle.c_core.specs.SourceRuns.{IsSourceRun, bytes_of}
 use Rattle.sync_objects.specs.Setup.{SetupView}
 use Rattle.sync_objects.specs.declared.entry.Entry.{Entry}
 use Rattle.weak_code.specs.Weakened.{weakened}

@@ -8,8 +8,8 @@ use Rattle.answers.specs.declared.answer.Part.{Part}
 use Rattle.answers.specs.declared.answer.Part.TheVariants as part
 use Rattle.c_tree.specs.Tree.{Outer}
 use Rattle.core_run.specs.Walks.{WalkIs}
-use Rattle.facts.specs.declared.profile.Profile.{Profile as ProfileOf}
-use Rattle.facts.specs.declared.profile.Profile.TheVariants as profile
+use Rattle.profiles.specs.declared.profile.Profile.{Profile as ProfileOf}
+use Rattle.profiles.specs.declared.profile.Profile.TheVariants as profile
 use Rattle.front.proofs.One.{one_reading}
 use Rattle.front.proofs.OneWeakened.{one_weakened}
 use Rattle.front.specs.Readings.{sound, refused}

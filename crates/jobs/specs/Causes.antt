@@ -10,7 +10,7 @@ use Rattle.c_tree.specs.Tree.{Outer}
 use Rattle.core_run.specs.Walks.{WalkIs}
 use Rattle.core_run.specs.declared.access.Formula.{Formula}
 use Rattle.core_run.specs.declared.outcome.Walk.{Walk}
-use Rattle.facts.specs.declared.profile.Profile.{Profile as ProfileOf}
+use Rattle.profiles.specs.declared.profile.Profile.{Profile as ProfileOf}
 use Rattle.job_profiles.specs.Profiles.{IsProfile}
 use Rattle.lock_sound.specs.Weakened.{Analysed}
 use Rattle.order_log.specs.Log.{LogView}

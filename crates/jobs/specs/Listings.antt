@@ -2,8 +2,8 @@
 use Rattle.std.specs.Prelude.{◌≡◌, List}
 use Rattle.answers.specs.declared.answer.Answer.TheVariants as answer
 use Rattle.c_tree.specs.Tree.{Outer}
-use Rattle.facts.specs.declared.profile.Profile.{Profile}
-use Rattle.facts.specs.declared.profile.Profile.TheVariants as profile
+use Rattle.profiles.specs.declared.profile.Profile.{Profile}
+use Rattle.profiles.specs.declared.profile.Profile.TheVariants as profile
 use Rattle.listing.specs.Text.{races_text_of}
 use Rattle.listing.specs.WeakText.{weak_text_of}
 use Rattle.lock_sound.specs.Weakened.{Analysed}

@@ -7,7 +7,7 @@ use Rattle.answers.specs.declared.answer.Answer.TheVariants as answer
 use Rattle.c_tree.specs.Tree.{Outer}
 use Rattle.core_run.specs.declared.outcome.Walk.{Walk}
 use Rattle.core_run.specs.Walks.{WalkIs}
-use Rattle.facts.specs.declared.profile.Profile.TheVariants as profile
+use Rattle.profiles.specs.declared.profile.Profile.TheVariants as profile
 use Rattle.lock_sound.specs.Weakened.{Analysed}
 use Rattle.order_log.specs.Log.{LogView}
 use Rattle.outcomes.specs.Outcomes.{behind}

@@ -5,7 +5,7 @@ use Rattle.answers.specs.Jobs.{RecordAsked}
 use Rattle.c_tree.specs.Tree.{Outer}
 use Rattle.core_run.specs.declared.access.Formula.{Formula}
 use Rattle.core_run.specs.declared.outcome.Walk.{Walk}
-use Rattle.facts.specs.declared.profile.Profile.{Profile}
+use Rattle.profiles.specs.declared.profile.Profile.{Profile}
 use Rattle.lock_sound.specs.Weakened.{Analysed}
 use Rattle.order_log.specs.Log.{AreWithin, LogView}
 use Rattle.order_log.specs.Text.{log_text}

@@ -8,8 +8,8 @@ use Rattle.core_run.specs.Histories.{HaveEnded, entries_in, lists_of, run_of}
 use Rattle.core_run.specs.Machine.{Told, machine, start_state}
 use Rattle.core_run.specs.Walks.{out_of, walk_of}
 use Rattle.erasure.specs.Erased.{erased_walk, IsAnywhere}
-use Rattle.facts.specs.declared.profile.Profile.{Profile}
-use Rattle.facts.specs.declared.profile.Profile.TheVariants as profile
+use Rattle.profiles.specs.declared.profile.Profile.{Profile}
+use Rattle.profiles.specs.declared.profile.Profile.TheVariants as profile
 use Rattle.flow_code.specs.declared.code.Code.{Code}
 use Rattle.front.specs.Plain.{plain_code}
 use Rattle.front.specs.Readings.{sound, refused, IsReading}
@@ -22,7 +22,7 @@ use Rattle.runs.specs.Laws.{Conflict}
 use Rattle.runs.specs.Merge.{written_merge}
 use Rattle.runs.specs.Ordered.{Event, event_access, event_at, event_thread, Ordered}
 use Rattle.runs.specs.Steps.{State}
-use Rattle.source_runs.specs.SourceRuns.{IsSourceRun, bytes_of}
+use Rattle.c_core.specs.SourceRuns.{IsSourceRun, bytes_of}
 use Rattle.sync_objects.specs.Setup.{IsWithinLimits, SetupView}
 use Rattle.sync_objects.specs.declared.entry.Entry.{Entry}
 

@@ -12,10 +12,10 @@ ghost use Rattle.outcomes.specs.Steps.{Comes, Gives, Lacks};
 
 use crate::sources::{SOURCE_BYTES, compiled, or_stop};
 use answers::{Answer, Part};
-use facts::Profile;
 use listing::races_text;
 use lock_sound::Weakened;
 use outcomes::{Keeper, Outcome, Stop, file};
+use profiles::Profile;
 use std::alloc::{AllocError, Global};
 
 // The listing of a code.

@@ -6,10 +6,10 @@ ghost use Rattle.answers.specs.declared.answer.Answer.TheVariants as answer;
 ghost use Rattle.outcomes.specs.declared.stop.Stop.TheVariants as stop;
 
 use answers::Answer;
-use facts::Profile;
 use front::{CompileFault, SourceFault, compile};
 use lock_sound::Weakened;
 use outcomes::{Outcome, Stop};
+use profiles::Profile;
 use std::alloc::{AllocError, Global};
 
 /// The most bytes of a source.

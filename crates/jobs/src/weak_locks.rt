@@ -14,11 +14,11 @@ ghost use Rattle.outcomes.specs.Steps.{Comes, Gives};
 
 use crate::sources::{SOURCE_BYTES, compiled, or_stop};
 use answers::{Answer, Part};
-use facts::Profile;
 use job_profiles::profile_of;
 use listing::weak_text;
 use lock_sound::Weakened;
 use outcomes::{Keeper, Outcome, Stop, file};
+use profiles::Profile;
 use std::alloc::{AllocError, Global};
 
 // The listing of a code.

@@ -4,11 +4,11 @@ ghost use Rattle.std.specs.Prelude.{◌≤◌, ◌^◌, length, IfOk};
 
 use answers::{Answer, text_of};
 use core_run::{Formula, Walk, walk};
-use facts::Profile;
 use front::{CompileFault, compile, plain};
 use listing::{races_text, weak_text};
 use lock_sound::Weakened;
 use order_log::{Log, LogFault, read_log};
+use profiles::Profile;
 use rr_base::{Bytes, List, Shelf, ShelfEnd};
 use std::alloc::{AllocError, Global};
 

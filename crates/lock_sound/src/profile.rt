@@ -1,7 +1,7 @@
 //! Profiles that are owned.
 ghost use Rattle.std.specs.Prelude.{◌≡◌, IfOk};
 
-use facts::{FunctionPairs, Profile};
+use profiles::{FunctionPairs, Profile};
 use rr_base::{Bytes, List};
 use std::alloc::{AllocError, Global};
 

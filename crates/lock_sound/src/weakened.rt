@@ -1,8 +1,9 @@
 ghost use Rattle.std.specs.Prelude.{◌≡◌};
 ghost use Rattle.lock_sound.specs.Weakened.{IsAnalysed};
 
-use facts::{Pair, PointsTo, Profile, Summary};
+use facts::{Pair, PointsTo, Summary};
 use flow_code::Code;
+use profiles::Profile;
 use rr_base::List;
 use std::marker::Model;
 use weak_facts::Grains;

@@ -12,10 +12,12 @@ use Rattle.flow_code.specs.declared.work.Work.{Work}
 use Rattle.flow_code.specs.declared.work.Work.TheVariants as work
 use Rattle.flow_code.specs.Addresses.{globals_fit}
 use Rattle.flow_code.specs.Constants.{constant_fits, constants_fit_in, constants_fit}
-use Rattle.flow_code.specs.Kinds.{has_register, has_pointer, has_whole, has_kind, same_register_kind, is_comparison, is_null, is_site, is_address, work_fits, value_fits, call_fits, library_value_fits, library_kinds, starts_fit, have_kinds, formal_kinds, act_fits}
+use Rattle.flow_code.specs.Kinds.{has_register, has_pointer, has_whole, has_kind, same_register_kind, is_null, is_site, is_address, work_fits, value_fits, call_fits, library_value_fits, starts_fit, have_kinds, formal_kinds, act_fits}
+use Rattle.abstract_machine.specs.Kinds.{is_comparison, library_kinds}
 use Rattle.flow_code.specs.Next.{act_in}
 use Rattle.flow_code.specs.Threads.{is_main_in}
-use Rattle.flow_code.specs.Valid.{is_valid, is_within_limits, sites_fit, all_locks_fit, has_one_main, functions_fit, function_fits, most_locks}
+use Rattle.flow_code.specs.Valid.{is_valid, is_within_limits, all_locks_fit, has_one_main, functions_fit, function_fits, most_locks}
+use Rattle.abstract_machine.specs.Layouts.{sites_fit}
 use Rattle.flow_code.specs.Works.{is_pointer}
 use Rattle.abstract_machine.specs.declared.library_call.LibraryCall.{LibraryCall}
 use Rattle.abstract_machine.specs.declared.library_call.LibraryCall.TheVariants as call

@@ -26,7 +26,7 @@ use Rattle.abstract_machine.specs.Pointers.{known, pointer_at, moved_by}
 use Rattle.abstract_machine.specs.Registers.{register}
 use Rattle.abstract_machine.specs.Values.{number}
 use Rattle.facts.specs.declared.pair.Pair.{Pair}
-use Rattle.facts.specs.declared.profile.Profile.{Profile}
+use Rattle.profiles.specs.declared.profile.Profile.{Profile}
 use Rattle.facts.specs.Accesses.{access_of}
 use Rattle.facts.specs.PointsTo.{Tables}
 use Rattle.weak_facts.specs.declared.grain.Grain.TheVariants as grain

@@ -30,7 +30,8 @@ use Rattle.flow_code.specs.declared.thread.Phase.{Phase}
 use Rattle.flow_code.specs.declared.thread.Phase.TheVariants as phase
 use Rattle.flow_code.specs.declared.thread.Stripe.{Stripe}
 use Rattle.flow_code.specs.Holding.{region_of, lacked, take_or_quiet, to_give, give_or_quiet, owes, parting, parting_due}
-use Rattle.flow_code.specs.Kinds.{has_register, has_pointer, have_kinds, library_kinds, library_fits, library_value_fits, starts_fit}
+use Rattle.flow_code.specs.Kinds.{has_register, has_pointer, have_kinds, library_fits, library_value_fits, starts_fit}
+use Rattle.abstract_machine.specs.Kinds.{library_kinds}
 use Rattle.flow_code.specs.Next.{value_of, act_at, pointers_of, pointers_in, quiet_unless, load_due, store_due, mark_if, end_due, caller, act_due, begun_due, phase_due}
 use Rattle.flow_code.specs.Threads.{Thread, arena_end, objects_in, fitted, is_main}
 use Rattle.flow_code.specs.Valid.{is_valid}

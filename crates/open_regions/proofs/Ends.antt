@@ -26,7 +26,7 @@ use Rattle.flow_code.proofs.Settle.{action_is}
 use Rattle.flow_code.proofs.Runnable.{valid_runnable}
 use Rattle.flow_code.proofs.ValidParts.{each, few_locks, function_is_fit, regions_are_fit}
 use Rattle.facts.specs.declared.pair.Pair.{Pair}
-use Rattle.facts.specs.declared.profile.Profile.{Profile}
+use Rattle.profiles.specs.declared.profile.Profile.{Profile}
 use Rattle.facts.specs.PointsTo.{Tables}
 use Rattle.weak_facts.specs.declared.grain.Grained.{Grained}
 use Rattle.weak_facts.specs.declared.range.Range.{Range}

@@ -8,9 +8,9 @@ use Rattle.std.specs.declared.cmp.Ordering.TheVariants.{Less, Equal, Greater}
 use Rattle.std.specs.Ordering.{nat_cmp, ordering_then, is_le, is_lt}
 use Rattle.std.proofs.lemmas.Bool.{le-ltb, eq-eqb, cond-true, cond-false}
 use Rattle.std.proofs.lemmas.List.{append-nil, length-replicate}
-use Rattle.facts.specs.declared.profile.Profile.{Profile}
-use Rattle.facts.specs.declared.profile.Profile.TheVariants as profile
-use Rattle.facts.specs.Profile.{Text, Pair, text_order}
+use Rattle.profiles.specs.declared.profile.Profile.{Profile}
+use Rattle.profiles.specs.declared.profile.Profile.TheVariants as profile
+use Rattle.profiles.specs.Profile.{Text, Pair, text_order}
 use Rattle.order_log.specs.Names.{continues_name, IsName}
 use Rattle.order_log.specs.Log.{LogView, IsNamePair, IsLog, KeepsLimits}
 use Rattle.order_log.specs.Text.{number_text, hex_text, pair_line, log_lines}

@@ -2,7 +2,7 @@
 use Rattle.std.proofs.Common.{◌≡◌, ℕ, Bool, true, false, cond, eqb, List, [], ◌∷◌, ◌++◌, Some, None, Ok, Err, refl, sym, ap, ◌∙◌, append_assoc}
 use Rattle.std.specs.List.{AllByRecursion}
 use Rattle.std.proofs.lemmas.Bool.{eqb-true, cond-false}
-use Rattle.facts.specs.Profile.{Text}
+use Rattle.profiles.specs.Profile.{Text}
 use Rattle.order_log.specs.Text.{text_of}
 use Rattle.order_log.specs.Reading.{onto_first, lines_of}
 use Rattle.order_log.specs.Line.{cut}

@@ -8,7 +8,7 @@ use Rattle.std.proofs.lemmas.Bool.{eqb-true, eq-eqb, ne_eqb, and_parts}
 use Rattle.std.proofs.lemmas.List.{nil_from_length}
 use Rattle.std.proofs.lemmas.Option.{none-some, same_Some, cond_some}
 use Rattle.std.proofs.lemmas.Slice.Eq.{bytes_eq-Decides}
-use Rattle.facts.specs.Profile.{Text}
+use Rattle.profiles.specs.Profile.{Text}
 use Rattle.sync_objects.specs.declared.entry.Entry.{Entry}
 use Rattle.sync_objects.specs.declared.object.ObjId.{ObjId}
 use Rattle.sync_objects.specs.declared.object.ObjId.TheVariants as object

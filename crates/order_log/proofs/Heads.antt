@@ -7,7 +7,7 @@ use Rattle.std.specs.Ordering.{is_le}
 use Rattle.std.proofs.lemmas.Bool.{eqb-true, eq-eqb, ne_eqb, cond-true, cond-false, and_parts, and_from, cases_lt, lt-ltb, le-ltb}
 use Rattle.std.proofs.lemmas.Bool.Decides.{nat_tests}
 use Rattle.std.proofs.lemmas.Option.{none-some, same_Some, cond_some}
-use Rattle.facts.specs.Profile.{Text, Pair, text_order}
+use Rattle.profiles.specs.Profile.{Text, Pair, text_order}
 use Rattle.order_log.specs.Log.{IsNamePair}
 use Rattle.order_log.specs.Text.{hex_digit, hex_text, pair_line}
 use Rattle.order_log.specs.Line.{◌>>=◌, cut, after_word, is_name, ends_before, pair_in, hex_value, byte_in, bytes_in, hex_in}

@@ -9,7 +9,7 @@ use Rattle.std.proofs.lemmas.Bool.{cases_lt}
 use Rattle.std.specs.List.{slice_get, AllByRecursion}
 use Rattle.std.specs.Ordering.{is_lt}
 use Rattle.std.proofs.lemmas.Option.{none-some, same_Some}
-use Rattle.facts.specs.Profile.{Text, Pair, pair_order, AreAscending, IsLesserFirst, AreTexts, ArePairs}
+use Rattle.profiles.specs.Profile.{Text, Pair, pair_order, AreAscending, IsLesserFirst, AreTexts, ArePairs}
 use Rattle.order_log.specs.Names.{begins_name, continues_name, IsName}
 use Rattle.order_log.specs.Log.{IsNamePair}
 use Rattle.order_log.specs.declared.fault.LogFault.{LogFault}

@@ -3,9 +3,9 @@ use Rattle.std.proofs.Common.{◌≡◌, ℕ, zero, suc, Bool, true, false, cond
 use Rattle.std.specs.Prelude.{codes, nat_le, ◌&&◌}
 use Rattle.std.specs.Option.{option_map, option_and_then}
 use Rattle.std.specs.Str.{bytes_eq}
-use Rattle.facts.specs.declared.profile.Profile.{Profile}
-use Rattle.facts.specs.declared.profile.Profile.TheVariants as profile
-use Rattle.facts.specs.Profile.{Text, Pair}
+use Rattle.profiles.specs.declared.profile.Profile.{Profile}
+use Rattle.profiles.specs.declared.profile.Profile.TheVariants as profile
+use Rattle.profiles.specs.Profile.{Text, Pair}
 use Rattle.sync_objects.specs.declared.entry.Entry.{Entry}
 use Rattle.sync_objects.specs.Setup.{SetupView}
 use Rattle.order_log.specs.declared.fault.LogFault.{LogFault}

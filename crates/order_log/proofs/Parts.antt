@@ -12,7 +12,7 @@ use Rattle.std.specs.Int.Digits.{digits_of}
 use Rattle.std.proofs.lemmas.Bool.{eqb-true, eq-eqb, ne_eqb, cond-true, cond-false, and_parts, and_from}
 use Rattle.std.proofs.lemmas.Bool.Decides.{nat_tests}
 use Rattle.std.proofs.lemmas.Option.{none-some, same_Some}
-use Rattle.facts.specs.Profile.{Text}
+use Rattle.profiles.specs.Profile.{Text}
 use Rattle.order_log.specs.Names.{begins_name, continues_name, IsName}
 use Rattle.order_log.specs.Text.{number_text}
 use Rattle.order_log.specs.Line.{cut, after_word, digits_from, is_name, capped}

@@ -7,9 +7,9 @@ use Rattle.std.proofs.lemmas.Bool.{and_parts, leb-true, ltb-true, eqb-true}
 use Rattle.std.proofs.lemmas.List.{append-nil, length-append, map-append}
 use Rattle.std.proofs.lemmas.Option.{same_Some, cond_some}
 use Rattle.std.proofs.lemmas.Slice.Eq.{bytes_eq-Decides}
-use Rattle.facts.specs.declared.profile.Profile.{Profile}
-use Rattle.facts.specs.declared.profile.Profile.TheVariants as profile
-use Rattle.facts.specs.Profile.{Text, Pair}
+use Rattle.profiles.specs.declared.profile.Profile.{Profile}
+use Rattle.profiles.specs.declared.profile.Profile.TheVariants as profile
+use Rattle.profiles.specs.Profile.{Text, Pair}
 use Rattle.sync_objects.specs.declared.entry.Entry.{Entry}
 use Rattle.sync_objects.specs.declared.object.ObjId.{ObjId}
 use Rattle.sync_objects.specs.declared.object.ObjId.TheVariants as object

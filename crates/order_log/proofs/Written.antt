@@ -4,7 +4,7 @@ use Rattle.std.proofs.lemmas.List.{append-nil}
 use Rattle.std.specs.Prelude.{codes, decimal}
 use Rattle.std.proofs.lemmas.List.Concat.{flat_map-append}
 use Rattle.std.proofs.lemmas.Fmt.{decimal_digit, decimal-digits_of}
-use Rattle.facts.specs.Profile.{Text}
+use Rattle.profiles.specs.Profile.{Text}
 use Rattle.order_log.specs.Log.{LogView}
 use Rattle.order_log.specs.Text.{number_text, hex_text, entry_line, profile_lines, text_of, log_text}
 use Rattle.order_log.proofs.Numbers.{number_text_some}

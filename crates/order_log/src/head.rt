@@ -10,7 +10,7 @@ use crate::hex::bytes_in;
 use crate::pairs::function_pairs;
 use crate::part::{after_word, number};
 use crate::reader::{Reader, next_line};
-use facts::Profile;
+use profiles::Profile;
 use rr_base::Bytes;
 use std::alloc::Global;
 

@@ -1,4 +1,4 @@
-//! The text of a log, both ways. It stands on `rr_base`, `sync_objects` and `facts`. What is written of a log is
+//! The text of a log, both ways. It stands on `rr_base`, `sync_objects` and `profiles`. What is written of a log is
 //! read back as that log, nothing else is read, and each refusal names the first line that spoils the text.
 #![tactic(auto)]
 

@@ -3,7 +3,7 @@ ghost use Rattle.std.specs.List.{AllByRecursion};
 ghost use Rattle.sync_objects.specs.Names.{Fits};
 ghost use Rattle.order_log.specs.Log.{AreWithin, HasNames, LogView};
 
-use facts::Profile;
+use profiles::Profile;
 use rr_base::List;
 use std::marker::Model;
 use sync_objects::{Entry, Setup};

@@ -8,7 +8,7 @@ ghost use Rattle.order_log.specs.Recogniser.{Gives, left};
 use crate::fault::LogFault;
 use crate::part::{after_word, cut, spells_name};
 use crate::reader::{Reader, next_line};
-use facts::FunctionPairs;
+use profiles::FunctionPairs;
 use rr_base::{Bytes, List};
 use std::alloc::Global;
 

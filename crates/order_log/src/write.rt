@@ -1,12 +1,12 @@
 // Writing a whole log.
 
 ghost use Rattle.std.specs.Prelude.{◌≡◌, ◌++◌, ◌∷◌, [], ◌<◌, map, OnOk, IfOk};
-ghost use Rattle.facts.specs.declared.profile.Profile.TheVariants as profile;
+ghost use Rattle.profiles.specs.declared.profile.Profile.TheVariants as profile;
 ghost use Rattle.order_log.specs.Text.{number_text, hex_digit, hex_text, object_text, entry_line, pair_line, profile_lines, text_of, log_text};
 
 use crate::log::Log;
 use crate::operation::op_text;
-use facts::Profile;
+use profiles::Profile;
 use rr_base::{Bytes, List};
 use std::alloc::{AllocError, Global};
 use sync_objects::{Entry, ObjId};

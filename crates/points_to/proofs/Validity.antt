@@ -18,10 +18,12 @@ use Rattle.flow_code.specs.declared.work.Work.TheVariants as work
 use Rattle.flow_code.specs.Works.{is_pointer}
 use Rattle.flow_code.specs.Threads.{is_main_in}
 use Rattle.abstract_machine.specs.Cells.{size_of}
-use Rattle.flow_code.specs.Kinds.{has_register, has_pointer, has_whole, has_kind, have_kinds, formal_kinds, is_site, is_address, work_fits, value_fits, call_fits, may_start, starts_fit, library_kinds, library_value_fits, act_fits}
+use Rattle.flow_code.specs.Kinds.{has_register, has_pointer, has_whole, has_kind, have_kinds, formal_kinds, is_site, is_address, work_fits, value_fits, call_fits, may_start, starts_fit, library_value_fits, act_fits}
+use Rattle.abstract_machine.specs.Kinds.{library_kinds}
 use Rattle.flow_code.specs.Addresses.{address_at, address_of, word_fits, words_fit, sites_stand_alone, globals_fit}
 use Rattle.flow_code.specs.Order.{order_fits}
-use Rattle.flow_code.specs.Valid.{layout_fits, sites_fit, registers_fit, acts_fit, loops_fit, regions_fit, function_fits, functions_fit, all_locks_fit, has_one_main, most_locks, is_within_limits, is_valid}
+use Rattle.flow_code.specs.Valid.{registers_fit, acts_fit, loops_fit, regions_fit, function_fits, functions_fit, all_locks_fit, has_one_main, most_locks, is_within_limits, is_valid}
+use Rattle.abstract_machine.specs.Layouts.{layout_fits, sites_fit}
 use Rattle.facts.specs.Blocks.{constant_at}
 use Rattle.facts.specs.declared.constraint.Node.{Node}
 use Rattle.facts.specs.declared.constraint.Node.TheVariants.{Register, Result, Ended}

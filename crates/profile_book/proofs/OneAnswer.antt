@@ -1,9 +1,9 @@
 -- The bytes alone say what is read.
 use Rattle.std.proofs.Common.{◌≡◌, ◌≢◌, ℕ, List, Result, Ok, Err, refl, sym, ap, ◌∙◌, subst}
 use Rattle.std.proofs.lemmas.Option.{same_Some}
-use Rattle.facts.specs.Profile.{Pair}
-use Rattle.facts.specs.declared.profile.Profile.{Profile}
-use Rattle.facts.specs.declared.profile.Profile.TheVariants as profile
+use Rattle.profiles.specs.Profile.{Pair}
+use Rattle.profiles.specs.declared.profile.Profile.{Profile}
+use Rattle.profiles.specs.declared.profile.Profile.TheVariants as profile
 use Rattle.serde_json.specs.Data.{Data}
 use Rattle.profile_book.specs.Listing.{IsSetOf, pairs_of}
 use Rattle.profile_book.specs.Reading.{Spells, IsProfile, IsNoProfile, Answers}

@@ -9,8 +9,8 @@ use Rattle.std.specs.Cmp.{IsTotalOrder}
 use Rattle.std.specs.List.{Contains, list_any, AllByRecursion}
 use Rattle.std.specs.List.Sorted.{IsStrictlySortedBy}
 use Rattle.std.specs.Ordering.{ordering_then, ordering_reverse, is_lt, is_le}
-use Rattle.facts.proofs.Ascending.{one_list, Up, Before, before_less, In_at, at_In}
-use Rattle.facts.specs.Profile.{Text, Pair, text_order, pair_order, AreAscending, IsLesserFirst}
+use Rattle.profiles.proofs.Ascending.{one_list, Up, Before, before_less, In_at, at_In}
+use Rattle.profiles.specs.Profile.{Text, Pair, text_order, pair_order, AreAscending, IsLesserFirst}
 use Rattle.profile_book.specs.Listing.{IsSetOf, lesser_first}
 
 same_text : (a b : Text) → is_eq (text_order a b) ≡ true → a ≡ b

@@ -1,7 +1,7 @@
 -- The pairs of texts that a JSON value lists.
 use Rattle.std.specs.Prelude.{◌↔◌, List, [], ◌∷◌, Option, Some, None, option_map, option_and_then, if◌then◌else◌, codes, Contains}
 use Rattle.std.specs.Ordering.{is_le}
-use Rattle.facts.specs.Profile.{Text, Pair, AreAscending, text_order}
+use Rattle.profiles.specs.Profile.{Text, Pair, AreAscending, text_order}
 use Rattle.serde_json.specs.Data.{Data, Items, no_items, item, Members, no_members, member}
 use Rattle.serde_json.specs.Find.{get_member, as_object, as_array, as_str}
 

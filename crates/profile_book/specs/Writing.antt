@@ -1,6 +1,6 @@
 -- The text of a profile's pairs.
 use Rattle.std.specs.Prelude.{List, map, codes}
-use Rattle.facts.specs.Profile.{Text, Pair}
+use Rattle.profiles.specs.Profile.{Text, Pair}
 use Rattle.serde_json.specs.Data.{Data, string, array, object, Items, no_items, item, no_members, member}
 use Rattle.serde_json.specs.View.{items_of}
 use Rattle.serde_json.specs.Written.{compact_text}

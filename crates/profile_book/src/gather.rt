@@ -2,7 +2,7 @@
 
 ghost use Rattle.std.specs.Prelude.{◌≡◌, IfOk};
 ghost use Rattle.std.specs.BTreeSet.{IsFromIterResult};
-ghost use Rattle.facts.specs.Profile.{pair_order};
+ghost use Rattle.profiles.specs.Profile.{pair_order};
 ghost use Rattle.profile_book.specs.Listing.{IsSetOf};
 
 use rr_base::{Bytes, List};

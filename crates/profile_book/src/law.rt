@@ -1,6 +1,6 @@
 ghost use Rattle.std.specs.Prelude.{◌≡◌, ◌≢◌, ℕ, List, Result, Err};
-ghost use Rattle.facts.specs.Profile.{Pair, ArePairs};
-ghost use Rattle.facts.specs.declared.profile.Profile.{Profile};
+ghost use Rattle.profiles.specs.Profile.{Pair, ArePairs};
+ghost use Rattle.profiles.specs.declared.profile.Profile.{Profile};
 ghost use Rattle.profile_book.specs.Reading.{Answers, IsProfile};
 ghost use Rattle.profile_book.specs.Writing.{profile_text};
 ghost use Rattle.profile_book.specs.declared.fault.ProfileFault.{ProfileFault};

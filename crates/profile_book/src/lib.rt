@@ -1,4 +1,4 @@
-//! Profiles as JSON texts, both ways: `{"pairs":[["f","g"],["f","main"]]}`. It stands on `facts`, which has the
+//! Profiles as JSON texts, both ways: `{"pairs":[["f","g"],["f","main"]]}`. It stands on `profiles`, which has the
 //! profile, and on `serde_json`. What is written of a profile's pairs is read back as those pairs.
 #![tactic(auto)]
 

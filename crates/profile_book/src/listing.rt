@@ -2,7 +2,7 @@
 
 ghost use Rattle.std.specs.Prelude.{◌≡◌, option_map, IfOk};
 ghost use Rattle.std.specs.List.{AllByRecursion};
-ghost use Rattle.facts.specs.Profile.{AreTexts};
+ghost use Rattle.profiles.specs.Profile.{AreTexts};
 ghost use Rattle.serde_json.specs.View.{view, items_view};
 ghost use Rattle.profile_book.specs.Listing as spec;
 ghost use Rattle.profile_book.specs.Gives.{Gives};

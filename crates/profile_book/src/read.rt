@@ -9,7 +9,7 @@ ghost use Rattle.profile_book.specs.Reading.{Answers, IsUnread, Spells};
 use crate::fault::ProfileFault;
 use crate::gather::gathered;
 use crate::listing::pairs_of;
-use facts::{FunctionPairs, Profile};
+use profiles::{FunctionPairs, Profile};
 use serde_json::{Category, Error, Value};
 use std::alloc::Global;
 

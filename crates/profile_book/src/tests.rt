@@ -1,5 +1,5 @@
 use super::*;
-use facts::{FunctionPairs, Profile};
+use profiles::{FunctionPairs, Profile};
 use rr_base::{Bytes, List};
 use std::alloc::Global;
 use std::test::Fail;

@@ -3,12 +3,12 @@
 ghost use Rattle.std.specs.Prelude.{◌≡◌, IfOk};
 ghost use Rattle.std.specs.List.{AllByRecursion};
 ghost use Rattle.std.specs.Str.{IsUtf8};
-ghost use Rattle.facts.specs.Profile.{AreTexts};
+ghost use Rattle.profiles.specs.Profile.{AreTexts};
 ghost use Rattle.serde_json.specs.View.{view, items_view};
 ghost use Rattle.profile_book.specs.Writing as spec;
 ghost use Rattle.profile_book.specs.Writing.{profile_text};
 
-use facts::FunctionPairs;
+use profiles::FunctionPairs;
 use rr_base::{Bytes, List};
 use serde_json::{Value, json};
 use std::alloc::{AllocError, Global};

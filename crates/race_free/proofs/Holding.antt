@@ -26,7 +26,7 @@ use Rattle.flow_code.specs.Threads.{Frame, Thread, instr_in, instrs_in}
 use Rattle.flow_code.specs.Valid.{is_valid}
 use Rattle.facts.specs.Accesses.{Access, access_of, library_access}
 use Rattle.facts.specs.declared.pair.Pair.{Pair}
-use Rattle.facts.specs.declared.profile.Profile.{Profile}
+use Rattle.profiles.specs.declared.profile.Profile.{Profile}
 use Rattle.facts.specs.PointsTo.{Tables}
 use Rattle.facts.specs.Summaries.{StandsAt}
 use Rattle.weak_facts.specs.declared.grain.Grained.{Grained}

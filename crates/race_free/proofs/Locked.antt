@@ -10,7 +10,7 @@ use Rattle.flow_code.specs.declared.code.Code.{Code}
 use Rattle.facts.specs.declared.locks.Summary.{Summary}
 use Rattle.facts.specs.declared.pair.AccessAt.{AccessAt}
 use Rattle.facts.specs.declared.pair.Pair.{Pair}
-use Rattle.facts.specs.declared.profile.Profile.{Profile}
+use Rattle.profiles.specs.declared.profile.Profile.{Profile}
 use Rattle.facts.specs.Accesses.{Access}
 use Rattle.facts.specs.Pairs.{MayRace, ArePairs, access_in, act_of, access_less, access_same, place_same, places_of}
 use Rattle.facts.specs.PointsTo.{Tables}

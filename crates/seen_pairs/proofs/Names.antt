@@ -8,7 +8,7 @@ use Rattle.std.proofs.lemmas.Slice.Eq.{bytes_eq-Decides}
 use Rattle.sync_objects.specs.Setup.{SetupView}
 use Rattle.sync_objects.specs.declared.entry.Entry.{Entry}
 use Rattle.flow_code.specs.declared.code.Code.{Code}
-use Rattle.facts.specs.Profile.{Text, Pair, text_order, ordered}
+use Rattle.profiles.specs.Profile.{Text, Pair, text_order, ordered}
 use Rattle.profile_book.specs.Listing.{IsSetOf}
 use Rattle.seen_pairs.specs.Pairings.{AreNoted, names_of}
 use Rattle.seen_pairs.specs.Seen.{name_of, IsSeen, AreSeen}

@@ -3,7 +3,7 @@ use Rattle.std.specs.Prelude.{◌≡◌, ◌≢◌, ℕ, false, List, Option, So
 use Rattle.sync_objects.specs.Setup.{SetupView}
 use Rattle.sync_objects.specs.declared.entry.Entry.{Entry}
 use Rattle.flow_code.specs.declared.code.Code.{Code}
-use Rattle.facts.specs.Profile.{Pair, ordered}
+use Rattle.profiles.specs.Profile.{Pair, ordered}
 use Rattle.core_run.specs.declared.access.Formula.{Formula}
 use Rattle.core_run.specs.Machine.{Told, start_state}
 use Rattle.core_run.specs.Walks.{walk_of}

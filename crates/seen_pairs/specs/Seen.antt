@@ -4,7 +4,7 @@ use Rattle.sync_objects.specs.Setup.{SetupView}
 use Rattle.sync_objects.specs.declared.entry.Entry.{Entry}
 use Rattle.flow_code.specs.declared.code.Code.{Code}
 use Rattle.flow_code.specs.declared.code.Function.{Function}
-use Rattle.facts.specs.Profile.{Text, Pair, ordered, AreAscending}
+use Rattle.profiles.specs.Profile.{Text, Pair, ordered, AreAscending}
 use Rattle.core_run.specs.Machine.{Told, start_state}
 use Rattle.core_run.specs.Stacks.{stack_of}
 use Rattle.core_run.specs.Walks.{walk_of}

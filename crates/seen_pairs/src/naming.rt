@@ -2,7 +2,7 @@
 ghost use Rattle.std.specs.Prelude.{◌≡◌, IfOk, map};
 ghost use Rattle.seen_pairs.specs.Pairings.{names_of};
 ghost use Rattle.seen_pairs.specs.Seen.{name_of as name_of_function};
-ghost use Rattle.facts.specs.Profile.{ordered as ordered_texts};
+ghost use Rattle.profiles.specs.Profile.{ordered as ordered_texts};
 
 use crate::noting::Pairs;
 use flow_code::Code;

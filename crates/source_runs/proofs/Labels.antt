@@ -17,7 +17,7 @@ use Rattle.core_run.proofs.Lawful.{effect_go, effect_revoke, effect_stop, effect
 use Rattle.runs.specs.Labels.{Label, Go, Revoke, Stop, Close, label_thread}
 use Rattle.runs.specs.Steps.{Effect, Leaves, outcome}
 use Rattle.source_runs.specs.RunEvents.{deed_of, is_of_stripe}
-use Rattle.source_runs.specs.SourceRuns.{Deed, own, stops, closes, Standing, waits, goes, over, World, words_after, standing_after, cell_count, MayDo}
+use Rattle.c_core.specs.SourceRuns.{Deed, own, stops, closes, Standing, waits, goes, over, World, words_after, standing_after, cell_count, MayDo}
 use Rattle.source_runs.proofs.Makings.{IsMaking, IsStanding}
 use Rattle.source_runs.proofs.Outcomes.{Operated, operated_inv, allowed_inv}
 use Rattle.source_runs.proofs.OwnSteps.{IsStep, IsPassed, own_step, allows, shows_after, shows_passed}

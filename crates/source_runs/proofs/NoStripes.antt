@@ -22,7 +22,7 @@ use Rattle.runs.specs.Labels.{Label, Go, Revoke, Stop, Close, label_thread}
 use Rattle.runs.specs.Steps.{State, Leaves, outcome, stepped, run}
 use Rattle.runs.proofs.Swap.{steps_of}
 use Rattle.source_runs.specs.RunEvents.{deed_of, deed_at, deeds_on, deeds_from, event_of, is_stripe, is_of_stripe, without_stripes}
-use Rattle.source_runs.specs.SourceRuns.{own, ThreadDeed}
+use Rattle.c_core.specs.SourceRuns.{own, ThreadDeed}
 use Rattle.source_runs.proofs.Outcomes.{operated_inv, allowed_inv}
 
 module _ (code : Code) (s : SetupView) (none : code.locks ≡ []) where

@@ -8,7 +8,7 @@ use Rattle.abstract_machine.specs.declared.event.Action.{Action}
 use Rattle.c_core.specs.Core.{Program}
 use Rattle.c_core.specs.Runs.{Run, does, traps, ends, Event, done, trapped, events}
 use Rattle.c_core.specs.Meaning.{run_of}
-use Rattle.source_runs.specs.SourceRuns.{Deed, own, stops, closes, Standing, waits, goes, over, World, ThreadDeed, after, is_last, rest_after, standing_after, ComesNext, IsFull, MayDo, IsRunFrom, start_standing, start_world, IsSourceRun}
+use Rattle.c_core.specs.SourceRuns.{Deed, own, stops, closes, Standing, waits, goes, over, World, ThreadDeed, after, is_last, rest_after, standing_after, ComesNext, IsFull, MayDo, IsRunFrom, start_standing, start_world, IsSourceRun}
 use Rattle.source_runs.specs.ThreadEvents.{event_in, own_events, IsPartOf}
 
 -- what a thread that stands there may still do by itself

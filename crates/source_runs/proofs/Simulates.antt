@@ -16,7 +16,7 @@ use Rattle.runs.specs.Labels.{Label, label_thread}
 use Rattle.runs.specs.Steps.{State, stepped, run}
 use Rattle.runs.proofs.Swap.{steps_of}
 use Rattle.source_runs.specs.RunEvents.{deed_of, deed_at, deeds_on, deeds_from, without_stripes}
-use Rattle.source_runs.specs.SourceRuns.{Standing, World, ThreadDeed, after, standing_after, cell_count, IsRunFrom}
+use Rattle.c_core.specs.SourceRuns.{Standing, World, ThreadDeed, after, standing_after, cell_count, IsRunFrom}
 use Rattle.source_runs.proofs.Labels.{IsDone, of_source, of_stripe, label_step}
 use Rattle.source_runs.proofs.Makings.{IsMaking, IsStanding}
 use Rattle.source_runs.proofs.Worlds.{Shows}

@@ -4,7 +4,7 @@ use Rattle.sync_objects.specs.Setup.{SetupView, IsWithinLimits}
 use Rattle.flow_code.proofs.Runnable.{valid_runnable}
 use Rattle.c_core.specs.Core.{Program}
 use Rattle.flow_lower.specs.Lowered.{lowered}
-use Rattle.flow_lower.specs.Sound.{IsSound}
+use Rattle.c_core.specs.Sound.{IsSound}
 use Rattle.flow_lower.proofs.Valid.{valid}
 use Rattle.flow_lower.proofs.SoundWithin.{sound_within}
 use Rattle.core_run.specs.Histories.{run_of}
@@ -17,7 +17,7 @@ use Rattle.source_runs.specs.RunEvents.{events_of_run}
 use Rattle.source_runs.specs.WalkEvents.{labels_of_walk, events_of_walk}
 use Rattle.source_runs.proofs.Printing.{walk_prints}
 use Rattle.source_runs.proofs.WalkRuns.{walk_is_run}
-use Rattle.source_runs.specs.SourceRuns.{IsSourceRun, IsBeforeEntry, bytes_of}
+use Rattle.c_core.specs.SourceRuns.{IsSourceRun, IsBeforeEntry, bytes_of}
 use Rattle.source_runs.proofs.Arrives.{MakesRun}
 use Rattle.source_runs.proofs.NoStripes.{all_kept}
 use Rattle.source_runs.proofs.Starts.{making, starts_run}

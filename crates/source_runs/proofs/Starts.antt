@@ -11,12 +11,12 @@ use Rattle.c_core.specs.Core.{Function, Program}
 use Rattle.c_core.specs.Meaning as meaning
 use Rattle.flow_lower.specs.Lowered.{lowered, function_code}
 use Rattle.flow_lower.specs.Follows.{IsAtStart}
-use Rattle.flow_lower.specs.Within.{IsWithin}
+use Rattle.c_core.specs.Within.{IsWithin}
 use Rattle.flow_lower.proofs.Threads.{follows}
 use Rattle.core_run.specs.Machine.{Told, start_thread, start_state}
 use Rattle.core_run.specs.Machine as core_machine
 use Rattle.core_run.proofs.ThreadRanges.{start_thread_is}
-use Rattle.source_runs.specs.SourceRuns.{IsBeforeEntry}
+use Rattle.c_core.specs.SourceRuns.{IsBeforeEntry}
 use Rattle.source_runs.proofs.Arrives.{MakesRun, arrives_at}
 use Rattle.source_runs.proofs.Makings.{IsMaking}
 use Rattle.source_runs.proofs.NoStripes.{no_lock}

@@ -1,4 +1,3 @@
 pub mod RunEvents
-pub mod SourceRuns
 pub mod ThreadEvents
 pub mod WalkEvents

@@ -20,7 +20,7 @@ use Rattle.core_run.specs.Pieces.{piece_next}
 use Rattle.core_run.specs.Walks.{joined}
 use Rattle.runs.specs.Labels.{Label, Go, Revoke, Stop, Close, label_thread}
 use Rattle.runs.specs.Steps.{State, stepped}
-use Rattle.source_runs.specs.SourceRuns.{Deed, own, stops, closes, ThreadDeed}
+use Rattle.c_core.specs.SourceRuns.{Deed, own, stops, closes, ThreadDeed}
 
 abbrev pub answer_in : Advance → ℤ
 answer_in NotAllowed = pos 0

@@ -2,7 +2,7 @@
 use Rattle.std.specs.Prelude.{◌≡◌, ℕ, nat_eq, if◌then◌else◌, ℤ, List, [], ◌∷◌, ◌++◌, ◌⊎◌}
 use Rattle.rr_base.specs.declared.trap.Trap.TheVariants as trap
 use Rattle.c_core.specs.Runs.{Run, Event, done, trapped, events}
-use Rattle.source_runs.specs.SourceRuns.{Deed, own, stops, closes, ThreadDeed}
+use Rattle.c_core.specs.SourceRuns.{Deed, own, stops, closes, ThreadDeed}
 
 abbrev pub event_in : Deed → List Event
 event_in (own e) = e ∷ []

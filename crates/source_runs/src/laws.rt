@@ -7,14 +7,14 @@ ghost use Rattle.c_core.specs.Core.{Program};
 ghost use Rattle.c_core.specs.Meaning.{run_of as thread_run};
 ghost use Rattle.flow_lower.specs.Lowered.{lowered};
 ghost use Rattle.flow_lower.specs.Follows.{IsAtStart};
-ghost use Rattle.flow_lower.specs.Sound.{IsSound};
+ghost use Rattle.c_core.specs.Sound.{IsSound};
 ghost use Rattle.core_run.specs.Histories.{run_of};
 ghost use Rattle.core_run.specs.Machine.{Told, start_state};
 ghost use Rattle.core_run.specs.Walks.{walk_of, out_of};
 ghost use Rattle.runs.specs.Labels.{Label};
 ghost use Rattle.runs.specs.Steps.{State};
 ghost use Rattle.source_runs.specs.RunEvents.{events_of_run};
-ghost use Rattle.source_runs.specs.SourceRuns.{ThreadDeed, IsSourceRun, IsBeforeEntry, bytes_of};
+ghost use Rattle.c_core.specs.SourceRuns.{ThreadDeed, IsSourceRun, IsBeforeEntry, bytes_of};
 ghost use Rattle.source_runs.specs.ThreadEvents.{own_events, IsPartOf};
 ghost use Rattle.source_runs.specs.WalkEvents.{labels_of_walk, events_of_walk};
 

@@ -21,7 +21,7 @@ use Rattle.c_core.specs.Core.{Program}
 use Rattle.c_elaborate.specs.Here.{Source, global_named, function_counted}
 use Rattle.c_elaborate.specs.Calls.{gives_pointer}
 use Rattle.c_elaborate.specs.Functions.{definition}
-use Rattle.flow_lower.specs.Sound.{IsCallable, IsAddress, IsSoundFunction}
+use Rattle.c_core.specs.Sound.{IsCallable, IsAddress, IsSoundFunction}
 use Rattle.source_sound.proofs.Among.{AreAmong}
 use Rattle.source_sound.proofs.Environment.{IsFormed, IsFormedValue}
 use Rattle.source_sound.proofs.Premises.{HaveSpots}

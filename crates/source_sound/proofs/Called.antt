@@ -34,7 +34,7 @@ use Rattle.c_elaborate.specs.Here.{Here, function_counted}
 use Rattle.c_elaborate.specs.Operators.{is_some_address}
 use Rattle.c_elaborate.specs.Calls.{is_pointer_wanted, library_of, first_of, library_called, gives_pointer, called}
 use Rattle.c_elaborate.specs.Expressions.{held, arguments}
-use Rattle.flow_lower.specs.Sound.{HasSite, IsCallable, IsSoundExp, AreSound, value_kinds}
+use Rattle.c_core.specs.Sound.{HasSite, IsCallable, IsSoundExp, AreSound, value_kinds}
 use Rattle.source_sound.proofs.Environment.{IsFormedGiven, IsFormedResult, IsFormedTarget, AreFitting, wanted_kinds, Suits}
 use Rattle.source_sound.proofs.Apart.{not_nothing, append_nil, append_nil₃, comes_not, keeps, never}
 use Rattle.source_sound.proofs.Standings.{formed_or_void, address_layers, Stands, stands_gives}

@@ -3,7 +3,7 @@ use Rattle.std.proofs.Common.{◌≡◌, ℕ, zero, suc, ◌==◌, nat_lt, Bool,
 use Rattle.std.proofs.lemmas.Bool.{eqb-true, lt-ltb}
 use Rattle.c_lexer.specs.Bytes.{Text}
 use Rattle.abstract_machine.specs.declared.library_call.LibraryCall.TheVariants as library_call
-use Rattle.flow_code.specs.Kinds.{library_kinds}
+use Rattle.abstract_machine.specs.Kinds.{library_kinds}
 use Rattle.c_tree.specs.Tree.{Exp, named, text, Exps, no_exp, and_exp}
 use Rattle.rr_base.specs.declared.position.Position.{Position}
 use Rattle.c_types.specs.declared.types.BaseType.{BaseType}
@@ -28,7 +28,7 @@ use Rattle.c_core.specs.Meaning.{is_pointer}
 use Rattle.c_elaborate.specs.Here.{Here, function_counted}
 use Rattle.c_elaborate.specs.Held.{is_pointing}
 use Rattle.c_elaborate.specs.Calls.{is_pointer_wanted, gives_pointer, started_function, library_of, first_of}
-use Rattle.flow_lower.specs.Sound.{IsWhole, IsCallable, Starts, IsSoundExp, AreSound, value_kinds}
+use Rattle.c_core.specs.Sound.{IsWhole, IsCallable, Starts, IsSoundExp, AreSound, value_kinds}
 use Rattle.source_sound.proofs.Environment.{wanted_kinds, CallSuits, Suits}
 use Rattle.source_sound.proofs.Apart.{never, both}
 use Rattle.source_sound.proofs.Formats.{format_numbers, plain_numbers}

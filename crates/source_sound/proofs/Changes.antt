@@ -21,7 +21,7 @@ use Rattle.c_core.specs.Meaning.{is_pointer}
 use Rattle.c_elaborate.specs.Held.{Held, held_register, held_cells, held_zero, held_value, Part, part_by, operand_in, is_pointing, value_in, wanted_in}
 use Rattle.c_elaborate.specs.Here.{Source}
 use Rattle.c_elaborate.specs.Operators.{changing_operator, change_of, changed_by, stored_in, assigned_in, stepped_in}
-use Rattle.flow_lower.specs.Sound.{IsSoundExp}
+use Rattle.c_core.specs.Sound.{IsSoundExp}
 use Rattle.source_sound.proofs.Environment.{IsFormed}
 use Rattle.source_sound.proofs.Apart.{never, both, not_true}
 use Rattle.source_sound.proofs.Standings.{formed_or_void, address_layers, Gives, Stands, PartGives}

@@ -12,7 +12,7 @@ use Rattle.c_core.specs.Core.{Function, Program}
 use Rattle.c_core.specs.Meaning.{is_pointer}
 use Rattle.c_elaborate.specs.Held.{Held, held_register, held_cells, held_zero, held_value}
 use Rattle.c_elaborate.specs.Operators.{is_some_address}
-use Rattle.flow_lower.specs.Sound.{IsWhole, IsSoundExp}
+use Rattle.c_core.specs.Sound.{IsWhole, IsSoundExp}
 use Rattle.source_sound.proofs.Environment.{IsFormedLayered}
 use Rattle.source_sound.proofs.Apart.{never, never', some_not_none}
 use Rattle.source_sound.proofs.Standings.{formed_or_void, Gives, Stands}

@@ -8,7 +8,7 @@ use Rattle.c_core.specs.Core.{Function, Program}
 use Rattle.c_elaborate.specs.Held.{Held, held_value}
 use Rattle.c_elaborate.specs.Here.{Here}
 use Rattle.c_elaborate.specs.Commas.{with_last, joined}
-use Rattle.flow_lower.specs.Sound.{IsSoundExp}
+use Rattle.c_core.specs.Sound.{IsSoundExp}
 use Rattle.source_sound.proofs.Environment.{Suits}
 use Rattle.source_sound.proofs.Standings.{Stands}
 use Rattle.source_sound.proofs.Nodes.{comma_stands, behind_stands}

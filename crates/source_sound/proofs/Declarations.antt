@@ -29,7 +29,7 @@ use Rattle.c_elaborate.specs.Here.{Source, Frame, Here, home_numbered, home_of}
 use Rattle.c_elaborate.specs.Expressions.{held_in}
 use Rattle.c_elaborate.specs.Functions.{formal_of, local_declared, local_of, declares_locals, start_locals}
 use Rattle.c_elaborate.specs.Statements.{here_inside, here_after_object, here_after_declares, here_after_start, here_after}
-use Rattle.flow_lower.specs.Sound.{HasRegister}
+use Rattle.c_core.specs.Sound.{HasRegister}
 use Rattle.source_sound.proofs.Environment.{IsFormed, HeldFits}
 use Rattle.source_sound.proofs.NoFaults.{append_nil, four_nil, never, matches, neither}
 use Rattle.source_sound.proofs.Inside.{IsOpen, HoldsNoStruct, AtHome, EntryFits, ScopeFits, ScopesFit, EntriesFit, scope_entries, Inside, moved}

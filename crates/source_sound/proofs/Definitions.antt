@@ -12,7 +12,7 @@ use Rattle.c_sites.specs.Spots.{in_function, definition_spots}
 use Rattle.c_core.specs.Core.{Program}
 use Rattle.c_elaborate.specs.Here.{Source}
 use Rattle.c_elaborate.specs.Functions.{definition}
-use Rattle.flow_lower.specs.Sound.{IsSoundFunction}
+use Rattle.c_core.specs.Sound.{IsSoundFunction}
 use Rattle.source_sound.proofs.Among.{AreAmong}
 use Rattle.source_sound.proofs.Premises.{HaveSpots}
 use Rattle.source_sound.proofs.Functions.{FileSuits, definition_sound}

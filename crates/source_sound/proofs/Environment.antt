@@ -28,7 +28,7 @@ use Rattle.c_elaborate.specs.Here.{Here, home_of, home_numbered, site_at, functi
 use Rattle.c_elaborate.specs.Operators.{is_some_address}
 use Rattle.c_elaborate.specs.Calls.{is_pointer_wanted, gives_pointer}
 use Rattle.c_elaborate.specs.Expressions.{variable_held}
-use Rattle.flow_lower.specs.Sound.{IsPointer, IsCallable, HasSite, HasRegister, IsSoundExp}
+use Rattle.c_core.specs.Sound.{IsPointer, IsCallable, HasSite, HasRegister, IsSoundExp}
 
 -- ---- types
 

@@ -23,7 +23,7 @@ use Rattle.c_elaborate.specs.Here.{Here, site_at, offset_in}
 use Rattle.c_elaborate.specs.Operators.{conditional_in, binary_in, prefix_in, cast_in}
 use Rattle.c_elaborate.specs.Commas.{with_last}
 use Rattle.c_elaborate.specs.Expressions.{with_tail, is_pointer_type, held, tail_of, part}
-use Rattle.flow_lower.specs.Sound.{IsSoundExp}
+use Rattle.c_core.specs.Sound.{IsSoundExp}
 use Rattle.source_sound.proofs.Environment.{IsFormedTarget, AreKept, places_of, Suits, HaveSites}
 use Rattle.source_sound.proofs.Apart.{not_nothing, append_nil, append_nil₃, append_nil₄, keeps}
 use Rattle.source_sound.proofs.Standings.{Stands, PartGives, stands_gives}

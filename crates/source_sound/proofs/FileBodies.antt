@@ -20,7 +20,7 @@ use Rattle.c_core.specs.Core.{Program}
 use Rattle.c_elaborate.specs.Here.{Source, global_named, function_counted}
 use Rattle.c_elaborate.specs.Calls.{gives_pointer}
 use Rattle.c_elaborate.specs.Whole.{code_functions, outer_functions, outers_functions}
-use Rattle.flow_lower.specs.Sound.{IsAddress, IsCallable, IsSoundFunction}
+use Rattle.c_core.specs.Sound.{IsAddress, IsCallable, IsSoundFunction}
 use Rattle.source_sound.proofs.Environment.{IsFormed}
 use Rattle.source_sound.proofs.Structs.{IsWithin, formed_within}
 use Rattle.source_sound.proofs.FileStructs.{type_cells}

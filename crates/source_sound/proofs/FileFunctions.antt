@@ -33,7 +33,7 @@ use Rattle.c_elaborate.specs.Calls.{gives_pointer}
 use Rattle.c_elaborate.specs.Functions.{formal_at, formal_of, marked, local_pointers, definition}
 use Rattle.c_elaborate.specs.Functions.{parts_locals}
 use Rattle.c_elaborate.specs.Whole.{code_functions, outer_functions, outers_functions}
-use Rattle.flow_lower.specs.Sound.{formal_kinds}
+use Rattle.c_core.specs.Sound.{formal_kinds}
 use Rattle.source_sound.proofs.FileLists.{append_nil, where_nil, same_text, text_same}
 use Rattle.source_sound.proofs.Signatures.{kinds_wanted, IsKnown}
 use Rattle.source_sound.proofs.FileScope.{IsFunction}

@@ -1,7 +1,7 @@
 -- The layouts of a whole file without a fault fit: those of each definition.
 use Rattle.std.proofs.Common.{◌≡◌, ℕ, zero, suc, ◌+◌, Bool, true, false, ◌&&◌, ◌==◌, List, [], ◌∷◌, length, replicate, Option, Some, None, is_some, is_none, refl, sym, ap, ◌∙◌, subst}
 use Rattle.std.proofs.lemmas.Bool.{or_parts}
-use Rattle.flow_code.specs.Valid.{layout_fits}
+use Rattle.abstract_machine.specs.Layouts.{layout_fits}
 use Rattle.c_lexer.specs.Bytes.{Text}
 use Rattle.c_lexer.specs.Names.{entry_of}
 use Rattle.c_tree.specs.declared.name.Name.{Name}

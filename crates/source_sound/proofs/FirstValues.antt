@@ -32,7 +32,7 @@ use Rattle.c_elaborate.specs.Expressions.{is_pointer_type, wanted_of}
 use Rattle.c_elaborate.specs.Initials.{kinds_of_some, cell_stored, cell_cleared, cleared, type_of_part, started, parts_started, zero_word, first_word, first_of_braces, object_begun, begun}
 use Rattle.c_elaborate.specs.Functions.{local_of, declares_locals}
 use Rattle.c_elaborate.specs.Statements.{here_after_object, object_elaborated, objects_elaborated, declares_elaborated}
-use Rattle.flow_lower.specs.Sound.{IsSoundExp, IsSoundStatement, AreSoundStatements}
+use Rattle.c_core.specs.Sound.{IsSoundExp, IsSoundStatement, AreSoundStatements}
 use Rattle.source_sound.proofs.Environment.{IsFormed, IsFormedTarget, Suits}
 use Rattle.source_sound.proofs.NoFaults.{append_nil, three_nil, fits}
 use Rattle.source_sound.proofs.Premises.{Have, have_parts, AreValuesSound, AreWantedSound, value_by_parts, wanted_by_parts}

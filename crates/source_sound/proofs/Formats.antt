@@ -2,7 +2,7 @@
 use Rattle.std.proofs.Common.{◌≡◌, ℕ, zero, suc, ◌+◌, ◌==◌, Bool, true, false, if◌then◌else◌, List, [], ◌∷◌, ◌++◌, replicate, Some, None, unwrap_or, refl, sym, ap, ◌∙◌, append-nil, add-one}
 use Rattle.c_lexer.specs.Bytes.{Text}
 use Rattle.abstract_machine.specs.declared.library_call.Piece.TheVariants as piece
-use Rattle.flow_code.specs.Kinds.{format_kinds}
+use Rattle.abstract_machine.specs.Kinds.{format_kinds}
 use Rattle.c_types.specs.declared.format.Inside.{Inside}
 use Rattle.c_types.specs.declared.format.Inside.TheVariants as inside
 use Rattle.c_types.specs.Format.{is_decimal, conversions_from, conversions}

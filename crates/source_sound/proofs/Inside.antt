@@ -17,7 +17,7 @@ use Rattle.c_elaborate.specs.declared.home.Home.TheVariants as kept_in
 use Rattle.c_elaborate.specs.Here.{Source, Frame, Here, home_numbered, global_named, function_counted}
 use Rattle.c_elaborate.specs.Calls.{gives_pointer}
 use Rattle.c_elaborate.specs.Expressions.{held_in, variable_held}
-use Rattle.flow_lower.specs.Sound.{IsCallable, IsAddress}
+use Rattle.c_core.specs.Sound.{IsCallable, IsAddress}
 use Rattle.std.proofs.lemmas.Option.{same_Some}
 use Rattle.std.proofs.lemmas.Slice.Eq.{bytes_eq-Decides}
 use Rattle.source_sound.proofs.Environment.{IsFormed, IsFormedResult, HeldFits, AreFitting, wanted_kinds, CallSuits, Suits}

@@ -13,7 +13,7 @@ use Rattle.c_elaborate.specs.Here.{Source, function_counted}
 use Rattle.c_elaborate.specs.Calls.{gives_pointer}
 use Rattle.c_elaborate.specs.Functions.{definition}
 use Rattle.c_elaborate.specs.Whole.{core_of_source}
-use Rattle.flow_lower.specs.Sound.{IsSound, IsCallable, IsSoundFunction}
+use Rattle.c_core.specs.Sound.{IsSound, IsCallable, IsSoundFunction}
 use Rattle.source_sound.proofs.Environment.{IsFormedResult}
 use Rattle.source_sound.proofs.Bodies.{IsGiven, IsFileName, Begins, DefinitionsAreSound}
 use Rattle.source_sound.proofs.Definitions.{defined_sound}

@@ -31,7 +31,7 @@ use Rattle.c_elaborate.specs.Held.{Held, held_zero, held_value, Part, part_by, o
 use Rattle.c_elaborate.specs.Here.{Here, home_of}
 use Rattle.c_elaborate.specs.Operators.{assigned_in, stepped_in, prefix_in, cast_in, is_some_address}
 use Rattle.c_elaborate.specs.Expressions.{constant_by, folded, variable_held, named_held, is_pointer_type, held}
-use Rattle.flow_lower.specs.Sound.{IsSoundExp}
+use Rattle.c_core.specs.Sound.{IsSoundExp}
 use Rattle.source_sound.proofs.Environment.{IsFormed, AreKept, HeldFits, Suits}
 use Rattle.source_sound.proofs.Apart.{not_nothing, append_nil, keeps, never, never'}
 use Rattle.source_sound.proofs.Standings.{Stands, PartGives, stands_gives}

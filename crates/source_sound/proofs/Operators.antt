@@ -3,7 +3,7 @@ use Rattle.std.proofs.Common.{◌≡◌, ◌⊎◌, inl, inr, ℕ, ◌≤◌, Bo
 use Rattle.std.proofs.lemmas.Bool.{and_from}
 use Rattle.abstract_machine.specs.declared.operator.BinaryOp.{BinaryOp as FlowOp}
 use Rattle.abstract_machine.specs.declared.operator.BinaryOp.TheVariants as flow
-use Rattle.flow_code.specs.Kinds.{is_comparison}
+use Rattle.abstract_machine.specs.Kinds.{is_comparison}
 use Rattle.c_tree.specs.declared.expr.BinaryOp.{BinaryOp}
 use Rattle.c_tree.specs.declared.expr.BinaryOp.TheVariants as op
 use Rattle.c_types.specs.declared.types.ObjectType.{ObjectType}
@@ -17,7 +17,7 @@ use Rattle.c_core.specs.Core.{Function, Program}
 use Rattle.c_elaborate.specs.Held.{held_cells, held_value, Part, operand_in, is_pointing}
 use Rattle.c_elaborate.specs.Here.{Source, element_of}
 use Rattle.c_elaborate.specs.Operators.{element_of_either, operated_in, binary_in, conditional_in, index_in}
-use Rattle.flow_lower.specs.Sound.{IsSoundExp}
+use Rattle.c_core.specs.Sound.{IsSoundExp}
 use Rattle.source_sound.proofs.Environment.{IsFormed, IsFormedOrVoid}
 use Rattle.source_sound.proofs.Apart.{never, both, either_holds, not_true}
 use Rattle.source_sound.proofs.Standings.{formed_pointee, IsFormedOperand, Gives, Stands, PartGives}

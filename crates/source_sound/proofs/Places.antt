@@ -24,7 +24,7 @@ use Rattle.c_core.specs.Meaning.{is_pointer}
 use Rattle.c_elaborate.specs.Held.{Held, held_register, held_cells, held_zero, held_value, Part, part_by, operand_in, is_pointing, value_by, value_in}
 use Rattle.c_elaborate.specs.Here.{Source}
 use Rattle.c_elaborate.specs.Operators.{address_in, prefix_in, is_some_address, cast_in, member_in, arrow_in}
-use Rattle.flow_lower.specs.Sound.{IsSoundExp}
+use Rattle.c_core.specs.Sound.{IsSoundExp}
 use Rattle.source_sound.proofs.Environment.{IsFormed, IsFormedGiven, IsFormedOrVoid}
 use Rattle.source_sound.proofs.Apart.{append_nil, comes_not, never, not_true, there_is, some_not_none}
 use Rattle.source_sound.proofs.Standings.{formed_or_void, formed_pointee, address_layers, Gives, Stands, PartGives, stands_gives}

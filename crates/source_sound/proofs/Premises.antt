@@ -13,7 +13,7 @@ use Rattle.c_core.specs.Meaning.{is_pointer}
 use Rattle.c_elaborate.specs.Held.{is_pointing}
 use Rattle.c_elaborate.specs.Here.{Frame, Here, home_numbered, site_at}
 use Rattle.c_elaborate.specs.Expressions.{value_of, wanted_of}
-use Rattle.flow_lower.specs.Sound.{HasSite, IsSoundExp}
+use Rattle.c_core.specs.Sound.{HasSite, IsSoundExp}
 use Rattle.source_sound.proofs.Environment.{IsFormedTarget, IsKept, AreKept, places_of, Suits, HaveSites}
 
 -- each of these has a site

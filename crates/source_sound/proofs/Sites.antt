@@ -17,7 +17,7 @@ use Rattle.c_core.specs.Core.{Program}
 use Rattle.c_elaborate.specs.declared.local.Local.{Local}
 use Rattle.c_elaborate.specs.Here.{site_at}
 use Rattle.c_elaborate.specs.Functions.{formal_of, local_declared, local_of, declares_locals, start_locals, statement_locals, parts_locals, marked, sites_of}
-use Rattle.flow_lower.specs.Sound.{HasSite}
+use Rattle.c_core.specs.Sound.{HasSite}
 use Rattle.source_sound.proofs.Premises.{HaveSpots, spots_parts}
 use Rattle.source_sound.proofs.Locals.{declares_count, start_count, locals_count}
 

@@ -21,7 +21,7 @@ use Rattle.c_elaborate.specs.Calls.{gives_pointer}
 use Rattle.c_elaborate.specs.Expressions.{value_of, wanted_of}
 use Rattle.c_elaborate.specs.Functions.{declares_locals, start_locals, statement_locals, parts_locals}
 use Rattle.c_elaborate.specs.Statements.{here_inside, here_after_declares, here_after_start, here_after, declares_elaborated, computed, maybe_value, given, start_elaborated, elaborated, all_elaborated}
-use Rattle.flow_lower.specs.Sound.{IsSoundExp, IsSoundMaybe, IsSoundResult, IsSoundStatement}
+use Rattle.c_core.specs.Sound.{IsSoundExp, IsSoundMaybe, IsSoundResult, IsSoundStatement}
 use Rattle.source_sound.proofs.NoFaults.{append_nil, three_nil, four_nil, fits}
 use Rattle.source_sound.proofs.Premises.{Have, have_parts, AreValuesSound, AreWantedSound, value_by_parts, wanted_by_parts}
 use Rattle.source_sound.proofs.Inside.{Inside, suits}

@@ -22,7 +22,7 @@ use Rattle.c_elaborate.specs.Here.{Here}
 use Rattle.c_elaborate.specs.Operators.{is_some_address}
 use Rattle.c_elaborate.specs.Calls.{is_pointer_wanted}
 use Rattle.c_elaborate.specs.Expressions.{held, part, value_of, wanted_of}
-use Rattle.flow_lower.specs.Sound.{IsPointer, IsWhole, IsSoundExp}
+use Rattle.c_core.specs.Sound.{IsPointer, IsWhole, IsSoundExp}
 use Rattle.source_sound.proofs.Environment.{IsFormed, IsFormedValue, IsFormedTarget, AreKept, places_of, HeldFits, HaveSites, Suits}
 use Rattle.source_sound.proofs.Standings.{address_layers, Stands, PartGives, stands_held, stands_gives}
 use Rattle.source_sound.proofs.Choices.{gives_whole}

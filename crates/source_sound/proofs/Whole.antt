@@ -6,7 +6,7 @@ use Rattle.rr_base.specs.Words.{pack}
 use Rattle.rr_base.specs.declared.layout.CellKind.{CellKind}
 use Rattle.rr_base.specs.declared.layout.Site.{Site}
 use Rattle.abstract_machine.specs.Cells.{size_of}
-use Rattle.flow_code.specs.Valid.{sites_fit}
+use Rattle.abstract_machine.specs.Layouts.{sites_fit}
 use Rattle.c_lexer.specs.Bytes.{Text}
 use Rattle.c_lexer.specs.Names.{entry_of}
 use Rattle.c_tree.specs.Tree.{Outer}
@@ -19,7 +19,7 @@ use Rattle.c_core.specs.Core.{Program}
 use Rattle.c_elaborate.specs.Here.{Source, global_named}
 use Rattle.c_elaborate.specs.Globals.{global_kinds}
 use Rattle.c_elaborate.specs.Whole.{outers_functions, outers_words, source_of, core_of_source}
-use Rattle.flow_lower.specs.Sound.{IsAddress, IsSoundFunction, LiesAt, AreAtHome, IsSound}
+use Rattle.c_core.specs.Sound.{IsAddress, IsSoundFunction, LiesAt, AreAtHome, IsSound}
 use Rattle.source_sound.proofs.Faultless.{IsFaultless, faultless}
 use Rattle.source_sound.proofs.Sited.{AreSited, all_sited, counted}
 use Rattle.source_sound.proofs.FileStructs.{AreStructs}

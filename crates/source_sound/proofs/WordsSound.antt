@@ -13,7 +13,7 @@ use Rattle.c_core.specs.Meaning.{is_pointer}
 use Rattle.c_elaborate.specs.Held.{is_pointing, value_by, pointer_by}
 use Rattle.c_elaborate.specs.Operators.{is_some_address}
 use Rattle.c_elaborate.specs.Expressions.{held}
-use Rattle.flow_lower.specs.Sound.{IsSoundExp}
+use Rattle.c_core.specs.Sound.{IsSoundExp}
 use Rattle.source_sound.proofs.Standings.{Gives, stands_gives}
 use Rattle.source_sound.proofs.Expressions.{exp_stands}
 use Rattle.source_sound.proofs.Premises.{AreValuesSound, AreWantedSound}

@@ -9,7 +9,7 @@ use Rattle.std.specs.Ordering.{ordering_reverse, is_le}
 use Rattle.std.proofs.lemmas.Cmp.{nat_list_cmp_total}
 use Rattle.core_run.specs.Machine.{start_state}
 use Rattle.core_run.specs.Walks.{walk_of}
-use Rattle.facts.specs.Profile.{Text, Pair, text_order, ordered, AreTexts, ArePairs, IsLesserFirst}
+use Rattle.profiles.specs.Profile.{Text, Pair, text_order, ordered, AreTexts, ArePairs, IsLesserFirst}
 use Rattle.flow_code.specs.declared.code.Code.{Code}
 use Rattle.flow_code.specs.declared.code.Function.{Function}
 use Rattle.outcomes.specs.Puts.{Put}

@@ -4,7 +4,7 @@ use Rattle.answers.specs.declared.answer.Answer.{Answer}
 use Rattle.answers.specs.declared.answer.Answer.TheVariants as answer
 use Rattle.core_run.specs.declared.outcome.Walk.{Walk}
 use Rattle.core_run.specs.declared.outcome.Walk.TheVariants as walk
-use Rattle.facts.specs.Profile.{Pair}
+use Rattle.profiles.specs.Profile.{Pair}
 use Rattle.flow_code.specs.declared.code.Code.{Code}
 use Rattle.outcomes.specs.Puts.{Put}
 use Rattle.outcomes.specs.declared.outcome.Outcome.{Outcome}

@@ -6,7 +6,7 @@ use Rattle.core_run.specs.Machine.{Told, start_state}
 use Rattle.core_run.specs.Walks.{walk_of, WalkIs}
 use Rattle.core_run.specs.declared.outcome.Walk.{Walk}
 use Rattle.core_run.specs.declared.outcome.Walk.TheVariants as walk
-use Rattle.facts.specs.Profile.{Pair}
+use Rattle.profiles.specs.Profile.{Pair}
 use Rattle.flow_code.specs.declared.code.Code.{Code}
 use Rattle.outcomes.specs.Puts.{Put}
 use Rattle.outcomes.specs.declared.outcome.Outcome.{Outcome}

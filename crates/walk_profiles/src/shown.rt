@@ -4,7 +4,7 @@ ghost use Rattle.std.specs.Prelude.{◌≡◌, ◌∷◌, [], IfOk};
 ghost use Rattle.std.specs.List.{AllByRecursion};
 ghost use Rattle.std.specs.Str.{IsUtf8};
 ghost use Rattle.core_run.specs.Walks.{WalkIs};
-ghost use Rattle.facts.specs.Profile.{ArePairs};
+ghost use Rattle.profiles.specs.Profile.{ArePairs};
 ghost use Rattle.flow_code.specs.Settle.{IsRunnable};
 ghost use Rattle.profile_book.specs.Writing.{profile_text};
 ghost use Rattle.walk_answers.specs.Walking.{no_reads};
@@ -13,11 +13,11 @@ ghost use Rattle.walk_profiles.specs.Profiling.{PutsFor, PutsWalked, ShowsProfil
 
 use answers::Answer;
 use core_run::{Walk, walk};
-use facts::FunctionPairs;
 use flow_code::Code;
 use order_log::Log;
 use outcomes::{Outcome, Put};
 use profile_book::write_profile;
+use profiles::FunctionPairs;
 use rr_base::{Bytes, List};
 use seen_pairs::seen_pairs;
 use std::alloc::{AllocError, Global};

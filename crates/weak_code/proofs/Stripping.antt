@@ -15,7 +15,8 @@ use Rattle.flow_code.specs.declared.code.LockInfo.{LockInfo}
 use Rattle.flow_code.specs.Order.{order_fits}
 use Rattle.flow_code.specs.Kinds.{act_fits, has_instr, has_register}
 use Rattle.flow_code.specs.Regions.{loop_fits, bound_is_register}
-use Rattle.flow_code.specs.Valid.{is_valid, is_within_limits, sites_fit, all_locks_fit, has_one_main, functions_fit, function_fits, registers_fit, acts_fit, loops_fit, regions_fit}
+use Rattle.flow_code.specs.Valid.{is_valid, is_within_limits, all_locks_fit, has_one_main, functions_fit, function_fits, registers_fit, acts_fit, loops_fit, regions_fit}
+use Rattle.abstract_machine.specs.Layouts.{sites_fit}
 use Rattle.flow_code.specs.Addresses.{globals_fit}
 use Rattle.facts.specs.declared.pair.Pair.{Pair}
 use Rattle.facts.specs.PointsTo.{Tables}

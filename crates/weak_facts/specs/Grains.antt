@@ -11,11 +11,11 @@ use Rattle.flow_code.specs.declared.code.Function.{Function}
 use Rattle.flow_code.specs.Threads.{instrs_in}
 use Rattle.facts.specs.declared.pair.AccessAt.{AccessAt}
 use Rattle.facts.specs.declared.pair.Pair.{Pair}
-use Rattle.facts.specs.declared.profile.Profile.{Profile}
-use Rattle.facts.specs.declared.profile.Profile.TheVariants as profile
+use Rattle.profiles.specs.declared.profile.Profile.{Profile}
+use Rattle.profiles.specs.declared.profile.Profile.TheVariants as profile
 use Rattle.facts.specs.Blocks.{begins_block}
 use Rattle.facts.specs.Pairs.{access_less, access_same, act_of}
-use Rattle.facts.specs.Profile.{Text, text_order, pair_order}
+use Rattle.profiles.specs.Profile.{Text, text_order, pair_order}
 use Rattle.weak_facts.specs.declared.grain.Grain.{Grain}
 use Rattle.weak_facts.specs.declared.grain.Grain.TheVariants as grain
 use Rattle.weak_facts.specs.declared.grain.Grained.{Grained}

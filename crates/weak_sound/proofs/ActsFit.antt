@@ -17,7 +17,8 @@ use Rattle.flow_code.specs.declared.code.LoopInfo.{LoopInfo}
 use Rattle.flow_code.specs.declared.region.Region.{Region}
 use Rattle.flow_code.specs.declared.work.Work.{Work}
 use Rattle.flow_code.specs.declared.work.Work.TheVariants as work
-use Rattle.flow_code.specs.Kinds.{has_register, has_pointer, has_whole, has_kind, have_kinds, is_comparison, is_site, work_fits, formal_kinds, value_fits, call_fits, may_start, starts_fit, library_kinds, library_value_fits, library_fits, has_instr, act_fits}
+use Rattle.flow_code.specs.Kinds.{has_register, has_pointer, has_whole, has_kind, have_kinds, is_site, work_fits, formal_kinds, value_fits, call_fits, may_start, starts_fit, library_value_fits, library_fits, has_instr, act_fits}
+use Rattle.abstract_machine.specs.Kinds.{is_comparison, library_kinds}
 use Rattle.flow_code.specs.Threads.{is_main_in}
 use Rattle.flow_code.specs.Works.{is_pointer}
 use Rattle.weak_code.specs.declared.stretch.Stretch.{Stretch}

@@ -12,8 +12,9 @@ use Rattle.flow_code.specs.declared.code.LoopInfo.{LoopInfo}
 use Rattle.flow_code.specs.declared.region.Region.{Region}
 use Rattle.flow_code.specs.Order.{order_fits}
 use Rattle.flow_code.specs.Addresses.{globals_fit}
-use Rattle.flow_code.specs.Valid.{is_valid, is_within_limits, sites_fit, all_locks_fit, has_one_main, functions_fit, function_fits, registers_fit, acts_fit, loops_fit, regions_fit}
-use Rattle.facts.specs.declared.profile.Profile.{Profile}
+use Rattle.flow_code.specs.Valid.{is_valid, is_within_limits, all_locks_fit, has_one_main, functions_fit, function_fits, registers_fit, acts_fit, loops_fit, regions_fit}
+use Rattle.abstract_machine.specs.Layouts.{sites_fit}
+use Rattle.profiles.specs.declared.profile.Profile.{Profile}
 use Rattle.facts.specs.PointsTo.{Tables}
 use Rattle.weak_facts.specs.declared.grain.Grained.{Grained}
 use Rattle.weak_facts.specs.declared.range.Range.{Range}

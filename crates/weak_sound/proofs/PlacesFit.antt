@@ -20,7 +20,8 @@ use Rattle.flow_code.specs.declared.work.Work.{Work}
 use Rattle.flow_code.specs.declared.work.Work.TheVariants as work
 use Rattle.flow_code.specs.Addresses.{address_at, address_of, word_fits, words_fit}
 use Rattle.flow_code.specs.Kinds.{has_pointer, is_site, is_address, value_fits, act_fits}
-use Rattle.flow_code.specs.Valid.{layout_fits, sites_fit, acts_fit}
+use Rattle.flow_code.specs.Valid.{acts_fit}
+use Rattle.abstract_machine.specs.Layouts.{layout_fits, sites_fit}
 use Rattle.facts.specs.Blocks.{constant_at}
 use Rattle.facts.specs.declared.constraint.Node.{Node}
 use Rattle.facts.specs.declared.constraint.Node.TheVariants.{Register}

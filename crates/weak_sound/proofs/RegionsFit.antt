@@ -23,7 +23,8 @@ use Rattle.flow_code.specs.declared.region.Span.{Span}
 use Rattle.flow_code.specs.declared.work.Work.TheVariants as work
 use Rattle.flow_code.specs.Next.{act_in}
 use Rattle.flow_code.specs.Order.{is_mark}
-use Rattle.flow_code.specs.Kinds.{has_register, has_pointer, has_whole, has_kind, have_kinds, starts_fit, library_kinds, library_value_fits, act_fits}
+use Rattle.flow_code.specs.Kinds.{has_register, has_pointer, has_whole, has_kind, have_kinds, starts_fit, library_value_fits, act_fits}
+use Rattle.abstract_machine.specs.Kinds.{library_kinds}
 use Rattle.flow_code.specs.Regions.{ascend, are_locks, locks_fit, base_fits, bound_is_whole, span_fits, spans_fit, region_fits}
 use Rattle.flow_code.specs.Threads.{Object, object_of, and_objects, objects_of}
 use Rattle.flow_code.specs.Works.{is_pointer}

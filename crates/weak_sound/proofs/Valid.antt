@@ -16,11 +16,12 @@ use Rattle.flow_code.specs.Kinds.{act_fits, has_instr, has_register}
 use Rattle.flow_code.specs.Order.{order_fits}
 use Rattle.flow_code.specs.Regions.{bound_is_register, loop_fits, region_fits}
 use Rattle.flow_code.specs.Threads.{objects_of}
-use Rattle.flow_code.specs.Valid.{is_valid, is_within_limits, sites_fit, all_locks_fit, is_main_function, mains_in, mains_have_no_formals, has_one_main, most_locks, functions_fit, function_fits, registers_fit, acts_fit, loops_fit, regions_fit}
+use Rattle.flow_code.specs.Valid.{is_valid, is_within_limits, all_locks_fit, is_main_function, mains_in, mains_have_no_formals, has_one_main, most_locks, functions_fit, function_fits, registers_fit, acts_fit, loops_fit, regions_fit}
+use Rattle.abstract_machine.specs.Layouts.{sites_fit}
 use Rattle.facts.specs.declared.constraint.Node.TheVariants.{Register}
 use Rattle.facts.specs.declared.locks.Summary.{Summary}
 use Rattle.facts.specs.declared.pair.Pair.{Pair}
-use Rattle.facts.specs.declared.profile.Profile.{Profile}
+use Rattle.profiles.specs.declared.profile.Profile.{Profile}
 use Rattle.facts.specs.PointsTo.{Tables, MayPoint}
 use Rattle.std.specs.List.{Contains}
 use Rattle.std.proofs.lemmas.Option.{slice_get_within, get_or_from_slice_get}

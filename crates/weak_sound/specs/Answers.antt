@@ -3,7 +3,7 @@ use Rattle.std.specs.Prelude.{◌≡◌, List}
 use Rattle.flow_code.specs.declared.code.Code.{Code}
 use Rattle.facts.specs.declared.locks.Summary.{Summary}
 use Rattle.facts.specs.declared.pair.Pair.{Pair}
-use Rattle.facts.specs.declared.profile.Profile.{Profile}
+use Rattle.profiles.specs.declared.profile.Profile.{Profile}
 use Rattle.facts.specs.Pairs.{ArePairs}
 use Rattle.facts.specs.PointsTo.{Tables, IsPointsTo}
 use Rattle.weak_facts.specs.declared.grain.Grained.{Grained}

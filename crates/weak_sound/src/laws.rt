@@ -4,7 +4,7 @@ ghost use Rattle.flow_code.specs.declared.code.Code.{Code};
 ghost use Rattle.flow_code.specs.Valid.{is_valid};
 ghost use Rattle.facts.specs.declared.locks.Summary.{Summary};
 ghost use Rattle.facts.specs.declared.pair.Pair.{Pair};
-ghost use Rattle.facts.specs.declared.profile.Profile.{Profile};
+ghost use Rattle.profiles.specs.declared.profile.Profile.{Profile};
 ghost use Rattle.facts.specs.PointsTo.{Tables};
 ghost use Rattle.weak_facts.specs.declared.grain.Grained.{Grained};
 ghost use Rattle.weak_facts.specs.declared.range.Range.{Range};

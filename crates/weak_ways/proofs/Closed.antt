@@ -18,7 +18,7 @@ use Rattle.flow_code.specs.Order.{is_end, is_mark}
 use Rattle.flow_code.specs.Threads.{object_of, objects_of, instrs_in}
 use Rattle.facts.specs.declared.pair.AccessAt.{AccessAt}
 use Rattle.facts.specs.declared.pair.Pair.{Pair}
-use Rattle.facts.specs.declared.profile.Profile.{Profile}
+use Rattle.profiles.specs.declared.profile.Profile.{Profile}
 use Rattle.facts.specs.Accesses.{Access, access_of}
 use Rattle.facts.specs.Pairs.{act_of}
 use Rattle.facts.specs.PointsTo.{Tables}

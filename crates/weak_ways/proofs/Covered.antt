@@ -12,9 +12,10 @@ use Rattle.flow_code.specs.declared.code.Code.{Code}
 use Rattle.flow_code.specs.declared.code.Function.{Function}
 use Rattle.flow_code.specs.Addresses.{globals_fit}
 use Rattle.flow_code.specs.Order.{order_fits}
-use Rattle.flow_code.specs.Valid.{is_valid, is_within_limits, sites_fit, all_locks_fit, has_one_main, functions_fit, function_fits}
+use Rattle.flow_code.specs.Valid.{is_valid, is_within_limits, all_locks_fit, has_one_main, functions_fit, function_fits}
+use Rattle.abstract_machine.specs.Layouts.{sites_fit}
 use Rattle.facts.specs.declared.pair.Pair.{Pair}
-use Rattle.facts.specs.declared.profile.Profile.{Profile}
+use Rattle.profiles.specs.declared.profile.Profile.{Profile}
 use Rattle.facts.specs.Accesses.{Access, access_of}
 use Rattle.facts.specs.PointsTo.{Tables}
 use Rattle.weak_facts.specs.declared.grain.Grained.{Grained}

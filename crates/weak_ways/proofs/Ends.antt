@@ -12,7 +12,7 @@ use Rattle.flow_code.specs.Next.{act_in, act_at}
 use Rattle.flow_code.specs.Threads.{Thread, instr_in, instrs_in}
 use Rattle.flow_code.specs.Valid.{is_valid}
 use Rattle.facts.specs.declared.pair.Pair.{Pair}
-use Rattle.facts.specs.declared.profile.Profile.{Profile}
+use Rattle.profiles.specs.declared.profile.Profile.{Profile}
 use Rattle.facts.specs.PointsTo.{Tables}
 use Rattle.weak_facts.specs.declared.grain.Grained.{Grained}
 use Rattle.weak_facts.specs.declared.range.Range.{Range}

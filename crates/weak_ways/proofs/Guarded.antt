@@ -14,7 +14,7 @@ use Rattle.flow_code.specs.declared.region.Region.TheVariants as region
 use Rattle.flow_code.specs.declared.region.Span.{Span}
 use Rattle.flow_code.specs.Threads.{objects_of}
 use Rattle.facts.specs.declared.pair.Pair.{Pair}
-use Rattle.facts.specs.declared.profile.Profile.{Profile}
+use Rattle.profiles.specs.declared.profile.Profile.{Profile}
 use Rattle.facts.specs.Accesses.{Access}
 use Rattle.facts.specs.Pairs.{access_in, act_of}
 use Rattle.facts.specs.PointsTo.{Tables}

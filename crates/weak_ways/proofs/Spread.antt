@@ -15,7 +15,7 @@ use Rattle.flow_code.specs.Order.{is_end, is_mark}
 use Rattle.flow_code.specs.Threads.{object_of}
 use Rattle.facts.specs.declared.pair.AccessAt.{AccessAt}
 use Rattle.facts.specs.declared.pair.Pair.{Pair}
-use Rattle.facts.specs.declared.profile.Profile.{Profile}
+use Rattle.profiles.specs.declared.profile.Profile.{Profile}
 use Rattle.facts.specs.Accesses.{Access}
 use Rattle.facts.specs.Blocks.{ends_block, is_target, may_end_block, follows_end, begins_block}
 use Rattle.facts.specs.Pairs.{access_in, access_less, act_of}

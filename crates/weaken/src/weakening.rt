@@ -4,7 +4,7 @@ ghost use Rattle.flow_code.specs.Valid.{is_valid, function_fits};
 ghost use Rattle.flow_code.specs.Regions.{loop_fits};
 ghost use Rattle.flow_code.specs.Valid.{loops_fit};
 ghost use Rattle.facts.specs.declared.locks.Summary.{Summary};
-ghost use Rattle.facts.specs.declared.profile.Profile.{Profile};
+ghost use Rattle.profiles.specs.declared.profile.Profile.{Profile};
 ghost use Rattle.facts.specs.Pairs.{pairs_ascend};
 ghost use Rattle.facts.specs.PointsTo.{are_ascending};
 ghost use Rattle.flow_code.specs.declared.code.Function.{Function};

@@ -18,7 +18,8 @@ use Rattle.flow_code.specs.declared.code.Code.{Code}
 use Rattle.flow_code.specs.declared.code.Function.{Function}
 use Rattle.flow_code.specs.declared.work.Work.{Work}
 use Rattle.flow_code.specs.declared.work.Work.TheVariants as work
-use Rattle.flow_code.specs.Kinds.{has_register, has_pointer, has_whole, same_register_kind, is_null, is_comparison, work_fits}
+use Rattle.flow_code.specs.Kinds.{has_register, has_pointer, has_whole, same_register_kind, is_null, work_fits}
+use Rattle.abstract_machine.specs.Kinds.{is_comparison}
 use Rattle.flow_code.specs.Threads.{instrs_in}
 use Rattle.flow_code.specs.Valid.{is_valid}
 use Rattle.flow_code.specs.Works.{is_pointer, work_of}

@@ -26,7 +26,8 @@ use Rattle.flow_code.specs.declared.region.Region.{Region}
 use Rattle.flow_code.specs.declared.thread.Phase.TheVariants as phase
 use Rattle.flow_code.specs.declared.thread.Stripe.{Stripe}
 use Rattle.flow_code.specs.Holding.{taken, gives_at, parting, parting_due, left_of, keeping, left_behind}
-use Rattle.flow_code.specs.Kinds.{have_kinds, library_value_fits, library_kinds, library_fits, starts_fit}
+use Rattle.flow_code.specs.Kinds.{have_kinds, library_value_fits, library_fits, starts_fit}
+use Rattle.abstract_machine.specs.Kinds.{library_kinds}
 use Rattle.flow_code.specs.Next.{past, act_at, in_frame, pointers_in, went_on, caller, call_after, on_unless}
 use Rattle.flow_code.specs.Threads.{Thread}
 use Rattle.flow_code.specs.Works.{is_pointer}

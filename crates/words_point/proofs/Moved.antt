@@ -29,7 +29,8 @@ use Rattle.flow_code.specs.declared.code.Code.{Code}
 use Rattle.flow_code.specs.declared.code.Function.{Function}
 use Rattle.flow_code.specs.declared.thread.Phase.{Phase}
 use Rattle.flow_code.specs.declared.thread.Phase.TheVariants as phase
-use Rattle.flow_code.specs.Kinds.{have_kinds, library_kinds, library_value_fits, starts_fit, may_start}
+use Rattle.flow_code.specs.Kinds.{have_kinds, library_value_fits, starts_fit, may_start}
+use Rattle.abstract_machine.specs.Kinds.{library_kinds}
 use Rattle.flow_code.specs.Next.{action_of, act_at, mark_if, begun_due, phase_due, due_of, gave_up}
 use Rattle.flow_code.specs.Settle.{settled, IsRunnable}
 use Rattle.flow_code.specs.Valid.{is_valid}

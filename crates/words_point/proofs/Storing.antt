@@ -28,7 +28,8 @@ use Rattle.flow_code.specs.declared.code.Function.{Function}
 use Rattle.flow_code.specs.declared.thread.Stripe.{Stripe}
 use Rattle.flow_code.specs.declared.thread.Phase.TheVariants as phase
 use Rattle.flow_code.specs.Holding.{region_of, lacked, take_or_quiet, to_give, give_or_quiet, owes, parting, parting_due}
-use Rattle.flow_code.specs.Kinds.{has_kind, has_pointer, has_register, have_kinds, library_kinds, library_fits, library_value_fits, starts_fit, may_start}
+use Rattle.flow_code.specs.Kinds.{has_kind, has_pointer, has_register, have_kinds, library_fits, library_value_fits, starts_fit, may_start}
+use Rattle.abstract_machine.specs.Kinds.{library_kinds}
 use Rattle.abstract_machine.specs.Limits.{most_frames}
 use Rattle.flow_code.specs.Next.{value_of, act_at, pointers_of, pointers_in, quiet_unless, load_due, mark_if, act_due, store_due, end_due, return_due, caller}
 use Rattle.flow_code.specs.Threads.{Frame, Thread, arena_end, objects_in, fitted, is_main, is_main_in}

@@ -1,6 +1,6 @@
 use Rattle.std.proofs.Common.{rules, ◌≡◌, ◌∙◌}
 use Rattle.std.proofs.lemmas.Fn.{always_returns_same}
-use Rattle.facts.specs.Profile.{pair_order}
+use Rattle.profiles.specs.Profile.{pair_order}
 use Rattle.grain_choice.proofs.Names.{searched}
 use Rattle.grain_choice.proofs.seen.has_pair.Goals as goal
 

@@ -1,6 +1,6 @@
 use Rattle.std.proofs.Common.{◌≡◌, [], ◌∷◌, refl, sym, subst, ◌∙◌}
 use Rattle.std.specs.Str.{IsUtf8}
-use Rattle.facts.specs.Profile.{Text, Pair, ArePairs}
+use Rattle.profiles.specs.Profile.{Text, Pair, ArePairs}
 use Rattle.grain_choice.proofs.tests.some_pairs.Goals as goal
 
 abbrev f : Text

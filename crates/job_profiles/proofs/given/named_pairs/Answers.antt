@@ -1,7 +1,7 @@
 use Rattle.std.proofs.Common.{◌∙◌, sym, ap, subst}
 use Rattle.std.specs.Prelude.{filter}
-use Rattle.facts.specs.Profile.{ArePairs}
-use Rattle.facts.specs.declared.profile.Profile.TheVariants as profile
+use Rattle.profiles.specs.Profile.{ArePairs}
+use Rattle.profiles.specs.declared.profile.Profile.TheVariants as profile
 use Rattle.order_log.specs.Log.{HasNames}
 use Rattle.job_profiles.specs.Profiles.{are_names}
 use Rattle.job_profiles.proofs.Kept.{pairs_kept, have_names}

@@ -1,6 +1,6 @@
 use Rattle.std.proofs.Common.{refl, sym, subst, [], length, ◌≤◌, arith}
 use Rattle.answers.specs.Jobs.{HasRecordLimits, record_told}
-use Rattle.facts.specs.declared.profile.Profile.TheVariants as profile
+use Rattle.profiles.specs.declared.profile.Profile.TheVariants as profile
 use Rattle.jobs.specs.Makings.{recording_of}
 use Rattle.jobs.proofs.Made.{crew_ends, default_limits, later_ends, making, making_is_idle, not_recorded, same_logged}
 use Rattle.jobs.proofs.Worked.{crew_is_idle}

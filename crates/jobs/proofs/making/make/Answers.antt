@@ -1,6 +1,6 @@
 use Rattle.std.proofs.Common.{◌≡◌, ◌≤◌, refl, sym, ◌∙◌, subst, length, Err, arith}
 use Rattle.std.proofs.lemmas.Result.{err_from_is_err_and}
-use Rattle.facts.specs.declared.profile.Profile.TheVariants as profile
+use Rattle.profiles.specs.declared.profile.Profile.TheVariants as profile
 use Rattle.jobs.specs.Sources.{RunsAsSource}
 use Rattle.workload.specs.Program.{program_text}
 use Rattle.jobs.proofs.Found.{same_compile}

@@ -1,4 +1,4 @@
-use Rattle.facts.specs.declared.profile.Profile.TheVariants as profile
+use Rattle.profiles.specs.declared.profile.Profile.TheVariants as profile
 use Rattle.jobs.specs.Listings.{ListsRaces}
 use Rattle.jobs.proofs.Found.{races_listed, memory_is_pure, not_compiled, compile_is_pure, or_memory}
 use Rattle.jobs.proofs.races.listed.Goals as goal

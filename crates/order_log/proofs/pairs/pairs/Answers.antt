@@ -1,5 +1,5 @@
 use Rattle.std.proofs.Common.{◌-◌, List, [], ◌∷◌, ◌++◌, ap, ◌∙◌, arith}
-use Rattle.facts.specs.Profile.{Pair}
+use Rattle.profiles.specs.Profile.{Pair}
 use Rattle.order_log.specs.Line.{pair_in}
 use Rattle.order_log.specs.Recogniser.{lines_in, pairs_from}
 use Rattle.order_log.proofs.Loops.{pairs_more}

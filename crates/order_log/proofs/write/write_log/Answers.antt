@@ -1,7 +1,7 @@
 use Rattle.std.proofs.Common.{ℕ, List, [], ◌∷◌, ◌++◌, length, map, ap, ◌∙◌}
 use Rattle.std.specs.Prelude.{codes}
-use Rattle.facts.specs.Profile.{Text}
-use Rattle.facts.specs.declared.profile.Profile.{Profile}
+use Rattle.profiles.specs.Profile.{Text}
+use Rattle.profiles.specs.declared.profile.Profile.{Profile}
 use Rattle.sync_objects.specs.declared.entry.Entry.{Entry}
 use Rattle.sync_objects.specs.Setup.{SetupView}
 use Rattle.order_log.specs.Text.{number_text, hex_text, entry_line, profile_lines, text_of}

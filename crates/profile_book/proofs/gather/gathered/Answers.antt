@@ -1,5 +1,5 @@
 use Rattle.std.proofs.Common.{List, sym, ◌∙◌, subst}
-use Rattle.facts.specs.Profile.{Pair}
+use Rattle.profiles.specs.Profile.{Pair}
 use Rattle.profile_book.specs.Listing.{IsSetOf}
 use Rattle.profile_book.proofs.PairOrder.{set_of_pairs}
 use Rattle.profile_book.proofs.gather.gathered.Goals as goal

@@ -1,7 +1,7 @@
 use Rattle.std.proofs.Common.{rules}
 use Rattle.std.specs.BTreeSet.{IsFromIterResult}
 use Rattle.std.proofs.lemmas.Iterator.Adapters.{YieldsList-from_vec, fact_from_collect}
-use Rattle.facts.specs.Profile.{pair_order}
+use Rattle.profiles.specs.Profile.{pair_order}
 use Rattle.profile_book.proofs.gather.set_of.Goals as goal
 
 pub returns : goal.returns

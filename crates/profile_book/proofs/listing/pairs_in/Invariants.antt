@@ -1,6 +1,6 @@
 use Rattle.std.proofs.Common.{◌≡◌, ◌++◌, drop, option_map}
 use Rattle.std.specs.List.{AllByRecursion}
-use Rattle.facts.specs.Profile.{AreTexts}
+use Rattle.profiles.specs.Profile.{AreTexts}
 use Rattle.serde_json.specs.View.{items_view}
 use Rattle.profile_book.specs.Listing as spec
 use Rattle.profile_book.proofs.listing.pairs_in.Given as goal

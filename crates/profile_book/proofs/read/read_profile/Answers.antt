@@ -1,4 +1,4 @@
-use Rattle.facts.specs.Profile.{AreTexts, IsLesserFirst}
+use Rattle.profiles.specs.Profile.{AreTexts, IsLesserFirst}
 use Rattle.serde_json.specs.View.{view}
 use Rattle.profile_book.proofs.PairOrder.{All-IsSetOf}
 use Rattle.profile_book.proofs.Values.{lesser_first-pairs_of}

@@ -1,5 +1,5 @@
 ghost use Rattle.std.specs.Prelude.{◌≡◌};
-ghost use Rattle.facts.specs.Profile.{ArePairs};
+ghost use Rattle.profiles.specs.Profile.{ArePairs};
 
 use rr_base::{Bytes, List};
 use std::marker::Model;
@@ -22,7 +22,7 @@ pub struct FunctionPairs {
 
 impl Model for FunctionPairs {
     ghost use Rattle.std.specs.Prelude.{ℕ, List};
-    ghost use Rattle.facts.specs.Profile.{ArePairs};
+    ghost use Rattle.profiles.specs.Profile.{ArePairs};
 
     ghost Value = { List (List ℕ × List ℕ) };
 

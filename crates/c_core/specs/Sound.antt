@@ -10,8 +10,8 @@ use Rattle.abstract_machine.specs.declared.library_call.LibraryCall.TheVariants 
 use Rattle.abstract_machine.specs.declared.operator.BinaryOp.{BinaryOp}
 use Rattle.abstract_machine.specs.Pointers.{site_at}
 use Rattle.abstract_machine.specs.Cells.{size_of}
-use Rattle.flow_code.specs.Kinds.{is_comparison, library_kinds}
-use Rattle.flow_code.specs.Valid.{sites_fit}
+use Rattle.abstract_machine.specs.Kinds.{is_comparison, library_kinds}
+use Rattle.abstract_machine.specs.Layouts.{sites_fit}
 use Rattle.c_core.specs.declared.value.UnaryOp.{UnaryOp}
 use Rattle.c_core.specs.declared.value.UnaryOp.TheVariants as unary_op
 use Rattle.c_core.specs.declared.value.Change.{Change}

@@ -20,7 +20,7 @@ use Rattle.abstract_machine.specs.Operators.{based}
 use Rattle.c_core.specs.Core.{Program}
 use Rattle.c_core.specs.Runs.{Run, does, traps, Event, done, trapped, printed_in, with_value}
 use Rattle.c_core.specs.Meaning.{run_of}
-use Rattle.flow_lower.specs.Follows.{is_entry}
+use Rattle.abstract_machine.specs.Entries.{is_entry}
 use Rattle.runs.specs.Same.{same_object}
 
 -- what a thread does, or what is done to it
