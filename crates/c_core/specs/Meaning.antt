@@ -65,31 +65,31 @@ is_pointer (library c es at) = false
 is_pointer (allocate site a at) = true
 
 -- how a statement ends: it goes on, breaks its loop, continues it, or returns a value at a line
-pub data Flow : Type 0 where
-  goes : Flow
-  breaks : Flow
-  continues : Flow
-  returns : ℕ → ℕ → Flow
+pub data Completion : Type 0 where
+  goes : Completion
+  breaks : Completion
+  continues : Completion
+  returns : ℕ → ℕ → Completion
 
-abbrev pub if_goes : Flow → M Flow → M Flow
+abbrev pub if_goes : Completion → M Completion → M Completion
 if_goes goes m = m
 if_goes breaks m = pure breaks
 if_goes continues m = pure continues
 if_goes (returns w line) m = pure (returns w line)
 
 -- behind the body of a loop
-abbrev pub if_turns : Flow → M Flow → M Flow
+abbrev pub if_turns : Completion → M Completion → M Completion
 if_turns goes m = m
 if_turns breaks m = pure goes
 if_turns continues m = m
 if_turns (returns w line) m = pure (returns w line)
 
 -- a function that ends without a value gives 0
-abbrev pub word_given : Flow → ℕ
+abbrev pub word_given : Completion → ℕ
 word_given (returns w line) = w
 word_given _ = 0
 
-abbrev pub line_given : ℕ → Flow → ℕ
+abbrev pub line_given : ℕ → Completion → ℕ
 line_given end (returns w line) = line
 line_given end _ = end
 
@@ -289,21 +289,21 @@ module _ (p : Program) (s : SetupView) (t : ℕ) where
   -- ---- statements
 
   -- At most so many turns: each begins with a Mark, so the limit comes first. The condition comes before the body.
-  abbrev pub turns : ℕ → ℕ → M ℕ → M Flow → M ℕ → M Flow
+  abbrev pub turns : ℕ → ℕ → M ℕ → M Completion → M ℕ → M Completion
   turns zero line test body step = trap_at line trap.Limit
   turns (suc n) line test body step =
       event s.limit line action.Mark >>
       (test >>= λ w. choose w (body >>= λ f. if_turns f (step >> turns n line test body step)) (pure goes))
 
   -- The body comes before the condition.
-  abbrev pub turns_behind : ℕ → ℕ → M Flow → M ℕ → M Flow
+  abbrev pub turns_behind : ℕ → ℕ → M Completion → M ℕ → M Completion
   turns_behind zero line body test = trap_at line trap.Limit
   turns_behind (suc n) line body test =
       event s.limit line action.Mark >>
       (body >>= λ f. if_turns f (test >>= λ w. choose w (turns_behind n line body test) (pure goes)))
 
   abbrev mutual
-    pub meaning : Calls → Statement → M Flow
+    pub meaning : Calls → Statement → M Completion
     meaning calls (block ss) = meanings calls ss
     meaning calls (compute e) = value calls e >> pure goes
     meaning calls (branch e a at) = value calls e >>= λ w. choose w (meaning calls a) (pure goes)
@@ -317,7 +317,7 @@ module _ (p : Program) (s : SetupView) (t : ℕ) where
     meaning calls (gives None at) = pure (returns 0 at.line)
     meaning calls (gives (Some e) at) = value calls e >>= λ w. pure (returns w at.line)
 
-    pub meanings : Calls → Statements → M Flow
+    pub meanings : Calls → Statements → M Completion
     meanings calls no_statement = pure goes
     meanings calls (and_statement a ss) = meaning calls a >>= λ f. if_goes f (meanings calls ss)
 
@@ -343,7 +343,7 @@ module _ (p : Program) (s : SetupView) (t : ℕ) where
       else if nat_le most_frames σ.depth then traps trap.Depth line
       else enter_made f ws line (made_objects p.sites arena_end f.objects σ.arena) σ k
 
-  abbrev pub body_of : Calls → Function → M Flow
+  abbrev pub body_of : Calls → Function → M Completion
   body_of calls f = stored f.pointers f.arrivals >> meaning calls f.body
 
   abbrev pub called : Calls → Option Function → List ℕ → ℕ → M ℕ

@@ -24,46 +24,46 @@ use Rattle.abstract_machine.specs.Entries.{is_entry}
 use Rattle.runs.specs.Same.{same_object}
 
 -- what a thread does, or what is done to it
-pub data Deed : Type 0 where
+pub data Transition : Type 0 where
   -- an event of its own: an action with what it printed and the answer to it, or a trap with its line
-  own : Event → Deed
+  own : Event → Transition
   -- it is stopped, since the program is over
-  stops : Deed
+  stops : Transition
   -- it is closed before it begins
-  closes : Deed
+  closes : Transition
 
-pub record ThreadDeed : Type 0 where
+pub record ThreadTransition : Type 0 where
   pub thread : ℕ
-  pub deed : Deed
+  pub transition : Transition
 
--- the bytes that a deed prints
-abbrev pub printed_by : Deed → List ℕ
+-- the bytes that a transition prints
+abbrev pub printed_by : Transition → List ℕ
 printed_by (own e) = printed_in e
 printed_by _ = []
 
--- the bytes that a run prints, in the order of its deeds
-abbrev pub bytes_of : List ThreadDeed → List ℕ
-bytes_of ds = flat_map (λ d. printed_by d.deed) ds
+-- the bytes that a run prints, in the order of its transitions
+abbrev pub bytes_of : List ThreadTransition → List ℕ
+bytes_of ds = flat_map (λ d. printed_by d.transition) ds
 
 -- where a thread is: it waits for its begin with all of its run before it, it goes on with the rest of its run, or it has
 -- ended
-pub data Standing : Type 0 where
-  waits : Run → Standing
-  goes : Run → Standing
-  over : Standing
+pub data Progress : Type 0 where
+  waits : Run → Progress
+  goes : Run → Progress
+  over : Progress
 
 -- the word of each cell and of each object, and where each thread is
 pub record World : Type 0 where
   pub cells : ℕ → ℕ
   pub objects : ObjId → ℕ
-  pub threads : ℕ → Standing
+  pub threads : ℕ → Progress
 
--- ---- the world after a deed
+-- ---- the world after a transition
 
 abbrev pub with_object : (ObjId → ℕ) → ObjId → ℕ → ObjId → ℕ
 with_object words o w p = if same_object p o then w else words p
 
-abbrev pub with_standing : (ℕ → Standing) → ℕ → Standing → ℕ → Standing
+abbrev pub with_standing : (ℕ → Progress) → ℕ → Progress → ℕ → Progress
 with_standing threads t x u = if nat_eq u t then x else threads u
 
 abbrev pub word_after : ℕ → Advance → ℕ
@@ -80,7 +80,7 @@ acted w t (action.Store cell v) = record w { cells = with_value w.cells cell v }
 acted w t (action.Operate o obj) = operated w t o obj
 acted w t _ = w
 
-abbrev pub words_after : World → ℕ → Deed → World
+abbrev pub words_after : World → ℕ → Transition → World
 words_after w t (own (done a out answer)) = acted w t a
 words_after w t (own (trapped why line)) = operated w t op.TrapHere object.Halt
 words_after w t stops = operated w t op.Stop object.Halt
@@ -92,17 +92,17 @@ is_last (action.Operate op.Leave obj) = true
 is_last (action.Operate op.HaltAll obj) = true
 is_last _ = false
 
-abbrev pub rest_after : Run → Event → Standing
+abbrev pub rest_after : Run → Event → Progress
 rest_after (does a out more) (done b out' answer) = if is_last b then over else goes (more answer)
 rest_after _ _ = over
 
-abbrev pub standing_after : Standing → Deed → Standing
+abbrev pub standing_after : Progress → Transition → Progress
 standing_after (waits r) (own e) = rest_after r e
 standing_after (goes r) (own e) = rest_after r e
 standing_after _ _ = over
 
-abbrev pub after : World → ThreadDeed → World
-after w d = record (words_after w d.thread d.deed) { threads = with_standing w.threads d.thread (standing_after (w.threads d.thread) d.deed) }
+abbrev pub after : World → ThreadTransition → World
+after w d = record (words_after w d.thread d.transition) { threads = with_standing w.threads d.thread (standing_after (w.threads d.thread) d.transition) }
 
 module _ (p : Program) (s : SetupView) where
   -- ---- which cells and objects there are: two hand-off cells for each thread, the global cells, and an arena for each thread
@@ -132,7 +132,7 @@ module _ (p : Program) (s : SetupView) where
   start_cell c = if nat_lt c (2 * s.slots) then 0 else global_word (slice_get p.global_kinds (c - 2 * s.slots)) (slice_get p.globals (c - 2 * s.slots))
 
   -- thread 0 has begun
-  abbrev pub start_standing : ℕ → Standing
+  abbrev pub start_standing : ℕ → Progress
   start_standing zero = goes (run_of p s 0)
   start_standing (suc k) = waits (run_of p s (suc k))
 
@@ -170,20 +170,20 @@ module _ (p : Program) (s : SetupView) where
     IsFull w t r (done a out answer) = ⊥
 
     -- a thread is stopped only between its begin and its end, and closed only before its begin
-    abbrev pub MayDo : World → ℕ → Standing → Deed → Type 0
+    abbrev pub MayDo : World → ℕ → Progress → Transition → Type 0
     MayDo w t (waits r) (own e) = ComesNext w t r e ⊎ IsFull w t r e
     MayDo w t (goes r) (own e) = ComesNext w t r e ⊎ IsFull w t r e
     MayDo w t (goes r) stops = IsAllowed w t op.Stop object.Halt
     MayDo w t (waits r) closes = IsAllowed w t op.Close (object.Slot t)
     MayDo w t _ _ = ⊥
 
-    -- each deed in turn may be done, by a thread that there is
-    abbrev pub IsRunFrom : World → List ThreadDeed → Type 0
+    -- each transition in turn may be done, by a thread that there is
+    abbrev pub IsRunFrom : World → List ThreadTransition → Type 0
     IsRunFrom w [] = Unit {0}
-    IsRunFrom w (d ∷ ds) = (d.thread < s.slots) × MayDo w d.thread (w.threads d.thread) d.deed × IsRunFrom (after w d) ds
+    IsRunFrom w (d ∷ ds) = (d.thread < s.slots) × MayDo w d.thread (w.threads d.thread) d.transition × IsRunFrom (after w d) ds
 
     -- a run of the source
-    abbrev pub IsSourceRun : List ThreadDeed → Type 0
+    abbrev pub IsSourceRun : List ThreadTransition → Type 0
     IsSourceRun ds = IsRunFrom start_world ds
 
 -- a thread that takes no stripes lists its own operations alone, so its list is full before one of these

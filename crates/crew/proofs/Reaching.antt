@@ -7,7 +7,7 @@ use Rattle.std.proofs.lemmas.Nat.{mod-mul-add}
 use Rattle.std.proofs.lemmas.List.{length-set}
 use Rattle.crew.specs.Counts.{RoseBy, rises, total}
 use Rattle.crew.specs.Turns.{Turned, Finished}
-use Rattle.crew.specs.Schedule.{Standing, begin, whose, Chance, passes, gives, Reached, begins, goes_on, Ends, Played, IsOver, IsSpent}
+use Rattle.crew.specs.Schedule.{PlayState, begin, whose, Chance, passes, gives, Reached, begins, goes_on, Ends, Played, IsOver, IsSpent}
 use Rattle.crew.specs.declared.job.Job as Job
 use Rattle.crew.proofs.Zips.{zip_same, zip_set, zip_set_both}
 
@@ -30,54 +30,54 @@ module _ {J : Type 0} (g : Job.Ghosts J) where
   abbrev pub Known : Bool → J → Type 0
   Known over job = IsTrue over → g.ended job ≡ true
 
-  pub gave : (s now : Standing J) (at : ℕ) (job later : J) (ended : Bool) → s ≡ now → slice_get now.over at ≡ Some false → at < length now.jobs → job ≡ get_or s.jobs at job → s.left ≢ 0
+  pub gave : (s now : PlayState J) (at : ℕ) (job later : J) (ended : Bool) → s ≡ now → slice_get now.over at ≡ Some false → at < length now.jobs → job ≡ get_or s.jobs at job → s.left ≢ 0
       → Turned g job later → ended ≡ g.ended later → Chance g at now (record { jobs = slice_set s.jobs at later; over = slice_set s.over at ended; left = s.left - 1 })
   gave s now at job later ended same waits low is left turned same_end =
-      let over : slice_get s.over at ≡ Some false = subst (λ (t : Standing J). slice_get t.over at ≡ Some false) (sym same) waits in
-      let low : at < length s.jobs = subst (λ (t : Standing J). at < length t.jobs) (sym same) low in
+      let over : slice_get s.over at ≡ Some false = subst (λ (t : PlayState J). slice_get t.over at ≡ Some false) (sym same) waits in
+      let low : at < length s.jobs = subst (λ (t : PlayState J). at < length t.jobs) (sym same) low in
       let here : slice_get s.jobs at ≡ Some job = slice_get-get_or s.jobs at job low ∙ ap Some (sym is) in
       subst (λ t. Chance g at t (record { jobs = slice_set s.jobs at later; over = slice_set s.over at ended; left = s.left - 1 })) same
       (subst (λ e. Chance g at s (record { jobs = slice_set s.jobs at later; over = slice_set s.over at e; left = s.left - 1 })) (sym same_end) (gives job later over here (omega arith) turned))
 
-  pub goes_to : (number : ℕ → ℕ) (start : Standing J) (k at : ℕ) (s t : Standing J) → Reached g number start k s → number k ≡ at → Chance g at s t → Reached g number start (k + 1) t
+  pub goes_to : (number : ℕ → ℕ) (start : PlayState J) (k at : ℕ) (s t : PlayState J) → Reached g number start k s → number k ≡ at → Chance g at s t → Reached g number start (k + 1) t
   goes_to number start k at s t reached is chance = goes_on k s t reached (subst (λ n. Chance g n s t) (sym is) chance)
 
   -- since the first of two standings, in which so many jobs had their chance, a turn was spent; or nothing changed, and these jobs had ended
-  abbrev pub HasSpent : (first : Standing J) → (at : ℕ) → Standing J → Type 0
+  abbrev pub HasSpent : (first : PlayState J) → (at : ℕ) → PlayState J → Type 0
   HasSpent first at s = (s.left < first.left) ⊎ ((s ≡ first) × ((i : ℕ) → i < at → slice_get first.over i ≢ Some false))
 
-  pub spends : (first : Standing J) (at : ℕ) (s t : Standing J) → HasSpent first at s → Chance g at s t → HasSpent first (at + 1) t
+  pub spends : (first : PlayState J) (at : ℕ) (s t : PlayState J) → HasSpent first at s → Chance g at s t → HasSpent first (at + 1) t
   spends first at s t (inl less) (passes closed) = inl less
   spends first at s t (inl less) (gives job later waits is left turned) = inl (omega arith)
-  spends first at s t (inr was) (passes closed) = inr (was.0, below_more (λ i. slice_get first.over i ≢ Some false) at was.1 (subst (λ (u : Standing J). slice_get u.over at ≢ Some false) was.0 closed))
-  spends first at s t (inr was) (gives job later waits is left turned) = let same = ap (λ (u : Standing J). u.left) was.0 in inl (omega arith)
+  spends first at s t (inr was) (passes closed) = inr (was.0, below_more (λ i. slice_get first.over i ≢ Some false) at was.1 (subst (λ (u : PlayState J). slice_get u.over at ≢ Some false) was.0 closed))
+  spends first at s t (inr was) (gives job later waits is left turned) = let same = ap (λ (u : PlayState J). u.left) was.0 in inl (omega arith)
 
   not_false : (b : Bool) → (b ≡ false → ⊥) → b ≡ true
   not_false true is = refl
   not_false false is = absurd (is refl)
 
-  pub spent : (first : Standing J) (at : ℕ) (s : Standing J) → length first.over ≤ at → HasSpent first at s → (s.left < first.left) ⊎ IsOver first
+  pub spent : (first : PlayState J) (at : ℕ) (s : PlayState J) → length first.over ≤ at → HasSpent first at s → (s.left < first.left) ⊎ IsOver first
   spent first at s all (inl less) = inl less
   spent first at s all (inr was) =
       inr (λ k d low. not_false (get_or first.over k d) (λ is. was.1 k (omega arith) (slice_get-get_or first.over k d low ∙ ap Some is)))
 
-  long : (at : ℕ) (s t : Standing J) → Chance g at s t → length t.jobs ≡ length s.jobs
+  long : (at : ℕ) (s t : PlayState J) → Chance g at s t → length t.jobs ≡ length s.jobs
   long at s t (passes closed) = refl
   long at s t (gives job later waits is left turned) = length-set s.jobs at later
 
-  pub long_on : (number : ℕ → ℕ) (start : Standing J) (k : ℕ) (t : Standing J) → Reached g number start k t → length t.jobs ≡ length start.jobs
+  pub long_on : (number : ℕ → ℕ) (start : PlayState J) (k : ℕ) (t : PlayState J) → Reached g number start k t → length t.jobs ≡ length start.jobs
   long_on number start _ _ begins = refl
   long_on number start _ _ (goes_on k s t reached chance) = long (number k) s t chance ∙ long_on number start k s reached
 
   -- ---- what became of the jobs
 
   led_by : {A : Type 0} (R : A → J → Type 0) → ((a : A) (job later : J) → Turned g job later → R a job → R a later)
-      → (xs : List A) (at : ℕ) (s t : Standing J) → Chance g at s t → AllZip R xs s.jobs → AllZip R xs t.jobs
+      → (xs : List A) (at : ℕ) (s t : PlayState J) → Chance g at s t → AllZip R xs s.jobs → AllZip R xs t.jobs
   led_by R more xs at s t (passes closed) all = all
   led_by R more xs at s t (gives job later waits is left turned) all = zip_set R xs s.jobs at job later all is (λ a. more a job later turned)
 
   pub led : ((job : J) → g.leads_to job job) → ((a b c : J) → g.leads_to a b → g.leads_to b c → g.leads_to a c)
-      → (number : ℕ → ℕ) (start : Standing J) (k : ℕ) (t : Standing J) → Reached g number start k t → AllZip Led start.jobs t.jobs
+      → (number : ℕ → ℕ) (start : PlayState J) (k : ℕ) (t : PlayState J) → Reached g number start k t → AllZip Led start.jobs t.jobs
   led same on number start _ _ begins = zip_same Led (λ job. (same job, omega arith)) start.jobs
   led same on number start _ _ (goes_on k s t reached chance) =
       led_by Led (λ a job later turned h. let kept = turned.rose.kept in (on a job later h.0 turned.leads, omega arith)) start.jobs (number k) s t chance (led same on number start k s reached)
@@ -86,11 +86,11 @@ module _ {J : Type 0} (g : Job.Ghosts J) where
   none_known [] = tt
   none_known (job ∷ jobs) = ((λ h. absurd cc), none_known jobs)
 
-  knows : (at : ℕ) (s t : Standing J) → Chance g at s t → AllZip Known s.over s.jobs → AllZip Known t.over t.jobs
+  knows : (at : ℕ) (s t : PlayState J) → Chance g at s t → AllZip Known s.over s.jobs → AllZip Known t.over t.jobs
   knows at s t (passes closed) all = all
   knows at s t (gives job later waits is left turned) all = zip_set_both Known s.over s.jobs at (g.ended later) later all (λ h. h)
 
-  pub known : (number : ℕ → ℕ) (start : Standing J) (k : ℕ) (t : Standing J) → AllZip Known start.over start.jobs → Reached g number start k t → AllZip Known t.over t.jobs
+  pub known : (number : ℕ → ℕ) (start : PlayState J) (k : ℕ) (t : PlayState J) → AllZip Known start.over start.jobs → Reached g number start k t → AllZip Known t.over t.jobs
   known number start _ _ none begins = none
   known number start _ _ none (goes_on k s t reached chance) = knows (number k) s t chance (known number start k s none reached)
 
@@ -106,16 +106,16 @@ module _ {J : Type 0} (g : Job.Ghosts J) where
 
   -- what became of jobs that began to be played by this order
   pub finished : ((job : J) → g.leads_to job job) → ((a b c : J) → g.leads_to a b → g.leads_to b c → g.leads_to a c)
-      → (order : List ℕ) (jobs : List J) (most : ℕ) (start t : Standing J) → start ≡ begin jobs most → Ends g (whose order (length start.jobs)) start IsOver t → AllZip (Finished g) jobs t.jobs
+      → (order : List ℕ) (jobs : List J) (most : ℕ) (start t : PlayState J) → start ≡ begin jobs most → Ends g (whose order (length start.jobs)) start IsOver t → AllZip (Finished g) jobs t.jobs
   finished same on order jobs most start t is ends =
-      let P : Standing J → Type 0 = λ s. Ends g (whose order (length s.jobs)) s IsOver t in
+      let P : PlayState J → Type 0 = λ s. Ends g (whose order (length s.jobs)) s IsOver t in
       let from : P (begin jobs most) = subst P is ends in
       let number = whose order (length jobs) in
       finish jobs t.jobs t.over (led same on number (begin jobs most) from.chances t from.reached) (known number (begin jobs most) from.chances t (none_known jobs) from.reached) from.ended
 
   -- however it ended, they were led on
   led_to : ((job : J) → g.leads_to job job) → ((a b c : J) → g.leads_to a b → g.leads_to b c → g.leads_to a c)
-      → (number : ℕ → ℕ) (start t : Standing J) (b : Bool) → MatchBool b (Ends g number start IsOver t) (Ends g number start IsSpent t) → AllZip Led start.jobs t.jobs
+      → (number : ℕ → ℕ) (start t : PlayState J) (b : Bool) → MatchBool b (Ends g number start IsOver t) (Ends g number start IsSpent t) → AllZip Led start.jobs t.jobs
   led_to same on number start t true ends = led same on number start ends.chances t ends.reached
   led_to same on number start t false ends = led same on number start ends.chances t ends.reached
 
@@ -127,15 +127,15 @@ module _ {J : Type 0} (g : Job.Ghosts J) where
   rises_total (x ∷ xs) (y ∷ ys) all = let kept = all.0.1 in let rest = rises_total xs ys all.1 in omega arith
 
   pub rose : ((job : J) → g.leads_to job job) → ((a b c : J) → g.leads_to a b → g.leads_to b c → g.leads_to a c)
-      → (order : List ℕ) (jobs : List J) (most : ℕ) (start t : Standing J) (b : Bool) → start ≡ begin jobs most
+      → (order : List ℕ) (jobs : List J) (most : ℕ) (start t : PlayState J) (b : Bool) → start ≡ begin jobs most
       → MatchBool b (Ends g (whose order (length start.jobs)) start IsOver t) (Ends g (whose order (length start.jobs)) start IsSpent t)
       → rises g.turns jobs t.jobs + total g.turns jobs ≡ total g.turns t.jobs
   rose same on order jobs most start t b is ends =
-      let P : Standing J → Type 0 = λ s. MatchBool b (Ends g (whose order (length s.jobs)) s IsOver t) (Ends g (whose order (length s.jobs)) s IsSpent t) in
+      let P : PlayState J → Type 0 = λ s. MatchBool b (Ends g (whose order (length s.jobs)) s IsOver t) (Ends g (whose order (length s.jobs)) s IsSpent t) in
       rises_total jobs t.jobs (led_to same on (whose order (length jobs)) (begin jobs most) t b (subst P is ends))
 
   -- a round behind whole rounds
-  pub rounds_on : (order : List ℕ) (start s t : Standing J) (rounds : ℕ) → Reached g (whose order (length start.jobs)) start (length order + rounds * length start.jobs) s
+  pub rounds_on : (order : List ℕ) (start s t : PlayState J) (rounds : ℕ) → Reached g (whose order (length start.jobs)) start (length order + rounds * length start.jobs) s
       → ((k : ℕ) → ((at : ℕ) → at < length s.jobs → whose order (length start.jobs) (k + at) ≡ at) → Reached g (whose order (length start.jobs)) start k s
       → Reached g (whose order (length start.jobs)) start (k + length s.jobs) t)
       → Reached g (whose order (length start.jobs)) start (length order + (rounds + 1) * length start.jobs) t
@@ -147,17 +147,17 @@ module _ {J : Type 0} (g : Job.Ghosts J) where
       subst (λ n. Reached g number start n t) count on
 
   -- a whole number of rounds behind the order the next one begins
-  pub is_round : (order : List ℕ) (start s : Standing J) (rounds : ℕ) → Reached g (whose order (length start.jobs)) start (length order + rounds * length start.jobs) s
+  pub is_round : (order : List ℕ) (start s : PlayState J) (rounds : ℕ) → Reached g (whose order (length start.jobs)) start (length order + rounds * length start.jobs) s
       → (at : ℕ) → at < length s.jobs → whose order (length start.jobs) ((length order + rounds * length start.jobs) + at) ≡ at
   is_round order start s rounds reached at low =
       let long = long_on (whose order (length start.jobs)) start (length order + rounds * length start.jobs) s reached in
       whose_round order (length start.jobs) rounds at (omega arith)
 
-  pub played : (order seen : List ℕ) (jobs : List J) (most : ℕ) (IsEnd : Standing J → Type 0) (start t : Standing J) → seen ≡ order → start ≡ begin jobs most
+  pub played : (order seen : List ℕ) (jobs : List J) (most : ℕ) (IsEnd : PlayState J → Type 0) (start t : PlayState J) → seen ≡ order → start ≡ begin jobs most
       → Ends g (whose seen (length start.jobs)) start IsEnd t → Played g order most IsEnd jobs t.jobs
   played order seen jobs most IsEnd start t same is ends =
       let ends : Ends g (whose order (length start.jobs)) start IsEnd t = subst (λ o. Ends g (whose o (length start.jobs)) start IsEnd t) same ends in
-      let ends : Ends g (whose order (length jobs)) (begin jobs most) IsEnd t = subst (λ (s : Standing J). Ends g (whose order (length s.jobs)) s IsEnd t) is ends in
+      let ends : Ends g (whose order (length jobs)) (begin jobs most) IsEnd t = subst (λ (s : PlayState J). Ends g (whose order (length s.jobs)) s IsEnd t) is ends in
       record { last = t; ends = ends; same = refl }
 
   pub rises_finished : (xs ys : List J) → AllZip (Finished g) xs ys → rises g.turns xs ys + total g.turns xs ≡ total g.turns ys

@@ -1,5 +1,5 @@
 ghost use Rattle.std.specs.Prelude.{◌≡◌, ◌<◌, ◌+◌, ℕ, ◌⊎◌, Some, false, true, length, slice_get, IsTrue, ◌↔◌, IfOk, MatchBool};
-ghost use Rattle.crew.specs.Schedule.{Standing, Chance, Reached, Ends, IsOver, IsSpent, begin, whose};
+ghost use Rattle.crew.specs.Schedule.{PlayState, Chance, Reached, Ends, IsOver, IsSpent, begin, whose};
 
 use crate::job::Job;
 use std::alloc::{AllocError, Global};
@@ -15,9 +15,9 @@ pub(crate) struct Play<J> {
 
 impl<J> Model for Play<J> {
     ghost use Rattle.std.specs.Prelude.{◌≡◌, length};
-    ghost use Rattle.crew.specs.Schedule.{Standing};
+    ghost use Rattle.crew.specs.Schedule.{PlayState};
 
-    ghost Value = { Standing J };
+    ghost Value = { PlayState J };
 
     ghost view = { λ p. record { jobs = p.jobs.items; over = p.over.items; left = p.left } };
 
@@ -99,7 +99,7 @@ impl<J: Job> Play<J> {
 
     /// A chance for each job, from the first one on. False where a turn is wanting.
     fn round(&mut self) -> bool
-        ensures reached { (number : ℕ → ℕ) (start : Standing J) (k : ℕ) → ((at : ℕ) → at < length self.old.jobs → number (k + at) ≡ at) → Reached J.Job number start k self.old → MatchBool result (Reached J.Job number start (k + length self.old.jobs) self.new) (Ends J.Job number start IsSpent self.new) }
+        ensures reached { (number : ℕ → ℕ) (start : PlayState J) (k : ℕ) → ((at : ℕ) → at < length self.old.jobs → number (k + at) ≡ at) → Reached J.Job number start k self.old → MatchBool result (Reached J.Job number start (k + length self.old.jobs) self.new) (Ends J.Job number start IsSpent self.new) }
         ensures spends { IsTrue result → (self.new.left < self.old.left) ⊎ IsOver self.old }
     {
         for at in 0..self.len() {

@@ -12,33 +12,33 @@ use Rattle.flow_code.specs.declared.code.Code.{Code}
 use Rattle.flow_code.specs.Threads.{Frame}
 use Rattle.c_core.specs.Runs.{done}
 use Rattle.source_runs.specs.RunEvents.{without_stripes}
-use Rattle.c_core.specs.SourceRuns.{ThreadDeed, own, stops, bytes_of}
+use Rattle.c_core.specs.SourceRuns.{ThreadTransition, own, stops, bytes_of}
 use Rattle.erasure.proofs.Bare.{frame_with, bare_frame}
 
--- ---- deeds
+-- ---- transitions
 
-deed : ℕ → Action → ThreadDeed
-deed t a = record { thread = t; deed = own (done a [] (pos 0)) }
+transition : ℕ → Action → ThreadTransition
+transition t a = record { thread = t; transition = own (done a [] (pos 0)) }
 
 on_stripe : Op → Action
 on_stripe o = action.Operate o (object.Weak 0 3)
 
-stop : ThreadDeed
-stop = record { thread = 1; deed = stops }
+stop : ThreadTransition
+stop = record { thread = 1; transition = stops }
 
 -- a stripe is taken, revoked and taken again, and given after a store
-deeds_row :
-    without_stripes (deed 0 (on_stripe op.Take) ∷ deed 0 (on_stripe op.Revoke) ∷ deed 0 (on_stripe op.Retake) ∷ deed 0 (action.Store 7 1) ∷ deed 0 (on_stripe op.Give) ∷ stop ∷ [])
-    ≡ deed 0 (action.Store 7 1) ∷ stop ∷ []
-unfolding deed on_stripe stop
-deeds_row = refl
+transitions_row :
+    without_stripes (transition 0 (on_stripe op.Take) ∷ transition 0 (on_stripe op.Revoke) ∷ transition 0 (on_stripe op.Retake) ∷ transition 0 (action.Store 7 1) ∷ transition 0 (on_stripe op.Give) ∷ stop ∷ [])
+    ≡ transition 0 (action.Store 7 1) ∷ stop ∷ []
+unfolding transition on_stripe stop
+transitions_row = refl
 
-print : ℕ → List ℕ → ThreadDeed
-print t out = record { thread = t; deed = own (done (action.Operate op.Print object.Output) out (pos 0)) }
+print : ℕ → List ℕ → ThreadTransition
+print t out = record { thread = t; transition = own (done (action.Operate op.Print object.Output) out (pos 0)) }
 
--- what is printed comes in the order of the deeds, whatever threads print
-bytes_row : bytes_of (print 1 (codes "ab") ∷ deed 0 (on_stripe op.Take) ∷ stop ∷ print 0 (codes "c") ∷ []) ≡ codes "abc"
-unfolding print deed on_stripe stop
+-- what is printed comes in the order of the transitions, whatever threads print
+bytes_row : bytes_of (print 1 (codes "ab") ∷ transition 0 (on_stripe op.Take) ∷ stop ∷ print 0 (codes "c") ∷ []) ≡ codes "abc"
+unfolding print transition on_stripe stop
 bytes_row = refl
 
 -- ---- frames

@@ -32,8 +32,8 @@ use Rattle.core_run.specs.Machine.{Told, machine, start_state}
 use Rattle.core_run.specs.Walks.{joined, walk_of, out_of}
 use Rattle.runs.specs.Labels.{Label, Go, Revoke, Stop, Close, label_thread}
 use Rattle.runs.specs.Steps.{State, stepped}
-use Rattle.source_runs.specs.RunEvents.{printed_at, event_of, deed_of, deed_at, deeds_on, deeds_from, is_of_stripe, without_stripes}
-use Rattle.c_core.specs.SourceRuns.{own, ThreadDeed, printed_by, bytes_of}
+use Rattle.source_runs.specs.RunEvents.{printed_at, event_of, transition_of, transition_at, transitions_on, transitions_from, is_of_stripe, without_stripes}
+use Rattle.c_core.specs.SourceRuns.{own, ThreadTransition, printed_by, bytes_of}
 use Rattle.source_runs.specs.WalkEvents.{labels_of_walk}
 use Rattle.source_runs.proofs.Arrives.{printed_so}
 use Rattle.source_runs.proofs.Printing.{walk_prints}
@@ -92,33 +92,33 @@ module _ (code : Code) (s : SetupView) (runnable : IsRunnable code) where
   event_silent ws t n (due.Operate o obj) fits h = absurd (true≢false (sym h))
   event_silent ws t n (due.Trap why) fits h = refl
 
-  deed_silent : (ws : List ℕ) (l : Label) (th : Thread) → is_of_stripe (deed_of code s ws l th) ≡ true → printed_by (deed_of code s ws l th) ≡ []
-  deed_silent ws (Go t) th h =
+  transition_silent : (ws : List ℕ) (l : Label) (th : Thread) → is_of_stripe (transition_of code s ws l th) ≡ true → printed_by (transition_of code s ws l th) ≡ []
+  transition_silent ws (Go t) th h =
       let n = settled code s t th in
       event_silent ws t n (due_of code s t n) (λ o obj at. (own_action code s t n o obj runnable (action_is code s t n ∙ at)).fits) h
-  deed_silent ws (Revoke t lock stripe) th h = refl
-  deed_silent ws (Stop t) th h = refl
-  deed_silent ws (Close t) th h = refl
+  transition_silent ws (Revoke t lock stripe) th h = refl
+  transition_silent ws (Stop t) th h = refl
+  transition_silent ws (Close t) th h = refl
 
-  silent_first : (d : ThreadDeed) (ds : List ThreadDeed) → (is_of_stripe d.deed ≡ true → printed_by d.deed ≡ []) → bytes_of (without_stripes ds) ≡ bytes_of ds → bytes_of (without_stripes (d ∷ ds)) ≡ bytes_of (d ∷ ds)
-  silent_first d ds silent more = by (is_of_stripe d.deed) refl
+  silent_first : (d : ThreadTransition) (ds : List ThreadTransition) → (is_of_stripe d.transition ≡ true → printed_by d.transition ≡ []) → bytes_of (without_stripes ds) ≡ bytes_of ds → bytes_of (without_stripes (d ∷ ds)) ≡ bytes_of (d ∷ ds)
+  silent_first d ds silent more = by (is_of_stripe d.transition) refl
     where
-      by : (b : Bool) → is_of_stripe d.deed ≡ b → bytes_of (if b then without_stripes ds else d ∷ without_stripes ds) ≡ printed_by d.deed ++ bytes_of ds
+      by : (b : Bool) → is_of_stripe d.transition ≡ b → bytes_of (if b then without_stripes ds else d ∷ without_stripes ds) ≡ printed_by d.transition ++ bytes_of ds
       by true e = more ∙ ap (λ out. out ++ bytes_of ds) (sym (silent e))
-      by false e = ap (λ x. printed_by d.deed ++ x) more
+      by false e = ap (λ x. printed_by d.transition ++ x) more
 
-  deeds_silent : (ls : List Label) (st : State Told) → bytes_of (without_stripes (deeds_from code s ls st)) ≡ bytes_of (deeds_from code s ls st)
-  deeds_silent [] st = refl
-  deeds_silent (l ∷ ls) st = by (slice_get st.threads (label_thread l)) (deeds_on code s (deeds_from code s ls) (stepped (machine code s) st l)) (on (stepped (machine code s) st l) (λ st1. deeds_silent ls st1))
+  transitions_silent : (ls : List Label) (st : State Told) → bytes_of (without_stripes (transitions_from code s ls st)) ≡ bytes_of (transitions_from code s ls st)
+  transitions_silent [] st = refl
+  transitions_silent (l ∷ ls) st = by (slice_get st.threads (label_thread l)) (transitions_on code s (transitions_from code s ls) (stepped (machine code s) st l)) (on (stepped (machine code s) st l) (λ st1. transitions_silent ls st1))
     where
-      on : (o : Option (State Told)) → ((st1 : State Told) → bytes_of (without_stripes (deeds_from code s ls st1)) ≡ bytes_of (deeds_from code s ls st1)) → bytes_of (without_stripes (deeds_on code s (deeds_from code s ls) o)) ≡ bytes_of (deeds_on code s (deeds_from code s ls) o)
+      on : (o : Option (State Told)) → ((st1 : State Told) → bytes_of (without_stripes (transitions_from code s ls st1)) ≡ bytes_of (transitions_from code s ls st1)) → bytes_of (without_stripes (transitions_on code s (transitions_from code s ls) o)) ≡ bytes_of (transitions_on code s (transitions_from code s ls) o)
       on None more = refl
       on (Some st1) more = more st1
 
-      by : (o : Option Told) (rest : List ThreadDeed) → bytes_of (without_stripes rest) ≡ bytes_of rest → bytes_of (without_stripes (deed_at code s st.words l o ++ rest)) ≡ bytes_of (deed_at code s st.words l o ++ rest)
+      by : (o : Option Told) (rest : List ThreadTransition) → bytes_of (without_stripes rest) ≡ bytes_of rest → bytes_of (without_stripes (transition_at code s st.words l o ++ rest)) ≡ bytes_of (transition_at code s st.words l o ++ rest)
       by None rest more = more
-      by (Some told) rest more = silent_first (record { thread = label_thread l; deed = deed_of code s st.words l told.thread }) rest (deed_silent st.words l told.thread) more
+      by (Some told) rest more = silent_first (record { thread = label_thread l; transition = transition_of code s st.words l told.thread }) rest (transition_silent st.words l told.thread) more
 
   -- the bytes that a walk tells are those that it prints as a run of the source
   pub erased_prints : (es : List Entry) (end : State Told) → walk_of code s es (start_state code s) ≡ Some end → out_of code s es (start_state code s) ≡ bytes_of (erased_walk code s es)
-  erased_prints es end h = walk_prints code s es end h ∙ sym (deeds_silent (labels_of_walk code s es) (start_state code s))
+  erased_prints es end h = walk_prints code s es end h ∙ sym (transitions_silent (labels_of_walk code s es) (start_state code s))

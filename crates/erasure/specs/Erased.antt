@@ -6,15 +6,15 @@ use Rattle.flow_code.specs.declared.code.Code.{Code}
 use Rattle.c_core.specs.Runs.{Run}
 use Rattle.runs.specs.Labels.{Label}
 use Rattle.source_runs.specs.RunEvents.{events_of_run, without_stripes}
-use Rattle.c_core.specs.SourceRuns.{ThreadDeed}
+use Rattle.c_core.specs.SourceRuns.{ThreadTransition}
 use Rattle.source_runs.specs.WalkEvents.{events_of_walk}
 
 -- the events of a run from the start, without those of stripes
-abbrev pub erased_events : Code → SetupView → List Label → List ThreadDeed
+abbrev pub erased_events : Code → SetupView → List Label → List ThreadTransition
 erased_events code s labels = without_stripes (events_of_run code s labels)
 
 -- those of a walk
-abbrev pub erased_walk : Code → SetupView → List Entry → List ThreadDeed
+abbrev pub erased_walk : Code → SetupView → List Entry → List ThreadTransition
 erased_walk code s entries = without_stripes (events_of_walk code s entries)
 
 -- A thread lists its operations on stripes too, so its list may be full anywhere in its run.

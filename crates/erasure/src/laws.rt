@@ -20,7 +20,7 @@ ghost use Rattle.core_run.specs.Machine.{Told, start_thread, start_state};
 ghost use Rattle.core_run.specs.Walks.{walk_of, out_of};
 ghost use Rattle.runs.specs.Labels.{Label};
 ghost use Rattle.runs.specs.Steps.{State};
-ghost use Rattle.c_core.specs.SourceRuns.{ThreadDeed, IsSourceRun, bytes_of};
+ghost use Rattle.c_core.specs.SourceRuns.{ThreadTransition, IsSourceRun, bytes_of};
 ghost use Rattle.source_runs.specs.ThreadEvents.{own_events, IsPartOf};
 ghost use Rattle.erasure.specs.Erased.{erased_events, erased_walk, IsAnywhere};
 
@@ -49,9 +49,9 @@ pub fn law_erased_walk()
 /// In such a run of the source each thread's own events are the first ones of its run, on the answers that they got; behind
 /// them it may have trapped since its list in the log was full.
 pub fn law_thread_events()
-    ensures { (p : Program) (setup : SetupView) (deeds : List ThreadDeed) (t : ℕ) →
-        IsSourceRun p setup IsAnywhere deeds →
-        IsPartOf (thread_run p setup t) (own_events t deeds) }
+    ensures { (p : Program) (setup : SetupView) (transitions : List ThreadTransition) (t : ℕ) →
+        IsSourceRun p setup IsAnywhere transitions →
+        IsPartOf (thread_run p setup t) (own_events t transitions) }
 {}
 
 /// Where the threads of a code make the runs of a source's threads, and its global cells are the source's, each run of a valid

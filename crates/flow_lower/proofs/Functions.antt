@@ -23,7 +23,7 @@ use Rattle.flow_code.specs.Next as next
 use Rattle.c_core.specs.Core.{Arrival, arrives, Function, Program}
 use Rattle.c_core.specs.Runs.{Run, State, M, counted}
 use Rattle.c_core.specs.Meaning as meaning
-use Rattle.c_core.specs.Meaning.{Calls, Flow, goes, breaks, continues, returns, word_given, line_given, made_objects, listed_word, left}
+use Rattle.c_core.specs.Meaning.{Calls, Completion, goes, breaks, continues, returns, word_given, line_given, made_objects, listed_word, left}
 use Rattle.flow_lower.specs.Lowered.{body_kept, one, lowered, function_code, function_kinds, body_code, statement_kinds, arrivals_code}
 use Rattle.c_core.specs.Within.{IsWithin, IsWithinFunction, AreWithinArrivals}
 use Rattle.flow_lower.specs.Follows.{Follows, here}
@@ -61,18 +61,18 @@ module _ (p : Program) (s : SetupView) (t : ℕ) (i : ℕ) (f : Function) (is : 
       (λ o σ' place shows later. go o σ' (place ∙ omega arith) shows (omega (arith, later))))
 
   -- where the body ends the thread returns
-  ends_here : (m o : Thread) (σ : State) (fl : Flow) → Lands p s t i f is callers budget m o σ fl (end_at f) (end_at f) (end_at f) → ReturnsHere p s t i f is callers budget o (word_given fl) (line_given f.place.line fl)
+  ends_here : (m o : Thread) (σ : State) (fl : Completion) → Lands p s t i f is callers budget m o σ fl (end_at f) (end_at f) (end_at f) → ReturnsHere p s t i f is callers budget o (word_given fl) (line_given f.place.line fl)
   ends_here m o σ goes x = record { at = f.place; value = None; stands = ap (slice_get (body_code f)) x.reached ∙ has_end f; gives = refl; same_line = refl }
   ends_here m o σ breaks x = record { at = f.place; value = None; stands = ap (slice_get (body_code f)) x.reached ∙ has_end f; gives = refl; same_line = refl }
   ends_here m o σ continues x = record { at = f.place; value = None; stands = ap (slice_get (body_code f)) x.reached ∙ has_end f; gives = refl; same_line = refl }
   ends_here m o σ (returns w line) x = x.reached
 
-  pub body_follows : (k : Flow → State → Run) (m : Thread) (σ : State) → m.top.instr ≡ start_of f → Shows p s t i f is callers budget m σ
-      → ((o : Thread) (fl : Flow) (σ' : State) → ReturnsHere p s t i f is callers budget o (word_given fl) (line_given f.place.line fl) → Shows p s t i f is callers budget o σ' → m.count ≤ o.count → Follows (lowered p) s t (k fl σ') o)
+  pub body_follows : (k : Completion → State → Run) (m : Thread) (σ : State) → m.top.instr ≡ start_of f → Shows p s t i f is callers budget m σ
+      → ((o : Thread) (fl : Completion) (σ' : State) → ReturnsHere p s t i f is callers budget o (word_given fl) (line_given f.place.line fl) → Shows p s t i f is callers budget o σ' → m.count ≤ o.count → Follows (lowered p) s t (k fl σ') o)
       → Follows (lowered p) s t (meaning.body_of p s t calls f σ k) m
   body_follows k m σ e h go =
       arrivals_follow f.arrivals (start_of f) (has_front (body_code f) (start_of f) (arrivals_code (length f.pointers) f.arrivals) _ (has_arrivals f)) within.0 _ m σ e h (λ n σ' place shows later.
-      subst (λ (body : M Flow). Follows (lowered p) s t (body σ' k) n) (meaning_kept p s t calls f.body)
+      subst (λ (body : M Completion). Follows (lowered p) s t (body σ' k) n) (meaning_kept p s t calls f.body)
       (statement_leads p s t i f is callers budget calls serves f.body within.1 (length f.pointers + length f.objects) (body_at f) (end_at f) (end_at f)
       (has_front (body_code f) (body_at f) (statement_part f) _ (has_body f)) (has_kinds f) (omega arith) k n σ' place shows (λ o fl σ'' x.
       go o fl σ'' (ends_here n o σ'' fl (record { reached = x.reached; shows = x.shows; later = x.later })) x.shows (omega (arith, later, x.later)))))

@@ -10,7 +10,7 @@ use Rattle.c_core.specs.Core as core
 use Rattle.c_core.specs.Core.{Exp, null, load, unary, binary, move, advance, member, between, to_pointer, to_number, copy, both, either, conditional, comma, set_register, store, change_register, change_cell, call, library, allocate, Exps, no_exp, and_exp, Statement, block, compute, branch, branch_else, while_loop, do_loop, for_loop, break_at, continue_at, gives, Statements, no_statement, and_statement, Program}
 use Rattle.c_core.specs.Runs.{M, ◌>>=◌, ◌>>◌, pure, result_at, read_register, write_register, choose}
 use Rattle.c_core.specs.Meaning as meaning
-use Rattle.c_core.specs.Meaning.{Calls, Flow, goes, returns, if_goes, is_pointer, is_pointer_change, unary_of, changed, load_at, store_at, library_call, allocated, value, values, test_value, step_value}
+use Rattle.c_core.specs.Meaning.{Calls, Completion, goes, returns, if_goes, is_pointer, is_pointer_change, unary_of, changed, load_at, store_at, library_call, allocated, value, values, test_value, step_value}
 use Rattle.flow_lower.specs.Kept.{assigns, any_assigns, loses, copied_if, kept, all_kept, maybe_kept, statement_kept, statements_kept}
 
 pub pointer_kept : (e : Exp) → is_pointer (kept e) ≡ is_pointer e
@@ -193,15 +193,15 @@ module _ (p : Program) (s : SetupView) (t : ℕ) (calls : Calls) where
     pub meaning_kept : (a : Statement) → meaning.meaning p s t calls (statement_kept a) ≡ meaning.meaning p s t calls a
     meaning_kept (block ss) = meanings_kept ss
     meaning_kept (compute e) = ap (λ (m : M ℕ). m >> pure goes) (value_kept e)
-    meaning_kept (branch e a at) = alike (λ (m : M ℕ) (n : M Flow). m >>= (λ w. choose w n (pure goes))) (value_kept e) (meaning_kept a)
+    meaning_kept (branch e a at) = alike (λ (m : M ℕ) (n : M Completion). m >>= (λ w. choose w n (pure goes))) (value_kept e) (meaning_kept a)
     meaning_kept (branch_else e a b at) =
-        alike (λ (m : M ℕ) (n : M Flow). m >>= (λ w. choose w n (meaning.meaning p s t calls (statement_kept b)))) (value_kept e) (meaning_kept a)
-        ∙ ap (λ (n : M Flow). value p s t calls e >>= (λ w. choose w (meaning.meaning p s t calls a) n)) (meaning_kept b)
-    meaning_kept (while_loop e a at) = alike (λ (m : M ℕ) (n : M Flow). meaning.turns p s t s.limit at.line m n (pure 0)) (value_kept e) (meaning_kept a)
-    meaning_kept (do_loop a e at) = alike (λ (n : M Flow) (m : M ℕ). meaning.turns_behind p s t s.limit at.line n m) (meaning_kept a) (value_kept e)
+        alike (λ (m : M ℕ) (n : M Completion). m >>= (λ w. choose w n (meaning.meaning p s t calls (statement_kept b)))) (value_kept e) (meaning_kept a)
+        ∙ ap (λ (n : M Completion). value p s t calls e >>= (λ w. choose w (meaning.meaning p s t calls a) n)) (meaning_kept b)
+    meaning_kept (while_loop e a at) = alike (λ (m : M ℕ) (n : M Completion). meaning.turns p s t s.limit at.line m n (pure 0)) (value_kept e) (meaning_kept a)
+    meaning_kept (do_loop a e at) = alike (λ (n : M Completion) (m : M ℕ). meaning.turns_behind p s t s.limit at.line n m) (meaning_kept a) (value_kept e)
     meaning_kept (for_loop start test step a at) =
-        alike (λ (n : M Flow) (m : M ℕ). n >>= (λ f. if_goes f (meaning.turns p s t s.limit at.line m (meaning.meaning p s t calls (statement_kept a)) (step_value p s t calls (maybe_kept step))))) (meaning_kept start) (test_kept test)
-        ∙ alike (λ (n : M Flow) (m : M ℕ). meaning.meaning p s t calls start >>= (λ f. if_goes f (meaning.turns p s t s.limit at.line (test_value p s t calls test) n m))) (meaning_kept a) (step_kept step)
+        alike (λ (n : M Completion) (m : M ℕ). n >>= (λ f. if_goes f (meaning.turns p s t s.limit at.line m (meaning.meaning p s t calls (statement_kept a)) (step_value p s t calls (maybe_kept step))))) (meaning_kept start) (test_kept test)
+        ∙ alike (λ (n : M Completion) (m : M ℕ). meaning.meaning p s t calls start >>= (λ f. if_goes f (meaning.turns p s t s.limit at.line (test_value p s t calls test) n m))) (meaning_kept a) (step_kept step)
     meaning_kept (break_at at) = refl
     meaning_kept (continue_at at) = refl
     meaning_kept (gives None at) = refl
@@ -209,4 +209,4 @@ module _ (p : Program) (s : SetupView) (t : ℕ) (calls : Calls) where
 
     meanings_kept : (ss : Statements) → meaning.meanings p s t calls (statements_kept ss) ≡ meaning.meanings p s t calls ss
     meanings_kept no_statement = refl
-    meanings_kept (and_statement a ss) = alike (λ (m n : M Flow). m >>= (λ f. if_goes f n)) (meaning_kept a) (meanings_kept ss)
+    meanings_kept (and_statement a ss) = alike (λ (m n : M Completion). m >>= (λ f. if_goes f n)) (meaning_kept a) (meanings_kept ss)

@@ -12,7 +12,7 @@ use Rattle.rr_base.specs.declared.position.Position.{Position}
 use Rattle.c_core.specs.Core.{Function, Program}
 use Rattle.c_core.specs.Runs.{Run, State, M, ◌>>=◌, ◌>>◌, pure, counted, choose}
 use Rattle.c_core.specs.Meaning as meaning
-use Rattle.c_core.specs.Meaning.{Flow, goes, breaks, continues, returns, if_turns}
+use Rattle.c_core.specs.Meaning.{Completion, goes, breaks, continues, returns, if_turns}
 use Rattle.flow_lower.specs.Lowered.{instr, lowered, body_code}
 use Rattle.flow_lower.specs.Follows.{Follows, here}
 use Rattle.flow_lower.proofs.Machine.{Shows, due_at, line_at}
@@ -29,31 +29,31 @@ module _ (p : Program) (s : SetupView) (t : ℕ) (i : ℕ) (f : Function) (is : 
     pub same_line : at.line ≡ line
 
   -- where a statement ends: behind it, where its loop is left or continued, or at a return
-  abbrev pub Reached : Thread → Flow → (end out on : ℕ) → Type 0
+  abbrev pub Reached : Thread → Completion → (end out on : ℕ) → Type 0
   Reached n goes end out on = n.top.instr ≡ end
   Reached n breaks end out on = n.top.instr ≡ out
   Reached n continues end out on = n.top.instr ≡ on
   Reached n (returns w line) end out on = ReturnsHere n w line
 
-  pub record Lands (m n : Thread) (σ : State) (fl : Flow) (end out on : ℕ) : Type 0 where
+  pub record Lands (m n : Thread) (σ : State) (fl : Completion) (end out on : ℕ) : Type 0 where
     pub reached : Reached n fl end out on
     pub shows : Shows p s t i f is callers budget n σ
     pub later : m.count ≤ n.count
 
   abbrev pub TestFollows : M ℕ → (from yes' no' : ℕ) → Type 0
-  TestFollows test from yes' no' = (Y N : M Flow) (k : Flow → State → Run) (m : Thread) (σ : State) → m.top.instr ≡ from → Shows p s t i f is callers budget m σ
+  TestFollows test from yes' no' = (Y N : M Completion) (k : Completion → State → Run) (m : Thread) (σ : State) → m.top.instr ≡ from → Shows p s t i f is callers budget m σ
       → ((o : Thread) (σ' : State) → o.top.instr ≡ yes' → Shows p s t i f is callers budget o σ' → m.count ≤ o.count → Follows (lowered p) s t (Y σ' k) o)
       → ((o : Thread) (σ' : State) → o.top.instr ≡ no' → Shows p s t i f is callers budget o σ' → m.count ≤ o.count → Follows (lowered p) s t (N σ' k) o)
       → Follows (lowered p) s t ((test >>= λ w. choose w Y N) σ k) m
 
   abbrev pub StepFollows : M ℕ → (from to : ℕ) → Type 0
-  StepFollows step from to = (R : M Flow) (k : Flow → State → Run) (m : Thread) (σ : State) → m.top.instr ≡ from → Shows p s t i f is callers budget m σ
+  StepFollows step from to = (R : M Completion) (k : Completion → State → Run) (m : Thread) (σ : State) → m.top.instr ≡ from → Shows p s t i f is callers budget m σ
       → ((o : Thread) (σ' : State) → o.top.instr ≡ to → Shows p s t i f is callers budget o σ' → m.count ≤ o.count → Follows (lowered p) s t (R σ' k) o)
       → Follows (lowered p) s t ((step >> R) σ k) m
 
-  abbrev pub BodyFollows : M Flow → (from end out on : ℕ) → Type 0
-  BodyFollows body from end out on = (k : Flow → State → Run) (m : Thread) (σ : State) → m.top.instr ≡ from → Shows p s t i f is callers budget m σ
-      → ((o : Thread) (fl : Flow) (σ' : State) → Lands m o σ' fl end out on → Follows (lowered p) s t (k fl σ') o) → Follows (lowered p) s t (body σ k) m
+  abbrev pub BodyFollows : M Completion → (from end out on : ℕ) → Type 0
+  BodyFollows body from end out on = (k : Completion → State → Run) (m : Thread) (σ : State) → m.top.instr ≡ from → Shows p s t i f is callers budget m σ
+      → ((o : Thread) (fl : Completion) (σ' : State) → Lands m o σ' fl end out on → Follows (lowered p) s t (k fl σ') o) → Follows (lowered p) s t (body σ k) m
 
   -- no turn may begin
   at_limit : (m : Thread) (σ : State) (at : Position) → Shows p s t i f is callers budget m σ → slice_get (body_code f) m.top.instr ≡ Some (instr at act.Mark) → s.limit ≤ m.count → Follows (lowered p) s t (Run.traps trap.Limit at.line) m
@@ -71,12 +71,12 @@ module _ (p : Program) (s : SetupView) (t : ℕ) (i : ℕ) (f : Function) (is : 
       passes true = refl
       passes false = refl
 
-  module _ (at : Position) (mark body last end : ℕ) (code_mark : slice_get (body_code f) mark ≡ Some (instr at act.Mark)) (test : M ℕ) (inside : M Flow) (step : M ℕ)
+  module _ (at : Position) (mark body last end : ℕ) (code_mark : slice_get (body_code f) mark ≡ Some (instr at act.Mark)) (test : M ℕ) (inside : M Completion) (step : M ℕ)
       (tests : TestFollows test (mark + 1) body end) (does_body : BodyFollows inside body last end last) (steps : StepFollows step last mark)
-      (k : Flow → State → Run) (start : Thread) (done : (n : Thread) (σ : State) → n.top.instr ≡ end → Shows p s t i f is callers budget n σ → start.count ≤ n.count → Follows (lowered p) s t (k goes σ) n)
+      (k : Completion → State → Run) (start : Thread) (done : (n : Thread) (σ : State) → n.top.instr ≡ end → Shows p s t i f is callers budget n σ → start.count ≤ n.count → Follows (lowered p) s t (k goes σ) n)
       (leaves : (n : Thread) (w line : ℕ) (σ : State) → ReturnsHere n w line → Shows p s t i f is callers budget n σ → start.count ≤ n.count → Follows (lowered p) s t (k (returns w line) σ) n) where
     -- behind the body
-    turned : (turns : ℕ) → ((m : Thread) (σ : State) → m.top.instr ≡ mark → Shows p s t i f is callers budget m σ → s.limit ≤ m.count + turns → start.count ≤ m.count → Follows (lowered p) s t (meaning.turns p s t turns at.line test inside step σ k) m) → (q : Thread) (fl : Flow) (σ2 : State) → Reached q fl last end last → Shows p s t i f is callers budget q σ2 → s.limit ≤ q.count + turns → start.count ≤ q.count → Follows (lowered p) s t (if_turns fl (step >> meaning.turns p s t turns at.line test inside step) σ2 k) q
+    turned : (turns : ℕ) → ((m : Thread) (σ : State) → m.top.instr ≡ mark → Shows p s t i f is callers budget m σ → s.limit ≤ m.count + turns → start.count ≤ m.count → Follows (lowered p) s t (meaning.turns p s t turns at.line test inside step σ k) m) → (q : Thread) (fl : Completion) (σ2 : State) → Reached q fl last end last → Shows p s t i f is callers budget q σ2 → s.limit ≤ q.count + turns → start.count ≤ q.count → Follows (lowered p) s t (if_turns fl (step >> meaning.turns p s t turns at.line test inside step) σ2 k) q
     turned turns ih q goes σ2 reached shows left later = steps (meaning.turns p s t turns at.line test inside step) k q σ2 reached shows (λ o σ3 place shows' more. ih o σ3 place shows' (omega (arith, left, more)) (omega (arith, later, more)))
     turned turns ih q breaks σ2 reached shows left later = done q σ2 reached shows later
     turned turns ih q continues σ2 reached shows left later = steps (meaning.turns p s t turns at.line test inside step) k q σ2 reached shows (λ o σ3 place shows' more. ih o σ3 place shows' (omega (arith, left, more)) (omega (arith, later, more)))
@@ -92,11 +92,11 @@ module _ (p : Program) (s : SetupView) (t : ℕ) (i : ℕ) (f : Function) (is : 
         (λ o σ1 place shows more. does_body (λ fl σ2. if_turns fl (step >> meaning.turns p s t turns at.line test inside step) σ2 k) o σ1 place shows (λ q fl σ2 x. turned turns (rounds turns) q fl σ2 x.reached x.shows (omega (arith, left, more, x.later)) (omega (arith, later, more, x.later))))
         (λ o σ1 place shows more. done o σ1 place shows (omega (arith, later, more))))
 
-  module _ (at : Position) (mark last end : ℕ) (code_mark : slice_get (body_code f) mark ≡ Some (instr at act.Mark)) (test : M ℕ) (inside : M Flow)
+  module _ (at : Position) (mark last end : ℕ) (code_mark : slice_get (body_code f) mark ≡ Some (instr at act.Mark)) (test : M ℕ) (inside : M Completion)
       (does_body : BodyFollows inside (mark + 1) last end last) (tests : TestFollows test last mark end)
-      (k : Flow → State → Run) (start : Thread) (done : (n : Thread) (σ : State) → n.top.instr ≡ end → Shows p s t i f is callers budget n σ → start.count ≤ n.count → Follows (lowered p) s t (k goes σ) n)
+      (k : Completion → State → Run) (start : Thread) (done : (n : Thread) (σ : State) → n.top.instr ≡ end → Shows p s t i f is callers budget n σ → start.count ≤ n.count → Follows (lowered p) s t (k goes σ) n)
       (leaves : (n : Thread) (w line : ℕ) (σ : State) → ReturnsHere n w line → Shows p s t i f is callers budget n σ → start.count ≤ n.count → Follows (lowered p) s t (k (returns w line) σ) n) where
-    tested : (turns : ℕ) → ((m : Thread) (σ : State) → m.top.instr ≡ mark → Shows p s t i f is callers budget m σ → s.limit ≤ m.count + turns → start.count ≤ m.count → Follows (lowered p) s t (meaning.turns_behind p s t turns at.line inside test σ k) m) → (q : Thread) (fl : Flow) (σ2 : State) → Reached q fl last end last → Shows p s t i f is callers budget q σ2 → s.limit ≤ q.count + turns → start.count ≤ q.count → Follows (lowered p) s t (if_turns fl (test >>= λ w. choose w (meaning.turns_behind p s t turns at.line inside test) (pure goes)) σ2 k) q
+    tested : (turns : ℕ) → ((m : Thread) (σ : State) → m.top.instr ≡ mark → Shows p s t i f is callers budget m σ → s.limit ≤ m.count + turns → start.count ≤ m.count → Follows (lowered p) s t (meaning.turns_behind p s t turns at.line inside test σ k) m) → (q : Thread) (fl : Completion) (σ2 : State) → Reached q fl last end last → Shows p s t i f is callers budget q σ2 → s.limit ≤ q.count + turns → start.count ≤ q.count → Follows (lowered p) s t (if_turns fl (test >>= λ w. choose w (meaning.turns_behind p s t turns at.line inside test) (pure goes)) σ2 k) q
     tested turns ih q goes σ2 reached shows left later =
         tests _ (pure goes) k q σ2 reached shows (λ o σ3 place shows' more. ih o σ3 place shows' (omega (arith, left, more)) (omega (arith, later, more)))
         (λ o σ3 place shows' more. done o σ3 place shows' (omega (arith, later, more)))

@@ -8,7 +8,7 @@ use Rattle.rr_base.specs.declared.position.Position.{Position}
 use Rattle.c_core.specs.Core.{Exp, Statement, block, compute, branch, branch_else, while_loop, do_loop, for_loop, break_at, continue_at, gives, Statements, no_statement, and_statement, Function, Program}
 use Rattle.c_core.specs.Runs.{Run, State, M, pure}
 use Rattle.c_core.specs.Meaning as meaning
-use Rattle.c_core.specs.Meaning.{Calls, Flow, goes, breaks, continues, returns, if_goes, value, test_value, step_value}
+use Rattle.c_core.specs.Meaning.{Calls, Completion, goes, breaks, continues, returns, if_goes, value, test_value, step_value}
 use Rattle.flow_lower.specs.Kept.{kept, maybe_kept, statement_kept, statements_kept}
 use Rattle.flow_lower.specs.Lowered.{held, instr, one, lowered, function_kinds, body_code, exp_kinds, maybe_kinds, width, exp_size, maybe_size, test_size, exp_code, maybe_code, test_code, statement_kinds, statements_kinds, statement_size, statements_size, statement_code, statements_code}
 use Rattle.c_core.specs.Within.{IsWithinExp, IsWithinMaybe, IsWithinStatement, AreWithinStatements}
@@ -57,10 +57,10 @@ module _ (p : Program) (s : SetupView) (t : ℕ) (i : ℕ) (f : Function) (is : 
   behind_statement a r pc out on rest h = has_at (body_code f) (pc + length (statement_code first a r pc out on)) (pc + statement_size a) rest (ap (λ n. pc + n) (statement_length first a r pc out on)) (has_back (body_code f) pc (statement_code first a r pc out on) rest h)
 
   -- a statement ends where the one that holds it does, or farther on
-  ends_on : (m n o : Thread) (σ : State) (fl : Flow) (end end' out on : ℕ) → end ≡ end' → m.count ≤ n.count → Lands p s t i f is callers budget n o σ fl end out on → Lands p s t i f is callers budget m o σ fl end' out on
+  ends_on : (m n o : Thread) (σ : State) (fl : Completion) (end end' out on : ℕ) → end ≡ end' → m.count ≤ n.count → Lands p s t i f is callers budget n o σ fl end out on → Lands p s t i f is callers budget m o σ fl end' out on
   ends_on m n o σ fl end end' out on e le x = record { reached = by fl x.reached; shows = x.shows; later = omega (arith, le, x.later) }
     where
-      by : (fl : Flow) → Reached p s t i f is callers budget o fl end out on → Reached p s t i f is callers budget o fl end' out on
+      by : (fl : Completion) → Reached p s t i f is callers budget o fl end out on → Reached p s t i f is callers budget o fl end' out on
       by goes r = r ∙ e
       by breaks r = r
       by continues r = r
@@ -95,10 +95,10 @@ module _ (p : Program) (s : SetupView) (t : ℕ) (i : ℕ) (f : Function) (is : 
       go n (returns v at.line) σ' (record { reached = record { at = at; value = Some (held first e r); stands = here n (pc + exp_size e) _ x.place (behind_exp e r pc _ code).0; gives = x.value; same_line = refl }; shows = x.shows; later = x.later }))
 
   -- one statement after another
-  both_lead : (a : Statement) (ss : Statements) (r pc out on : ℕ) (rest : M Flow) (k : Flow → State → Run) (m : Thread) (end : ℕ)
+  both_lead : (a : Statement) (ss : Statements) (r pc out on : ℕ) (rest : M Completion) (k : Completion → State → Run) (m : Thread) (end : ℕ)
       → ((o : Thread) (σ : State) → o.top.instr ≡ pc + statement_size a → Shows p s t i f is callers budget o σ → m.count ≤ o.count → Follows (lowered p) s t (rest σ k) o)
-      → ((o : Thread) (fl : Flow) (σ : State) → Lands p s t i f is callers budget m o σ fl end out on → Follows (lowered p) s t (k fl σ) o)
-      → (o : Thread) (fl : Flow) (σ : State) → Lands p s t i f is callers budget m o σ fl (pc + statement_size a) out on → Follows (lowered p) s t (if_goes fl rest σ k) o
+      → ((o : Thread) (fl : Completion) (σ : State) → Lands p s t i f is callers budget m o σ fl end out on → Follows (lowered p) s t (k fl σ) o)
+      → (o : Thread) (fl : Completion) (σ : State) → Lands p s t i f is callers budget m o σ fl (pc + statement_size a) out on → Follows (lowered p) s t (if_goes fl rest σ k) o
   both_lead a ss r pc out on rest k m end next go o goes σ x = next o σ x.reached x.shows x.later
   both_lead a ss r pc out on rest k m end next go o breaks σ x = go o breaks σ (record { reached = x.reached; shows = x.shows; later = x.later })
   both_lead a ss r pc out on rest k m end next go o continues σ x = go o continues σ (record { reached = x.reached; shows = x.shows; later = x.later })
@@ -149,8 +149,8 @@ module _ (p : Program) (s : SetupView) (t : ℕ) (i : ℕ) (f : Function) (is : 
       (λ q fl σ'' x. go q fl σ'' (ends_on m o q σ'' fl (no' + statement_size b) end out on (omega arith) later x)))
     where
       -- behind the first of the two the second is jumped over
-      jumped : (m o q : Thread) (fl : Flow) (σ'' : State) (stop end out on : ℕ) (k : Flow → State → Run) (to : ℕ) (at : Position) → to ≡ end → m.count ≤ o.count → slice_get (body_code f) stop ≡ Some (instr at (act.Jump to))
-          → ((o : Thread) (fl : Flow) (σ : State) → Lands p s t i f is callers budget m o σ fl end out on → Follows (lowered p) s t (k fl σ) o)
+      jumped : (m o q : Thread) (fl : Completion) (σ'' : State) (stop end out on : ℕ) (k : Completion → State → Run) (to : ℕ) (at : Position) → to ≡ end → m.count ≤ o.count → slice_get (body_code f) stop ≡ Some (instr at (act.Jump to))
+          → ((o : Thread) (fl : Completion) (σ : State) → Lands p s t i f is callers budget m o σ fl end out on → Follows (lowered p) s t (k fl σ) o)
           → Lands p s t i f is callers budget o q σ'' fl stop out on → Follows (lowered p) s t (k fl σ'') q
       jumped m o q goes σ'' stop end out on k to at e later code' go x =
           by_jump p s t i f is callers budget _ q σ'' at to x.shows (here q stop _ x.reached code') (go (goes_to q to) goes σ'' (record { reached = e; shows = shows_at p s t i f is callers budget q σ'' to x.shows; later = omega (arith, later, x.later) }))

@@ -14,7 +14,7 @@ use core_run::{Action, Entry, Noted, has_object};
 use shared_cells::{Attempt, Cells, Seat};
 use sync_objects::{ObjId, Op, OpName};
 use thread_step::ThreadRun;
-use weak_turns::{Place, give_up, operate, shut, stop};
+use weak_turns::{LockStripe, give_up, operate, shut, stop};
 
 // Whether the entry is of an operation of this name.
 fn has_name(entry: Entry, op: Op) -> bool
@@ -110,7 +110,7 @@ fn make_revoke(
         Sight::Elsewhere => Step::Waits,
         Sight::Barred => Step::Departs,
         Sight::Open => came_to(
-            give_up(cells, seat, run, Place { lock, stripe }),
+            give_up(cells, seat, run, LockStripe { lock, stripe }),
             next.number,
         ),
     }

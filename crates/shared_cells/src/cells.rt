@@ -14,7 +14,7 @@ use crate::closed::Closed;
 use crate::dealing::{deal, join};
 use crate::seat::Seat;
 use crate::steps::{Depart, Exchange, Load, Look, Lower, Part, Rule, Stay, Store, Whole};
-use crate::view::{Known, View};
+use crate::view::{TableInput, View};
 use atomic_table::Table;
 use core_run::{place_of, start_words};
 use flow_code::Code;
@@ -32,7 +32,7 @@ pub struct Cells<'a> {
     objects: usize,
     departure: usize,
     memory: usize,
-    table: Table<Asked, View, Known<'a>, Rule, Global>,
+    table: Table<Asked, View, TableInput<'a>, Rule, Global>,
 }
 
 impl<'a> Model for Cells<'a> {
@@ -93,8 +93,8 @@ impl<'a> Cells<'a> {
     {
         let words = first_words(alloc, code, setup)?;
         let count = words.len();
-        let known = Known { code, setup };
-        let (table, first) = Table::<Asked, View, Known<'a>, Rule, Global>::of_words(
+        let known = TableInput { code, setup };
+        let (table, first) = Table::<Asked, View, TableInput<'a>, Rule, Global>::of_words(
             alloc,
             words.as_slice(),
             &known,

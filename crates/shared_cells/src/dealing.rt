@@ -10,14 +10,14 @@ ghost use Rattle.shared_cells.specs.Closing.{Gathers};
 use crate::asked::Asked;
 use crate::seat::Seat;
 use crate::steps::{Part, Rule, Whole};
-use crate::view::{Known, View};
+use crate::view::{TableInput, View};
 use atomic_table::{Seat as TableSeat, Shared};
 use std::alloc::{AllocError, Global};
 
 /// Gives each thread a seat of its own, from one that carries all of them.
 pub(crate) fn deal<'a>(
     alloc: Global,
-    shared: &Shared<Asked, View, Known<'a>, Rule>,
+    shared: &Shared<Asked, View, TableInput<'a>, Rule>,
     first: TableSeat<Asked, View>,
     slots: u8,
 ) -> Result<Vec<Seat>, AllocError>
@@ -48,7 +48,7 @@ pub(crate) fn deal<'a>(
 
 /// All seats as one, which carries all threads.
 pub(crate) fn join<'a>(
-    shared: &Shared<Asked, View, Known<'a>, Rule>,
+    shared: &Shared<Asked, View, TableInput<'a>, Rule>,
     mut seats: Vec<Seat>,
 ) -> TableSeat<Asked, View>
     requires words { 0 < shared.now.table_id.words }

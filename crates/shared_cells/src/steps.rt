@@ -4,13 +4,13 @@ ghost use Rattle.shared_cells.specs.Views.{nobody};
 ghost use Rattle.shared_cells.specs.Plays.{LoadsCell, StoresCell, exchanging, Looks, Departs, Lowers, Stays};
 
 use crate::asked::Asked;
-use crate::view::{Known, View};
+use crate::view::{TableInput, View};
 use atomic_table::{Join, Play, Split, TableRule};
 
 /// The words and the views show a state that can be reached.
 pub struct Rule;
 
-impl<'a> TableRule<Asked, View, Known<'a>> for Rule {
+impl<'a> TableRule<Asked, View, TableInput<'a>> for Rule {
     ghost holds = { Holds };
 
     ghost first = { everyone };

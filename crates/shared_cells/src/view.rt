@@ -18,12 +18,12 @@ impl Model for View {
 
 /// What the table is told when it is made.
 #[derive(Drop)]
-pub struct Known<'a> {
+pub struct TableInput<'a> {
     pub code: &'a Code,
     pub setup: &'a Setup,
 }
 
-impl<'a> Model for Known<'a> {
+impl<'a> Model for TableInput<'a> {
     ghost use Rattle.shared_cells.specs.Rule.{Knowledge};
 
     ghost Value = { Knowledge };

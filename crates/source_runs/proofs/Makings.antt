@@ -14,7 +14,7 @@ use Rattle.core_run.specs.Machine.{may_revoke}
 use Rattle.core_run.specs.Words.{has_object}
 use Rattle.c_core.specs.Runs.{Run, does, traps, ends}
 use Rattle.source_runs.specs.RunEvents.{printed_at}
-use Rattle.c_core.specs.SourceRuns.{Standing, waits, goes, over}
+use Rattle.c_core.specs.SourceRuns.{Progress, waits, goes, over}
 use Rattle.source_runs.proofs.Proper.{IsEvent}
 
 module _ (code : Code) (s : SetupView) (MayFill : Run → Type 0) (Makes : ℕ → Run → Thread → Type 0) where
@@ -45,7 +45,7 @@ module _ (code : Code) (s : SetupView) (MayFill : Run → Type 0) (Makes : ℕ �
     pub revoked : (t : ℕ) (r : Run) (th : Thread) (lock stripe : ℕ) → has_object code s (object.Weak lock stripe) ≡ true → may_revoke th lock stripe ≡ true → Makes t r th → Makes t r (gave_up th lock stripe)
 
   -- the machine's thread is where the source's is
-  abbrev pub IsStanding : ℕ → Standing → Thread → Type 0
-  IsStanding t (waits r) th = (has_begun th.phase ≡ false) × (has_ended th.phase ≡ false) × Makes t r th
-  IsStanding t (goes r) th = (has_begun th.phase ≡ true) × (has_ended th.phase ≡ false) × Makes t r th
-  IsStanding t over th = has_ended th.phase ≡ true
+  abbrev pub IsProgress : ℕ → Progress → Thread → Type 0
+  IsProgress t (waits r) th = (has_begun th.phase ≡ false) × (has_ended th.phase ≡ false) × Makes t r th
+  IsProgress t (goes r) th = (has_begun th.phase ≡ true) × (has_ended th.phase ≡ false) × Makes t r th
+  IsProgress t over th = has_ended th.phase ≡ true

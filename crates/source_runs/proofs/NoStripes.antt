@@ -21,8 +21,8 @@ use Rattle.core_run.proofs.Lawful.{effect_go, effect_revoke}
 use Rattle.runs.specs.Labels.{Label, Go, Revoke, Stop, Close, label_thread}
 use Rattle.runs.specs.Steps.{State, Leaves, outcome, stepped, run}
 use Rattle.runs.proofs.Swap.{steps_of}
-use Rattle.source_runs.specs.RunEvents.{deed_of, deed_at, deeds_on, deeds_from, event_of, is_stripe, is_of_stripe, without_stripes}
-use Rattle.c_core.specs.SourceRuns.{own, ThreadDeed}
+use Rattle.source_runs.specs.RunEvents.{transition_of, transition_at, transitions_on, transitions_from, event_of, is_stripe, is_of_stripe, without_stripes}
+use Rattle.c_core.specs.SourceRuns.{own, ThreadTransition}
 use Rattle.source_runs.proofs.Outcomes.{operated_inv, allowed_inv}
 
 module _ (code : Code) (s : SetupView) (none : code.locks ≡ []) where
@@ -60,32 +60,32 @@ module _ (code : Code) (s : SetupView) (none : code.locks ≡ []) where
     event_stripe n (due.Operate o obj) h = h
     event_stripe n (due.Trap why) h = refl
 
-  no_deed : (l : Label) (words after : List ℕ) (told q : Told) → outcome (machine code s) words (effect_of code s l told) ≡ Leaves after q → is_of_stripe (deed_of code s words l told.thread) ≡ false
-  no_deed (Go t) words after told q h =
+  no_transition : (l : Label) (words after : List ℕ) (told q : Told) → outcome (machine code s) words (effect_of code s l told) ≡ Leaves after q → is_of_stripe (transition_of code s words l told.thread) ≡ false
+  no_transition (Go t) words after told q h =
       let n = settled code s t told.thread in
       let out = subst (λ e. outcome (machine code s) words e ≡ Leaves after q) (effect_go code s t told ∙ ap (action_effect code s t told n) (action_is code s t n)) h in
       event_stripe t words after told q n (due_of code s t n) (no_action t words after told q n (action_of (due_of code s t n)) out)
-  no_deed (Revoke t lock stripe) words after told q h =
+  no_transition (Revoke t lock stripe) words after told q h =
       let may = allowed_inv code s words after (may_revoke told.thread lock stripe) (operation code s t told op.Revoke (object.Weak lock stripe) [] (λ answer. gave_up told.thread lock stripe)) q (subst (λ e. outcome (machine code s) words e ≡ Leaves after q) (effect_revoke code s t lock stripe told) h) in
       let i = operated_inv code s words after t told q op.Revoke (object.Weak lock stripe) [] (λ answer. gave_up told.thread lock stripe) may.1 in
       absurd (no_lock lock stripe i.has)
-  no_deed (Stop t) words after told q h = refl
-  no_deed (Close t) words after told q h = refl
+  no_transition (Stop t) words after told q h = refl
+  no_transition (Close t) words after told q h = refl
 
-  kept_first : (d : ThreadDeed) (ds : List ThreadDeed) → is_of_stripe d.deed ≡ false → without_stripes ds ≡ ds → without_stripes (d ∷ ds) ≡ d ∷ ds
+  kept_first : (d : ThreadTransition) (ds : List ThreadTransition) → is_of_stripe d.transition ≡ false → without_stripes ds ≡ ds → without_stripes (d ∷ ds) ≡ d ∷ ds
   kept_first d ds no' h = ap (λ b. if b then without_stripes ds else d ∷ without_stripes ds) no' ∙ ap (λ x. d ∷ x) h
 
-  -- so all deeds of a run are the source's
-  pub all_kept : (ls : List Label) (st end : State Told) → run (machine code s) ls st ≡ Some end → without_stripes (deeds_from code s ls st) ≡ deeds_from code s ls st
+  -- so all transitions of a run are the source's
+  pub all_kept : (ls : List Label) (st end : State Told) → run (machine code s) ls st ≡ Some end → without_stripes (transitions_from code s ls st) ≡ transitions_from code s ls st
   all_kept [] st end h = refl
   all_kept (l ∷ ls) st end h = by (stepped (machine code s) st l) refl h (λ st1 h1. all_kept ls st1 end h1)
     where
       by : (o : Option (State Told)) → stepped (machine code s) st l ≡ o → option_and_then (run (machine code s) ls) o ≡ Some end →
-          ((st1 : State Told) → run (machine code s) ls st1 ≡ Some end → without_stripes (deeds_from code s ls st1) ≡ deeds_from code s ls st1) →
-          without_stripes (deed_at code s st.words l (slice_get st.threads (label_thread l)) ++ deeds_on code s (deeds_from code s ls) o) ≡ deed_at code s st.words l (slice_get st.threads (label_thread l)) ++ deeds_on code s (deeds_from code s ls) o
+          ((st1 : State Told) → run (machine code s) ls st1 ≡ Some end → without_stripes (transitions_from code s ls st1) ≡ transitions_from code s ls st1) →
+          without_stripes (transition_at code s st.words l (slice_get st.threads (label_thread l)) ++ transitions_on code s (transitions_from code s ls) o) ≡ transition_at code s st.words l (slice_get st.threads (label_thread l)) ++ transitions_on code s (transitions_from code s ls) o
       by None e h more = cc
       by (Some st1) e h more =
           let x = steps_of (machine code s) st l st1 e in
-          let ds = deeds_from code s ls st1 in
-          subst (λ o. without_stripes (deed_at code s st.words l o ++ ds) ≡ deed_at code s st.words l o ++ ds) (sym x.stands)
-          (kept_first (record { thread = label_thread l; deed = deed_of code s st.words l x.before.thread }) ds (no_deed l st.words x.words x.before x.after x.leaves) (more st1 h))
+          let ds = transitions_from code s ls st1 in
+          subst (λ o. without_stripes (transition_at code s st.words l o ++ ds) ≡ transition_at code s st.words l o ++ ds) (sym x.stands)
+          (kept_first (record { thread = label_thread l; transition = transition_of code s st.words l x.before.thread }) ds (no_transition l st.words x.words x.before x.after x.leaves) (more st1 h))

@@ -31,8 +31,8 @@ use Rattle.core_run.specs.Pieces.{piece_next}
 use Rattle.core_run.specs.Machine.{Told, accessed, access_of, marked, action_effect, machine}
 use Rattle.runs.specs.Steps.{Leaves, outcome}
 use Rattle.source_runs.specs.RunEvents.{answer_in, answer_of, printed_at, event_of, is_stripe, is_of_stripe}
-use Rattle.c_core.specs.SourceRuns.{Standing, goes, over, World, own, operated, acted, words_after, rest_after, is_last, cell_count, Allows, IsAllowed, Answers, ComesNext, IsFull}
-use Rattle.source_runs.proofs.Makings.{IsAtEvent, IsAtStripe, IsAt, event, stripe, full, IsStanding}
+use Rattle.c_core.specs.SourceRuns.{Progress, goes, over, World, own, operated, acted, words_after, rest_after, is_last, cell_count, Allows, IsAllowed, Answers, ComesNext, IsFull}
+use Rattle.source_runs.proofs.Makings.{IsAtEvent, IsAtStripe, IsAt, event, stripe, full, IsProgress}
 use Rattle.source_runs.proofs.Outcomes.{Operated, operated_inv, loaded_inv, stored_inv, marked_inv}
 use Rattle.source_runs.proofs.Phases.{event_begins, event_ends}
 use Rattle.source_runs.proofs.Proper.{IsEvent}
@@ -70,15 +70,15 @@ module _ (p : Program) (s : SetupView) (code : Code) (same_cells : cells_of code
   abbrev Shown : List ℕ → World → Type 0
   Shown words w = Shows p s code same_cells limits words w
 
-  abbrev Stands : Standing → Thread → Type 0
-  Stands = IsStanding code s MayFill Makes t
+  abbrev Stands : Progress → Thread → Type 0
+  Stands = IsProgress code s MayFill Makes t
 
   -- the event is the run's next one, and the words and the thread are those after it
   pub record IsStep (r : Run) (w : World) (after : List ℕ) (q : Thread) (e : Event) : Type 0 where
     pub of_source : is_of_stripe (own e) ≡ false
     pub next : ComesNext p s w t r e ⊎ IsFull p s MayFill w t r e
     pub shows : Shows p s code same_cells limits after (words_after w t (own e))
-    pub stands : IsStanding code s MayFill Makes t (rest_after r e) q
+    pub stands : IsProgress code s MayFill Makes t (rest_after r e) q
 
   -- an operation on a stripe changes nothing of the source
   pub record IsPassed (r : Run) (w : World) (after : List ℕ) (n q : Thread) (e : Event) : Type 0 where

@@ -8,11 +8,11 @@ use Rattle.abstract_machine.specs.declared.event.Action.{Action}
 use Rattle.c_core.specs.Core.{Program}
 use Rattle.c_core.specs.Runs.{Run, does, traps, ends, Event, done, trapped, events}
 use Rattle.c_core.specs.Meaning.{run_of}
-use Rattle.c_core.specs.SourceRuns.{Deed, own, stops, closes, Standing, waits, goes, over, World, ThreadDeed, after, is_last, rest_after, standing_after, ComesNext, IsFull, MayDo, IsRunFrom, start_standing, start_world, IsSourceRun}
+use Rattle.c_core.specs.SourceRuns.{Transition, own, stops, closes, Progress, waits, goes, over, World, ThreadTransition, after, is_last, rest_after, standing_after, ComesNext, IsFull, MayDo, IsRunFrom, start_standing, start_world, IsSourceRun}
 use Rattle.source_runs.specs.ThreadEvents.{event_in, own_events, IsPartOf}
 
 -- what a thread that stands there may still do by itself
-abbrev IsPartAt : Standing → List Event → Type 0
+abbrev IsPartAt : Progress → List Event → Type 0
 IsPartAt (waits r) es = IsPartOf r es
 IsPartAt (goes r) es = IsPartOf r es
 IsPartAt over es = es ≡ []
@@ -64,31 +64,31 @@ module _ (p : Program) (s : SetupView) (MayFill : Run → Type 0) where
   event_then w t r (trapped why line) es (inr full) h = fills r why line es full.0 (over_then r why line es h)
   event_then w t r (done a out z) es (inr full) h = absurd full
 
-  deed_then : (w : World) (t : ℕ) (x : Standing) (d : Deed) (es : List Event) → MayDo p s MayFill w t x d → IsPartAt (standing_after x d) es → IsPartAt x (event_in d ++ es)
-  deed_then w t (waits r) (own e) es may h = event_then w t r e es may h
-  deed_then w t (goes r) (own e) es may h = event_then w t r e es may h
-  deed_then w t (goes r) stops es may h = none_of r es h
-  deed_then w t (waits r) closes es may h = none_of r es h
-  deed_then w t (waits r) stops es may h = absurd may
-  deed_then w t (goes r) closes es may h = absurd may
-  deed_then w t over (own e) es may h = absurd may
-  deed_then w t over stops es may h = absurd may
-  deed_then w t over closes es may h = absurd may
+  transition_then : (w : World) (t : ℕ) (x : Progress) (d : Transition) (es : List Event) → MayDo p s MayFill w t x d → IsPartAt (standing_after x d) es → IsPartAt x (event_in d ++ es)
+  transition_then w t (waits r) (own e) es may h = event_then w t r e es may h
+  transition_then w t (goes r) (own e) es may h = event_then w t r e es may h
+  transition_then w t (goes r) stops es may h = none_of r es h
+  transition_then w t (waits r) closes es may h = none_of r es h
+  transition_then w t (waits r) stops es may h = absurd may
+  transition_then w t (goes r) closes es may h = absurd may
+  transition_then w t over (own e) es may h = absurd may
+  transition_then w t over stops es may h = absurd may
+  transition_then w t over closes es may h = absurd may
 
-  nothing_yet : (x : Standing) → IsPartAt x []
+  nothing_yet : (x : Progress) → IsPartAt x []
   nothing_yet (waits r) = none_of r [] refl
   nothing_yet (goes r) = none_of r [] refl
   nothing_yet over = refl
 
-  parts_from : (ds : List ThreadDeed) (w : World) (t : ℕ) → IsRunFrom p s MayFill w ds → IsPartAt (w.threads t) (own_events t ds)
+  parts_from : (ds : List ThreadTransition) (w : World) (t : ℕ) → IsRunFrom p s MayFill w ds → IsPartAt (w.threads t) (own_events t ds)
   parts_from [] w t h = nothing_yet (w.threads t)
   parts_from (d ∷ ds) w t h = by (nat_eq d.thread t) refl (nat_eq t d.thread) refl (parts_from ds (after w d) t h.2)
     where
       eq_is : (m n : ℕ) → m ≡ n → nat_eq m n ≡ true
       eq_is m n same = grind (arith, same)
 
-      by : (b : Bool) → nat_eq d.thread t ≡ b → (c : Bool) → nat_eq t d.thread ≡ c → IsPartAt (if c then standing_after (w.threads d.thread) d.deed else w.threads t) (own_events t ds) → IsPartAt (w.threads t) (if b then event_in d.deed ++ own_events t ds else own_events t ds)
-      by true e true f more = subst (λ n. IsPartAt (w.threads n) (event_in d.deed ++ own_events t ds)) (eqb-true d.thread t e) (deed_then w d.thread (w.threads d.thread) d.deed (own_events t ds) h.1 more)
+      by : (b : Bool) → nat_eq d.thread t ≡ b → (c : Bool) → nat_eq t d.thread ≡ c → IsPartAt (if c then standing_after (w.threads d.thread) d.transition else w.threads t) (own_events t ds) → IsPartAt (w.threads t) (if b then event_in d.transition ++ own_events t ds else own_events t ds)
+      by true e true f more = subst (λ n. IsPartAt (w.threads n) (event_in d.transition ++ own_events t ds)) (eqb-true d.thread t e) (transition_then w d.thread (w.threads d.thread) d.transition (own_events t ds) h.1 more)
       by true e false f more = let same = eq_is t d.thread (sym (eqb-true d.thread t e)) in cc
       by false e true f more = let same = eq_is d.thread t (sym (eqb-true t d.thread f)) in cc
       by false e false f more = more
@@ -97,5 +97,5 @@ module _ (p : Program) (s : SetupView) (MayFill : Run → Type 0) where
   start_part zero es h = h
   start_part (suc k) es h = h
 
-  pub parts : (ds : List ThreadDeed) (t : ℕ) → IsSourceRun p s MayFill ds → IsPartOf (run_of p s t) (own_events t ds)
+  pub parts : (ds : List ThreadTransition) (t : ℕ) → IsSourceRun p s MayFill ds → IsPartOf (run_of p s t) (own_events t ds)
   parts ds t h = start_part t (own_events t ds) (parts_from ds (start_world p s) t h)

@@ -33,8 +33,8 @@ use Rattle.runs.specs.Steps.{Becomes, Leaves, Effect, Refused, Marks, Loads, Sto
 use Rattle.runs.specs.Walk.{AllOf, part}
 use Rattle.runs.proofs.Apart.{thread_of_label}
 use Rattle.runs.proofs.Swap.{load_inv, change_inv, steps_of}
-use Rattle.source_runs.specs.RunEvents.{event_of, deed_of, deed_at, deeds_on, deeds_from}
-use Rattle.c_core.specs.SourceRuns.{ThreadDeed, printed_by, bytes_of}
+use Rattle.source_runs.specs.RunEvents.{event_of, transition_of, transition_at, transitions_on, transitions_from}
+use Rattle.c_core.specs.SourceRuns.{ThreadTransition, printed_by, bytes_of}
 use Rattle.source_runs.specs.WalkEvents.{part_labels, labels_on, labels_from, events_of_walk}
 use Rattle.source_runs.proofs.WalkRuns.{then_inv, part_runs}
 
@@ -114,7 +114,7 @@ module _ (code : Code) (s : SetupView) where
       let i = change_inv words p change (slice_get words p) after q e in
       h i.0 i.1 i.2 q i.4
 
-  -- a deed prints the pieces of its label
+  -- a transition prints the pieces of its label
   event_prints : (ws : List ℕ) (t : ℕ) (n : Thread) (d : Due) → joined (pieces_by n (action_of d)) ≡ printed_in (event_of code s ws t n d)
   event_prints ws t n due.Nothing = refl
   event_prints ws t n due.Quiet = refl
@@ -124,11 +124,11 @@ module _ (code : Code) (s : SetupView) where
   event_prints ws t n (due.Operate o obj) = refl
   event_prints ws t n (due.Trap why) = refl
 
-  deed_prints : (ws : List ℕ) (l : Label) (th : Thread) → joined (pieces_at l th) ≡ printed_by (deed_of code s ws l th)
-  deed_prints ws (Go t) th = let n = settled code s t th in ap (λ a. joined (pieces_by n a)) (action_is code s t n) ∙ event_prints ws t n (due_of code s t n)
-  deed_prints ws (Revoke t lock stripe) th = refl
-  deed_prints ws (Stop t) th = refl
-  deed_prints ws (Close t) th = refl
+  transition_prints : (ws : List ℕ) (l : Label) (th : Thread) → joined (pieces_at l th) ≡ printed_by (transition_of code s ws l th)
+  transition_prints ws (Go t) th = let n = settled code s t th in ap (λ a. joined (pieces_by n a)) (action_is code s t n) ∙ event_prints ws t n (due_of code s t n)
+  transition_prints ws (Revoke t lock stripe) th = refl
+  transition_prints ws (Stop t) th = refl
+  transition_prints ws (Close t) th = refl
 
   -- ---- the labels of one thread
 
@@ -136,10 +136,10 @@ module _ (code : Code) (s : SetupView) where
   pieces_in st t = pieces_of (slice_get st.threads t)
 
   -- what is done by the label
-  abbrev deeds_here : State Told → Label → List ThreadDeed
-  deeds_here st l = deed_at code s st.words l (slice_get st.threads (label_thread l))
+  abbrev transitions_here : State Told → Label → List ThreadTransition
+  transitions_here st l = transition_at code s st.words l (slice_get st.threads (label_thread l))
 
-  step_grows : (st st1 : State Told) (l : Label) → stepped (machine code s) st l ≡ Some st1 → Grows (pieces_in st (label_thread l)) (pieces_in st1 (label_thread l)) (bytes_of (deeds_here st l))
+  step_grows : (st st1 : State Told) (l : Label) → stepped (machine code s) st l ≡ Some st1 → Grows (pieces_in st (label_thread l)) (pieces_in st1 (label_thread l)) (bytes_of (transitions_here st l))
   step_grows st st1 l e =
       let t = label_thread l in
       let x = steps_of (machine code s) st l st1 e in
@@ -147,21 +147,21 @@ module _ (code : Code) (s : SetupView) where
       record {
         pieces = pieces_at l x.before.thread;
         grown = there ∙ outcome_adds st.words x.words (effect_of code s l x.before) x.before x.after (pieces_at l x.before.thread) (label_adds l x.before) x.leaves ∙ ap (λ o. pieces_of o ++ pieces_at l x.before.thread) (sym x.stands);
-        bytes = deed_prints st.words l x.before.thread ∙ sym (append-nil (printed_by (deed_of code s st.words l x.before.thread))) ∙ ap (λ o. bytes_of (deed_at code s st.words l o)) (sym x.stands);
+        bytes = transition_prints st.words l x.before.thread ∙ sym (append-nil (printed_by (transition_of code s st.words l x.before.thread))) ∙ ap (λ o. bytes_of (transition_at code s st.words l o)) (sym x.stands);
       }
 
-  run_grows : (ls : List Label) (t : ℕ) (st end : State Told) → AllOf t ls → run (machine code s) ls st ≡ Some end → Grows (pieces_in st t) (pieces_in end t) (bytes_of (deeds_from code s ls st))
+  run_grows : (ls : List Label) (t : ℕ) (st end : State Told) → AllOf t ls → run (machine code s) ls st ≡ Some end → Grows (pieces_in st t) (pieces_in end t) (bytes_of (transitions_from code s ls st))
   run_grows [] t st end all h = stays (pieces_in st t) (pieces_in end t) (ap (λ (z : State Told). pieces_in z t) (sym (same_Some st end h)))
   run_grows (l ∷ ls) t st end all h = by (stepped (machine code s) st l) refl h (λ st1 h1. run_grows ls t st1 end all.1 h1)
     where
       by : (o : Option (State Told)) → stepped (machine code s) st l ≡ o → option_and_then (run (machine code s) ls) o ≡ Some end →
-          ((st1 : State Told) → run (machine code s) ls st1 ≡ Some end → Grows (pieces_in st1 t) (pieces_in end t) (bytes_of (deeds_from code s ls st1))) →
-          Grows (pieces_in st t) (pieces_in end t) (bytes_of (deeds_here st l ++ deeds_on code s (deeds_from code s ls) o))
+          ((st1 : State Told) → run (machine code s) ls st1 ≡ Some end → Grows (pieces_in st1 t) (pieces_in end t) (bytes_of (transitions_from code s ls st1))) →
+          Grows (pieces_in st t) (pieces_in end t) (bytes_of (transitions_here st l ++ transitions_on code s (transitions_from code s ls) o))
       by None e h more = cc
       by (Some st1) e h more =
-          let first : Grows (pieces_in st t) (pieces_in st1 t) (bytes_of (deeds_here st l)) = subst (λ u. Grows (pieces_in st u) (pieces_in st1 u) (bytes_of (deeds_here st l))) all.0 (step_grows st st1 l e) in
-          subst (Grows (pieces_in st t) (pieces_in end t)) (sym (flat_map-append (λ (d : ThreadDeed). printed_by d.deed) (deeds_here st l) (deeds_from code s ls st1)))
-          (grows_on (pieces_in st t) (pieces_in st1 t) (pieces_in end t) (bytes_of (deeds_here st l)) (bytes_of (deeds_from code s ls st1)) first (more st1 h))
+          let first : Grows (pieces_in st t) (pieces_in st1 t) (bytes_of (transitions_here st l)) = subst (λ u. Grows (pieces_in st u) (pieces_in st1 u) (bytes_of (transitions_here st l))) all.0 (step_grows st st1 l e) in
+          subst (Grows (pieces_in st t) (pieces_in end t)) (sym (flat_map-append (λ (d : ThreadTransition). printed_by d.transition) (transitions_here st l) (transitions_from code s ls st1)))
+          (grows_on (pieces_in st t) (pieces_in st1 t) (pieces_in end t) (bytes_of (transitions_here st l)) (bytes_of (transitions_from code s ls st1)) first (more st1 h))
 
   -- ---- the part of one entry
 
@@ -169,7 +169,7 @@ module _ (code : Code) (s : SetupView) where
   all_own zero t l e = (e, tt)
   all_own (suc n) t l e = (refl, all_own n t l e)
 
-  part_prints : (e : Entry) (st st1 : State Told) → part (machine code s) e st ≡ Some st1 → printed_between e.thread st st1 ≡ bytes_of (deeds_from code s (part_labels code s e st) st)
+  part_prints : (e : Entry) (st st1 : State Told) → part (machine code s) e st ≡ Some st1 → printed_between e.thread st st1 ≡ bytes_of (transitions_from code s (part_labels code s e st) st)
   part_prints e st st1 h =
       let n = e.count - count_of (machine code s) st e.thread in
       let g = run_grows (part_labels code s e st) e.thread st st1 (all_own n e.thread (label_of e) (sym (thread_of_label e (label_of e) refl))) (part_runs code s e st st1 h) in
@@ -177,16 +177,16 @@ module _ (code : Code) (s : SetupView) where
 
   -- ---- the whole walk
 
-  deeds_append : (ls ks : List Label) (st st1 : State Told) → run (machine code s) ls st ≡ Some st1 → deeds_from code s (ls ++ ks) st ≡ deeds_from code s ls st ++ deeds_from code s ks st1
-  deeds_append [] ks st st1 h = ap (deeds_from code s ks) (same_Some st st1 h)
-  deeds_append (l ∷ ls) ks st st1 h = by (stepped (machine code s) st l) h (λ mid h1. deeds_append ls ks mid st1 h1)
+  transitions_append : (ls ks : List Label) (st st1 : State Told) → run (machine code s) ls st ≡ Some st1 → transitions_from code s (ls ++ ks) st ≡ transitions_from code s ls st ++ transitions_from code s ks st1
+  transitions_append [] ks st st1 h = ap (transitions_from code s ks) (same_Some st st1 h)
+  transitions_append (l ∷ ls) ks st st1 h = by (stepped (machine code s) st l) h (λ mid h1. transitions_append ls ks mid st1 h1)
     where
-      by : (o : Option (State Told)) → option_and_then (run (machine code s) ls) o ≡ Some st1 → ((mid : State Told) → run (machine code s) ls mid ≡ Some st1 → deeds_from code s (ls ++ ks) mid ≡ deeds_from code s ls mid ++ deeds_from code s ks st1) →
-          deeds_here st l ++ deeds_on code s (deeds_from code s (ls ++ ks)) o ≡ (deeds_here st l ++ deeds_on code s (deeds_from code s ls) o) ++ deeds_from code s ks st1
+      by : (o : Option (State Told)) → option_and_then (run (machine code s) ls) o ≡ Some st1 → ((mid : State Told) → run (machine code s) ls mid ≡ Some st1 → transitions_from code s (ls ++ ks) mid ≡ transitions_from code s ls mid ++ transitions_from code s ks st1) →
+          transitions_here st l ++ transitions_on code s (transitions_from code s (ls ++ ks)) o ≡ (transitions_here st l ++ transitions_on code s (transitions_from code s ls) o) ++ transitions_from code s ks st1
       by None h more = cc
-      by (Some mid) h more = ap (λ ds. deeds_here st l ++ ds) (more mid h) ∙ sym (append_assoc (deeds_here st l) (deeds_from code s ls mid) (deeds_from code s ks st1))
+      by (Some mid) h more = ap (λ ds. transitions_here st l ++ ds) (more mid h) ∙ sym (append_assoc (transitions_here st l) (transitions_from code s ls mid) (transitions_from code s ks st1))
 
-  walk_tells : (es : List Entry) (st end : State Told) → walk_of code s es st ≡ Some end → out_of code s es st ≡ bytes_of (deeds_from code s (labels_from code s es st) st)
+  walk_tells : (es : List Entry) (st end : State Told) → walk_of code s es st ≡ Some end → out_of code s es st ≡ bytes_of (transitions_from code s (labels_from code s es st) st)
   walk_tells [] st end h = refl
   walk_tells (e ∷ es) st end h =
       let a = then_inv (walk_of code s es) (part (machine code s) e st) end h in
@@ -194,10 +194,10 @@ module _ (code : Code) (s : SetupView) where
       let more = labels_from code s es a.0 in
       ap (out_on code s (out_of code s es) e st) a.1
       ∙ ap (λ x. x ++ out_of code s es a.0) (part_prints e st a.0 a.1)
-      ∙ ap (λ x. bytes_of (deeds_from code s first st) ++ x) (walk_tells es a.0 end a.2)
-      ∙ sym (flat_map-append (λ (d : ThreadDeed). printed_by d.deed) (deeds_from code s first st) (deeds_from code s more a.0))
-      ∙ ap bytes_of (sym (deeds_append first more st a.0 (part_runs code s e st a.0 a.1)))
-      ∙ ap (λ o. bytes_of (deeds_from code s (first ++ labels_on code s (labels_from code s es) o) st)) (sym a.1)
+      ∙ ap (λ x. bytes_of (transitions_from code s first st) ++ x) (walk_tells es a.0 end a.2)
+      ∙ sym (flat_map-append (λ (d : ThreadTransition). printed_by d.transition) (transitions_from code s first st) (transitions_from code s more a.0))
+      ∙ ap bytes_of (sym (transitions_append first more st a.0 (part_runs code s e st a.0 a.1)))
+      ∙ ap (λ o. bytes_of (transitions_from code s (first ++ labels_on code s (labels_from code s es) o) st)) (sym a.1)
 
   -- the bytes that a walk tells are those that it prints as a run
   pub walk_prints : (es : List Entry) (end : State Told) → walk_of code s es (start_state code s) ≡ Some end → out_of code s es (start_state code s) ≡ bytes_of (events_of_walk code s es)

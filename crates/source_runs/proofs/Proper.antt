@@ -30,7 +30,7 @@ use Rattle.c_core.specs.Core as core
 use Rattle.c_core.specs.Core.{Exp, null, register, object, global, load, unary, binary, move, advance, member, between, to_pointer, to_number, copy, both, either, conditional, comma, set_register, store, change_register, change_cell, call, library, allocate, Exps, no_exp, and_exp, Statement, block, compute, branch, branch_else, while_loop, do_loop, for_loop, break_at, continue_at, gives, Statements, no_statement, and_statement, Arrival, arrives, Function, Program}
 use Rattle.c_core.specs.Runs.{Run, does, traps, ends, State, M, counted, is_free, printing, event, choose, result_at}
 use Rattle.c_core.specs.Meaning as meaning
-use Rattle.c_core.specs.Meaning.{Flow, goes, breaks, continues, returns, if_goes, if_turns, Calls, made_objects, arena_end, is_main, line_given, word_given, line_of_function, entered}
+use Rattle.c_core.specs.Meaning.{Completion, goes, breaks, continues, returns, if_goes, if_turns, Calls, made_objects, arena_end, is_main, line_given, word_given, line_of_function, entered}
 
 abbrev pub is_trap : Op → Bool
 is_trap op.TrapHere = true
@@ -221,25 +221,25 @@ module _ (p : Program) (s : SetupView) (t : ℕ) where
 
   -- ---- statements
 
-  if_goes_proper : (f : Flow) (m : M Flow) → Keeps m → Keeps (if_goes f m)
+  if_goes_proper : (f : Completion) (m : M Completion) → Keeps m → Keeps (if_goes f m)
   if_goes_proper goes m hm σ k h = hm σ k h
   if_goes_proper breaks m hm σ k h = h breaks σ
   if_goes_proper continues m hm σ k h = h continues σ
   if_goes_proper (returns w line) m hm σ k h = h (returns w line) σ
 
-  if_turns_proper : (f : Flow) (m : M Flow) → Keeps m → Keeps (if_turns f m)
+  if_turns_proper : (f : Completion) (m : M Completion) → Keeps m → Keeps (if_turns f m)
   if_turns_proper goes m hm σ k h = hm σ k h
   if_turns_proper breaks m hm σ k h = h goes σ
   if_turns_proper continues m hm σ k h = hm σ k h
   if_turns_proper (returns w line) m hm σ k h = h (returns w line) σ
 
-  turns_proper : (n line : ℕ) (test : M ℕ) (body : M Flow) (step : M ℕ) → Keeps test → Keeps body → Keeps step → Keeps (meaning.turns p s t n line test body step)
+  turns_proper : (n line : ℕ) (test : M ℕ) (body : M Completion) (step : M ℕ) → Keeps test → Keeps body → Keeps step → Keeps (meaning.turns p s t n line test body step)
   turns_proper zero line test body step ht hb hs σ k h = trap_proper trap.Limit line
   turns_proper (suc n) line test body step ht hb hs σ k h =
       event_proper s.limit line action.Mark σ _ tt (λ z σ1. ht σ1 _ (λ w σ2.
       choose_proper w _ _ (λ σ3 k3 h3. hb σ3 _ (λ f σ4. if_turns_proper f _ (λ σ5 k5 h5. hs σ5 _ (λ u σ6. turns_proper n line test body step ht hb hs σ6 k5 h5)) σ4 k3 h3)) (λ σ3 k3 h3. h3 goes σ3) σ2 k h))
 
-  turns_behind_proper : (n line : ℕ) (body : M Flow) (test : M ℕ) → Keeps body → Keeps test → Keeps (meaning.turns_behind p s t n line body test)
+  turns_behind_proper : (n line : ℕ) (body : M Completion) (test : M ℕ) → Keeps body → Keeps test → Keeps (meaning.turns_behind p s t n line body test)
   turns_behind_proper zero line body test hb ht σ k h = trap_proper trap.Limit line
   turns_behind_proper (suc n) line body test hb ht σ k h =
       event_proper s.limit line action.Mark σ _ tt (λ z σ1. hb σ1 _ (λ f σ2.

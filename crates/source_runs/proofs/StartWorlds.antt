@@ -23,7 +23,7 @@ use Rattle.runs.specs.Labels.{Label}
 use Rattle.runs.specs.Steps.{State}
 use Rattle.source_runs.specs.RunEvents.{events_of_run, without_stripes}
 use Rattle.c_core.specs.SourceRuns.{global_word, start_cell, start_standing, start_world, cell_count, IsSourceRun}
-use Rattle.source_runs.proofs.Makings.{IsMaking, IsStanding}
+use Rattle.source_runs.proofs.Makings.{IsMaking, IsProgress}
 use Rattle.source_runs.proofs.Simulates.{Matches, simulates}
 use Rattle.source_runs.proofs.Worlds.{is_had}
 
@@ -134,7 +134,7 @@ module _ (p : Program) (s : SetupView) (code : Code) (globals_are : code.globals
       ∙ ap (λ (ws : List ℕ). slice_get ws c) start_cells_are ∙ cell_by p s c (nat_lt c (2 * s.slots)) refl each_kind (omega arith)
 
   module _ (limits : IsWithinLimits s) (runnable : IsRunnable code) (MayFill : Run → Type 0) (Makes : ℕ → Run → Thread → Type 0) (making : IsMaking code s MayFill Makes) (starts : (t : ℕ) → Makes t (run_of p s t) (start_thread code s t)) where
-    stands : (t : ℕ) → IsStanding code s MayFill Makes t (start_standing p s t) (start_thread code s t)
+    stands : (t : ℕ) → IsProgress code s MayFill Makes t (start_standing p s t) (start_thread code s t)
     stands zero = (refl, refl, starts 0)
     stands (suc k) = (refl, refl, starts (suc k))
 
@@ -142,7 +142,7 @@ module _ (p : Program) (s : SetupView) (code : Code) (globals_are : code.globals
     matches = record {
       words = record { cells = start_cell_at; objects = λ o is. start_word_at code s o limits (is_had p s code same_cells limits o is) };
       count = start_length code s 0 s.slots;
-      threads = λ t told e. subst (λ (z : Told). IsStanding code s MayFill Makes t (start_standing p s t) z.thread) (sym (start_thread_is code s t told e)) (stands t);
+      threads = λ t told e. subst (λ (z : Told). IsProgress code s MayFill Makes t (start_standing p s t) z.thread) (sym (start_thread_is code s t told e)) (stands t);
     }
 
     -- each run of a code whose threads make the runs of the source is a run of the source, but for its operations on stripes

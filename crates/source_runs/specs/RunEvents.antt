@@ -20,7 +20,7 @@ use Rattle.core_run.specs.Pieces.{piece_next}
 use Rattle.core_run.specs.Walks.{joined}
 use Rattle.runs.specs.Labels.{Label, Go, Revoke, Stop, Close, label_thread}
 use Rattle.runs.specs.Steps.{State, stepped}
-use Rattle.c_core.specs.SourceRuns.{Deed, own, stops, closes, ThreadDeed}
+use Rattle.c_core.specs.SourceRuns.{Transition, own, stops, closes, ThreadTransition}
 
 abbrev pub answer_in : Advance → ℤ
 answer_in NotAllowed = pos 0
@@ -44,37 +44,37 @@ module _ (code : Code) (s : SetupView) where
   event_of ws t th d = done (action_of d) (printed_at code th (action_of d)) (answer_of ws t (action_of d))
 
   -- what a label does; a thread's own event comes after its quiet steps
-  abbrev pub deed_of : List ℕ → Label → Thread → Deed
-  deed_of ws (Go t) th = own (event_of ws t (settled code s t th) (due_of code s t (settled code s t th)))
-  deed_of ws (Revoke t lock stripe) th = own (done (action.Operate op.Revoke (object.Weak lock stripe)) [] (answer_of ws t (action.Operate op.Revoke (object.Weak lock stripe))))
-  deed_of ws (Stop t) th = stops
-  deed_of ws (Close t) th = closes
+  abbrev pub transition_of : List ℕ → Label → Thread → Transition
+  transition_of ws (Go t) th = own (event_of ws t (settled code s t th) (due_of code s t (settled code s t th)))
+  transition_of ws (Revoke t lock stripe) th = own (done (action.Operate op.Revoke (object.Weak lock stripe)) [] (answer_of ws t (action.Operate op.Revoke (object.Weak lock stripe))))
+  transition_of ws (Stop t) th = stops
+  transition_of ws (Close t) th = closes
 
-  abbrev pub deed_at : List ℕ → Label → Option Told → List ThreadDeed
-  deed_at ws l None = []
-  deed_at ws l (Some told) = record { thread = label_thread l; deed = deed_of ws l told.thread } ∷ []
+  abbrev pub transition_at : List ℕ → Label → Option Told → List ThreadTransition
+  transition_at ws l None = []
+  transition_at ws l (Some told) = record { thread = label_thread l; transition = transition_of ws l told.thread } ∷ []
 
-  abbrev pub deeds_on : (State Told → List ThreadDeed) → Option (State Told) → List ThreadDeed
-  deeds_on rest None = []
-  deeds_on rest (Some st) = rest st
+  abbrev pub transitions_on : (State Told → List ThreadTransition) → Option (State Told) → List ThreadTransition
+  transitions_on rest None = []
+  transitions_on rest (Some st) = rest st
 
-  abbrev pub deeds_from : List Label → State Told → List ThreadDeed
-  deeds_from [] st = []
-  deeds_from (l ∷ ls) st = deed_at st.words l (slice_get st.threads (label_thread l)) ++ deeds_on (deeds_from ls) (stepped (machine code s) st l)
+  abbrev pub transitions_from : List Label → State Told → List ThreadTransition
+  transitions_from [] st = []
+  transitions_from (l ∷ ls) st = transition_at st.words l (slice_get st.threads (label_thread l)) ++ transitions_on (transitions_from ls) (stepped (machine code s) st l)
 
   -- the events of a run from the start, with their threads
-  abbrev pub events_of_run : List Label → List ThreadDeed
-  events_of_run labels = deeds_from labels (start_state code s)
+  abbrev pub events_of_run : List Label → List ThreadTransition
+  events_of_run labels = transitions_from labels (start_state code s)
 
 -- operations on stripes of weak locks, which no source makes
 abbrev pub is_stripe : Action → Bool
 is_stripe (action.Operate o (object.Weak lock stripe)) = true
 is_stripe _ = false
 
-abbrev pub is_of_stripe : Deed → Bool
+abbrev pub is_of_stripe : Transition → Bool
 is_of_stripe (own (done a out answer)) = is_stripe a
 is_of_stripe _ = false
 
-abbrev pub without_stripes : List ThreadDeed → List ThreadDeed
+abbrev pub without_stripes : List ThreadTransition → List ThreadTransition
 without_stripes [] = []
-without_stripes (d ∷ ds) = if is_of_stripe d.deed then without_stripes ds else d ∷ without_stripes ds
+without_stripes (d ∷ ds) = if is_of_stripe d.transition then without_stripes ds else d ∷ without_stripes ds

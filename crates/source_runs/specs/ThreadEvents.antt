@@ -1,18 +1,18 @@
--- What one thread does in a list of deeds, and the events of a thread of the source.
+-- What one thread does in a list of transitions, and the events of a thread of the source.
 use Rattle.std.specs.Prelude.{◌≡◌, ℕ, nat_eq, if◌then◌else◌, ℤ, List, [], ◌∷◌, ◌++◌, ◌⊎◌}
 use Rattle.rr_base.specs.declared.trap.Trap.TheVariants as trap
 use Rattle.c_core.specs.Runs.{Run, Event, done, trapped, events}
-use Rattle.c_core.specs.SourceRuns.{Deed, own, stops, closes, ThreadDeed}
+use Rattle.c_core.specs.SourceRuns.{Transition, own, stops, closes, ThreadTransition}
 
-abbrev pub event_in : Deed → List Event
+abbrev pub event_in : Transition → List Event
 event_in (own e) = e ∷ []
 event_in stops = []
 event_in closes = []
 
 -- the thread's own events, in their order
-abbrev pub own_events : ℕ → List ThreadDeed → List Event
+abbrev pub own_events : ℕ → List ThreadTransition → List Event
 own_events t [] = []
-own_events t (d ∷ ds) = if nat_eq d.thread t then event_in d.deed ++ own_events t ds else own_events t ds
+own_events t (d ∷ ds) = if nat_eq d.thread t then event_in d.transition ++ own_events t ds else own_events t ds
 
 -- the answers that they got
 abbrev pub answers_to : List Event → List ℤ

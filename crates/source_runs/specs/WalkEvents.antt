@@ -7,7 +7,7 @@ use Rattle.core_run.specs.Machine.{Told, machine, start_state}
 use Rattle.runs.specs.Labels.{Label, Go, label_of}
 use Rattle.runs.specs.Steps.{State, count_of}
 use Rattle.runs.specs.Walk.{part}
-use Rattle.c_core.specs.SourceRuns.{ThreadDeed}
+use Rattle.c_core.specs.SourceRuns.{ThreadTransition}
 use Rattle.source_runs.specs.RunEvents.{events_of_run}
 
 module _ (code : Code) (s : SetupView) where
@@ -28,5 +28,5 @@ module _ (code : Code) (s : SetupView) where
   labels_of_walk es = labels_from es (start_state code s)
 
   -- the events of the walk, with their threads
-  abbrev pub events_of_walk : List Entry → List ThreadDeed
+  abbrev pub events_of_walk : List Entry → List ThreadTransition
   events_of_walk es = events_of_run code s (labels_of_walk es)

@@ -14,7 +14,7 @@ ghost use Rattle.core_run.specs.Walks.{walk_of, out_of};
 ghost use Rattle.runs.specs.Labels.{Label};
 ghost use Rattle.runs.specs.Steps.{State};
 ghost use Rattle.source_runs.specs.RunEvents.{events_of_run};
-ghost use Rattle.c_core.specs.SourceRuns.{ThreadDeed, IsSourceRun, IsBeforeEntry, bytes_of};
+ghost use Rattle.c_core.specs.SourceRuns.{ThreadTransition, IsSourceRun, IsBeforeEntry, bytes_of};
 ghost use Rattle.source_runs.specs.ThreadEvents.{own_events, IsPartOf};
 ghost use Rattle.source_runs.specs.WalkEvents.{labels_of_walk, events_of_walk};
 
@@ -40,9 +40,9 @@ pub fn law_source_run()
 /// In a run of the source each thread's own events are the first ones of its run, on the answers that they got; behind
 /// them it may have trapped since its list in the log was full.
 pub fn law_own_events()
-    ensures { (p : Program) (setup : SetupView) (deeds : List ThreadDeed) (t : ℕ) →
-        IsSourceRun p setup IsBeforeEntry deeds →
-        IsPartOf (thread_run p setup t) (own_events t deeds) }
+    ensures { (p : Program) (setup : SetupView) (transitions : List ThreadTransition) (t : ℕ) →
+        IsSourceRun p setup IsBeforeEntry transitions →
+        IsPartOf (thread_run p setup t) (own_events t transitions) }
 {}
 
 /// A walk by a list of entries is a run, with the part of one entry after that of another, and ends where the walk does.

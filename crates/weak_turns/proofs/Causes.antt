@@ -16,7 +16,7 @@ use Rattle.weak_turns.specs.declared.ends.End.{End}
 use Rattle.weak_turns.specs.declared.ends.End.TheVariants as end
 use Rattle.weak_turns.specs.declared.played.Played.{Played}
 use Rattle.weak_turns.specs.declared.played.Played.TheVariants as played
-use Rattle.weak_turns.specs.declared.revokes.Place.{Place}
+use Rattle.weak_turns.specs.declared.revokes.LockStripe.{LockStripe}
 use Rattle.weak_turns.proofs.Noting.{newer, older, no_end_on, revoke_on, no_revoke_on, meets_then, same_thread, same_number}
 
 -- an end that is due is a stop exactly where the thread has begun
@@ -45,7 +45,7 @@ module _ (cells : Board) (a b : Seat) (since : List ℕ) (budget turn : ℕ) whe
   finished new end.Close played.Nothing f h = absurd h
   finished new end.Close played.Went f h = absurd h
 
-  module _ (f : FindsEnd cells a b None) (c : Seat) (place : Option Place) (g : FindsRevoke cells b c since budget turn place) where
+  module _ (f : FindsEnd cells a b None) (c : Seat) (place : Option LockStripe) (g : FindsRevoke cells b c since budget turn place) where
     abbrev all : List Note
     all = g.fresh ++ f.fresh
 
@@ -60,7 +60,7 @@ module _ (cells : Board) (a b : Seat) (since : List ℕ) (budget turn : ℕ) whe
     meets : Meets a c all
     meets = meets_then a b c f.fresh g.fresh f.meets g.meets
 
-  pub revoked : (f : FindsEnd cells a b None) (c new : Seat) (p : Place) (came : Attempt) → FindsRevoke cells b c since budget turn (Some p) → AttemptIs c new op.Revoke (object.Weak p.lock p.stripe) came → Steps cells a new since since budget turn (played.Tried op.Revoke (object.Weak p.lock p.stripe) came)
+  pub revoked : (f : FindsEnd cells a b None) (c new : Seat) (p : LockStripe) (came : Attempt) → FindsRevoke cells b c since budget turn (Some p) → AttemptIs c new op.Revoke (object.Weak p.lock p.stripe) came → Steps cells a new since since budget turn (played.Tried op.Revoke (object.Weak p.lock p.stripe) came)
   revoked f c new p came g h = record {
     mid = c;
     fresh = g.fresh ++ f.fresh;

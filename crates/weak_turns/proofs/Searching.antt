@@ -12,7 +12,7 @@ use Rattle.shared_cells.specs.declared.seat.Seat.{Seat}
 use Rattle.thread_step.specs.Steps.{Stepping}
 use Rattle.weak_turns.specs.Finding.{IsAlike, HeldIs, HasSearched, FindsRevoke}
 use Rattle.weak_turns.specs.Turns.{thread_of, want_place, IsHeldLong, Meets, Saw}
-use Rattle.weak_turns.specs.declared.revokes.Place.{Place}
+use Rattle.weak_turns.specs.declared.revokes.LockStripe.{LockStripe}
 use Rattle.weak_turns.proofs.Noting.{older, unwanted_on, meets_none, meets_look, meets_then}
 
 set_or_not : (w : ℕ) (b : Bool) → b ≡ is_set w → b ≡ true → w ≢ 0
@@ -56,7 +56,7 @@ module _ (cells : Board) (a : Seat) (since : List ℕ) (budget turn : ℕ) where
           (cases_eq (8 * lock + stripe) number);
     }
 
-    module _ (p : Place) (is : HeldIs r.flow.kept.thread since budget turn number (Some p)) (c : Seat) (wanted : Bool) (tells : Tells b c (want_place cells p.lock p.stripe) wanted) where
+    module _ (p : LockStripe) (is : HeldIs r.flow.kept.thread since budget turn number (Some p)) (c : Seat) (wanted : Bool) (tells : Tells b c (want_place cells p.lock p.stripe) wanted) where
       abbrev note : List Note
       note = record { failed = false; word = want_place cells p.lock p.stripe; value = tells.value } ∷ []
 

@@ -17,7 +17,7 @@ use Rattle.weak_turns.specs.declared.ends.End.{End}
 use Rattle.weak_turns.specs.declared.ends.End.TheVariants as end
 use Rattle.weak_turns.specs.declared.played.Played.{Played}
 use Rattle.weak_turns.specs.declared.played.Played.TheVariants as played
-use Rattle.weak_turns.specs.declared.revokes.Place.{Place}
+use Rattle.weak_turns.specs.declared.revokes.LockStripe.{LockStripe}
 
 -- one look at an object's word, and what a test says of it
 pub record Sees (cells : Board) (old new : Seat) (obj : ObjId) (test : ℕ → Bool) (answer : Bool) : Type 0 where
@@ -39,7 +39,7 @@ pub record IsAlike (r : Stepping) (th : Thread) : Type 0 where
   pub stripes : (lock stripe : ℕ) → holds r.flow.kept.thread.stripes lock stripe ≡ holds th.stripes lock stripe
 
 -- the stripe with this number, if the thread has held it so long
-abbrev pub HeldIs : Thread → List ℕ → (budget turn number : ℕ) → Option Place → Type 0
+abbrev pub HeldIs : Thread → List ℕ → (budget turn number : ℕ) → Option LockStripe → Type 0
 HeldIs th since budget turn number None = (lock stripe : ℕ) → 8 * lock + stripe ≡ number → IsHeldLong th since budget turn lock stripe → ⊥
 HeldIs th since budget turn number (Some p) = (8 * p.lock + p.stripe ≡ number) × IsHeldLong th since budget turn p.lock p.stripe
 
@@ -50,7 +50,7 @@ pub record HasSearched (cells : Board) (old new : Seat) (since : List ℕ) (budg
   pub unwanted : AreUnwanted cells (thread_of old) since budget turn fresh number
 
 -- the revoke that is due, by the words that were met
-pub record FindsRevoke (cells : Board) (old new : Seat) (since : List ℕ) (budget turn : ℕ) (place : Option Place) : Type 0 where
+pub record FindsRevoke (cells : Board) (old new : Seat) (since : List ℕ) (budget turn : ℕ) (place : Option LockStripe) : Type 0 where
   pub fresh : List Note
   pub meets : Meets old new fresh
   pub is : RevokeIs cells (thread_of old) since budget turn fresh place

@@ -27,7 +27,7 @@ use Rattle.weak_turns.specs.declared.ends.End.{End}
 use Rattle.weak_turns.specs.declared.ends.End.TheVariants as end
 use Rattle.weak_turns.specs.declared.played.Played.{Played}
 use Rattle.weak_turns.specs.declared.played.Played.TheVariants as played
-use Rattle.weak_turns.specs.declared.revokes.Place.{Place}
+use Rattle.weak_turns.specs.declared.revokes.LockStripe.{LockStripe}
 
 -- the thread that a seat knows, behind its marks, and its number
 abbrev pub thread_of : Seat → Thread
@@ -124,7 +124,7 @@ pub record IsRevokeDue (cells : Board) (th : Thread) (since : List ℕ) (budget 
 abbrev pub NoRevokeIsDue : Board → Thread → List ℕ → (budget turn : ℕ) → List Note → Type 0
 NoRevokeIsDue cells th since budget turn fresh = IsFull th ⊎ AreUnwanted cells th since budget turn fresh (8 * length cells.code.locks)
 
-abbrev pub RevokeIs : Board → Thread → List ℕ → (budget turn : ℕ) → List Note → Option Place → Type 0
+abbrev pub RevokeIs : Board → Thread → List ℕ → (budget turn : ℕ) → List Note → Option LockStripe → Type 0
 RevokeIs cells th since budget turn fresh None = NoRevokeIsDue cells th since budget turn fresh
 RevokeIs cells th since budget turn fresh (Some p) = IsRevokeDue cells th since budget turn fresh p.lock p.stripe
 

@@ -15,5 +15,5 @@ pub use acts::{load, mark, store};
 pub use carrier::Carrier;
 pub use operations::{give_up, operate, shut, stop};
 pub use played::Played;
-pub use revokes::Place;
+pub use revokes::LockStripe;
 pub use turn::prepare;

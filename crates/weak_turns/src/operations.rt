@@ -12,7 +12,7 @@ ghost use Rattle.thread_step.specs.Steps.{IsReady, next_of};
 ghost use Rattle.weak_turns.specs.Shown.{IsCarrying, IsSettled};
 ghost use Rattle.weak_turns.specs.Turns.{since_after};
 
-use crate::revokes::Place;
+use crate::revokes::LockStripe;
 use shared_cells::{Attempt, Cells, Seat};
 use sync_objects::{ObjId, Op};
 use thread_step::ThreadRun;
@@ -56,7 +56,7 @@ pub fn shut(cells: &Cells, seat: &mut Seat, run: &mut ThreadRun) -> Attempt
 }
 
 /// Attempts to take a stripe from the thread.
-pub fn give_up(cells: &Cells, seat: &mut Seat, run: &mut ThreadRun, place: Place) -> Attempt
+pub fn give_up(cells: &Cells, seat: &mut Seat, run: &mut ThreadRun, place: LockStripe) -> Attempt
     requires runnable { IsRunnable cells.now.code }
     requires carrying { IsCarrying cells.now seat.old run.old }
     requires settled { IsSettled run.old }
@@ -70,7 +70,7 @@ pub fn give_up(cells: &Cells, seat: &mut Seat, run: &mut ThreadRun, place: Place
     ensures came { AttemptIs seat.old seat.new op.Revoke (object.Weak place.lock place.stripe) result }
     ensures entries { length run.new.entries ≤ length run.old.entries + 1 }
 {
-    let Place { lock, stripe } = place;
+    let LockStripe { lock, stripe } = place;
     match cells.attempt(seat, ObjId::Weak { lock, stripe }, Op::Revoke) {
         Attempt::Done { answer, number } => {
             run.give_up(lock, stripe, number);

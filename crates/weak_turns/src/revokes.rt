@@ -14,13 +14,19 @@ const MOST_REVOKES: u32 = 1 << 14;
 
 /// A stripe of a lock.
 #[derive(Clone, Copy)]
-pub struct Place {
+pub struct LockStripe {
     pub lock: u16,
     pub stripe: u8,
 }
 
 /// The stripe with this number, if the thread holds it and took it at least `budget` turns ago.
-fn held_long(run: &ThreadRun, since: &[u64], budget: u32, turn: u64, number: usize) -> Option<Place>
+fn held_long(
+    run: &ThreadRun,
+    since: &[u64],
+    budget: u32,
+    turn: u64,
+    number: usize,
+) -> Option<LockStripe>
     requires number { number < length since.now }
     ensures { HeldIs run.now.flow.kept.thread since.now budget turn number result }
 {
@@ -32,7 +38,7 @@ fn held_long(run: &ThreadRun, since: &[u64], budget: u32, turn: u64, number: usi
     };
     let stripe = (number % 8) as u8;
     if run.holds(lock, stripe) {
-        Some(Place { lock, stripe })
+        Some(LockStripe { lock, stripe })
     } else {
         None
     }
@@ -47,7 +53,7 @@ pub(crate) fn revoke_due(
     since: &[u64],
     budget: u32,
     turn: u64,
-) -> Option<Place>
+) -> Option<LockStripe>
     requires seat { IsSeatOf cells.now seat.old }
     requires stripes { length since.now ≡ 8 * length cells.now.code.locks }
     requires alike { IsAlike run.now (thread_of seat.old) }

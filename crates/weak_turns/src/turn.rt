@@ -10,7 +10,7 @@ use crate::acts::act;
 use crate::ends::{End, end_due};
 use crate::operations::{give_up, shut, stop};
 use crate::played::Played;
-use crate::revokes::{Place, revoke_due};
+use crate::revokes::{LockStripe, revoke_due};
 use shared_cells::{Cells, Seat};
 use std::alloc::AllocError;
 use sync_objects::{ObjId, Op};
@@ -82,7 +82,7 @@ pub(crate) fn step(
         None => match revoke_due(cells, seat, run, since, budget, turn) {
             Some(place) => {
                 let came = give_up(cells, seat, run, place);
-                let Place { lock, stripe } = place;
+                let LockStripe { lock, stripe } = place;
                 Played::Tried {
                     op: Op::Revoke,
                     obj: ObjId::Weak { lock, stripe },

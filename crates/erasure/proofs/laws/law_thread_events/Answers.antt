@@ -3,4 +3,4 @@ use Rattle.erasure.specs.Erased.{IsAnywhere}
 use Rattle.erasure.proofs.laws.law_thread_events.Goals as goal
 
 pub returns : goal.returns
-returns c = λ p setup deeds t run. parts p setup IsAnywhere deeds t run
+returns c = λ p setup transitions t run. parts p setup IsAnywhere transitions t run
