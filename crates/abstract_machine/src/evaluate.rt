@@ -99,6 +99,7 @@ fn shift_right(left: i64, right: i64) -> Result<u64, Trap>
 }
 
 /// What a binary operator gives of two words that hold whole numbers (C99 6.5.5 to 6.5.12).
+#[inline(always)]
 pub fn binary(op: BinaryOp, left: u64, right: u64) -> Result<u64, Trap>
     ensures { result ≡ spec.binary_of op left right }
 {

@@ -34,6 +34,7 @@ fn pointer_binary(sites: &[Site], op: BinaryOp, left: u64, right: u64) -> Result
 }
 
 /// What an operator gives of two words, which are pointers or whole numbers (C99 6.5.5 to 6.5.12).
+#[inline(always)]
 pub fn either_binary(
     are_pointers: bool,
     sites: &[Site],

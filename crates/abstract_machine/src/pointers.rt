@@ -38,8 +38,8 @@ fn is_kind(found: Option<CellKind>, want: CellKind) -> bool
     }
 }
 
-#[tactic(auto, using(crate::proofs::Offsets::within_one))]
 // The rest of an offset by a size, without a division where it is below.
+#[tactic(auto, using(crate::proofs::Offsets::within_one))]
 fn within(offset: u32, size: u32) -> u32
     requires { 0 < size }
     ensures { result ≡ offset % size }

@@ -86,8 +86,8 @@ impl ThreadState {
         self.act_alone(code, setup, pointers, &instr.act)
     }
 
-    #[tactic(auto, using(crate::proofs::StepsAlone::passes_none, crate::proofs::StepsAlone::passes_on))]
     /// Quiet steps that need no room: all up to the first step of another kind, or to a jump back.
+    #[tactic(auto, using(crate::proofs::StepsAlone::passes_none, crate::proofs::StepsAlone::passes_on))]
     pub(crate) fn pass_alone(&mut self, code: &Code, setup: &Setup)
         ensures { Passes code.now setup.now self.old.thread self.new.thread }
     {

@@ -43,9 +43,9 @@ impl<'a> Model for Flow<'a> {
 }
 
 impl<'a> Flow<'a> {
+    /// What comes next: a quiet step, or what the thread does to the words.
     #[tactic(auto, unfolding(flow_code::specs::Next::action_at))]
     #[inline(always)]
-    /// What comes next: a quiet step, or what the thread does to the words.
     pub fn next_action(&self) -> Action
         ensures { result ≡ action_at self.now.code self.now.setup self.now.number self.now.kept.thread }
     {
@@ -69,8 +69,8 @@ impl<'a> Flow<'a> {
         self.state.step(self.alloc, self.code, self.setup, self.thread, due, answer);
     }
 
-    #[tactic(auto, using(crate::proofs::FlowFacts::known_load, crate::proofs::FlowFacts::known_store, crate::proofs::FlowFacts::known_mark))]
     // What is due where this comes next.
+    #[tactic(auto, using(crate::proofs::FlowFacts::known_load, crate::proofs::FlowFacts::known_store, crate::proofs::FlowFacts::known_mark))]
     fn due_of(&self, next: Action) -> Due
         requires { next ≡ action_at self.now.code self.now.setup self.now.number self.now.kept.thread }
         ensures { result ≡ due_of self.now.code self.now.setup self.now.number self.now.kept.thread }
@@ -83,8 +83,8 @@ impl<'a> Flow<'a> {
         }
     }
 
-    #[inline(always)]
     /// One step of which it is known that it comes next, with its answer.
+    #[inline(always)]
     pub fn take_next(&mut self, next: Action, answer: i64)
         requires ready { is_ready self.old.code self.old.kept ≡ true }
         requires next { next ≡ action_at self.old.code self.old.setup self.old.number self.old.kept.thread }
@@ -98,6 +98,7 @@ impl<'a> Flow<'a> {
     }
 
     /// Makes room for one more step.
+    #[inline(always)]
     pub fn reserve(&mut self) -> Result<(), AllocError>
         ensures code { self.new.code ≡ self.old.code }
         ensures setup { self.new.setup ≡ self.old.setup }
@@ -199,9 +200,9 @@ impl<'a> Flow<'a> {
         self.state.pass_alone(self.code, self.setup);
     }
 
-    #[inline(always)]
     /// All quiet steps, and what comes next behind them. After an Err some of the quiet steps are made, and the others are still to
     /// come.
+    #[inline(always)]
     pub fn settle_to_next(&mut self) -> Result<Action, AllocError>
         ensures code { self.new.code ≡ self.old.code }
         ensures setup { self.new.setup ≡ self.old.setup }

@@ -343,6 +343,7 @@ impl ThreadState {
     }
 
     // What comes next by the act alone, where it is an access or a mark that doesn't trap.
+    #[inline(always)]
     fn event_of(&self, code: &Code, act: &Act) -> Option<Action>
         ensures { (s : SetupView) (t : ℕ) → IfSome result (λ a. a ≡ action_of_due (act_due_of code.now s t self.now.thread (Some act.now))) }
     {
@@ -389,8 +390,8 @@ impl ThreadState {
         }
     }
 
-    #[inline(always)]
     // What comes next, where it is an access or a mark of a running thread and nothing stands in its place.
+    #[inline(always)]
     pub(crate) fn next_event(&self, code: &Code, setup: &Setup) -> Option<Action>
         ensures { (t : ℕ) → IfSome result (λ a. a ≡ action_of_due (due_of code.now setup.now t self.now.thread)) }
     {

@@ -123,6 +123,7 @@ impl ThreadState {
     }
 
     // Makes room for one more frame.
+    #[inline(never)]
     fn reserve_frame(&mut self, code: &Code) -> Result<(), AllocError>
         ensures same { self.new.thread ≡ self.old.thread }
         ensures place { OnOk result (self.new.has_place ≡ true) }
@@ -135,6 +136,7 @@ impl ThreadState {
     }
 
     // Makes room for one more stripe and one more open region, with its stripes.
+    #[inline(never)]
     fn reserve_stripes(&mut self, code: &Code) -> Result<(), AllocError>
         ensures same { self.new.thread ≡ self.old.thread }
         ensures place { self.new.has_place ≡ self.old.has_place }
@@ -172,6 +174,7 @@ impl ThreadState {
     }
 
     /// Makes room for one more step.
+    #[inline(always)]
     pub(crate) fn reserve(&mut self, code: &Code) -> Result<(), AllocError>
         ensures same { self.new.thread ≡ self.old.thread }
         ensures ready { OnOk result (is_ready code.now self.new ≡ true) }

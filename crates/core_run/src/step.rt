@@ -341,8 +341,8 @@ impl ThreadState {
         self.count += 1;
     }
 
-    #[inline(always)]
     /// What becomes of the thread by what is due, with its answer.
+    #[inline(always)]
     pub(crate) fn step(
         &mut self,
         alloc: Global,

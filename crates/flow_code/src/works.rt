@@ -27,6 +27,7 @@ pub fn is_pointer(pointers: &[bool], r: u32) -> bool
 
 /// What a work gives in a code with these sites, of a function with these pointers, in a frame with these registers,
 /// where the setup has so many slots: its word, or its trap (C99 6.5.2.3 to 6.5.12).
+#[inline(always)]
 pub fn compute(
     slots: u8,
     sites: &[Site],

@@ -89,6 +89,7 @@ fn put_piece(pieces: &mut Vec<Bytes>, piece: Bytes)
 }
 
 // Keeps an access behind the others, if it meets the formula and isn't one too many.
+#[inline(always)]
 fn keep_access(reads: &mut Vec<Access>, formula: &Formula, access: Access)
     requires { vec_len reads.old < vec_capacity reads.old }
     ensures { reads.new.items ≡ with_read formula.now reads.old.items access }
@@ -173,6 +174,7 @@ impl<'a> ThreadRun<'a> {
     }
 
     // Keeps what comes next, and has ready what it prints.
+    #[inline(always)]
     fn look_ahead(&mut self, next: Action) -> Result<(), AllocError>
         requires { next ≡ next_of self.old }
         ensures flow { self.new.flow ≡ self.old.flow }
@@ -193,6 +195,7 @@ impl<'a> ThreadRun<'a> {
     }
 
     // Makes room for what the interpreter needs, an entry, a piece and an access.
+    #[inline(always)]
     fn make_room(&mut self) -> Result<(), AllocError>
         ensures same { IsSameRun self.old self.new }
         ensures told { told_of self.new ≡ told_of self.old }
@@ -220,8 +223,8 @@ impl<'a> ThreadRun<'a> {
         self.look_ahead(next)
     }
 
-    #[inline(always)]
     /// All quiet steps, and room for the step behind them. After an Err some of the quiet steps may be made.
+    #[inline(always)]
     pub fn prepare(&mut self) -> Result<(), AllocError>
         ensures same { IsSameRun self.old self.new }
         ensures lists { (self.new.entries ≡ self.old.entries) × (self.new.pieces ≡ self.old.pieces) × (self.new.reads ≡ self.old.reads) }
@@ -265,8 +268,8 @@ impl<'a> ThreadRun<'a> {
         put_piece(&mut self.pieces, piece);
     }
 
-    #[inline(always)]
     // Keeps an access of the thread as it stands, if it meets the formula.
+    #[inline(always)]
     fn keep(&mut self, cell: u32, value: u64, store: bool)
         requires { self.old.has_read ≡ true }
         ensures flow { self.new.flow ≡ self.old.flow }
@@ -285,9 +288,9 @@ impl<'a> ThreadRun<'a> {
         keep_access(&mut self.reads, &self.formula, access);
     }
 
-    #[inline(always)]
     /// One step, with its answer: a quiet one, or what comes next. An operation is noted as an entry with its number among
     /// those of its object, a print with what it prints, and an access is kept if it meets the formula.
+    #[inline(always)]
     pub fn take_answer(&mut self, answer: i64, number: u32)
         requires { IsReady self.old }
         ensures same { IsSameRun self.old self.new }

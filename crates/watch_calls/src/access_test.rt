@@ -50,6 +50,7 @@ fn is_met(formula: &Formula, access: &Access) -> bool
 impl AccessTest for Formula {
     ghost stands_for = { λ test f. test ≡ f };
 
+    #[inline(always)]
     fn test(&self, access: &Access) -> bool {
         is_met(self, access)
     }

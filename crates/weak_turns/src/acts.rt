@@ -16,6 +16,7 @@ use sync_objects::{ObjId, Op};
 use thread_step::ThreadRun;
 
 /// The thread's load of a cell.
+#[inline(always)]
 pub fn load(cells: &Cells, seat: &mut Seat, run: &mut ThreadRun, cell: u32)
     requires carrying { IsCarrying cells.now seat.old run.old }
     requires settled { IsSettled run.old }
@@ -31,6 +32,7 @@ pub fn load(cells: &Cells, seat: &mut Seat, run: &mut ThreadRun, cell: u32)
 }
 
 /// The thread's store into a cell.
+#[inline(always)]
 pub fn store(cells: &Cells, seat: &mut Seat, run: &mut ThreadRun, cell: u32, value: u64)
     requires carrying { IsCarrying cells.now seat.old run.old }
     requires settled { IsSettled run.old }
@@ -46,6 +48,7 @@ pub fn store(cells: &Cells, seat: &mut Seat, run: &mut ThreadRun, cell: u32, val
 }
 
 /// The thread's mark, which its seat takes in at its next step.
+#[inline(always)]
 pub fn mark(cells: &Cells, seat: &mut Seat, run: &mut ThreadRun)
     requires carrying { IsCarrying cells.now seat.old run.old }
     requires settled { IsSettled run.old }

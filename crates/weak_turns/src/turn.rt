@@ -16,8 +16,8 @@ use std::alloc::AllocError;
 use sync_objects::{ObjId, Op};
 use thread_step::ThreadRun;
 
-#[inline(always)]
 /// The thread's quiet steps, and room for one step more. After an Err some of them may be made.
+#[inline(always)]
 pub fn prepare(run: &mut ThreadRun) -> Result<(), AllocError>
     requires open { has_ended run.old.flow.kept.thread.phase ≡ false }
     ensures rests { HasRested run.old run.new }
