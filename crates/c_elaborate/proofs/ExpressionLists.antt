@@ -19,7 +19,7 @@ use Rattle.c_elaborate.specs.Here.{Here, site_at}
 use Rattle.c_elaborate.specs.Calls.{called, operand_for}
 use Rattle.c_elaborate.specs.Commas.{with_last}
 use Rattle.c_elaborate.specs.Tails.{one_more, all_behind, behind_first}
-use Rattle.c_elaborate.specs.Expressions.{held, tail_of, arguments, with_tail, part, value_of}
+use Rattle.c_elaborate.specs.Expressions.{held, tail_of, arguments, with_tail, part}
 
 -- the place of an expression, by what the expression is
 placed : (e e1 : Exp) (place : Position) → place ≡ position_of (own_place e) → e ≡ e1 → place ≡ position_of (own_place e1)

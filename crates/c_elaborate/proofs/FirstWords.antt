@@ -1,5 +1,5 @@
 -- The word of a register whose first value stands in braces.
-use Rattle.std.proofs.Common.{◌≡◌, ◌≤◌, ◌<◌, ℕ, Bool, List, [], ◌∷◌, length, get_or, map, Result, IfOk, refl, ap, sym, ◌∙◌, arith}
+use Rattle.std.proofs.Common.{◌≡◌, ◌≤◌, ◌<◌, Bool, List, [], ◌∷◌, length, get_or, map, Result, IfOk, refl, ap, sym, ◌∙◌, arith}
 use Rattle.std.proofs.lemmas.Result.{IfOk-weaker}
 use Rattle.c_tree.specs.declared.declaration.Initial.{Initial}
 use Rattle.c_tree.specs.Tree.{listed_inits}

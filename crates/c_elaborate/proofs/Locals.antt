@@ -57,20 +57,21 @@ definition_behind ns n m last ps parts locals e l b =
     let many : length locals ≡ count_of_parts parts = ap length l ∙ locals_length ns m parts in
     omega arith
 
--- a definition is made of its formals, its locals, its frame and its body
-pub definition_made : (s : Source) (ns : List ℕ) (inside : Known) (n m : ℕ) (name : Name) (result : Option StarredType) (ps : List Param) (parts : Parts)
-    (formals locals : List Local) (frame : Frame) (body : core.Statement) (f : core.Function) →
-    formals ≡ marked ns n (map formal_of ps) → m ≡ n + length ps → locals ≡ marked ns m (parts_locals parts) → frame ≡ frame_of n formals locals result →
-    body ≡ block_of (all_elaborated (here_in s frame (after_params inside ps) (numbered_from frame.first ps)) parts) →
-    f ≡ function_by s.sites name result formals locals body → f ≡ definition s ns inside n name result ps parts
-definition_made s ns inside n m name result ps parts formals locals frame body f fs e ls fr b made =
-    made
-    ∙ ap (λ (z : core.Statement). function_by s.sites name result formals locals z)
-    (b ∙ ap (λ (z : Frame). block_of (all_elaborated (here_in s z (after_params inside ps) (numbered_from z.first ps)) parts)) fr)
-    ∙ ap (λ (z : List Local). definition_by s (after_params inside ps) n name result ps parts z locals) fs
-    ∙ ap (λ (z : List Local). definition_by s (after_params inside ps) n name result ps parts (marked ns n (map formal_of ps)) z)
-    (ls ∙ ap (λ (z : ℕ). marked ns z (parts_locals parts)) e)
+-- a definition of these formals and locals is made of its frame and its body
+pub defined_made : (s : Source) (inside : Known) (n : ℕ) (name : Name) (result : Option StarredType) (ps : List Param) (parts : Parts)
+    (formals locals : List Local) (frame : Frame) (body : core.Statement) →
+    frame ≡ frame_of n formals locals result →
+    body ≡ block_of (all_elaborated (here_in s frame inside (numbered_from frame.first ps)) parts) →
+    function_by s.sites name result formals locals body ≡ definition_by s inside n name result ps parts formals locals
+defined_made s inside n name result ps parts formals locals frame body fr b =
+    ap (λ (z : core.Statement). function_by s.sites name result formals locals z)
+    (b ∙ ap (λ (z : Frame). block_of (all_elaborated (here_in s z inside (numbered_from z.first ps)) parts)) fr)
 
--- what is made of two lists
-pub of_both : {A : Type 0} (f : List Local → List Local → A) (fs gs ls ms : List Local) → fs ≡ gs → ls ≡ ms → f fs ls ≡ f gs ms
-of_both f fs gs ls ms a b = ap (λ (z : List Local). f z ls) a ∙ ap (λ (z : List Local). f gs z) b
+-- a definition, by its formals and locals
+pub definition_of : (s : Source) (ns : List ℕ) (inside : Known) (n : ℕ) (name : Name) (result : Option StarredType) (ps : List Param) (parts : Parts)
+    (formals locals : List Local) →
+    formals ≡ marked ns n (map formal_of ps) → locals ≡ marked ns (n + length ps) (parts_locals parts) →
+    definition_by s (after_params inside ps) n name result ps parts formals locals ≡ definition s ns inside n name result ps parts
+definition_of s ns inside n name result ps parts formals locals fs ls =
+    ap (λ (z : List Local). definition_by s (after_params inside ps) n name result ps parts z locals) fs
+    ∙ ap (λ (z : List Local). definition_by s (after_params inside ps) n name result ps parts (marked ns n (map formal_of ps)) z) ls

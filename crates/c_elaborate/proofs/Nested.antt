@@ -1,8 +1,7 @@
 -- A block and a `for` stand in a scope of their own.
-use Rattle.std.proofs.Common.{◌≡◌, ℕ, ◌+◌, List, ◌++◌, [], map, Option, Result, Ok, Err, OnOk, refl, sym, ap, ◌∙◌}
+use Rattle.std.proofs.Common.{◌≡◌, List, Option, Result, Ok, Err, OnOk, ap, ◌∙◌}
 use Rattle.c_tree.specs.Tree.{Exp, Start, Statement, Parts, for_loop}
 use Rattle.rr_base.specs.declared.position.Position.{Position}
-use Rattle.rr_base.specs.Positions.{position_at}
 use Rattle.c_types.specs.Scopes.{Known, opened}
 use Rattle.c_sites.specs.Addresses.{Numbered, inside}
 use Rattle.c_sites.proofs.Numbering.{behind_none, behind_both}

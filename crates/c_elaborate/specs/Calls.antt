@@ -1,12 +1,12 @@
 -- Calls of the library and of functions of the source (C99 6.5.2.2, 7.19, 7.20.3; POSIX.1-2017 threads). Attributes, formats
 -- and the function with which a thread starts are no operands of a call.
-use Rattle.std.specs.Prelude.{ℕ, ◌==◌, nat_lt, Bool, true, false, not, ◌||◌, if◌then◌else◌, pos, List, [], ◌∷◌, ◌++◌, map, Option, Some, None}
+use Rattle.std.specs.Prelude.{ℕ, ◌==◌, nat_lt, Bool, false, if◌then◌else◌, pos, List, [], ◌∷◌, ◌++◌, map, Option, Some, None}
 use Rattle.c_lexer.specs.Bytes.{Text}
 use Rattle.abstract_machine.specs.declared.library_call.LibraryCall.{LibraryCall}
 use Rattle.abstract_machine.specs.declared.library_call.LibraryCall.TheVariants as call
 use Rattle.abstract_machine.specs.declared.library_call.Piece.{Piece}
 use Rattle.abstract_machine.specs.declared.library_call.Piece.TheVariants as piece
-use Rattle.c_tree.specs.Tree.{Exp, Exps, no_exp, and_exp, named, text}
+use Rattle.c_tree.specs.Tree.{Exp, Exps, and_exp, text}
 use Rattle.c_types.specs.declared.format.Inside.{Inside}
 use Rattle.c_types.specs.declared.format.Inside.TheVariants as inside
 use Rattle.c_types.specs.declared.library.StarredType.{StarredType}
@@ -14,9 +14,7 @@ use Rattle.c_types.specs.declared.library.Wanted.{Wanted}
 use Rattle.c_types.specs.declared.library.Wanted.TheVariants as wants
 use Rattle.c_types.specs.declared.library.LibraryName.{LibraryName}
 use Rattle.c_types.specs.declared.library.LibraryName.TheVariants as library
-use Rattle.c_types.specs.declared.names.Signature.{Signature}
 use Rattle.c_types.specs.Scopes.{Known, Meaning, variable, function_of, function_numbered}
-use Rattle.c_types.specs.Format.{is_decimal}
 use Rattle.c_sites.specs.Roots.{third_name}
 use Rattle.rr_base.specs.declared.position.Position.{Position}
 use Rattle.c_core.specs.Core as core

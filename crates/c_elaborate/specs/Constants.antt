@@ -1,13 +1,13 @@
 -- What an expression's operands say of its value, where it is a constant one (C99 6.6).
-use Rattle.std.specs.Prelude.{Bool, false, ◌&&◌, if◌then◌else◌, pos, Ok}
+use Rattle.std.specs.Prelude.{false, ◌&&◌, pos, Ok}
 use Rattle.c_tree.specs.declared.ctype.CType.{CType}
 use Rattle.c_tree.specs.declared.expr.BinaryOp.{BinaryOp}
 use Rattle.c_tree.specs.declared.expr.PrefixOp.{PrefixOp}
 use Rattle.c_tree.specs.Tree.{Exp}
-use Rattle.c_types.specs.Numbers.{Computed, prefixed, is_zero}
+use Rattle.c_types.specs.Numbers.{prefixed}
 use Rattle.c_types.specs.Constants.{is_constant, is_int, is_of_numbers, and_then, binary_value}
 use Rattle.c_types.specs.Scopes.{Known}
-use Rattle.c_rules.specs.Sizes.{value_here}
+use Rattle.c_rules.specs.Sizes.{chosen_value, value_here}
 use Rattle.c_elaborate.specs.declared.constant.Constant.{Constant}
 
 -- whether an expression has the form of a constant one, and the value that counts where it has
@@ -16,10 +16,6 @@ constant_of known e = record { is_formed = is_constant e; value = value_here kno
 
 abbrev pub no_constant : Constant
 no_constant = record { is_formed = false; value = Ok (pos 0) }
-
--- of the last two values the one that the first chooses
-abbrev pub chosen_value : Computed → Computed → Computed → Computed
-chosen_value a b c = and_then a (λ n. if is_zero n then c else b)
 
 abbrev pub choice_constant : Constant → Constant → Constant → Constant
 choice_constant a b c = record { is_formed = a.is_formed && b.is_formed && c.is_formed; value = chosen_value a.value b.value c.value }

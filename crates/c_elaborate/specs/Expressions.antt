@@ -1,5 +1,5 @@
 -- The core tree of an expression (C99 6.5). One that is constant, and whose computing doesn't trap, is its value.
-use Rattle.std.specs.Prelude.{ℕ, Bool, true, false, if◌then◌else◌, ℤ, pos, List, [], ◌∷◌, ◌++◌, Option, Some, None, Result, Ok, Err}
+use Rattle.std.specs.Prelude.{Bool, true, false, if◌then◌else◌, pos, List, [], ◌∷◌, ◌++◌, Option, Some, None, Ok, Err}
 use Rattle.c_lexer.specs.Bytes.{Text}
 use Rattle.abstract_machine.specs.declared.operator.BinaryOp.TheVariants as flow
 use Rattle.c_tree.specs.Tree.{Exp, comma, assign, conditional, binary, prefix, sizeof_exp, sizeof_type, cast, index, member, arrow, post_increment, post_decrement, named, call, number, letter, text, null, paren, Exps, no_exp, and_exp}
@@ -7,19 +7,18 @@ use Rattle.rr_base.specs.declared.position.Position.{Position}
 use Rattle.c_types.specs.declared.types.ObjectType.{ObjectType}
 use Rattle.c_types.specs.declared.library.Wanted.{Wanted}
 use Rattle.c_types.specs.Numbers.{Computed, is_zero}
-use Rattle.c_types.specs.Constants.{constant_named, is_constant}
+use Rattle.c_types.specs.Constants.{is_constant}
 use Rattle.c_rules.specs.Sizes.{value_here}
 use Rattle.c_types.specs.Scopes.{Known, Meaning, variable, function_of, seen, type_named}
-use Rattle.c_types.specs.Operands.{Standing, operand_of, type_operand}
+use Rattle.c_types.specs.Operands.{operand_of, type_operand}
 use Rattle.c_types.specs.Library.{library_named}
 use Rattle.c_types.specs.Standing.{Target, no_target, assigned_target, cast_target, struct_of, pointed_struct, standing, format_of}
 use Rattle.c_rules.specs.Faults.{wants_of}
-use Rattle.rr_base.specs.declared.position.Position.{Position}
 use Rattle.c_core.specs.Core as core
 use Rattle.c_elaborate.specs.declared.home.Home.{Home}
 use Rattle.c_elaborate.specs.declared.home.Home.TheVariants as home
 use Rattle.c_elaborate.specs.Held.{position_of, Held, held_register, held_cells, held_zero, held_value, Part, part_by, is_pointing, value_by, value_in, wanted_in}
-use Rattle.c_elaborate.specs.Here.{Source, Here, site_at, home_of, global_named, offset_in}
+use Rattle.c_elaborate.specs.Here.{Here, site_at, home_of, global_named, offset_in}
 use Rattle.c_elaborate.specs.Operators.{binary_in, conditional_in, index_in, stepped_in, assigned_in, prefix_in, cast_in, member_in, arrow_in}
 use Rattle.c_elaborate.specs.Calls.{operand_for, called}
 use Rattle.c_elaborate.specs.Commas.{with_last, joined}

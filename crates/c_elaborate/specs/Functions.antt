@@ -1,5 +1,5 @@
 -- Functions (C99 6.9.1): where each formal and local is kept, and the core tree of a definition.
-use Rattle.std.specs.Prelude.{ℕ, ◌+◌, nat_lt, Bool, true, false, not, ◌&&◌, ◌||◌, if◌then◌else◌, List, [], ◌∷◌, ◌++◌, length, map, Option, Some, None}
+use Rattle.std.specs.Prelude.{ℕ, ◌+◌, nat_lt, Bool, false, not, ◌||◌, if◌then◌else◌, List, [], ◌∷◌, ◌++◌, length, map, Option, Some, None}
 use Rattle.rr_base.specs.declared.layout.Site.{Site}
 use Rattle.c_tree.specs.declared.name.Name.{Name}
 use Rattle.c_tree.specs.declared.ctype.Specifier.{Specifier}
@@ -13,12 +13,10 @@ use Rattle.c_programs.specs.Declarators.{after_params}
 use Rattle.c_programs.specs.Statements.{declared_by}
 use Rattle.c_sites.specs.Spots.{is_kept}
 use Rattle.c_sites.specs.Addresses.{is_among, numbered_from}
-use Rattle.rr_base.specs.declared.position.Position.{Position}
 use Rattle.c_core.specs.Core as core
 use Rattle.c_elaborate.specs.declared.home.Home.{Home}
 use Rattle.c_elaborate.specs.declared.home.Home.TheVariants as home
 use Rattle.c_elaborate.specs.declared.local.Local.{Local}
-use Rattle.c_elaborate.specs.Held.{position_of}
 use Rattle.c_elaborate.specs.Here.{Source, Frame, here_in, site_at}
 use Rattle.c_elaborate.specs.Calls.{gives_pointer}
 use Rattle.c_elaborate.specs.Statements.{block_of, all_elaborated}

@@ -9,7 +9,6 @@ use Rattle.c_types.specs.declared.types.ObjectType.{ObjectType}
 use Rattle.c_types.specs.Scopes.{Known, cells_of_some, cells_of_type, member_numbered, members_of}
 use Rattle.c_sites.specs.Addresses.{Numbered, number_seen}
 use Rattle.c_types.specs.Operands.{Operand, pointing}
-use Rattle.rr_base.specs.declared.position.Position.{Position}
 use Rattle.c_elaborate.specs.declared.home.Home.{Home}
 
 pub record Source : Type 0 where

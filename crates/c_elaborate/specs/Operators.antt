@@ -1,6 +1,6 @@
 -- What C's operators make of their operands (C99 6.5). An operator is judged by what its operands are; which cases there
 -- are is decided by the types.
-use Rattle.std.specs.Prelude.{ℕ, Bool, true, false, not, ◌&&◌, if◌then◌else◌, pos, Option, Ok, Err}
+use Rattle.std.specs.Prelude.{ℕ, Bool, true, false, not, ◌&&◌, if◌then◌else◌, pos}
 use Rattle.abstract_machine.specs.declared.operator.BinaryOp.{BinaryOp as FlowOp}
 use Rattle.abstract_machine.specs.declared.operator.BinaryOp.TheVariants as flow
 use Rattle.c_tree.specs.declared.expr.BinaryOp.{BinaryOp}
@@ -9,11 +9,8 @@ use Rattle.c_tree.specs.declared.expr.PrefixOp.{PrefixOp}
 use Rattle.c_tree.specs.declared.expr.PrefixOp.TheVariants as prefix_op
 use Rattle.c_tree.specs.declared.expr.AssignOp.{AssignOp}
 use Rattle.c_tree.specs.declared.expr.AssignOp.TheVariants as assign_op
-use Rattle.c_types.specs.declared.types.ObjectType.{ObjectType}
-use Rattle.c_types.specs.Operands.{Operand, pointing, null_operand, is_whole, are_whole, type_operand}
-use Rattle.c_types.specs.Numbers.{Computed}
+use Rattle.c_types.specs.Operands.{Operand, pointing, null_operand, is_whole, are_whole}
 use Rattle.rr_base.specs.declared.position.Position.{Position}
-use Rattle.c_core.specs.declared.value.UnaryOp.{UnaryOp}
 use Rattle.c_core.specs.declared.value.UnaryOp.TheVariants as unary
 use Rattle.c_core.specs.declared.value.Change.{Change}
 use Rattle.c_core.specs.declared.value.Change.TheVariants as change

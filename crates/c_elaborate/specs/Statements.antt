@@ -1,6 +1,6 @@
 -- The core tree of statements (C99 6.8). A declaration in a block is the statements that give its objects their first
 -- values.
-use Rattle.std.specs.Prelude.{ℕ, false, List, [], ◌∷◌, ◌++◌, map, Option, Some, None}
+use Rattle.std.specs.Prelude.{false, List, [], ◌∷◌, ◌++◌, Option, Some, None}
 use Rattle.rr_base.specs.declared.position.Position.{Position}
 use Rattle.c_tree.specs.declared.ctype.Specifier.{Specifier}
 use Rattle.c_tree.specs.Tree.{Exp, Declared, Object, plain, initialised, Declares, declares, Start, start_declares, start_computes, Statement, block, compute, break_at, continue_at, gives, branch, branch_else, while_loop, do_loop, for_loop, Parts, no_part, and_declares, and_does}
@@ -89,8 +89,8 @@ abbrev mutual
   elaborated h (break_at at) = core.break_at (position_of at)
   elaborated h (continue_at at) = core.continue_at (position_of at)
   elaborated h (gives e at) = core.gives (given h e) (position_of at)
-  elaborated h (branch e a at) = core.branch (value_of h e) (elaborated h a) (block_of []) (position_of at)
-  elaborated h (branch_else e a b at) = core.branch (value_of h e) (elaborated h a) (elaborated (here_after h a) b) (position_of at)
+  elaborated h (branch e a at) = core.branch (value_of h e) (elaborated h a) (position_of at)
+  elaborated h (branch_else e a b at) = core.branch_else (value_of h e) (elaborated h a) (elaborated (here_after h a) b) (position_of at)
   elaborated h (while_loop e a at) = core.while_loop (value_of h e) (elaborated h a) (position_of at)
   elaborated h (do_loop a e at) = core.do_loop (elaborated h a) (value_of (here_after h a) e) (position_of at)
   elaborated h (for_loop start test next a at) =

@@ -1,15 +1,14 @@
 //! The value of a constant expression, by those of its operands (C99 6.6).
 ghost use Rattle.std.specs.Prelude.{◌≡◌};
 ghost use Rattle.c_tree.specs.View.{exp_of};
-ghost use Rattle.c_types.specs.Constants.{binary_value, and_then};
-ghost use Rattle.c_types.specs.Numbers.{prefixed};
 ghost use Rattle.c_programs.specs.Table.{known_of};
 ghost use Rattle.c_elaborate.specs.Constants as spec;
 
 use c_programs::Table;
-use c_rules::{is_constant, is_int, is_of_numbers, value_of};
+use c_rules::{
+    chosen_value, is_constant, is_int, is_of_numbers, operation_value, prefix_value, value_of,
+};
 use c_tree::{BinaryOp, CType, Expr, PrefixOp};
-use c_types::{binary_of, prefix_of};
 use rr_base::Trap;
 
 /// Whether an expression has the form of a constant one, and the value that counts where it has, or the trap that computing
@@ -18,40 +17,6 @@ use rr_base::Trap;
 pub struct Constant {
     pub is_formed: bool,
     pub value: Result<i64, Trap>,
-}
-
-/// What `?:` gives.
-fn chosen_value(
-    test: Result<i64, Trap>,
-    yes: Result<i64, Trap>,
-    no: Result<i64, Trap>,
-) -> Result<i64, Trap>
-    ensures { result ≡ spec.chosen_value test yes no }
-{
-    if test? == 0 { no } else { yes }
-}
-
-/// What an operator with two operands gives.
-fn operation_value(
-    op: BinaryOp,
-    left: Result<i64, Trap>,
-    right: Result<i64, Trap>,
-) -> Result<i64, Trap>
-    ensures { result ≡ binary_value op left right }
-{
-    let a = left?;
-    match op {
-        BinaryOp::LogicalOr if a != 0 => Ok(1),
-        BinaryOp::LogicalAnd if a == 0 => Ok(0),
-        _ => binary_of(op, a, right?),
-    }
-}
-
-/// What an operator before its operand gives.
-fn prefix_value(op: PrefixOp, operand: Result<i64, Trap>) -> Result<i64, Trap>
-    ensures { result ≡ and_then operand (prefixed op) }
-{
-    prefix_of(op, operand?)
 }
 
 impl Constant {

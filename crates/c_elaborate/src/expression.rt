@@ -22,12 +22,12 @@ ghost use Rattle.c_elaborate.specs.Views.{here_of, maybe_word, part_of};
 
 use crate::calls::push_argument;
 use crate::commas::{joined, push_last};
-use crate::held::{Held, Part};
+use crate::held::Part;
 use crate::here::Here;
-use crate::make;
+use crate::leaves::{letter_part, name_part, null_part, number_part, size_part, text_part};
 use crate::parts::{
-    assignment, call_held, casting, changing, choice, element, folded_leaf, leaf, literal,
-    member_in_part, member_through, named, one_more, operation, prefixing, sequence, stepping,
+    assignment, call_held, casting, changing, choice, element, member_in_part, member_through,
+    one_more, operation, prefixing, sequence, stepping,
 };
 use abstract_machine::BinaryOp as FlowOp;
 use c_core::Value;
@@ -119,25 +119,13 @@ fn part<'h>(
             arguments.as_slice(),
             at,
         ),
-        Expr::Name { name, .. } => {
-            let held = named(alloc, here, name.as_slice(), at)?;
-            folded_leaf(alloc, here, e, at, held)
-        }
-        Expr::SizeofExpr { .. } => folded_leaf(alloc, here, e, at, Held::Zero { at }),
-        Expr::SizeofType { .. } => folded_leaf(alloc, here, e, at, Held::Zero { at }),
-        Expr::Number { value, .. } => {
-            let held = literal(alloc, *value, at)?;
-            Ok(leaf(here, e, held))
-        }
-        Expr::Letter { value, .. } => {
-            let value = make::number(alloc, i64::from(*value), at)?;
-            Ok(leaf(here, e, Held::Value(value)))
-        }
-        Expr::Text { .. } => Ok(leaf(here, e, Held::Zero { at })),
-        Expr::Null { .. } => {
-            let null = make::null(alloc, at)?;
-            Ok(leaf(here, e, Held::Value(null)))
-        }
+        Expr::Name { name, .. } => name_part(alloc, here, e, name.as_slice(), at),
+        Expr::SizeofExpr { .. } => size_part(alloc, here, e, at),
+        Expr::SizeofType { .. } => size_part(alloc, here, e, at),
+        Expr::Number { value, .. } => number_part(alloc, here, e, *value, at),
+        Expr::Letter { value, .. } => letter_part(alloc, here, e, *value, at),
+        Expr::Text { .. } => Ok(text_part(here, e, at)),
+        Expr::Null { .. } => null_part(alloc, here, e, at),
     }
 }
 

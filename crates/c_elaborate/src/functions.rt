@@ -6,7 +6,7 @@ ghost use Rattle.c_sites.specs.Addresses as numbering;
 ghost use Rattle.c_sites.specs.Addresses.{count_of_parts};
 ghost use Rattle.c_programs.specs.Declarators.{after_params};
 ghost use Rattle.c_sites.specs.NumberTables.{numbered_of};
-ghost use Rattle.c_programs.specs.Statements.{after_parts, declared_by};
+ghost use Rattle.c_programs.specs.Statements.{after_parts};
 ghost use Rattle.c_programs.specs.Table.{known_of};
 ghost use Rattle.c_core.specs.View.{arrival_of, function_of, stmt_of};
 ghost use Rattle.c_elaborate.specs.Here.{here_in};
@@ -416,6 +416,58 @@ fn behind(number: usize, many: usize) -> Result<usize, AllocError>
     }
 }
 
+/// The formals and locals of a definition, and the number behind theirs.
+#[derive(Drop)]
+struct Kept {
+    formals: List<Local>,
+    locals: List<Local>,
+    last: usize,
+}
+
+/// Those whose numbers begin with the first.
+fn kept_in(
+    alloc: Global,
+    marks: &Marks,
+    first: usize,
+    params: &[Param],
+    parts: &[Part],
+) -> Result<Kept, AllocError>
+    ensures formals { IfOk result (λ k. k.formals ≡ spec.marked marks.now.numbers first (map spec.formal_of params.now)) }
+    ensures locals { IfOk result (λ k. k.locals ≡ spec.marked marks.now.numbers (first + length params.now) (spec.parts_locals (listed_parts (map tree.part_of parts.now)))) }
+    ensures last { IfOk result (λ k. k.last ≡ first + (length params.now + count_of_parts (listed_parts (map tree.part_of parts.now)))) }
+{
+    let middle = behind(first, params.len())?;
+    let formals = formals_of(alloc, marks, first, params)?;
+    let locals = locals_of(alloc, marks, middle, parts)?;
+    let last = behind(middle, locals.len())?;
+    Ok(Kept {
+        formals,
+        locals,
+        last,
+    })
+}
+
+/// A definition of these formals and locals. The table's innermost scope is its own.
+fn defined<'a>(
+    alloc: Global,
+    source: &Source<'a>,
+    table: &mut Table<'a>,
+    name: &Name,
+    gives: Option<StarredType>,
+    params: &'a [Param],
+    parts: &'a [Part],
+    first: usize,
+    formals: &[Local],
+    locals: &[Local],
+) -> Result<CoreFunction, AllocError>
+    ensures known { OnOk result (known_of table.new ≡ after_parts (after_params (known_of table.old) params.now) (listed_parts (map tree.part_of parts.now))) }
+    ensures function { IfOk result (λ f. function_of f ≡ spec.definition_by (source_in source.now) (after_params (known_of table.old) params.now) first name.now gives params.now (listed_parts (map tree.part_of parts.now)) formals.now locals.now) }
+{
+    let frame = frame_of(alloc, first, formals, locals, gives)?;
+    let body = body_of(alloc, source, &frame, table, params, parts)?;
+    function_by(alloc, source, name, gives, formals, locals, body)
+}
+
 /// A definition, whose formals and locals have the next numbers. The table's innermost scope is its own.
 pub fn definition<'a>(
     alloc: Global,
@@ -433,21 +485,19 @@ pub fn definition<'a>(
     ensures function { IfOk result (λ f. function_of f ≡ spec.definition (source_in source.now) marks.now.numbers (known_of table.old) next.old name.now gives params.now (listed_parts (map tree.part_of parts.now))) }
 {
     let first = *next;
-    let formals = formals_of(alloc, marks, first, params)?;
-    let behind_formals = behind(first, params.len())?;
-    let locals = locals_of(alloc, marks, behind_formals, parts)?;
-    let behind_locals = behind(behind_formals, locals.len())?;
-    let frame = frame_of(alloc, first, formals.as_slice(), locals.as_slice(), gives)?;
-    let body = body_of(alloc, source, &frame, table, params, parts)?;
-    let function = function_by(
+    let kept = kept_in(alloc, marks, first, params, parts)?;
+    let function = defined(
         alloc,
         source,
+        table,
         name,
         gives,
-        formals.as_slice(),
-        locals.as_slice(),
-        body,
+        params,
+        parts,
+        first,
+        kept.formals.as_slice(),
+        kept.locals.as_slice(),
     )?;
-    *next = behind_locals;
+    *next = kept.last;
     Ok(function)
 }

@@ -13,6 +13,7 @@ mod here;
 mod home;
 mod initials;
 mod laws;
+mod leaves;
 mod local;
 mod make;
 mod operators;

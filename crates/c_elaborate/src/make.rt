@@ -433,18 +433,31 @@ pub fn gives(
     placed(alloc, Statement::Return { value, at })
 }
 
-/// An `if`.
+/// An `if` without `else`.
 pub fn branch(
+    alloc: Global,
+    test: Box<Value>,
+    yes: Box<Statement>,
+    at: Position,
+) -> Result<Box<Statement>, AllocError>
+    ensures { IfOk result (λ s. stmt_of s.value ≡ core.branch (exp_of test.value) (stmt_of yes.value) at) }
+{
+    let test = Box::into_inner(test);
+    placed(alloc, Statement::If { test, yes, at })
+}
+
+/// An `if` with `else`.
+pub fn branch_else(
     alloc: Global,
     test: Box<Value>,
     yes: Box<Statement>,
     no: Box<Statement>,
     at: Position,
 ) -> Result<Box<Statement>, AllocError>
-    ensures { IfOk result (λ s. stmt_of s.value ≡ core.branch (exp_of test.value) (stmt_of yes.value) (stmt_of no.value) at) }
+    ensures { IfOk result (λ s. stmt_of s.value ≡ core.branch_else (exp_of test.value) (stmt_of yes.value) (stmt_of no.value) at) }
 {
     let test = Box::into_inner(test);
-    placed(alloc, Statement::If { test, yes, no, at })
+    placed(alloc, Statement::IfElse { test, yes, no, at })
 }
 
 pub fn while_loop(

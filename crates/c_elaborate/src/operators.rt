@@ -1,5 +1,5 @@
 //! What C's operators make of their operands (C99 6.5).
-ghost use Rattle.std.specs.Prelude.{◌≡◌, true, false, IfOk};
+ghost use Rattle.std.specs.Prelude.{◌≡◌, false, IfOk};
 ghost use Rattle.c_types.specs.Shown.{shown_operand};
 ghost use Rattle.c_core.specs.View.{exp_of};
 ghost use Rattle.c_core.specs.Core as core;

@@ -1,24 +1,21 @@
 //! What stands for an expression whose operands are made, with what it is and the value that it has where it is constant (C99
 //! 6.5, 6.6).
-ghost use Rattle.std.specs.Prelude.{◌≡◌, true, if◌then◌else◌, IfOk, map};
+ghost use Rattle.std.specs.Prelude.{◌≡◌, true, IfOk, map};
 ghost use Rattle.std.specs.Option.{option_map};
 ghost use Rattle.c_tree.specs.Tree.{listed};
 ghost use Rattle.rr_base.specs.Positions.{position_at};
 ghost use Rattle.c_tree.specs.View as tree;
 ghost use Rattle.c_types.specs.Shown.{shown_maybe, shown_standing};
 ghost use Rattle.c_types.specs.Library as names;
-ghost use Rattle.c_types.specs.Numbers.{is_zero};
 ghost use Rattle.c_types.specs.Scopes as scopes;
 ghost use Rattle.c_types.specs.Standing as standings;
 ghost use Rattle.c_types.specs.Operands.{as_value, binary_standing};
-ghost use Rattle.c_types.specs.Standing.{no_target, standing};
-ghost use Rattle.c_core.specs.Core as core;
 ghost use Rattle.c_core.specs.View.{exp_of};
-ghost use Rattle.c_elaborate.specs.Held.{held_value, held_zero, operand_in, part_by, position_of, value_in};
+ghost use Rattle.c_elaborate.specs.Held.{held_value, operand_in, part_by, position_of, value_in};
 ghost use Rattle.c_elaborate.specs.Calls as calls;
-ghost use Rattle.c_elaborate.specs.Constants.{constant_of, no_constant, choice_constant, operation_constant, prefix_constant, cast_constant};
+ghost use Rattle.c_elaborate.specs.Constants.{no_constant, choice_constant, operation_constant, prefix_constant, cast_constant};
 ghost use Rattle.c_elaborate.specs.Here as heres;
-ghost use Rattle.c_elaborate.specs.Here.{home_of, offset_in};
+ghost use Rattle.c_elaborate.specs.Here.{offset_in};
 ghost use Rattle.c_elaborate.specs.Operators.{arrow_in, assigned_in, binary_in, cast_in, conditional_in, index_in, member_in, prefix_in, stepped_in};
 ghost use Rattle.c_elaborate.specs.Expressions as spec;
 ghost use Rattle.c_elaborate.specs.Tails as tails;
@@ -29,30 +26,21 @@ use crate::constant::Constant;
 use crate::expression::position;
 use crate::held::{Held, Part, is_pointing};
 use crate::here::{Here, site_at};
-use crate::home::Home;
 use crate::make;
 use crate::operators::{
     arrow, assigned, binary, cast, conditional, index, member, prefix, stepped,
 };
 use abstract_machine::BinaryOp as FlowOp;
 use c_core::Value;
-use c_rules::{behind, judge, let_go};
+use c_rules::{behind, let_go};
 use c_tree::{AssignOp, BinaryOp, CType, Expr, Name, PrefixOp};
 use c_types::{
-    Meaning, Names, Operand, Standing, Target, TypeRef, assign_standing, binary_standing,
-    cast_standing, conditional_standing, index_standing, library_named, member_standing,
-    pointed_struct, prefix_standing, struct_of, type_named,
+    Names, Operand, Standing, TypeRef, assign_standing, binary_standing, cast_standing,
+    conditional_standing, index_standing, library_named, member_standing, pointed_struct,
+    prefix_standing, struct_of, type_named,
 };
 use rr_base::{List, Position};
 use std::alloc::{AllocError, Global};
-
-/// What an expression is.
-fn standing_of<'h>(here: Here<'h, '_>, e: &Expr) -> Standing<'h>
-    ensures { shown_standing result ≡ standing (here_of here.entry).known no_target (tree.exp_of e.now) }
-{
-    let mut unnoted = None;
-    judge(here.table, Target::No, e, &mut unnoted)
-}
 
 /// What is constant is its value.
 fn folded(alloc: Global, constant: Constant, at: Position, held: Held) -> Result<Held, AllocError>
@@ -70,20 +58,8 @@ fn folded(alloc: Global, constant: Constant, at: Position, held: Held) -> Result
     }
 }
 
-/// An expression none of whose operands is made, with what it is.
-pub fn leaf<'h>(here: Here<'h, '_>, e: &Expr, held: Held) -> Part<'h>
-    ensures part { part_of result ≡ part_by (standing (here_of here.entry).known no_target (tree.exp_of e.now)) (held_of held) }
-    ensures constant { result.constant ≡ constant_of (here_of here.entry).known (tree.exp_of e.now) }
-{
-    Part {
-        standing: standing_of(here, e),
-        held,
-        constant: Constant::of(here.table, e),
-    }
-}
-
 /// An expression that is its value where it is constant.
-fn computed<'h>(
+pub fn computed<'h>(
     alloc: Global,
     standing: Standing<'h>,
     constant: Constant,
@@ -101,21 +77,6 @@ fn computed<'h>(
     })
 }
 
-/// The same as a `leaf`, of one that is its value where it is constant.
-pub fn folded_leaf<'h>(
-    alloc: Global,
-    here: Here<'h, '_>,
-    e: &Expr,
-    at: Position,
-    held: Held,
-) -> Result<Part<'h>, AllocError>
-    ensures part { IfOk result (λ p. part_of p ≡ part_by (standing (here_of here.entry).known no_target (tree.exp_of e.now)) (spec.folded (here_of here.entry).known (tree.exp_of e.now) at (held_of held))) }
-    ensures constant { IfOk result (λ p. p.constant ≡ constant_of (here_of here.entry).known (tree.exp_of e.now)) }
-{
-    let constant = Constant::of(here.table, e);
-    computed(alloc, standing_of(here, e), constant, at, held)
-}
-
 /// An expression that is no constant.
 pub fn changing<'h>(standing: Standing<'h>, held: Held) -> Part<'h>
     ensures part { part_of result ≡ part_by (shown_standing standing.entry) (held_of held) }
@@ -125,41 +86,6 @@ pub fn changing<'h>(standing: Standing<'h>, held: Held) -> Part<'h>
         standing,
         held,
         constant: Constant::none(),
-    }
-}
-
-fn held_in(alloc: Global, home: Home, at: Position) -> Result<Held, AllocError>
-    ensures { IfOk result (λ h. held_of h ≡ spec.held_in home at) }
-{
-    match home {
-        Home::Register(number) => Ok(Held::Register { number, at }),
-        Home::Object(number) => {
-            let through = make::object(alloc, number, at)?;
-            Ok(Held::Cells { through, at })
-        }
-    }
-}
-
-/// A variable: a formal or local, or a global.
-fn variable(alloc: Global, here: Here, name: &[u8], at: Position) -> Result<Held, AllocError>
-    ensures { IfOk result (λ h. held_of h ≡ spec.variable_held (here_of here.entry) name.now (home_of (here_of here.entry) name.now) at) }
-{
-    match here.home_of(name) {
-        Some(home) => held_in(alloc, home, at),
-        None => {
-            let through = make::global(alloc, here.source.global_named(name), at)?;
-            Ok(Held::Cells { through, at })
-        }
-    }
-}
-
-/// What stands for a name.
-pub fn named(alloc: Global, here: Here, name: &[u8], at: Position) -> Result<Held, AllocError>
-    ensures { IfOk result (λ h. held_of h ≡ spec.named_held (here_of here.entry) name.now (scopes.seen (here_of here.entry).known name.now) at) }
-{
-    match here.table.seen(name) {
-        Some(Meaning::Variable(_)) => variable(alloc, here, name, at),
-        Some(Meaning::Function(_)) | None => Ok(Held::Zero { at }),
     }
 }
 
@@ -396,16 +322,4 @@ pub fn call_held(
         position(at.line, at.column),
     )?;
     Ok(Held::Value(value))
-}
-
-/// A literal. That of 0 is a null pointer where a pointer is wanted.
-pub fn literal(alloc: Global, value: i64, at: Position) -> Result<Held, AllocError>
-    ensures { IfOk result (λ h. held_of h ≡ (if is_zero value then held_zero at else held_value (core.number value at))) }
-{
-    if value == 0 {
-        Ok(Held::Zero { at })
-    } else {
-        let value = make::number(alloc, value, at)?;
-        Ok(Held::Value(value))
-    }
 }

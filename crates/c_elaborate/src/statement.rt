@@ -1,6 +1,6 @@
 //! The core tree of statements (C99 6.8). A declaration in a block is the statements that give its objects their first
 //! values.
-ghost use Rattle.std.specs.Prelude.{◌≡◌, ◌++◌, ◌∷◌, [], false, IfOk, OnOk, map};
+ghost use Rattle.std.specs.Prelude.{◌≡◌, ◌++◌, [], false, IfOk, OnOk, map};
 ghost use Rattle.c_tree.specs.Tree.{initialised, listed_parts};
 ghost use Rattle.rr_base.specs.Positions.{position_at};
 ghost use Rattle.c_tree.specs.View as tree;
@@ -479,13 +479,10 @@ fn statement<'a>(
             let test = value_at(alloc, source, frame, &*table, &*numbers, test)?;
             let yes = statement(alloc, source, frame, table, numbers, yes)?;
             match no {
-                None => {
-                    let no = nothing(alloc)?;
-                    make::branch(alloc, test, yes, no, position(at.0, at.1))
-                }
+                None => make::branch(alloc, test, yes, position(at.0, at.1)),
                 Some(no) => {
                     let no = statement(alloc, source, frame, table, numbers, no)?;
-                    make::branch(alloc, test, yes, no, position(at.0, at.1))
+                    make::branch_else(alloc, test, yes, no, position(at.0, at.1))
                 }
             }
         }

@@ -191,8 +191,26 @@ fn source_of<'a>(
     Ok((source, global_kinds))
 }
 
-/// The functions, the start words and the kinds of the global cells of a source.
+/// The functions, the start words and the kinds of the global cells of a source, of which the marks and the sites are known.
 #[tactic(auto, unfolding(crate::specs::Whole::core_of_source))]
+fn made_of(
+    alloc: Global,
+    marks: &Marks,
+    program: &Program,
+    sites: &[Site],
+) -> Result<(List<CoreFunction>, List<u64>, List<CellKind>), AllocError>
+    requires marks { marks.now.numbers ≡ program_addressed (program_of program.now) }
+    requires sites { sites.now ≡ program_sites (program_of program.now) }
+    ensures functions { IfOk result (λ r. map function_of r.0 ≡ (spec.core_of_source (program_of program.now)).functions) }
+    ensures words { IfOk result (λ r. r.1 ≡ (spec.core_of_source (program_of program.now)).globals) }
+    ensures kinds { IfOk result (λ r. r.2 ≡ (spec.core_of_source (program_of program.now)).global_kinds) }
+{
+    let (source, kinds) = source_of(alloc, marks, program, sites)?;
+    let (functions, words) = walked(alloc, &source, marks, program)?;
+    Ok((functions, words, kinds))
+}
+
+/// The same of a source without a fault.
 fn parts_of(
     alloc: Global,
     typed: &Typed,
@@ -203,9 +221,7 @@ fn parts_of(
 {
     let program = typed.program();
     let marks = addressed_in(alloc, program)?;
-    let (source, kinds) = source_of(alloc, &marks, program, typed.sites().as_slice())?;
-    let (functions, words) = walked(alloc, &source, &marks, program)?;
-    Ok((functions, words, kinds))
+    made_of(alloc, &marks, program, typed.sites().as_slice())
 }
 
 /// What a source without a fault does.

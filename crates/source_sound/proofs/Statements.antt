@@ -116,7 +116,7 @@ module _ (p : Program) (home : ℕ → Option ℕ) (f : Function) (structs : ℕ
         statement_sound h in_loop (branch e a at) i come n have none =
             let parts = append_nil (condition_faults h.known at e) (statement_faults h.known (Some result) in_loop a) none in
             let two = have_parts p h.frame h.source.sites (addressed h.numbers e) (statement_addressed h.numbers a) (allocations h.known no_target e) (statement_spots (in_function name ns) h.known n a) have in
-            (condition_sound h e at i two.0 parts.0, statement_sound h in_loop a i come n two.1 parts.1, tt)
+            (condition_sound h e at i two.0 parts.0, statement_sound h in_loop a i come n two.1 parts.1)
         statement_sound h in_loop (branch_else e a b at) i come n have none =
             let parts = three_nil (condition_faults h.known at e) (statement_faults h.known (Some result) in_loop a) (statement_faults h.known (Some result) in_loop b) none in
             let last = have_parts p h.frame h.source.sites (addressed h.numbers e ++ statement_addressed h.numbers a) (statement_addressed (behind_statement h.numbers a) b) (allocations h.known no_target e ++ statement_spots (in_function name ns) h.known n a) (statement_spots (in_function name ns) h.known (n + count_of_locals a) b) have in

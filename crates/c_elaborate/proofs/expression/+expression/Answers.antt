@@ -1,20 +1,18 @@
-use Rattle.std.proofs.Common.{◌≡◌, ◌∷◌, true, IfOk, map, refl, sym, ap, ◌∙◌, subst}
+use Rattle.std.proofs.Common.{◌≡◌, true, IfOk, map, refl, sym, ap, ◌∙◌, subst}
 use Rattle.std.specs.Option.{option_map}
 use Rattle.c_tree.specs.Tree.{listed}
 use Rattle.c_tree.specs.View as tree
 use Rattle.c_tree.proofs.Views.{exps_of_row-list}
 use Rattle.rr_base.specs.Positions.{position_at}
 use Rattle.c_types.specs.Shown.{shown_standing, shown_target, shown_wants}
-use Rattle.c_types.specs.Operands.{Standing}
 use Rattle.c_types.specs.Standing.{no_target}
 use Rattle.c_types.specs.Standing as standings
-use Rattle.c_core.specs.Core as core
 use Rattle.c_core.specs.View.{exp_of}
 use Rattle.c_elaborate.specs.Held.{Part, held_value, part_by}
 use Rattle.c_elaborate.specs.Operators.{stepped_in}
 use Rattle.c_elaborate.specs.Expressions as spec
 use Rattle.c_elaborate.specs.Views.{held_of, here_of, maybe_word, part_of, places_of, source_in}
-use Rattle.c_elaborate.proofs.ExpressionLists.{comma_is, followed_is, call_is, call_made, tail_step, tail_standing_step, argument_step, fit_step, unwanted_arguments, unwanted_fit}
+use Rattle.c_elaborate.proofs.ExpressionLists.{comma_is, followed_is, call_is, call_made, tail_step, tail_standing_step, argument_step, fit_step}
 use Rattle.c_elaborate.proofs.expression.+expression.Goals as goal
 
 pub part-returns-in_ok-tail-in-Comma-clause-part : goal.part-returns-in_ok-tail-in-Comma-clause-part

@@ -1,4 +1,4 @@
-use Rattle.std.proofs.Common.{◌≡◌, IfOk, false, refl, sym, ap, ◌∙◌, subst}
+use Rattle.std.proofs.Common.{◌≡◌, IfOk, false, refl, ap, ◌∙◌, subst}
 use Rattle.c_tree.specs.declared.expr.AssignOp.{AssignOp}
 use Rattle.c_tree.specs.declared.expr.AssignOp.TheVariants as assign_op
 use Rattle.rr_base.specs.declared.position.Position.{Position}
