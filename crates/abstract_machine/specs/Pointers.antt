@@ -1,6 +1,6 @@
 -- Pointer words in a code: which cell one points to, where it is moved, and how two compare (C99 6.5.2.3, 6.5.3.2,
 -- 6.5.6, 6.5.8). A site that the code doesn't have counts as none.
-use Rattle.std.specs.Prelude.{ℕ, zero, suc, ◌%◌, ◌^◌, ◌==◌, nat_le, ◌&&◌, Bool, true, false, not, if◌then◌else◌, ℤ, pos, ◌-ℤ◌, int_div, List, length, Option, Some, None, slice_get, Result, Ok, Err}
+use Rattle.std.specs.Prelude.{ℕ, zero, suc, ◌%◌, ◌^◌, ◌==◌, nat_le, ◌&&◌, Bool, true, false, not, if◌then◌else◌, ℤ, pos, ◌-ℤ◌, int_div, List, length, Option, Some, None, slice_get, slice_index_or, Result, Ok, Err}
 use Rattle.rr_base.specs.Words as pointer
 use Rattle.rr_base.specs.Words.{site_of, base_of, offset_of}
 use Rattle.rr_base.specs.declared.trap.Trap.{Trap}
@@ -15,6 +15,11 @@ use Rattle.abstract_machine.specs.Values.{fits, word}
 abbrev pub site_at : List Site → ℕ → Option Site
 site_at sites zero = None
 site_at sites (suc k) = slice_get sites k
+
+-- the first global cell of the object of the site with this number; none of a site that is no global
+abbrev pub base_at : List (Option ℕ) → ℕ → Option ℕ
+base_at bases zero = None
+base_at bases (suc k) = slice_index_or bases k None
 
 -- the word as the code reads it: one of a site that the code doesn't have is read as a word of site 0
 abbrev pub known : List Site → ℕ → ℕ

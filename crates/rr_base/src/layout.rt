@@ -1,4 +1,5 @@
 use crate::list::List;
+use crate::position::Position;
 
 /// What a cell of an object may hold.
 #[derive(Clone, Copy, Debug, PartialEq, Eq)]
@@ -28,8 +29,8 @@ pub struct Layout {
 pub struct Site {
     pub name: List<u8>,
     pub layout: Layout,
-    pub line: u32,
-    pub column: u32,
+    /// Where its name or its `malloc` stands.
+    pub at: Position,
 }
 
 /// A place of a source's memory as analyses see it: the site, and which cell of one element of the site's objects.
@@ -38,11 +39,4 @@ pub struct Site {
 pub struct Place {
     pub site: u16,
     pub class: u8,
-}
-
-/// The object of a global: its site, and its first cell, counted from the first cell of all globals.
-#[derive(Clone, Copy, Debug, PartialEq, Eq)]
-pub struct GlobalObject {
-    pub site: u16,
-    pub base: u32,
 }

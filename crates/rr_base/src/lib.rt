@@ -2,6 +2,7 @@
 //! the outside as traits.
 #![tactic(auto)]
 
+mod counts;
 mod layout;
 mod list;
 mod list_iter;
@@ -17,7 +18,8 @@ mod sink;
 mod source;
 mod trap;
 
-pub use layout::{CellKind, GlobalObject, Layout, Place, Site};
+pub use counts::{length_sum, sum};
+pub use layout::{CellKind, Layout, Place, Site};
 pub use list::List;
 pub use mem_shelf::MemShelf;
 pub use mem_sink::{MemSink, SoundSink};

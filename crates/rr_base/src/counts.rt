@@ -1,0 +1,18 @@
+//! Sums of counts. More of anything than can be counted doesn't fit the memory of a machine.
+ghost use Rattle.std.specs.Prelude.{◌≡◌, ◌+◌, IfOk};
+
+use std::alloc::AllocError;
+
+/// The sum of two counts of 32 bits.
+pub fn sum(a: u32, b: u32) -> Result<u32, AllocError>
+    ensures { IfOk result (λ n. n ≡ a + b) }
+{
+    a.checked_add(b).ok_or(AllocError)
+}
+
+/// The sum of two lengths.
+pub fn length_sum(a: usize, b: usize) -> Result<usize, AllocError>
+    ensures { IfOk result (λ n. n ≡ a + b) }
+{
+    a.checked_add(b).ok_or(AllocError)
+}
