@@ -25,7 +25,7 @@ abbrev setup : ℕ → SetupView
 setup limit = record { slots = 1; cells = 1024; limit = limit; input = [] }
 
 abbrev site_g : Site
-site_g = record { name = codes "g"; layout = record { size = 1; element = 1; kinds = kind.Whole ∷ [] }; line = 1; column = 5 }
+site_g = record { name = codes "g"; layout = record { size = 1; element = 1; kinds = kind.Whole ∷ [] }; at = record { line = 1; column = 5 } }
 
 abbrev g : Exp
 g = global (pack 1 0 1 0) (at 1)
@@ -137,7 +137,7 @@ f = record {
 abbrev call_program : Program
 call_program = record {
   functions = f ∷ main_of (compute (store g (call 0 (and_exp (z 6) no_exp) false (at 8)) (at 8))) ∷ [];
-  sites = site_g ∷ record { name = codes "f.n@6:1"; layout = record { size = 1; element = 1; kinds = kind.Whole ∷ [] }; line = 6; column = 1 } ∷ [];
+  sites = site_g ∷ record { name = codes "f.n@6:1"; layout = record { size = 1; element = 1; kinds = kind.Whole ∷ [] }; at = record { line = 6; column = 1 } } ∷ [];
   globals = 0 ∷ [];
   global_kinds = kind.Whole ∷ [];
 }

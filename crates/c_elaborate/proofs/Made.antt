@@ -4,7 +4,6 @@ use Rattle.std.proofs.lemmas.List.{map-append}
 use Rattle.rr_base.specs.declared.layout.Site.{Site}
 use Rattle.c_tree.specs.declared.program.Param.{Param}
 use Rattle.c_tree.specs.Tree.{Parts}
-use Rattle.rr_base.specs.Positions.{position_at}
 use Rattle.c_sites.specs.Addresses.{Numbered, after_formals, numbered_from}
 use Rattle.c_programs.specs.Declarators.{after_params}
 use Rattle.c_types.specs.Scopes.{Known}
@@ -22,8 +21,8 @@ use Rattle.c_elaborate.specs.Functions.{sites_of}
 sites_append : (sites : List Site) (fs ls : List Local) → sites_of sites (fs ++ ls) ≡ sites_of sites fs ++ sites_of sites ls
 sites_append sites [] ls = refl
 sites_append sites (f ∷ fs) ls =
-    ap (λ (z : List ℕ). (if f.is_kept then site_at sites (position_at f.line f.column) ∷ [] else []) ++ z) (sites_append sites fs ls)
-    ∙ sym (append_assoc (if f.is_kept then site_at sites (position_at f.line f.column) ∷ [] else []) (sites_of sites fs) (sites_of sites ls))
+    ap (λ (z : List ℕ). (if f.is_kept then site_at sites f.at ∷ [] else []) ++ z) (sites_append sites fs ls)
+    ∙ sym (append_assoc (if f.is_kept then site_at sites f.at ∷ [] else []) (sites_of sites fs) (sites_of sites ls))
 
 pub objects_made : (sites : List Site) (fs ls : List Local) (start middle end : List ℕ) →
     start ≡ [] → middle ≡ start ++ sites_of sites fs → end ≡ middle ++ sites_of sites ls → end ≡ sites_of sites (fs ++ ls)

@@ -9,6 +9,7 @@ use Rattle.rr_base.specs.declared.position.Position.{Position}
 use Rattle.rr_base.specs.Positions.{position_at}
 use Rattle.c_types.specs.declared.library.StarredType.{StarredType}
 use Rattle.c_types.specs.Scopes.{Known}
+use Rattle.c_rules.specs.Faults.{name_place}
 use Rattle.c_programs.specs.Declarators.{after_params}
 use Rattle.c_programs.specs.Statements.{declared_by}
 use Rattle.c_sites.specs.Spots.{is_kept}
@@ -24,18 +25,18 @@ use Rattle.c_elaborate.specs.Statements.{block_of, all_elaborated}
 -- ---- the formals and locals of a function, in the order of the text
 
 -- whether its type keeps it in cells, whether it is a pointer, and the place of its name
-abbrev pub local_at : Bool → Bool → ℕ → ℕ → Local
-local_at kept pointer line column = record { is_kept = kept; is_pointer = pointer; line = line; column = column }
+abbrev pub local_at : Bool → Bool → Position → Local
+local_at kept pointer at = record { is_kept = kept; is_pointer = pointer; at = at }
 
 abbrev pub formal_at : Param → Option Name → Local
-formal_at p None = local_at false (nat_lt 0 p.stars) p.line p.column
-formal_at p (Some name) = local_at (is_kept p.specifier p.stars []) (nat_lt 0 p.stars) name.line name.column
+formal_at p None = local_at false (nat_lt 0 p.stars) (position_at p.line p.column)
+formal_at p (Some name) = local_at (is_kept p.specifier p.stars []) (nat_lt 0 p.stars) (name_place name)
 
 abbrev pub formal_of : Param → Local
 formal_of p = formal_at p p.name
 
 abbrev pub local_declared : Specifier → Declared → Local
-local_declared s (declared stars name lengths) = local_at (is_kept s stars lengths) (nat_lt 0 stars) name.line name.column
+local_declared s (declared stars name lengths) = local_at (is_kept s stars lengths) (nat_lt 0 stars) (name_place name)
 
 abbrev pub local_of : Specifier → Object → Local
 local_of s o = local_declared s (declared_by o)
@@ -103,17 +104,14 @@ pointers_of formals locals = map (λ l. l.is_pointer) formals ++ local_pointers 
 -- the site of each that is kept in cells
 abbrev pub sites_of : List Site → List Local → List ℕ
 sites_of sites [] = []
-sites_of sites (l ∷ ls) = (if l.is_kept then site_at sites (position_at l.line l.column) ∷ [] else []) ++ sites_of sites ls
+sites_of sites (l ∷ ls) = (if l.is_kept then site_at sites l.at ∷ [] else []) ++ sites_of sites ls
 
 abbrev pub arrivals_of : ℕ → ℕ → List Local → List core.Arrival
 arrivals_of r k [] = []
 arrivals_of r k (l ∷ ls) =
-    (if l.is_kept then core.arrives r k (record { line = l.line; column = l.column }) ∷ [] else []) ++ arrivals_of (r + 1) (k + one_if l.is_kept) ls
+    (if l.is_kept then core.arrives r k l.at ∷ [] else []) ++ arrivals_of (r + 1) (k + one_if l.is_kept) ls
 
 -- ---- a definition
-
-abbrev pub name_position : Name → Position
-name_position name = record { line = name.line; column = name.column }
 
 -- the formals and locals have numbers from n on
 abbrev pub frame_of : ℕ → List Local → List Local → Option StarredType → Frame
@@ -123,7 +121,7 @@ frame_of n formals locals result = record { first = n; homes = homes_of formals 
 abbrev pub function_by : List Site → Name → Option StarredType → List Local → List Local → core.Statement → core.Function
 function_by sites name result formals locals body = record {
   name = name.text;
-  place = name_position name;
+  place = name_place name;
   formals = length formals;
   pointers = pointers_of formals locals;
   objects = sites_of sites (formals ++ locals);

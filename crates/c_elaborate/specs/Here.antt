@@ -39,7 +39,7 @@ here_in s f known numbers = record { source = s; frame = f; known = known; numbe
 -- ---- sites
 
 abbrev pub stands_at : Position → Site → Bool
-stands_at at s = (s.line == at.line) && (s.column == at.column)
+stands_at at s = (s.at.line == at.line) && (s.at.column == at.column)
 
 -- the first has the number 1
 abbrev pub site_counted : Option ℕ → ℕ

@@ -37,19 +37,11 @@ use c_types::{Names, Standing, Target, Wants, assigned_target, cast_target, type
 use rr_base::{List, Position};
 use std::alloc::{AllocError, Global};
 
-/// A place of the tree.
-pub fn position(line: u32, column: u32) -> Position
-    ensures { result ≡ position_of (position_at line column) }
-{
-    Position { line, column }
-}
-
 /// The place of an expression.
 fn place_of(e: &Expr) -> Position
     ensures { result ≡ position_of (faults.own_place (tree.exp_of e.now)) }
 {
-    let at = own_place(e);
-    position(at.0, at.1)
+    own_place(e)
 }
 
 /// An expression with what it is, where `target` is what a `malloc` in its place makes an object of.

@@ -23,6 +23,7 @@ use crate::make;
 use crate::statement::push_parts;
 use c_core::{Arrival, CoreFunction, Statement};
 use c_programs::{Table, declare_param};
+use c_rules::name_place;
 use c_sites::{Marks, NumberTable, is_kept};
 use c_tree::{Declaration, Declarator, ForStart, Item, Name, Param, Part, Specifier, Stmt};
 use c_types::StarredType;
@@ -37,14 +38,15 @@ fn formal_of(param: &Param) -> Local
         None => Local {
             is_kept: false,
             is_pointer,
-            line: param.line,
-            column: param.column,
+            at: Position {
+                line: param.line,
+                column: param.column,
+            },
         },
         Some(name) => Local {
             is_kept: is_kept(&param.specifier, param.stars, &[]),
             is_pointer,
-            line: name.line,
-            column: name.column,
+            at: name_place(name),
         },
     }
 }
@@ -55,8 +57,7 @@ fn local_declared(specifier: &Specifier, declarator: &Declarator) -> Local
     Local {
         is_kept: is_kept(specifier, declarator.stars, declarator.lengths.as_slice()),
         is_pointer: declarator.stars > 0,
-        line: declarator.name.line,
-        column: declarator.name.column,
+        at: name_place(&declarator.name),
     }
 }
 
@@ -152,8 +153,7 @@ fn marked(
         out.push(Local {
             is_kept: local.is_kept || marks.holds(number),
             is_pointer: local.is_pointer,
-            line: local.line,
-            column: local.column,
+            at: local.at,
         })?;
         number = following(number)?;
     }
@@ -279,7 +279,7 @@ fn push_sites(sites: &[Site], locals: &[Local], out: &mut List<u16>) -> Result<(
 {
     for local in locals {
         if local.is_kept {
-            out.push(site_at(sites, local.line, local.column)?)?;
+            out.push(site_at(sites, local.at)?)?;
         }
     }
     Ok(())
@@ -311,10 +311,7 @@ fn arrivals_of(alloc: Global, formals: &[Local]) -> Result<List<Arrival>, AllocE
             arrivals.push(Arrival {
                 register,
                 object,
-                at: Position {
-                    line: local.line,
-                    column: local.column,
-                },
+                at: local.at,
             })?;
         }
         register = sum(register, 1)?;
@@ -393,10 +390,7 @@ fn function_by(
 {
     Ok(CoreFunction {
         name: Bytes::from_slice(alloc, name.text.as_slice())?,
-        at: Position {
-            line: name.line,
-            column: name.column,
-        },
+        at: name_place(name),
         formals: counted(formals.len())?,
         pointers: pointers_of(alloc, formals, locals)?,
         objects: objects_of(alloc, source.sites, formals, locals)?,

@@ -1,6 +1,5 @@
 //! What is known where an expression stands.
 ghost use Rattle.std.specs.Prelude.{◌≡◌, IfOk, position, slice_get};
-ghost use Rattle.rr_base.specs.Positions.{position_at};
 ghost use Rattle.c_types.specs.Shown.{shown_operand, shown_maybe};
 ghost use Rattle.c_types.specs.Scopes.{cells_of_some, members_of};
 ghost use Rattle.c_elaborate.specs.Here as spec;
@@ -11,7 +10,7 @@ use c_programs::Table;
 use c_sites::NumberTable;
 use c_types::{Names, Operand, TypeRef};
 use indexmap::IndexMap;
-use rr_base::{CellKind, List, PtrWord, Site};
+use rr_base::{CellKind, List, Position, PtrWord, Site};
 use std::alloc::AllocError;
 
 /// What is known of the whole source.
@@ -46,24 +45,24 @@ pub struct Here<'h, 'a> {
     pub numbers: &'h NumberTable<'a>,
 }
 
-fn stands_at(site: &Site, line: u32, column: u32) -> bool
-    ensures { result ≡ spec.stands_at (position_at line column) site.now }
+fn stands_at(site: &Site, at: Position) -> bool
+    ensures { result ≡ spec.stands_at at site.now }
 {
-    site.line == line && site.column == column
+    site.at == at
 }
 
-fn site_placed(sites: &[Site], line: u32, column: u32) -> Option<usize>
-    ensures { result ≡ position (spec.stands_at (position_at line column)) sites.now }
+fn site_placed(sites: &[Site], at: Position) -> Option<usize>
+    ensures { result ≡ position (spec.stands_at at) sites.now }
 {
-    sites.iter().position(|site| stands_at(site, line, column))
+    sites.iter().position(|site| stands_at(site, at))
 }
 
 /// The number of the site that stands at the place, from 1; 0 where none does. More sites than 16 bits can count don't
 /// fit the memory of a machine that runs their source.
-pub fn site_at(sites: &[Site], line: u32, column: u32) -> Result<u16, AllocError>
-    ensures { IfOk result (λ n. n ≡ spec.site_at sites.now (position_at line column)) }
+pub fn site_at(sites: &[Site], at: Position) -> Result<u16, AllocError>
+    ensures { IfOk result (λ n. n ≡ spec.site_at sites.now at) }
 {
-    match site_placed(sites, line, column) {
+    match site_placed(sites, at) {
         None => Ok(0),
         Some(index) => match u16::try_from(index) {
             Ok(number) if number < u16::MAX => Ok(number + 1),

@@ -1,3 +1,5 @@
+use rr_base::Position;
+
 /// A formal or a local of a function.
 #[derive(Clone, Copy, Debug, PartialEq, Eq)]
 pub struct Local {
@@ -6,6 +8,5 @@ pub struct Local {
     /// Whether it is a pointer.
     pub is_pointer: bool,
     /// The place of its name; of a formal without a name that of its first token.
-    pub line: u32,
-    pub column: u32,
+    pub at: Position,
 }

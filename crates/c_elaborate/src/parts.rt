@@ -3,7 +3,6 @@
 ghost use Rattle.std.specs.Prelude.{◌≡◌, true, IfOk, map};
 ghost use Rattle.std.specs.Option.{option_map};
 ghost use Rattle.c_tree.specs.Tree.{listed};
-ghost use Rattle.rr_base.specs.Positions.{position_at};
 ghost use Rattle.c_tree.specs.View as tree;
 ghost use Rattle.c_types.specs.Shown.{shown_maybe, shown_standing};
 ghost use Rattle.c_types.specs.Library as names;
@@ -23,7 +22,6 @@ ghost use Rattle.c_elaborate.specs.Views.{held_of, here_of, maybe_word, part_of}
 
 use crate::calls::called;
 use crate::constant::Constant;
-use crate::expression::position;
 use crate::held::{Held, Part, is_pointing};
 use crate::here::{Here, site_at};
 use crate::make;
@@ -307,9 +305,9 @@ pub fn call_held(
     operands: List<Value>,
     at: Position,
 ) -> Result<Held, AllocError>
-    ensures { let h = here_of here.entry in let place = position_at at.line at.column in IfOk result (λ r. held_of r ≡ held_value (calls.called h.known (heres.site_at h.source.sites place) name.now (names.library_named name.now) (scopes.seen h.known name.now) (listed (map tree.exp_of es.now)) (map exp_of operands) (position_of place))) }
+    ensures { let h = here_of here.entry in IfOk result (λ r. held_of r ≡ held_value (calls.called h.known (heres.site_at h.source.sites at) name.now (names.library_named name.now) (scopes.seen h.known name.now) (listed (map tree.exp_of es.now)) (map exp_of operands) (position_of at))) }
 {
-    let site = site_at(here.source.sites, at.line, at.column)?;
+    let site = site_at(here.source.sites, at)?;
     let value = called(
         alloc,
         here.table,
@@ -319,7 +317,7 @@ pub fn call_held(
         here.table.seen(name),
         es,
         operands,
-        position(at.line, at.column),
+        at,
     )?;
     Ok(Held::Value(value))
 }

@@ -2,7 +2,6 @@
 //! values.
 ghost use Rattle.std.specs.Prelude.{◌≡◌, ◌++◌, [], false, IfOk, OnOk, map};
 ghost use Rattle.c_tree.specs.Tree.{initialised, listed_parts};
-ghost use Rattle.rr_base.specs.Positions.{position_at};
 ghost use Rattle.c_tree.specs.View as tree;
 ghost use Rattle.c_sites.specs.Addresses as numbering;
 ghost use Rattle.c_sites.specs.NumberTables.{numbered_of};
@@ -17,7 +16,7 @@ ghost use Rattle.c_elaborate.specs.Here.{here_in};
 ghost use Rattle.c_elaborate.specs.Statements as spec;
 ghost use Rattle.c_elaborate.specs.Views.{frame_in, here_of, maybe_word, source_in};
 
-use crate::expression::{position, value, wanted};
+use crate::expression::{value, wanted};
 use crate::here::{Frame, Here, Source};
 use crate::initials::push_begun;
 use crate::make::{self, ForHead};
@@ -26,7 +25,7 @@ use c_programs::{Table, copy_of, declare_object, declared_type};
 use c_sites::NumberTable;
 use c_tree::{Declaration, Declarator, Expr, ForStart, Initial, Item, Part, Specifier, Stmt};
 use c_types::Target;
-use rr_base::List;
+use rr_base::{List, Position};
 use std::alloc::{AllocError, Global};
 
 /// The place at which so much is known.
@@ -56,12 +55,12 @@ fn push_initialised<'a>(
     specifier: &Specifier,
     declarator: &'a Declarator,
     initial: &Initial,
-    at: (u32, u32),
+    at: Position,
     out: &mut List<Statement>,
 ) -> Result<(), AllocError>
     ensures known { OnOk result (known_of table.new ≡ statements.after_declared (known_of table.old) false specifier.now (tree.declared_of declarator.now)) }
     ensures numbers { OnOk result (numbered_of numbers.new ≡ numbering.after_name (numbered_of numbers.old) (tree.declared_of declarator.now)) }
-    ensures out { OnOk result (map stmt_of out.new ≡ map stmt_of out.old ++ spec.object_elaborated (here_in (source_in source.now) (frame_in frame.now) (known_of table.old) (numbered_of numbers.old)) specifier.now (initialised (tree.declared_of declarator.now) (tree.init_of initial.now) (position_at at.0 at.1))) }
+    ensures out { OnOk result (map stmt_of out.new ≡ map stmt_of out.old ++ spec.object_elaborated (here_in (source_in source.now) (frame_in frame.now) (known_of table.old) (numbered_of numbers.old)) specifier.now (initialised (tree.declared_of declarator.now) (tree.init_of initial.now) at)) }
 {
     let of = declared_type(alloc, &*table, specifier, declarator)?;
     let kept = copy_of(alloc, &of)?;
@@ -69,7 +68,7 @@ fn push_initialised<'a>(
     numbers.number(&declarator.name)?;
     let here = here(source, frame, &*table, &*numbers);
     let home = here.home_of(declarator.name.text.as_slice());
-    push_begun(alloc, here, home, &kept, initial, position(at.0, at.1), out)
+    push_begun(alloc, here, home, &kept, initial, at, out)
 }
 
 /// A local that starts as nothing.
@@ -109,18 +108,15 @@ fn push_object<'a>(
             initial,
             line,
             column,
-        } => push_initialised(
-            alloc,
-            source,
-            frame,
-            table,
-            numbers,
-            specifier,
-            declarator,
-            initial,
-            (*line, *column),
-            out,
-        ),
+        } => {
+            let at = Position {
+                line: *line,
+                column: *column,
+            };
+            push_initialised(
+                alloc, source, frame, table, numbers, specifier, declarator, initial, at, out,
+            )
+        }
     }
 }
 
@@ -231,12 +227,12 @@ fn returned<'a>(
     table: &Table<'a>,
     numbers: &NumberTable<'a>,
     e: &Option<Expr>,
-    at: (u32, u32),
+    at: Position,
 ) -> Result<Box<Statement>, AllocError>
-    ensures { IfOk result (λ s. stmt_of s.value ≡ core.gives (spec.given (here_in (source_in source.now) (frame_in frame.now) (known_of table.now) (numbered_of numbers.now)) (tree.maybe_of e.now)) (position_of (position_at at.0 at.1))) }
+    ensures { IfOk result (λ s. stmt_of s.value ≡ core.gives (spec.given (here_in (source_in source.now) (frame_in frame.now) (known_of table.now) (numbered_of numbers.now)) (tree.maybe_of e.now)) (position_of at)) }
 {
     let value = given(alloc, source, frame, table, numbers, e)?;
-    make::gives(alloc, value, position(at.0, at.1))
+    make::gives(alloc, value, at)
 }
 
 /// How a `for` begins.
@@ -304,15 +300,15 @@ fn while_loop<'a>(
     numbers: &mut NumberTable<'a>,
     body: &'a Stmt,
     test: &Expr,
-    at: (u32, u32),
+    at: Position,
 ) -> Result<Box<Statement>, AllocError>
     ensures known { OnOk result (known_of table.new ≡ known_of table.old) }
     ensures numbers { OnOk result (numbered_of numbers.new ≡ numbering.behind_statement (numbered_of numbers.old) (tree.stmt_of body.now)) }
-    ensures statement { IfOk result (λ s. stmt_of s.value ≡ spec.elaborated (here_in (source_in source.now) (frame_in frame.now) (known_of table.old) (numbered_of numbers.old)) (trees.while_loop (tree.exp_of test.now) (tree.stmt_of body.now) (position_at at.0 at.1))) }
+    ensures statement { IfOk result (λ s. stmt_of s.value ≡ spec.elaborated (here_in (source_in source.now) (frame_in frame.now) (known_of table.old) (numbered_of numbers.old)) (trees.while_loop (tree.exp_of test.now) (tree.stmt_of body.now) at)) }
 {
     let test = value_at(alloc, source, frame, &*table, &*numbers, test)?;
     let body = statement(alloc, source, frame, table, numbers, body)?;
-    make::while_loop(alloc, test, body, position(at.0, at.1))
+    make::while_loop(alloc, test, body, at)
 }
 
 #[cycle(statement)]
@@ -324,15 +320,15 @@ fn do_loop<'a>(
     numbers: &mut NumberTable<'a>,
     body: &'a Stmt,
     test: &Expr,
-    at: (u32, u32),
+    at: Position,
 ) -> Result<Box<Statement>, AllocError>
     ensures known { OnOk result (known_of table.new ≡ known_of table.old) }
     ensures numbers { OnOk result (numbered_of numbers.new ≡ numbering.behind_statement (numbered_of numbers.old) (tree.stmt_of body.now)) }
-    ensures statement { IfOk result (λ s. stmt_of s.value ≡ spec.elaborated (here_in (source_in source.now) (frame_in frame.now) (known_of table.old) (numbered_of numbers.old)) (trees.do_loop (tree.stmt_of body.now) (tree.exp_of test.now) (position_at at.0 at.1))) }
+    ensures statement { IfOk result (λ s. stmt_of s.value ≡ spec.elaborated (here_in (source_in source.now) (frame_in frame.now) (known_of table.old) (numbered_of numbers.old)) (trees.do_loop (tree.stmt_of body.now) (tree.exp_of test.now) at)) }
 {
     let body = statement(alloc, source, frame, table, numbers, body)?;
     let test = value_at(alloc, source, frame, &*table, &*numbers, test)?;
-    make::do_loop(alloc, body, test, position(at.0, at.1))
+    make::do_loop(alloc, body, test, at)
 }
 
 /// What is tested in the parentheses of a `for`, and its step.
@@ -392,15 +388,15 @@ fn for_loop<'a>(
     begin: &'a ForStart,
     test: &Option<Expr>,
     step: &Option<Expr>,
-    at: (u32, u32),
+    at: Position,
 ) -> Result<Box<Statement>, AllocError>
     ensures known { OnOk result (known_of table.new ≡ statements.after_start (known_of table.old) (tree.start_of begin.now)) }
     ensures numbers { OnOk result (numbered_of numbers.new ≡ numbering.behind_statement (numbering.after_for_start (numbered_of numbers.old) (tree.start_of begin.now)) (tree.stmt_of body.now)) }
-    ensures statement { let h = (here_in (source_in source.now) (frame_in frame.now) (known_of table.old) (numbered_of numbers.old)) in let after = spec.here_after_start h (tree.start_of begin.now) in IfOk result (λ s. stmt_of s.value ≡ core.for_loop (spec.start_elaborated h (tree.start_of begin.now)) (spec.maybe_value after (tree.maybe_of test.now)) (spec.maybe_value after (tree.maybe_of step.now)) (spec.elaborated after (tree.stmt_of body.now)) (position_of (position_at at.0 at.1))) }
+    ensures statement { let h = (here_in (source_in source.now) (frame_in frame.now) (known_of table.old) (numbered_of numbers.old)) in let after = spec.here_after_start h (tree.start_of begin.now) in IfOk result (λ s. stmt_of s.value ≡ core.for_loop (spec.start_elaborated h (tree.start_of begin.now)) (spec.maybe_value after (tree.maybe_of test.now)) (spec.maybe_value after (tree.maybe_of step.now)) (spec.elaborated after (tree.stmt_of body.now)) (position_of at)) }
 {
     let head = for_head(alloc, source, frame, table, numbers, begin, test, step)?;
     let body = statement(alloc, source, frame, table, numbers, body)?;
-    make::for_loop(alloc, head, body, position(at.0, at.1))
+    make::for_loop(alloc, head, body, at)
 }
 
 /// A `for`, whose names aren't seen behind it.
@@ -415,11 +411,11 @@ fn for_statement<'a>(
     begin: &'a ForStart,
     test: &Option<Expr>,
     step: &Option<Expr>,
-    at: (u32, u32),
+    at: Position,
 ) -> Result<Box<Statement>, AllocError>
     ensures known { OnOk result (known_of table.new ≡ known_of table.old) }
-    ensures numbers { OnOk result (numbered_of numbers.new ≡ numbering.behind_statement (numbered_of numbers.old) (trees.for_loop (tree.start_of begin.now) (tree.maybe_of test.now) (tree.maybe_of step.now) (tree.stmt_of body.now) (position_at at.0 at.1))) }
-    ensures statement { IfOk result (λ s. stmt_of s.value ≡ spec.elaborated (here_in (source_in source.now) (frame_in frame.now) (known_of table.old) (numbered_of numbers.old)) (trees.for_loop (tree.start_of begin.now) (tree.maybe_of test.now) (tree.maybe_of step.now) (tree.stmt_of body.now) (position_at at.0 at.1))) }
+    ensures numbers { OnOk result (numbered_of numbers.new ≡ numbering.behind_statement (numbered_of numbers.old) (trees.for_loop (tree.start_of begin.now) (tree.maybe_of test.now) (tree.maybe_of step.now) (tree.stmt_of body.now) at)) }
+    ensures statement { IfOk result (λ s. stmt_of s.value ≡ spec.elaborated (here_in (source_in source.now) (frame_in frame.now) (known_of table.old) (numbered_of numbers.old)) (trees.for_loop (tree.start_of begin.now) (tree.maybe_of test.now) (tree.maybe_of step.now) (tree.stmt_of body.now) at)) }
 {
     table.open(alloc)?;
     numbers.open(alloc)?;
@@ -432,8 +428,8 @@ fn for_statement<'a>(
 }
 
 /// The place of a statement.
-fn place_of(stmt: &Stmt) -> (u32, u32)
-    ensures { position_at result.0 result.1 ≡ spec.own_place (tree.stmt_of stmt.now) }
+fn place_of(stmt: &Stmt) -> Position
+    ensures { result ≡ spec.own_place (tree.stmt_of stmt.now) }
 {
     match stmt {
         Stmt::Block { line, column, .. }
@@ -444,7 +440,10 @@ fn place_of(stmt: &Stmt) -> (u32, u32)
         | Stmt::If { line, column, .. }
         | Stmt::While { line, column, .. }
         | Stmt::Do { line, column, .. }
-        | Stmt::For { line, column, .. } => (*line, *column),
+        | Stmt::For { line, column, .. } => Position {
+            line: *line,
+            column: *column,
+        },
     }
 }
 
@@ -470,8 +469,8 @@ fn statement<'a>(
         Stmt::Expression { value, .. } => {
             computed(alloc, source, frame, &*table, &*numbers, value)
         }
-        Stmt::Break { .. } => make::break_at(alloc, position(at.0, at.1)),
-        Stmt::Continue { .. } => make::continue_at(alloc, position(at.0, at.1)),
+        Stmt::Break { .. } => make::break_at(alloc, at),
+        Stmt::Continue { .. } => make::continue_at(alloc, at),
         Stmt::Return { value, .. } => {
             returned(alloc, source, frame, &*table, &*numbers, value, at)
         }
@@ -479,10 +478,10 @@ fn statement<'a>(
             let test = value_at(alloc, source, frame, &*table, &*numbers, test)?;
             let yes = statement(alloc, source, frame, table, numbers, yes)?;
             match no {
-                None => make::branch(alloc, test, yes, position(at.0, at.1)),
+                None => make::branch(alloc, test, yes, at),
                 Some(no) => {
                     let no = statement(alloc, source, frame, table, numbers, no)?;
-                    make::branch_else(alloc, test, yes, no, position(at.0, at.1))
+                    make::branch_else(alloc, test, yes, no, at)
                 }
             }
         }

@@ -3,7 +3,7 @@
 
 ghost use Rattle.std.specs.Prelude.{◌≡◌, ◌≤◌, map};
 ghost use Rattle.c_tree.specs.View.{exp_of, maybe_of};
-ghost use Rattle.c_parse_rules.specs.Gives.{place_of, Reads, Follows};
+ghost use Rattle.c_parse_rules.specs.Gives.{Reads, Follows};
 ghost use Rattle.c_grammar.specs.Grammar.{first_place as spec_first_place};
 ghost use Rattle.c_grammar.specs.Phrase as phrase;
 ghost use Rattle.c_grammar.specs.Rules.{sizeof_rule};
@@ -22,7 +22,7 @@ use std::alloc::Global;
 
 /// Where an expression begins.
 pub fn first_place(e: &Expr) -> Position
-    ensures { place_of result ≡ spec_first_place (exp_of e.now) }
+    ensures { result ≡ spec_first_place (exp_of e.now) }
 {
     match e {
         Expr::Comma { first, .. } => first_place(first),
@@ -223,7 +223,7 @@ fn sizeof(
     tokens: &[Token],
 ) -> Result<(Expr, &[Token]), Stop<'_>>
     requires { level ≤ 256 }
-    ensures { Follows (sizeof_rule level (place_of place)) (λ e. exp_of e) tokens.now result }
+    ensures { Follows (sizeof_rule level place) (λ e. exp_of e) tokens.now result }
 {
     let Some((there, rest)) = next_punct(tokens, Punct::OpenParen, level + 2)? else {
         let (operand, rest) = unary_plain(alloc, level + 1, tokens)?;
@@ -249,7 +249,7 @@ fn opened(
     tokens: &[Token],
 ) -> Result<(Expr, &[Token]), Stop<'_>>
     requires { level ≤ 256 }
-    ensures { Reads (phrase.opened level (place_of place)) (λ e. exp_of e) tokens.now result }
+    ensures { Reads (phrase.opened level place) (λ e. exp_of e) tokens.now result }
 {
     if begins_type(tokens) {
         let (to, rest) = type_name(alloc, level + 1, tokens)?;
@@ -269,7 +269,7 @@ fn enclosed(
     tokens: &[Token],
 ) -> Result<(Expr, &[Token]), Stop<'_>>
     requires { level ≤ 256 }
-    ensures { Reads (phrase.enclosed level (place_of place)) (λ e. exp_of e) tokens.now result }
+    ensures { Reads (phrase.enclosed level place) (λ e. exp_of e) tokens.now result }
 {
     let (inner, rest) = expression(alloc, level + 1, tokens)?;
     let inner = Box::new(alloc, inner)?;

@@ -25,9 +25,9 @@ passes (suc n) at (b ∷ bs) h =
     let e : at + 1 + n ≡ at + suc n = omega arith in
     passes n (at + 1) bs (omega arith) ∙ ap (λ k. body_from 0 k (drop n bs)) e
 
-behind : (n at b : ℕ) (bs : Text) → 1 ≤ n → n ≤ length (b ∷ bs) → body_from (n - 1) (at + 1) bs ≡ body_from 0 (at + n) (drop n (b ∷ bs))
-behind zero at b bs h le = absurd (omega arith)
-behind (suc n) at b bs h le =
+passes_rest : (n at b : ℕ) (bs : Text) → 1 ≤ n → n ≤ length (b ∷ bs) → body_from (n - 1) (at + 1) bs ≡ body_from 0 (at + n) (drop n (b ∷ bs))
+passes_rest zero at b bs h le = absurd (omega arith)
+passes_rest (suc n) at b bs h le =
     let e : suc n - 1 ≡ n = omega arith in
     ap (λ k. body_from k (at + 1) bs) e ∙ passes (suc n) at (b ∷ bs) le
 
@@ -35,7 +35,7 @@ behind (suc n) at b bs h le =
 byte_step : (at : ℕ) (bs : Text) (v n : ℕ) → unit_at 34 bs ≡ part.Byte v n → 1 ≤ n → n ≤ length bs → body_from 0 at bs ≡ with_byte v (body_from 0 (at + n) (drop n bs))
 byte_step at [] v n e h le = absurd (omega arith)
 byte_step at (b ∷ bs) v n e h le =
-    ap (λ u. body_by u at (λ n. body_from (n - 1) (at + 1) bs)) e ∙ ap (with_byte v) (behind n at b bs h le)
+    ap (λ u. body_by u at (λ n. body_from (n - 1) (at + 1) bs)) e ∙ ap (with_byte v) (passes_rest n at b bs h le)
 
 -- one turn of the loop that collects the bytes
 pub byte_turn : (text : Text) (len v n : ℕ) (front : List ℕ) (whole : Body) → unit_at 34 (drop len text) ≡ part.Byte v n → 1 ≤ n → n ≤ length (drop len text)

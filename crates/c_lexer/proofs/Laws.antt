@@ -98,12 +98,12 @@ spelled_from r (e ∷ es) h =
     let rest = spelled es in
     let bs = e.0 ++ 32 ∷ rest in
     let n = length e.0 in
-    let first = nat_lt r.token_line r.place.line in
+    let first = nat_lt r.token_line r.cursor.at.line in
     let is = All-contains (IsCut first r.defined rest) spellings e (All-from_recursion (IsCut first r.defined rest) spellings (each first r.defined rest)) h.0 in
     let some = All-contains HasByte spellings e (All-from_recursion HasByte spellings filled) h.0 in
     let within : n ≤ length bs = omega (arith, length-append e.0 (32 ∷ rest)) in
-    let r1 : Reading = on (take n bs) (record r { token_line = r.place.line }) in
-    let t : Token = record { kind = e.1; line = r.place.line; column = r.place.column; start = r.place.at; end = r.place.at + n } in
+    let r1 : Reading = on (take n bs) (record r { token_line = r.cursor.at.line }) in
+    let t : Token = record { kind = e.1; at = r.cursor.at; start = r.cursor.offset; end = r.cursor.offset + n } in
     let step = token_step r bs e.1 n is some within in
     let space = blank_step r1 (32 ∷ rest) 1 (blank _ _ rest) (omega arith) (omega arith) in
     let all : tokens_from 0 r bs ≡ with_token t (tokens_from 0 (on (32 ∷ []) r1) rest) = step ∙ ap (λ d. with_token t (tokens_from 0 r1 d)) (drop-append_seam e.0 (32 ∷ rest)) ∙ ap (with_token t) space in

@@ -52,7 +52,7 @@ include_at line =
     if nat_lt 8 header && include_by (header_len headers (drop header line)) (drop header line) then piece.Blank (length line)
     else piece.Fault BadDirective 0
 
--- where the parts of a definition stand on its line, behind its `#define`: a gap, a name, a gap, a `-` or none, and a number
+-- where the parts of a definition stand on its line, after its `#define`: a gap, a name, a gap, a `-` or none, and a number
 unfoldable pub parts_of : Text → Parts
 parts_of line =
     let from = 7 + gap_len (drop 7 line) in
@@ -70,7 +70,7 @@ abbrev pub value_by : Option ℕ → Parts → ℕ → Piece
 value_by None parts len = piece.Fault WideNumber parts.digits
 value_by (Some v) parts len = piece.Define parts.from parts.to (if parts.minus then neg_ℤ (pos v) else pos v) len
 
--- a definition with this number, behind which the line must end. A value that is too great is a fault at its digits
+-- a definition with this number, after which the line must end. A value that is too great is a fault at its digits
 unfoldable pub valued : Literal → Parts → Text → Piece
 valued literal parts line =
     if is_tail (drop (parts.digits + literal.len) line) then value_by literal.value parts (length line)

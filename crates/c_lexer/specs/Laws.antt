@@ -8,7 +8,7 @@ use Rattle.c_lexer.specs.Tokens.{Found, punct_at, tokens_of}
 use Rattle.c_lexer.specs.declared.fault.Fault.{Fault}
 use Rattle.c_lexer.specs.declared.piece.Piece.{Piece}
 use Rattle.c_lexer.specs.declared.piece.Piece.TheVariants as piece
-use Rattle.c_lexer.specs.declared.piece.Place.{Place}
+use Rattle.c_lexer.specs.declared.piece.Cursor.{Cursor}
 use Rattle.c_lexer.specs.declared.token.Kind.{Kind}
 use Rattle.c_lexer.specs.declared.token.Kind.TheVariants as kind
 
@@ -30,7 +30,7 @@ LongestIsCut = (text : Text) (spelling : Text) → Contains (map (λ e. e.0) pun
 abbrev pub spellings : List (Text × Kind)
 spellings = map (λ e. (e.0, kind.Word e.1)) words ++ map (λ e. (e.0, kind.Punct e.1)) puncts
 
--- each of these, and a space behind it
+-- each of these, and a space after it
 abbrev pub spelled : List (Text × Kind) → Text
 spelled [] = []
 spelled (e ∷ es) = e.0 ++ 32 ∷ spelled es
@@ -45,7 +45,7 @@ SpelledAreFound = (es : List (Text × Kind)) → All (Contains spellings) es →
 
 -- ---- places
 
--- the line of the byte behind so many: one more than the newlines before it
+-- the line of the byte after so many: one more than the newlines before it
 abbrev pub line_of : Text → ℕ → ℕ
 line_of text at = 1 + count_by (λ b. b == 10) (take at text)
 
@@ -53,15 +53,15 @@ line_of text at = 1 + count_by (λ b. b == 10) (take at text)
 abbrev pub column_of : Text → ℕ → ℕ
 column_of text at = 1 + suffix_len is_in_line (take at text)
 
-pub record IsPlaceOf (text : Text) (place : Place) : Type 0 where
-  pub within : place.at ≤ length text
-  pub line : place.line ≡ line_of text place.at
-  pub column : place.column ≡ column_of text place.at
+pub record IsCursorOf (text : Text) (cursor : Cursor) : Type 0 where
+  pub within : cursor.offset ≤ length text
+  pub line : cursor.at.line ≡ line_of text cursor.offset
+  pub column : cursor.at.column ≡ column_of text cursor.offset
 
--- tokens stand where their spans begin, and a fault at some byte of the text or behind its last
+-- tokens stand where their spans begin, and a fault at some byte of the text or after its last
 abbrev pub ArePlaced : Text → Found → Type 0
-ArePlaced text (Ok ts) = All (λ t. IsPlaceOf text (record { at = t.start; line = t.line; column = t.column })) ts
-ArePlaced text (Err f) = (kind : Fault) × (place : Place) × IsPlaceOf text place × (f ≡ fault_at kind place)
+ArePlaced text (Ok ts) = All (λ t. IsCursorOf text (record { offset = t.start; at = t.at })) ts
+ArePlaced text (Err f) = (kind : Fault) × (cursor : Cursor) × IsCursorOf text cursor × (f ≡ fault_at kind cursor.at)
 
 abbrev pub PlacesAreTrue : Type 0
 PlacesAreTrue = (text : Text) → ArePlaced text (tokens_of text)

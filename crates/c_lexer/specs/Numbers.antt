@@ -9,7 +9,7 @@ use Rattle.c_lexer.specs.declared.piece.Piece.{Piece}
 use Rattle.c_lexer.specs.declared.piece.Piece.TheVariants as piece
 use Rattle.c_lexer.specs.declared.token.Kind.TheVariants as kind
 
--- what digits stand for in this base, the first of them the highest, behind digits that stand for v
+-- what digits stand for in this base, the first of them the highest, after digits that stand for v
 abbrev pub digits_value : ℕ → ℕ → Text → ℕ
 digits_value base v [] = v
 digits_value base v (b ∷ bs) = digits_value base (v * base + digit_value b) bs
@@ -24,7 +24,7 @@ suffix_len text =
     if starts_with nat_eq text (codes "ll") || starts_with nat_eq text (codes "LL") then 2
     else (if starts_with nat_eq text (codes "l") || starts_with nat_eq text (codes "L") then 1 else 0)
 
--- the number of which the digits, in this base, stand behind so many bytes
+-- the number of which the digits, in this base, stand after so many bytes
 unfoldable pub based : ℕ → ℕ → Text → Literal
 based base skip text =
     let digits = prefix_len (λ b. is_digit b base) (drop skip text) in
@@ -42,7 +42,7 @@ literal_at text =
     if begins_hexadecimal text then based 16 2 text
     else (if slice_index text 0 == 48 then based 8 0 text else based 10 0 text)
 
--- a number of this value and length, right behind which a letter, digit or `_` stands or doesn't: a value that is too great
+-- a number of this value and length, right after which a letter, digit or `_` stands or doesn't: a value that is too great
 -- is the first fault, and then that byte
 abbrev pub number_by : Option ℕ → ℕ → Bool → Piece
 number_by None len more = piece.Fault WideNumber 0

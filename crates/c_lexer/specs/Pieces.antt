@@ -39,20 +39,20 @@ IsPartWithin part.Close len = 1 ≤ len
 IsPartWithin part.BadEscape len = Unit {0}
 IsPartWithin part.Open len = Unit {0}
 
--- an escape has a byte behind its `\`
+-- an escape has a byte after its `\`
 abbrev pub IsEscapeOf : ℕ → Part → Type 0
 IsEscapeOf b (part.Byte v n) = (0 < b) × (n ≡ 2)
 IsEscapeOf b part.Close = ⊥
 IsEscapeOf b part.BadEscape = Unit {0}
 IsEscapeOf b part.Open = Unit {0}
 
--- what stands behind an opening quote lies within so many bytes, with the closing one
+-- what stands after an opening quote lies within so many bytes, with the closing one
 abbrev pub IsBodyWithin : Body → ℕ → Type 0
 IsBodyWithin (body.Closed bytes n) len = n + 1 ≤ len
 IsBodyWithin (body.BadEscape at) len = at ≤ len
 IsBodyWithin body.Open len = Unit {0}
 
--- the parts of a definition lie one behind another, within so many bytes
+-- the parts of a definition lie one after another, within so many bytes
 abbrev pub ArePartsWithin : Parts → ℕ → Type 0
 ArePartsWithin parts len = (1 ≤ parts.from) × (parts.from ≤ parts.to) × (parts.to ≤ parts.digits) × (parts.digits ≤ len)
 

@@ -24,7 +24,7 @@ abbrev pub escape_by : Option ℕ → Part
 escape_by None = part.BadEscape
 escape_by (Some v) = part.Byte v 2
 
--- `\` and this byte, with the next one behind it: `\0` may not stand before an octal digit
+-- `\` and this byte, with the next one after it: `\0` may not stand before an octal digit
 abbrev pub escape : ℕ → ℕ → Part
 escape b next =
     if not (is_quotable b) then part.Open
@@ -38,7 +38,7 @@ unit_at quote text =
     else (if b == 92 then escape (slice_index text 1) (slice_index text 2)
     else (if is_quotable b then part.Byte b 1 else part.Open))
 
--- the token of a letter: this unit behind its `'`, and then the closing one
+-- the token of a letter: this unit after its `'`, and then the closing one
 abbrev pub letter_by : Part → Text → Piece
 letter_by (part.Byte v n) text = if slice_index text (1 + n) == 39 then piece.Token (kind.Letter v) (n + 2) else piece.Fault fault.OpenText 0
 letter_by part.Close text = piece.Fault fault.OpenText 0
@@ -67,7 +67,7 @@ body_from left at [] = body.Open
 body_from (suc left) at (b ∷ bs) = body_from left (at + 1) bs
 body_from zero at (b ∷ bs) = body_by (unit_at 34 (b ∷ bs)) at (λ n. body_from (n - 1) (at + 1) bs)
 
--- the token of a text by what stands behind its `"`
+-- the token of a text by what stands after its `"`
 abbrev pub text_by : Body → Piece
 text_by (body.Closed bytes len) = piece.Token (kind.Text bytes) (len + 2)
 text_by (body.BadEscape at) = piece.Fault fault.BadEscape (at + 1)

@@ -1,8 +1,9 @@
 -- The tokens of a source, or its first fault (C99 6.4). From its front on a source is cut into pieces, each as long as it goes:
--- a blank, a token, a directive, or a fault, with which reading ends. What comes behind a piece is read in the same way.
+-- a blank, a token, a directive, or a fault, with which reading ends. What comes after a piece is read in the same way.
 use Rattle.std.specs.Prelude.{◌≡◌, ℕ, zero, suc, ◌+◌, ◌-◌, Bool, ◌&&◌, if◌then◌else◌, ◌==◌, nat_lt, nat_eq, List, [], ◌∷◌, ◌++◌, length, take, slice_index, slice_range, Result, Ok, Err, codes}
 use Rattle.std.specs.Char.{is_ascii_digit}
 use Rattle.std.specs.List.{prefix_len, starts_with}
+use Rattle.rr_base.specs.Positions.{position_at}
 use Rattle.c_lexer.specs.Bytes.{Text, is_blank, begins_name, is_in_line}
 use Rattle.c_lexer.specs.Tables.{puncts}
 use Rattle.c_lexer.specs.Numbers.{number_at}
@@ -17,7 +18,7 @@ use Rattle.c_lexer.specs.declared.fault.LexFault.{LexFault}
 use Rattle.c_lexer.specs.declared.fault.LexFault.TheVariants as lex
 use Rattle.c_lexer.specs.declared.piece.Piece.{Piece}
 use Rattle.c_lexer.specs.declared.piece.Piece.TheVariants as piece
-use Rattle.c_lexer.specs.declared.piece.Place.{Place}
+use Rattle.c_lexer.specs.declared.piece.Cursor.{Cursor}
 use Rattle.c_lexer.specs.declared.token.Kind.{Kind}
 use Rattle.c_lexer.specs.declared.token.Kind.TheVariants as kind
 use Rattle.c_lexer.specs.declared.token.Punct.{Punct}
@@ -52,14 +53,16 @@ piece_at first defined text = if slice_index text 0 == 35 && first then directiv
 
 -- ---- where it stands
 
--- the place behind this byte
-abbrev pub next : ℕ → Place → Place
-next b place = if b == 10 then record { at = place.at + 1; line = place.line + 1; column = 1 } else record { at = place.at + 1; line = place.line; column = place.column + 1 }
+-- the cursor after this byte
+abbrev pub next : ℕ → Cursor → Cursor
+next b cursor =
+    if b == 10 then record { offset = cursor.offset + 1; at = position_at (cursor.at.line + 1) 1 }
+    else record { offset = cursor.offset + 1; at = position_at cursor.at.line (cursor.at.column + 1) }
 
--- the place behind these bytes
-abbrev pub after : Text → Place → Place
-after [] place = place
-after (b ∷ bs) place = after bs (next b place)
+-- the cursor after these bytes
+abbrev pub after : Text → Cursor → Cursor
+after [] cursor = cursor
+after (b ∷ bs) cursor = after bs (next b cursor)
 
 -- ---- the tokens of a text
 
@@ -68,51 +71,51 @@ abbrev pub Found : Type 0
 Found = Result (List Token) LexFault
 
 -- a token of so many bytes
-abbrev pub token_at : Kind → ℕ → Place → Token
-token_at kind len place = record { kind = kind; line = place.line; column = place.column; start = place.at; end = place.at + len }
+abbrev pub token_at : Kind → ℕ → Cursor → Token
+token_at kind len cursor = record { kind = kind; at = cursor.at; start = cursor.offset; end = cursor.offset + len }
 
 abbrev pub with_token : Token → Found → Found
 with_token t (Ok ts) = Ok (t ∷ ts)
 with_token t (Err f) = Err f
 
--- where reading stands: the place, the line of the last token (0 if there is none), and the names that have values
+-- where reading stands: the cursor, the line of the last token (0 if there is none), and the names that have values
 pub record Reading : Type 0 where
-  pub place : Place
+  pub cursor : Cursor
   pub token_line : ℕ
   pub defined : Defined
 
 -- one byte on
 abbrev pub passed : ℕ → Reading → Reading
-passed b r = record r { place = next b r.place }
+passed b r = record r { cursor = next b r.cursor }
 
--- what is found at a text that begins with this piece, where `more` is what is found behind so many bytes
+-- what is found at a text that begins with this piece, where `more` is what is found after so many bytes
 abbrev pub met : Piece → Text → Reading → (ℕ → Reading → Found) → Found
 met (piece.Blank n) text r more = more n r
 met (piece.Token k n) text r more =
-    with_token (token_at k n r.place) (more n (record r { token_line = r.place.line }))
+    with_token (token_at k n r.cursor) (more n (record r { token_line = r.cursor.at.line }))
 met (piece.Define from to value n) text r more = more n (record r { defined = r.defined ++ (slice_range text from to, value) ∷ [] })
-met (piece.Fault f n) text r more = Err (fault_at f (after (take n text) r.place))
+met (piece.Fault f n) text r more = Err (fault_at f (after (take n text) r.cursor).at)
 
 -- what is found from here on, where the piece before reaches over so many bytes more
 abbrev pub tokens_from : ℕ → Reading → Text → Found
 tokens_from left r [] = Ok []
 tokens_from (suc left) r (b ∷ bs) = tokens_from left (passed b r) bs
 tokens_from zero r (b ∷ bs) =
-    met (piece_at (nat_lt r.token_line r.place.line) r.defined (b ∷ bs)) (b ∷ bs) r (λ n r'. tokens_from (n - 1) (passed b r') bs)
+    met (piece_at (nat_lt r.token_line r.cursor.at.line) r.defined (b ∷ bs)) (b ∷ bs) r (λ n r'. tokens_from (n - 1) (passed b r') bs)
 
 -- before the first byte
 abbrev pub start : Reading
-start = record { place = record { at = 0; line = 1; column = 1 }; token_line = 0; defined = [] }
+start = record { cursor = record { offset = 0; at = position_at 1 1 }; token_line = 0; defined = [] }
 
 unfoldable pub tokens_of : Text → Found
 tokens_of text = tokens_from 0 start text
 
--- the answer is the fault that is found, but where memory is wanting
+-- the answer is the fault that is found, or `OutOfMemory`
 abbrev pub IsFaultOf : LexFault → Found → Type 0
 IsFaultOf lex.OutOfMemory found = Unit {0}
-IsFaultOf (lex.BadByte line column) found = found ≡ Err (lex.BadByte line column)
-IsFaultOf (lex.OpenComment line column) found = found ≡ Err (lex.OpenComment line column)
-IsFaultOf (lex.OpenText line column) found = found ≡ Err (lex.OpenText line column)
-IsFaultOf (lex.BadEscape line column) found = found ≡ Err (lex.BadEscape line column)
-IsFaultOf (lex.WideNumber line column) found = found ≡ Err (lex.WideNumber line column)
-IsFaultOf (lex.BadDirective line column) found = found ≡ Err (lex.BadDirective line column)
+IsFaultOf (lex.BadByte at) found = found ≡ Err (lex.BadByte at)
+IsFaultOf (lex.OpenComment at) found = found ≡ Err (lex.OpenComment at)
+IsFaultOf (lex.OpenText at) found = found ≡ Err (lex.OpenText at)
+IsFaultOf (lex.BadEscape at) found = found ≡ Err (lex.BadEscape at)
+IsFaultOf (lex.WideNumber at) found = found ≡ Err (lex.WideNumber at)
+IsFaultOf (lex.BadDirective at) found = found ≡ Err (lex.BadDirective at)

@@ -6,68 +6,66 @@ ghost use Rattle.c_lexer.specs.Tokens as spec;
 use crate::cut::piece_at;
 use crate::fault::{Fault, LexFault};
 use crate::names::Names;
-use crate::piece::{Piece, Place};
+use crate::piece::{Cursor, Piece};
 use crate::token::{Kind, Token};
-use rr_base::List;
+use rr_base::{List, Position};
 use std::alloc::Global;
 
-fn fault_at(fault: Fault, place: Place) -> LexFault
-    ensures { result ≡ faults.fault_at fault place }
+fn fault_at(fault: Fault, at: Position) -> LexFault
+    ensures { result ≡ faults.fault_at fault at }
 {
-    let Place { line, column, .. } = place;
     match fault {
-        Fault::BadByte => LexFault::BadByte { line, column },
-        Fault::OpenComment => LexFault::OpenComment { line, column },
-        Fault::OpenText => LexFault::OpenText { line, column },
-        Fault::BadEscape => LexFault::BadEscape { line, column },
-        Fault::WideNumber => LexFault::WideNumber { line, column },
-        Fault::BadDirective => LexFault::BadDirective { line, column },
+        Fault::BadByte => LexFault::BadByte { at },
+        Fault::OpenComment => LexFault::OpenComment { at },
+        Fault::OpenText => LexFault::OpenText { at },
+        Fault::BadEscape => LexFault::BadEscape { at },
+        Fault::WideNumber => LexFault::WideNumber { at },
+        Fault::BadDirective => LexFault::BadDirective { at },
     }
 }
 
-fn token_at(kind: Kind, len: usize, place: Place) -> Token
-    requires { place.at + len < 2 ^ 32 }
-    ensures { result ≡ spec.token_at kind len place }
+fn token_at(kind: Kind, len: usize, cursor: Cursor) -> Token
+    requires { cursor.offset + len < 2 ^ 32 }
+    ensures { result ≡ spec.token_at kind len cursor }
 {
-    let Place { at, line, column } = place;
+    let Cursor { offset, at } = cursor;
     Token {
         kind,
-        line,
-        column,
-        start: at,
-        end: at + len as u32,
+        at,
+        start: offset,
+        end: offset + len as u32,
     }
 }
 
-// The place behind these bytes.
-fn pass(text: &[u8], mut place: Place) -> Place
-    requires at { place.at + length text.now < 2 ^ 32 }
-    requires line { place.line + length text.now < 2 ^ 32 }
-    requires column { place.column + length text.now < 2 ^ 32 }
-    requires first { 1 ≤ place.column }
-    ensures value { result ≡ spec.after text.now place }
-    ensures at { result.at ≡ place.at + length text.now }
-    ensures line { result.line ≤ place.line + length text.now }
-    ensures column { result.column ≤ place.column + length text.now }
-    ensures first { 1 ≤ result.column }
+// The cursor after these bytes.
+fn pass(text: &[u8], mut cursor: Cursor) -> Cursor
+    requires offset { cursor.offset + length text.now < 2 ^ 32 }
+    requires line { cursor.at.line + length text.now < 2 ^ 32 }
+    requires column { cursor.at.column + length text.now < 2 ^ 32 }
+    requires first { 1 ≤ cursor.at.column }
+    ensures value { result ≡ spec.after text.now cursor }
+    ensures offset { result.offset ≡ cursor.offset + length text.now }
+    ensures line { result.at.line ≤ cursor.at.line + length text.now }
+    ensures column { result.at.column ≤ cursor.at.column + length text.now }
+    ensures first { 1 ≤ result.at.column }
 {
     for b in text {
-        place.at += 1;
+        cursor.offset += 1;
         if *b == b'\n' {
-            place.line += 1;
-            place.column = 1;
+            cursor.at.line += 1;
+            cursor.at.column = 1;
         } else {
-            place.column += 1;
+            cursor.at.column += 1;
         }
     }
-    place
+    cursor
 }
 
 /// The tokens of a C source (C99 6.4), or its first fault. A comment, `const`, `volatile` and `#include` of a header
-/// of the profile stand for blanks. Behind a `#define` its name is a number.
+/// of the profile stand for blanks. After a `#define` its name is a number.
 ///
 /// # Errors
-/// The first fault of the text, with the line and column at which it stands; `OutOfMemory` if the tokens don't fit
+/// The first fault of the text, with the place at which it stands; `OutOfMemory` if the tokens don't fit
 /// into memory.
 pub fn tokens(alloc: Global, text: &[u8]) -> Result<List<Token>, LexFault>
     requires { length text.now < 2 ^ 32 - 1 }
@@ -79,22 +77,21 @@ pub fn tokens(alloc: Global, text: &[u8]) -> Result<List<Token>, LexFault>
     let mut found = List::new(alloc);
     let mut names = Names::new(alloc);
     let mut rest = text;
-    let mut place = Place {
-        at: 0,
-        line: 1,
-        column: 1,
+    let mut cursor = Cursor {
+        offset: 0,
+        at: Position { line: 1, column: 1 },
     };
     let mut token_line = 0;
     while !rest.is_empty() {
-        match piece_at(alloc, token_line < place.line, &names, rest)? {
+        match piece_at(alloc, token_line < cursor.at.line, &names, rest)? {
             Piece::Blank(len) => {
-                place = pass(&rest[..len], place);
+                cursor = pass(&rest[..len], cursor);
                 rest = &rest[len..];
             }
             Piece::Token(kind, len) => {
-                found.push(token_at(kind, len, place))?;
-                token_line = place.line;
-                place = pass(&rest[..len], place);
+                found.push(token_at(kind, len, cursor))?;
+                token_line = cursor.at.line;
+                cursor = pass(&rest[..len], cursor);
                 rest = &rest[len..];
             }
             Piece::Define {
@@ -104,10 +101,10 @@ pub fn tokens(alloc: Global, text: &[u8]) -> Result<List<Token>, LexFault>
                 len,
             } => {
                 names.define(&rest[from..to], value)?;
-                place = pass(&rest[..len], place);
+                cursor = pass(&rest[..len], cursor);
                 rest = &rest[len..];
             }
-            Piece::Fault(fault, len) => return Err(fault_at(fault, pass(&rest[..len], place))),
+            Piece::Fault(fault, len) => return Err(fault_at(fault, pass(&rest[..len], cursor).at)),
         }
     }
     Ok(found)

@@ -1,13 +1,12 @@
 use crate::fault::Fault;
 use crate::token::Kind;
-use rr_base::Bytes;
+use rr_base::{Bytes, Position};
 
-/// A place in a source: how many bytes stand before it, and its line and column, both from 1.
+/// Where reading of a source stands: how many bytes are before it, and its line and column.
 #[derive(Clone, Copy, Debug, PartialEq, Eq)]
-pub struct Place {
-    pub at: u32,
-    pub line: u32,
-    pub column: u32,
+pub struct Cursor {
+    pub offset: u32,
+    pub at: Position,
 }
 
 /// A number as it is written: its value where that is below 2^63, and its length with its suffix.
@@ -17,7 +16,7 @@ pub struct Literal {
     pub len: usize,
 }
 
-/// What stands behind the opening quote of a letter or text, or behind such a unit.
+/// What stands after the opening quote of a letter or text, or after such a unit.
 #[derive(Clone, Copy, Debug, PartialEq, Eq)]
 pub enum Unit {
     /// A byte or an escape: the byte that it means, and its length.
@@ -30,7 +29,7 @@ pub enum Unit {
     Open,
 }
 
-/// What stands behind the opening quote of a text, as a whole.
+/// What stands after the opening quote of a text, as a whole.
 #[derive(Debug, Drop)]
 pub enum Body {
     /// The bytes that it means, and its length up to the closing quote.
@@ -42,7 +41,7 @@ pub enum Body {
 }
 
 /// Where the parts of a `#define` stand on its line: its name's bytes are those `from` to `to`, and its digits
-/// begin at `digits`, right behind `sign` if a `-` stands there.
+/// begin at `digits`, right after `sign` if a `-` stands there.
 #[derive(Clone, Copy, Debug, PartialEq, Eq)]
 pub struct Parts {
     pub from: usize,

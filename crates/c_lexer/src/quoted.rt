@@ -74,7 +74,7 @@ pub fn letter_at(text: &[u8]) -> Piece
     }
 }
 
-// What stands behind the opening quote of a text.
+// What stands after the opening quote of a text.
 fn body(alloc: Global, text: &[u8]) -> Result<Body, AllocError>
     ensures value { IfOk result (λ b. b ≡ spec.body_from 0 0 text.now) }
     ensures within { IfOk result (λ b. IsBodyWithin b (length text.now)) }

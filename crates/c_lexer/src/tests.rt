@@ -158,25 +158,19 @@ fn write_token(out: &mut String, token: &Token) -> Result<(), Fail> {
         Kind::Punct(punct) => write!(out, "{punct:?}")?,
         Kind::Refused(word) => write_spelled(out, "Refused", word.as_slice())?,
     }
-    let Token {
-        line,
-        column,
-        start,
-        end,
-        ..
-    } = token;
-    write!(out, " {line}:{column} {start}-{end};")?;
+    let Token { at, start, end, .. } = token;
+    write!(out, " {}:{} {start}-{end};", at.line, at.column)?;
     Ok(())
 }
 
 fn write_fault(out: &mut String, fault: LexFault) -> Result<(), Fail> {
     let (kind, line, column) = match fault {
-        LexFault::BadByte { line, column } => ("BadByte", line, column),
-        LexFault::OpenComment { line, column } => ("OpenComment", line, column),
-        LexFault::OpenText { line, column } => ("OpenText", line, column),
-        LexFault::BadEscape { line, column } => ("BadEscape", line, column),
-        LexFault::WideNumber { line, column } => ("WideNumber", line, column),
-        LexFault::BadDirective { line, column } => ("BadDirective", line, column),
+        LexFault::BadByte { at } => ("BadByte", at.line, at.column),
+        LexFault::OpenComment { at } => ("OpenComment", at.line, at.column),
+        LexFault::OpenText { at } => ("OpenText", at.line, at.column),
+        LexFault::BadEscape { at } => ("BadEscape", at.line, at.column),
+        LexFault::WideNumber { at } => ("WideNumber", at.line, at.column),
+        LexFault::BadDirective { at } => ("BadDirective", at.line, at.column),
         LexFault::OutOfMemory => ("OutOfMemory", 0, 0),
     };
     write!(out, "{kind} {line}:{column}")?;

@@ -1,4 +1,4 @@
-use rr_base::Bytes;
+use rr_base::{Bytes, Position};
 
 /// A word of the language (C99 6.4.1), among them the types and initialisers of `<pthread.h>` and `NULL`.
 #[derive(Clone, Copy, Debug, PartialEq, Eq)]
@@ -138,13 +138,12 @@ pub enum Kind {
     Refused(Bytes),
 }
 
-/// A token with the line and column of its first byte, both from 1 and counted in bytes, and its span: the
-/// position of its first byte, and that behind its last.
+/// A token with the place of its first byte, and its span: how many bytes stand before its first byte, and how many
+/// up to its end.
 #[derive(Debug, Drop)]
 pub struct Token {
     pub kind: Kind,
-    pub line: u32,
-    pub column: u32,
+    pub at: Position,
     pub start: u32,
     pub end: u32,
 }

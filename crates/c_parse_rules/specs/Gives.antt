@@ -19,20 +19,14 @@ abbrev pub limit : ℕ
 limit = 256
 
 abbrev pub lexeme_of : Token → Lexeme
-lexeme_of t = record { kind = t.kind; place = position_at t.line t.column }
+lexeme_of t = record { kind = t.kind; place = t.at }
 
 abbrev pub lexemes : List Token → List Lexeme
 lexemes ts = map lexeme_of ts
 
-abbrev pub place_of : Position → Position
-place_of p = position_at p.line p.column
-
 -- a sign or a word tells nothing but its place
 abbrev pub bare : Position → Unit {0} × Position
-bare p = (tt, place_of p)
-
-abbrev pub placed : {A : Type 0} → A × Position → A × Position
-placed x = (x.0, place_of x.1)
+bare p = (tt, p)
 
 abbrev pub name_view : TreeName → List ℕ × Position
 name_view n = (n.text, position_at n.line n.column)

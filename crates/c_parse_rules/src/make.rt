@@ -3,7 +3,6 @@
 ghost use Rattle.std.specs.Prelude.{◌≡◌, IfOk, map};
 ghost use Rattle.c_tree.specs.Tree as tree;
 ghost use Rattle.c_tree.specs.View.{exp_of, init_of};
-ghost use Rattle.c_parse_rules.specs.Gives.{place_of};
 
 use c_tree::{BinaryOp, CType, Expr, Initial, PrefixOp};
 use rr_base::{Bytes, List, Position};
@@ -11,7 +10,7 @@ use std::alloc::{AllocError, Global};
 
 /// Expressions with commas between them, at the place of the first.
 pub fn comma(first: Box<Expr>, rest: List<Expr>, place: Position) -> Expr
-    ensures { exp_of result ≡ tree.comma (exp_of first.value) (tree.listed (map exp_of rest)) (place_of place) }
+    ensures { exp_of result ≡ tree.comma (exp_of first.value) (tree.listed (map exp_of rest)) place }
 {
     let Position { line, column } = place;
     Expr::Comma {
@@ -30,7 +29,7 @@ pub fn binary(
     right: Expr,
     place: Position,
 ) -> Result<Expr, AllocError>
-    ensures { IfOk result (λ e. exp_of e ≡ tree.binary (exp_of left) op (exp_of right) (place_of place)) }
+    ensures { IfOk result (λ e. exp_of e ≡ tree.binary (exp_of left) op (exp_of right) place) }
 {
     let Position { line, column } = place;
     Ok(Expr::Binary {
@@ -49,7 +48,7 @@ pub fn prefix(
     operand: Expr,
     place: Position,
 ) -> Result<Expr, AllocError>
-    ensures { IfOk result (λ e. exp_of e ≡ tree.prefix op (exp_of operand) (place_of place)) }
+    ensures { IfOk result (λ e. exp_of e ≡ tree.prefix op (exp_of operand) place) }
 {
     let Position { line, column } = place;
     Ok(Expr::Prefix {
@@ -62,7 +61,7 @@ pub fn prefix(
 
 /// `sizeof` of an expression.
 pub fn sizeof_expr(alloc: Global, operand: Expr, place: Position) -> Result<Expr, AllocError>
-    ensures { IfOk result (λ e. exp_of e ≡ tree.sizeof_exp (exp_of operand) (place_of place)) }
+    ensures { IfOk result (λ e. exp_of e ≡ tree.sizeof_exp (exp_of operand) place) }
 {
     let Position { line, column } = place;
     Ok(Expr::SizeofExpr {
@@ -74,7 +73,7 @@ pub fn sizeof_expr(alloc: Global, operand: Expr, place: Position) -> Result<Expr
 
 /// A cast, at the place of its parenthesis.
 pub fn cast(alloc: Global, to: CType, operand: Expr, place: Position) -> Result<Expr, AllocError>
-    ensures { IfOk result (λ e. exp_of e ≡ tree.cast to (exp_of operand) (place_of place)) }
+    ensures { IfOk result (λ e. exp_of e ≡ tree.cast to (exp_of operand) place) }
 {
     let Position { line, column } = place;
     Ok(Expr::Cast {
@@ -87,7 +86,7 @@ pub fn cast(alloc: Global, to: CType, operand: Expr, place: Position) -> Result<
 
 /// A call, at the place of its name.
 pub fn call(name: Bytes, arguments: List<Expr>, place: Position) -> Expr
-    ensures { exp_of result ≡ tree.call name (tree.listed (map exp_of arguments)) (place_of place) }
+    ensures { exp_of result ≡ tree.call name (tree.listed (map exp_of arguments)) place }
 {
     let Position { line, column } = place;
     Expr::Call {
@@ -100,7 +99,7 @@ pub fn call(name: Bytes, arguments: List<Expr>, place: Position) -> Expr
 
 /// Initials in braces; whether a comma stands behind the last is kept.
 pub fn braces(parts: List<Initial>, comma: bool, place: Position) -> Initial
-    ensures { init_of result ≡ tree.braces (tree.listed_inits (map init_of parts)) comma (place_of place) }
+    ensures { init_of result ≡ tree.braces (tree.listed_inits (map init_of parts)) comma place }
 {
     let Position { line, column } = place;
     Initial::Braces {

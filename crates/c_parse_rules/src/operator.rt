@@ -2,7 +2,6 @@
 
 ghost use Rattle.std.specs.Prelude.{◌≡◌, IfOk};
 ghost use Rattle.c_tree.specs.View.{exp_of};
-ghost use Rattle.c_parse_rules.specs.Gives.{place_of};
 ghost use Rattle.c_grammar.specs.Grammar.{tightness as spec_tightness};
 ghost use Rattle.c_grammar.specs.Parse as spec;
 ghost use Rattle.c_grammar.specs.Rules.{push as spec_push};
@@ -103,7 +102,7 @@ pub fn push(
     operand: Expr,
     place: Position,
 ) -> Result<Expr, AllocError>
-    ensures { IfOk result (λ e. exp_of e ≡ spec_push (exp_of left) op (exp_of operand) (place_of place)) }
+    ensures { IfOk result (λ e. exp_of e ≡ spec_push (exp_of left) op (exp_of operand) place) }
 {
     match left {
         Expr::Binary {

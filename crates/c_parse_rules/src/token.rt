@@ -2,7 +2,7 @@
 
 ghost use Rattle.std.specs.Prelude.{◌≡◌, ◌≤◌, IfOk, option_map};
 ghost use Rattle.c_lexer.specs.declared.token.Kind.TheVariants as kind;
-ghost use Rattle.c_parse_rules.specs.Gives.{limit, lexeme_of, lexemes, place_of, bare, placed, name_view, Takes, MayTake};
+ghost use Rattle.c_parse_rules.specs.Gives.{limit, lexemes, bare, name_view, Takes, MayTake};
 ghost use Rattle.c_grammar.specs.Parse as spec;
 
 use crate::operator::{as_assign, as_binary, as_prefix};
@@ -46,15 +46,6 @@ impl<T: Drop> From<AllocFailed<T>> for Stop<'_> {
     }
 }
 
-fn place_at(token: &Token) -> Position
-    ensures { place_of result ≡ (lexeme_of token.now).place }
-{
-    Position {
-        line: token.line,
-        column: token.column,
-    }
-}
-
 fn is_punct(kind: &Kind, wanted: Punct) -> bool
     ensures { result ≡ spec.is_of (spec.sign wanted) kind.now }
 {
@@ -86,7 +77,7 @@ pub fn next_punct(
             if level > LIMIT {
                 return Err(Stop::Nesting(tokens));
             }
-            Ok(Some((place_at(first), rest)))
+            Ok(Some((first.at, rest)))
         }
         _ => Ok(None),
     }
@@ -116,7 +107,7 @@ pub fn next_word(
             if level > LIMIT {
                 return Err(Stop::Nesting(tokens));
             }
-            Ok(Some((place_at(first), rest)))
+            Ok(Some((first.at, rest)))
         }
         _ => Ok(None),
     }
@@ -161,8 +152,8 @@ pub fn next_name(
     }
     let name = Name {
         text: text.copied(alloc)?,
-        line: first.line,
-        column: first.column,
+        line: first.at.line,
+        column: first.at.column,
     };
     Ok(Some((name, rest)))
 }
@@ -193,7 +184,7 @@ pub fn next_text(
     tokens: &[Token],
     level: u32,
 ) -> Result<Option<((Bytes, Position), &[Token])>, Stop<'_>>
-    ensures { MayTake spec.a_text level (λ x. placed x) tokens.now result }
+    ensures { MayTake spec.a_text level (λ x. x) tokens.now result }
 {
     let [first, rest @ ..] = tokens else {
         return Ok(None);
@@ -204,7 +195,7 @@ pub fn next_text(
     if level > LIMIT {
         return Err(Stop::Nesting(tokens));
     }
-    Ok(Some(((text.copied(alloc)?, place_at(first)), rest)))
+    Ok(Some(((text.copied(alloc)?, first.at), rest)))
 }
 
 fn number_of(kind: &Kind) -> Option<i64>
@@ -221,7 +212,7 @@ pub fn next_number(
     tokens: &[Token],
     level: u32,
 ) -> Result<Option<((i64, Position), &[Token])>, Stop<'_>>
-    ensures { MayTake spec.a_number level (λ x. placed x) tokens.now result }
+    ensures { MayTake spec.a_number level (λ x. x) tokens.now result }
 {
     let [first, rest @ ..] = tokens else {
         return Ok(None);
@@ -232,7 +223,7 @@ pub fn next_number(
     if level > LIMIT {
         return Err(Stop::Nesting(tokens));
     }
-    Ok(Some(((value, place_at(first)), rest)))
+    Ok(Some(((value, first.at), rest)))
 }
 
 fn letter_of(kind: &Kind) -> Option<u8>
@@ -249,7 +240,7 @@ pub fn next_letter(
     tokens: &[Token],
     level: u32,
 ) -> Result<Option<((u8, Position), &[Token])>, Stop<'_>>
-    ensures { MayTake spec.a_letter level (λ x. placed x) tokens.now result }
+    ensures { MayTake spec.a_letter level (λ x. x) tokens.now result }
 {
     let [first, rest @ ..] = tokens else {
         return Ok(None);
@@ -260,7 +251,7 @@ pub fn next_letter(
     if level > LIMIT {
         return Err(Stop::Nesting(tokens));
     }
-    Ok(Some(((value, place_at(first)), rest)))
+    Ok(Some(((value, first.at), rest)))
 }
 
 fn prefix_of(kind: &Kind) -> Option<PrefixOp>
@@ -277,7 +268,7 @@ pub fn next_prefix(
     tokens: &[Token],
     level: u32,
 ) -> Result<Option<((PrefixOp, Position), &[Token])>, Stop<'_>>
-    ensures { MayTake spec.a_prefix level (λ x. placed x) tokens.now result }
+    ensures { MayTake spec.a_prefix level (λ x. x) tokens.now result }
 {
     let [first, rest @ ..] = tokens else {
         return Ok(None);
@@ -288,7 +279,7 @@ pub fn next_prefix(
     if level > LIMIT {
         return Err(Stop::Nesting(tokens));
     }
-    Ok(Some(((op, place_at(first)), rest)))
+    Ok(Some(((op, first.at), rest)))
 }
 
 fn binary_of(kind: &Kind) -> Option<BinaryOp>
@@ -305,7 +296,7 @@ pub fn next_binary(
     tokens: &[Token],
     level: u32,
 ) -> Result<Option<((BinaryOp, Position), &[Token])>, Stop<'_>>
-    ensures { MayTake spec.a_binary level (λ x. placed x) tokens.now result }
+    ensures { MayTake spec.a_binary level (λ x. x) tokens.now result }
 {
     let [first, rest @ ..] = tokens else {
         return Ok(None);
@@ -316,7 +307,7 @@ pub fn next_binary(
     if level > LIMIT {
         return Err(Stop::Nesting(tokens));
     }
-    Ok(Some(((op, place_at(first)), rest)))
+    Ok(Some(((op, first.at), rest)))
 }
 
 fn assign_of(kind: &Kind) -> Option<AssignOp>
@@ -333,7 +324,7 @@ pub fn next_assign(
     tokens: &[Token],
     level: u32,
 ) -> Result<Option<((AssignOp, Position), &[Token])>, Stop<'_>>
-    ensures { MayTake spec.an_assign level (λ x. placed x) tokens.now result }
+    ensures { MayTake spec.an_assign level (λ x. x) tokens.now result }
 {
     let [first, rest @ ..] = tokens else {
         return Ok(None);
@@ -344,7 +335,7 @@ pub fn next_assign(
     if level > LIMIT {
         return Err(Stop::Nesting(tokens));
     }
-    Ok(Some(((op, place_at(first)), rest)))
+    Ok(Some(((op, first.at), rest)))
 }
 
 fn is_type(word: Word) -> bool

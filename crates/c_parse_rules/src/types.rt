@@ -1,7 +1,7 @@
 //! Reads the names of types.
 
 ghost use Rattle.std.specs.Prelude.{◌≡◌, ◌≤◌, IfOk};
-ghost use Rattle.c_parse_rules.specs.Gives.{limit, lexemes, place_of, Reads, Follows};
+ghost use Rattle.c_parse_rules.specs.Gives.{limit, lexemes, Reads, Follows};
 ghost use Rattle.c_grammar.specs.Grammar.{specifier_place as spec_specifier_place};
 ghost use Rattle.c_grammar.specs.Rules.{long_rule};
 ghost use Rattle.c_grammar.specs.Phrase as phrase;
@@ -53,7 +53,7 @@ pub fn specifier(
 
 // Behind the first `long`, which stands at that place.
 fn long(level: u32, place: Position, tokens: &[Token]) -> Result<(Specifier, &[Token]), Stop<'_>>
-    ensures { Follows (long_rule level (place_of place)) (λ s. s) tokens.now result }
+    ensures { Follows (long_rule level place) (λ s. s) tokens.now result }
 {
     let Position { line, column } = place;
     let (second, rest) = match next_word(tokens, Word::Long, level)? {
@@ -96,7 +96,7 @@ pub fn type_name(alloc: Global, level: u32, tokens: &[Token]) -> Result<(CType, 
 
 /// Where a specifier begins.
 pub fn specifier_place(specifier: &Specifier) -> Position
-    ensures { place_of result ≡ spec_specifier_place specifier.now }
+    ensures { result ≡ spec_specifier_place specifier.now }
 {
     match *specifier {
         Specifier::Int { line, column }

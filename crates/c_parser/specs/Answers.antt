@@ -23,9 +23,9 @@ IsTreeOf ts os = (ms : List Mark) × IsProgram os ms × AllLow limit ms × (lexe
 abbrev pub Finds : Result Program ParseFault → List Outer → Type 0
 Finds (Ok p) os = program_of p ≡ os
 Finds (Err faults.OutOfMemory) os = Unit {0}
-Finds (Err (faults.Syntax line column)) os = ⊥
-Finds (Err (faults.Nesting line column)) os = ⊥
-Finds (Err (faults.OutOfProfile line column)) os = ⊥
+Finds (Err (faults.Syntax at)) os = ⊥
+Finds (Err (faults.Nesting at)) os = ⊥
+Finds (Err (faults.OutOfProfile at)) os = ⊥
 
 -- ---- faults
 
@@ -41,7 +41,7 @@ begins_refused (t ∷ ts) = is_refused t.kind
 -- the byte after this token
 abbrev pub place_after : Option Token → Position
 place_after None = position_at 1 1
-place_after (Some t) = position_at t.line (t.column + (t.end - t.start))
+place_after (Some t) = position_at t.at.line (t.at.column + (t.end - t.start))
 
 -- the byte after the last token
 abbrev pub end_of : List Token → Position
@@ -58,9 +58,9 @@ abbrev pub StopsAt : Fault → List Lexeme → List Token → Type 0
 StopsAt f rest ts = (front : List Mark) × AllLow limit front × (lexemes ts ≡ erase front ++ rest) × IsFaultOf limit f front rest
 
 abbrev pub IsFault : ParseFault → List Token → Type 0
-IsFault (faults.Syntax line column) ts = (rest : List Lexeme) × StopsAt Syntax rest ts × (begins_refused rest ≡ false) × (position_at line column ≡ stands_at rest ts)
-IsFault (faults.OutOfProfile line column) ts = (rest : List Lexeme) × StopsAt Syntax rest ts × (begins_refused rest ≡ true) × (position_at line column ≡ stands_at rest ts)
-IsFault (faults.Nesting line column) ts = (rest : List Lexeme) × StopsAt Nesting rest ts × (position_at line column ≡ stands_at rest ts)
+IsFault (faults.Syntax at) ts = (rest : List Lexeme) × StopsAt Syntax rest ts × (begins_refused rest ≡ false) × (at ≡ stands_at rest ts)
+IsFault (faults.OutOfProfile at) ts = (rest : List Lexeme) × StopsAt Syntax rest ts × (begins_refused rest ≡ true) × (at ≡ stands_at rest ts)
+IsFault (faults.Nesting at) ts = (rest : List Lexeme) × StopsAt Nesting rest ts × (at ≡ stands_at rest ts)
 IsFault faults.OutOfMemory ts = Unit {0}
 
 -- ---- what the rules find
@@ -68,7 +68,7 @@ IsFault faults.OutOfMemory ts = Unit {0}
 -- the call answers what the rules find in the tokens, unless memory runs out
 abbrev pub Tells : Result Program ParseFault → Outcome (List Outer) → List Token → Type 0
 Tells (Ok p) o ts = (rest : List Lexeme) × (o ≡ Got (program_of p) rest)
-Tells (Err (faults.Syntax line column)) o ts = (rest : List Lexeme) × (o ≡ Stuck Syntax rest) × (begins_refused rest ≡ false) × (position_at line column ≡ stands_at rest ts)
-Tells (Err (faults.OutOfProfile line column)) o ts = (rest : List Lexeme) × (o ≡ Stuck Syntax rest) × (begins_refused rest ≡ true) × (position_at line column ≡ stands_at rest ts)
-Tells (Err (faults.Nesting line column)) o ts = (rest : List Lexeme) × (o ≡ Stuck Nesting rest) × (position_at line column ≡ stands_at rest ts)
+Tells (Err (faults.Syntax at)) o ts = (rest : List Lexeme) × (o ≡ Stuck Syntax rest) × (begins_refused rest ≡ false) × (at ≡ stands_at rest ts)
+Tells (Err (faults.OutOfProfile at)) o ts = (rest : List Lexeme) × (o ≡ Stuck Syntax rest) × (begins_refused rest ≡ true) × (at ≡ stands_at rest ts)
+Tells (Err (faults.Nesting at)) o ts = (rest : List Lexeme) × (o ≡ Stuck Nesting rest) × (at ≡ stands_at rest ts)
 Tells (Err faults.OutOfMemory) o ts = Unit {0}

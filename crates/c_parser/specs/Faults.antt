@@ -1,10 +1,17 @@
--- The numbers of the parser's faults.
+-- The parser's faults: their numbers, and where they stand.
 use Rattle.std.specs.Prelude.{ℕ, Option, Some, None}
+use Rattle.rr_base.specs.declared.position.Position.{Position}
 use Rattle.c_parser.specs.declared.fault.ParseFault.{ParseFault}
 use Rattle.c_parser.specs.declared.fault.ParseFault.TheVariants as faults
 
 abbrev pub number_of : ParseFault → Option ℕ
-number_of (faults.Syntax line column) = Some 7
-number_of (faults.Nesting line column) = Some 8
-number_of (faults.OutOfProfile line column) = Some 20
+number_of (faults.Syntax at) = Some 7
+number_of (faults.Nesting at) = Some 8
+number_of (faults.OutOfProfile at) = Some 20
 number_of faults.OutOfMemory = None
+
+abbrev pub place_of : ParseFault → Option Position
+place_of (faults.Syntax at) = Some at
+place_of (faults.Nesting at) = Some at
+place_of (faults.OutOfProfile at) = Some at
+place_of faults.OutOfMemory = None

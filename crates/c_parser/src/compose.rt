@@ -4,14 +4,13 @@ ghost use Rattle.std.specs.Prelude.{◌≡◌, map};
 ghost use Rattle.c_tree.specs.Tree as tree;
 ghost use Rattle.c_tree.specs.View.{exp_of, stmt_of, part_of};
 ghost use Rattle.c_parser.specs.ForHeads.{for_head_of};
-ghost use Rattle.c_parse_rules.specs.Gives.{place_of};
 
 use crate::short::ForHead;
 use c_tree::{Expr, Part, Stmt};
 use rr_base::{List, Position};
 
 pub(crate) fn block(parts: List<Part>, place: Position) -> Stmt
-    ensures { stmt_of result ≡ tree.block (tree.listed_parts (map part_of parts)) (place_of place) }
+    ensures { stmt_of result ≡ tree.block (tree.listed_parts (map part_of parts)) place }
 {
     let Position { line, column } = place;
     Stmt::Block {
@@ -22,7 +21,7 @@ pub(crate) fn block(parts: List<Part>, place: Position) -> Stmt
 }
 
 pub(crate) fn branch(test: Box<Expr>, yes: Box<Stmt>, place: Position) -> Stmt
-    ensures { stmt_of result ≡ tree.branch (exp_of test.value) (stmt_of yes.value) (place_of place) }
+    ensures { stmt_of result ≡ tree.branch (exp_of test.value) (stmt_of yes.value) place }
 {
     let Position { line, column } = place;
     Stmt::If {
@@ -35,7 +34,7 @@ pub(crate) fn branch(test: Box<Expr>, yes: Box<Stmt>, place: Position) -> Stmt
 }
 
 pub(crate) fn branch_else(test: Box<Expr>, yes: Box<Stmt>, no: Box<Stmt>, place: Position) -> Stmt
-    ensures { stmt_of result ≡ tree.branch_else (exp_of test.value) (stmt_of yes.value) (stmt_of no.value) (place_of place) }
+    ensures { stmt_of result ≡ tree.branch_else (exp_of test.value) (stmt_of yes.value) (stmt_of no.value) place }
 {
     let Position { line, column } = place;
     Stmt::If {
@@ -48,7 +47,7 @@ pub(crate) fn branch_else(test: Box<Expr>, yes: Box<Stmt>, no: Box<Stmt>, place:
 }
 
 pub(crate) fn while_loop(test: Box<Expr>, body: Box<Stmt>, place: Position) -> Stmt
-    ensures { stmt_of result ≡ tree.while_loop (exp_of test.value) (stmt_of body.value) (place_of place) }
+    ensures { stmt_of result ≡ tree.while_loop (exp_of test.value) (stmt_of body.value) place }
 {
     let Position { line, column } = place;
     Stmt::While {
@@ -60,7 +59,7 @@ pub(crate) fn while_loop(test: Box<Expr>, body: Box<Stmt>, place: Position) -> S
 }
 
 pub(crate) fn do_loop(body: Box<Stmt>, test: Box<Expr>, place: Position) -> Stmt
-    ensures { stmt_of result ≡ tree.do_loop (stmt_of body.value) (exp_of test.value) (place_of place) }
+    ensures { stmt_of result ≡ tree.do_loop (stmt_of body.value) (exp_of test.value) place }
 {
     let Position { line, column } = place;
     Stmt::Do {
@@ -72,7 +71,7 @@ pub(crate) fn do_loop(body: Box<Stmt>, test: Box<Expr>, place: Position) -> Stmt
 }
 
 pub(crate) fn for_loop(head: ForHead, body: Box<Stmt>, place: Position) -> Stmt
-    ensures { let h = for_head_of head in stmt_of result ≡ tree.for_loop h.start h.test h.next (stmt_of body.value) (place_of place) }
+    ensures { let h = for_head_of head in stmt_of result ≡ tree.for_loop h.start h.test h.next (stmt_of body.value) place }
 {
     let ForHead { start, test, step } = head;
     let Position { line, column } = place;

@@ -3,7 +3,7 @@
 
 ghost use Rattle.std.specs.Prelude.{◌≡◌, ◌+◌, ◌≤◌, IfOk, [], map};
 ghost use Rattle.c_tree.specs.View.{exp_of, declared_of, init_of, object_of, declares_of};
-ghost use Rattle.c_parse_rules.specs.Gives.{limit, place_of, initials_of, Reads, Follows};
+ghost use Rattle.c_parse_rules.specs.Gives.{limit, initials_of, Reads, Follows};
 ghost use Rattle.c_grammar.specs.Phrase as phrase;
 ghost use Rattle.c_grammar.specs.Rules.{braces_rule};
 
@@ -118,7 +118,7 @@ fn braces(
     tokens: &[Token],
 ) -> Result<(Initial, &[Token]), Stop<'_>>
     requires { level ≤ limit }
-    ensures { Follows (braces_rule level (place_of place)) (λ i. init_of i) tokens.now result }
+    ensures { Follows (braces_rule level place) (λ i. init_of i) tokens.now result }
 {
     let (first, rest) = initial(alloc, level, tokens)?;
     let mut parts = List::new(alloc);

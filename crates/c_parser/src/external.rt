@@ -2,7 +2,7 @@
 
 ghost use Rattle.std.specs.Prelude.{◌≡◌, ◌≤◌, [], map};
 ghost use Rattle.c_tree.specs.View.{code_of, declared_of, fields_of, outer_of};
-ghost use Rattle.c_parse_rules.specs.Gives.{limit, place_of, Reads, Follows};
+ghost use Rattle.c_parse_rules.specs.Gives.{limit, Reads, Follows};
 ghost use Rattle.c_grammar.specs.Grammar.{name_place, is_void_alone as spec_is_void_alone};
 ghost use Rattle.c_grammar.specs.Phrase as phrase;
 ghost use Rattle.c_grammar.specs.Rules as rules;
@@ -253,7 +253,7 @@ fn objects(
     tokens: &[Token],
 ) -> Result<(External, &[Token]), Stop<'_>>
     requires { stars ≤ limit }
-    ensures { Follows (rules.objects_rule is_static specifier (place_of place) stars name.text (name_place name)) (λ o. outer_of o) tokens.now result }
+    ensures { Follows (rules.objects_rule is_static specifier place stars name.text (name_place name)) (λ o. outer_of o) tokens.now result }
 {
     let (lengths, rest) = lengths(alloc, stars, tokens)?;
     let stars = stars as usize;
@@ -289,7 +289,7 @@ fn outer_behind(
     place: Position,
     tokens: &[Token],
 ) -> Result<(External, &[Token]), Stop<'_>>
-    ensures { Reads (phrase.outer_behind is_static specifier (place_of place)) (λ o. outer_of o) tokens.now result }
+    ensures { Reads (phrase.outer_behind is_static specifier place) (λ o. outer_of o) tokens.now result }
 {
     let (head, rest) = outer_head(alloc, tokens)?;
     match head {
@@ -306,7 +306,7 @@ fn behind_struct(
     place: Position,
     tokens: &[Token],
 ) -> Result<(External, &[Token]), Stop<'_>>
-    ensures { Follows (rules.behind_struct_rule (place_of place)) (λ o. outer_of o) tokens.now result }
+    ensures { Follows (rules.behind_struct_rule place) (λ o. outer_of o) tokens.now result }
 {
     let (name, rest) = name(alloc, tokens, 0)?;
     if begins_with(rest, Punct::OpenBrace) {

@@ -4,7 +4,7 @@
 ghost use Rattle.std.specs.Prelude.{◌≡◌, ◌≤◌};
 ghost use Rattle.c_tree.specs.View.{exp_of, maybe_of, start_of, stmt_of};
 ghost use Rattle.c_parser.specs.ForHeads.{for_head_of as head_of_for};
-ghost use Rattle.c_parse_rules.specs.Gives.{place_of, Reads, Follows};
+ghost use Rattle.c_parse_rules.specs.Gives.{Reads, Follows};
 ghost use Rattle.c_grammar.specs.Phrase as phrase;
 ghost use Rattle.c_grammar.specs.Rules as rules;
 ghost use Rattle.c_parser.specs.Simple.{MaySimply};
@@ -121,7 +121,7 @@ fn returned(
     tokens: &[Token],
 ) -> Result<(Stmt, &[Token]), Stop<'_>>
     requires { level ≤ 256 }
-    ensures { Follows (rules.return_rule level (place_of place)) (λ s. stmt_of s) tokens.now result }
+    ensures { Follows (rules.return_rule level place) (λ s. stmt_of s) tokens.now result }
 {
     let Position { line, column } = place;
     let (value, rest) = maybe_boxed(alloc, level, Punct::Semicolon, tokens)?;

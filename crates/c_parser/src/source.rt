@@ -8,7 +8,7 @@ ghost use Rattle.c_tree.specs.Kinds.{kinds_of};
 ghost use Rattle.c_grammar.specs.Phrase as phrase;
 ghost use Rattle.c_grammar.specs.Exact.{parsed};
 ghost use Rattle.c_parser.specs.Answers.{IsTreeOf, Finds, IsFault, Tells, begins_refused, end_of, stands_at};
-ghost use Rattle.c_parse_rules.specs.Gives.{limit, lexemes, place_of, Stops, Reads};
+ghost use Rattle.c_parse_rules.specs.Gives.{limit, lexemes, Stops, Reads};
 
 use crate::external::program;
 use crate::fault::ParseFault;
@@ -21,12 +21,12 @@ use std::alloc::Global;
 // The place of the byte after the last token.
 fn end_of(tokens: &[Token]) -> Position
     requires { All IsPlaced tokens.now }
-    ensures { place_of result ≡ end_of tokens.now }
+    ensures { result ≡ end_of tokens.now }
 {
     match tokens.last() {
         Some(last) => Position {
-            line: last.line,
-            column: last.column + (last.end - last.start),
+            line: last.at.line,
+            column: last.at.column + (last.end - last.start),
         },
         None => Position { line: 1, column: 1 },
     }
@@ -34,13 +34,10 @@ fn end_of(tokens: &[Token]) -> Position
 
 fn stands_at(rest: &[Token], tokens: &[Token]) -> Position
     requires { All IsPlaced tokens.now }
-    ensures { place_of result ≡ stands_at (lexemes rest.now) tokens.now }
+    ensures { result ≡ stands_at (lexemes rest.now) tokens.now }
 {
     match rest {
-        [first, ..] => Position {
-            line: first.line,
-            column: first.column,
-        },
+        [first, ..] => first.at,
         [] => end_of(tokens),
     }
 }
@@ -65,16 +62,16 @@ fn fault_of(stop: Stop<'_>, tokens: &[Token]) -> ParseFault
     match stop {
         Stop::OutOfMemory => ParseFault::OutOfMemory,
         Stop::Syntax(rest) => {
-            let Position { line, column } = stands_at(rest, tokens);
+            let at = stands_at(rest, tokens);
             if begins_refused(rest) {
-                ParseFault::OutOfProfile { line, column }
+                ParseFault::OutOfProfile { at }
             } else {
-                ParseFault::Syntax { line, column }
+                ParseFault::Syntax { at }
             }
         }
         Stop::Nesting(rest) => {
-            let Position { line, column } = stands_at(rest, tokens);
-            ParseFault::Nesting { line, column }
+            let at = stands_at(rest, tokens);
+            ParseFault::Nesting { at }
         }
     }
 }

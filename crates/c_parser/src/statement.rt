@@ -3,7 +3,7 @@
 
 ghost use Rattle.std.specs.Prelude.{◌≡◌, ◌≤◌, [], map};
 ghost use Rattle.c_tree.specs.View.{exp_of, stmt_of, part_of};
-ghost use Rattle.c_parse_rules.specs.Gives.{place_of, Reads, Follows};
+ghost use Rattle.c_parse_rules.specs.Gives.{Reads, Follows};
 ghost use Rattle.c_grammar.specs.Grammar.{ends_open as spec_ends_open};
 ghost use Rattle.c_grammar.specs.Phrase as phrase;
 ghost use Rattle.c_grammar.specs.Rules as rules;
@@ -69,7 +69,7 @@ fn block(
     tokens: &[Token],
 ) -> Result<(Stmt, &[Token]), Stop<'_>>
     requires { level ≤ 256 }
-    ensures { Follows (rules.block_rule level (place_of place)) (λ s. stmt_of s) tokens.now result }
+    ensures { Follows (rules.block_rule level place) (λ s. stmt_of s) tokens.now result }
 {
     let (parts, rest) = parts(alloc, level, tokens)?;
     let (_, rest) = punct(rest, Punct::CloseBrace, level)?;
@@ -106,7 +106,7 @@ fn branch(
     tokens: &[Token],
 ) -> Result<(Stmt, &[Token]), Stop<'_>>
     requires { level ≤ 256 }
-    ensures { Follows (rules.if_rule level (place_of place)) (λ s. stmt_of s) tokens.now result }
+    ensures { Follows (rules.if_rule level place) (λ s. stmt_of s) tokens.now result }
 {
     let (test, rest) = test(alloc, level, tokens)?;
     let (yes, rest) = boxed(alloc, level, rest)?;
@@ -124,7 +124,7 @@ fn otherwise(
     tokens: &[Token],
 ) -> Result<(Stmt, &[Token]), Stop<'_>>
     requires { level ≤ 256 }
-    ensures { Follows (rules.else_rule level (exp_of test.value) (stmt_of yes.value) (place_of place)) (λ s. stmt_of s) tokens.now result }
+    ensures { Follows (rules.else_rule level (exp_of test.value) (stmt_of yes.value) place) (λ s. stmt_of s) tokens.now result }
 {
     if ends_open(&yes) {
         return Ok((compose::branch(test, yes, place), tokens));
@@ -145,7 +145,7 @@ fn while_loop(
     tokens: &[Token],
 ) -> Result<(Stmt, &[Token]), Stop<'_>>
     requires { level ≤ 256 }
-    ensures { Follows (rules.while_rule level (place_of place)) (λ s. stmt_of s) tokens.now result }
+    ensures { Follows (rules.while_rule level place) (λ s. stmt_of s) tokens.now result }
 {
     let (test, rest) = test(alloc, level, tokens)?;
     let (body, rest) = boxed(alloc, level, rest)?;
@@ -161,7 +161,7 @@ fn do_loop(
     tokens: &[Token],
 ) -> Result<(Stmt, &[Token]), Stop<'_>>
     requires { level ≤ 256 }
-    ensures { Follows (rules.do_rule level (place_of place)) (λ s. stmt_of s) tokens.now result }
+    ensures { Follows (rules.do_rule level place) (λ s. stmt_of s) tokens.now result }
 {
     let (body, rest) = boxed(alloc, level, tokens)?;
     let (test, rest) = do_end(alloc, level, rest)?;
@@ -177,7 +177,7 @@ fn for_loop(
     tokens: &[Token],
 ) -> Result<(Stmt, &[Token]), Stop<'_>>
     requires { level ≤ 256 }
-    ensures { Follows (rules.for_rule level (place_of place)) (λ s. stmt_of s) tokens.now result }
+    ensures { Follows (rules.for_rule level place) (λ s. stmt_of s) tokens.now result }
 {
     let (head, rest) = for_head_of(alloc, level, tokens)?;
     let (body, rest) = boxed(alloc, level, rest)?;

@@ -2,7 +2,6 @@
 #![tactic(auto, using(c_types::proofs::First::first_of_both))]
 
 ghost use Rattle.std.specs.Prelude.{◌≡◌, ◌++◌, [], map, replicate, IfOk, OnOk};
-ghost use Rattle.rr_base.specs.Positions.{position_at};
 ghost use Rattle.c_tree.specs.View.{exp_of, declared_of};
 ghost use Rattle.c_types.specs.declared.types.Layer.TheVariants as layer;
 ghost use Rattle.c_programs.specs.Declarators as spec;
@@ -10,13 +9,13 @@ ghost use Rattle.c_types.specs.Found.{first_among};
 ghost use Rattle.c_programs.specs.Table.{known_of};
 
 use crate::table::Table;
-use c_rules::{constant_named, length_of, note_length, note_mismatch, note_specifier};
+use c_rules::{constant_named, length_of, name_place, note_length, note_mismatch, note_specifier};
 use c_tree::{Declarator, Expr, Name, Specifier};
 use c_types::{
     FaultKind, Found, Layer, MAX_CELLS, Names, ObjectType, TypeRef, base_of, is_complete,
     library_named, note,
 };
-use rr_base::List;
+use rr_base::{List, Position};
 use std::alloc::{AllocError, Global};
 
 /// The array of the first length is the outermost. There are no layers if something is wrong with a length.
@@ -85,8 +84,8 @@ pub fn is_struct_specifier(specifier: &Specifier) -> bool
     matches!(specifier, Specifier::Struct { .. })
 }
 
-fn note_lengths<N: Names>(names: &N, at: (u32, u32), lengths: &[Expr], first: &mut Option<Found>)
-    ensures { first.new ≡ first_among first.old (spec.lengths_faults (N.known names.now) (position_at at.0 at.1) (map exp_of lengths.now)) }
+fn note_lengths<N: Names>(names: &N, at: Position, lengths: &[Expr], first: &mut Option<Found>)
+    ensures { first.new ≡ first_among first.old (spec.lengths_faults (N.known names.now) at (map exp_of lengths.now)) }
 {
     for length in lengths {
         note_length(names, at, length, first);
@@ -104,9 +103,9 @@ pub fn note_declarator<N: Names>(
     ensures { first.new ≡ first_among first.old (spec.declarator_faults (N.known names.now) specifier.now (declared_of declarator.now)) }
 {
     let is_bare = declarator.stars == 0;
-    let at = (declarator.name.line, declarator.name.column);
+    let at = name_place(&declarator.name);
     note_specifier(names, is_bare, specifier, first);
-    note_mismatch(first, is_void_specifier(specifier) && is_bare, at.0, at.1);
+    note_mismatch(first, is_void_specifier(specifier) && is_bare, at);
     note_lengths(names, at, declarator.lengths.as_slice(), first);
 }
 
@@ -118,8 +117,7 @@ pub fn note_size(cells: u32, name: &Name, first: &mut Option<Found>)
         first,
         cells > MAX_CELLS,
         FaultKind::ObjectTooLarge,
-        name.line,
-        name.column,
+        name_place(name),
     );
 }
 
@@ -141,11 +139,5 @@ pub fn note_taken(table: &Table, name: &Name, first: &mut Option<Found>)
     ensures { first.new ≡ first_among first.old (spec.taken_faults (known_of table.now) name.now) }
 {
     let comes = is_taken(table, name.text.as_slice());
-    note(
-        first,
-        comes,
-        FaultKind::DuplicateName,
-        name.line,
-        name.column,
-    );
+    note(first, comes, FaultKind::DuplicateName, name_place(name));
 }

@@ -2,7 +2,6 @@
 #![tactic(auto, using(c_types::proofs::First::first_of_both))]
 
 ghost use Rattle.std.specs.Prelude.{◌≡◌, ◌++◌, IfOk, OnOk};
-ghost use Rattle.rr_base.specs.Positions.{position_at};
 ghost use Rattle.c_tree.specs.View.{code_of};
 ghost use Rattle.c_types.specs.Found.{first_among};
 ghost use Rattle.c_types.specs.Scopes.{opened};
@@ -15,13 +14,13 @@ use crate::declarators::{is_library_name, is_struct_specifier};
 use crate::params::{note_params, wanted_of};
 use crate::statements::note_parts;
 use crate::table::{Declared, Table};
-use c_rules::{is_main, note_mismatch, note_specifier};
+use c_rules::{is_main, name_place, note_mismatch, note_specifier};
 use c_tree::{Body, Name, Param, Params, Specifier};
 use c_types::{
     BaseType, FaultKind, Found, Meaning, Names, Signature, StarredType, Wanted, base_of,
     have_same_base, note,
 };
-use rr_base::List;
+use rr_base::{List, Position};
 use std::alloc::{AllocError, Global};
 
 /// Whether no function can give it.
@@ -146,19 +145,19 @@ fn note_again(
     seen: Option<Meaning>,
     has_body: bool,
     f: &Signature,
-    at: (u32, u32),
+    at: Position,
     first: &mut Option<Found>,
 )
-    ensures { first.new ≡ first_among first.old (spec.again_faults (shown_meaning seen.entry) has_body f.now (position_at at.0 at.1)) }
+    ensures { first.new ≡ first_among first.old (spec.again_faults (shown_meaning seen.entry) has_body f.now at) }
 {
     match seen {
         None => {}
         Some(Meaning::Variable(_)) => {
-            note(first, true, FaultKind::DuplicateName, at.0, at.1);
+            note(first, true, FaultKind::DuplicateName, at);
         }
         Some(Meaning::Function(g)) => {
-            note(first, has_body, FaultKind::DuplicateName, at.0, at.1);
-            note_mismatch(first, !agree(g, f), at.0, at.1);
+            note(first, has_body, FaultKind::DuplicateName, at);
+            note_mismatch(first, !agree(g, f), at);
         }
     }
 }
@@ -178,19 +177,18 @@ fn note_function_name(
         first,
         is_library,
         FaultKind::DuplicateName,
-        name.line,
-        name.column,
+        name_place(name),
     );
     let has_body = is_definition(body) && table.has_begun(text);
     note_again(
         table.declared_here(text),
         has_body,
         f,
-        (name.line, name.column),
+        name_place(name),
         first,
     );
     let is_other = is_main(text) && !is_main_signature(f);
-    note_mismatch(first, is_other, name.line, name.column);
+    note_mismatch(first, is_other, name_place(name));
 }
 
 /// Declares the function in the innermost scope; its definition begins where there is a body.
@@ -263,7 +261,7 @@ pub fn note_function<'a>(
     let f = signature_of(alloc, &*table, specifier, stars, params)?;
     let gives = f.result;
     note_specifier(&*table, stars == 0, specifier, first);
-    note_mismatch(first, cannot_give(specifier, stars), name.line, name.column);
+    note_mismatch(first, cannot_give(specifier, stars), name_place(name));
     note_function_name(&*table, name, &f, body, first);
     declare_function(table, name, f, body)?;
     note_inside(alloc, table, gives, params, body, first)

@@ -3,7 +3,6 @@
 
 ghost use Rattle.std.specs.Prelude.{◌≡◌, map};
 ghost use Rattle.c_tree.specs.Tree.{listed_inits};
-ghost use Rattle.rr_base.specs.Positions.{position_at};
 ghost use Rattle.c_tree.specs.View.{exp_of, init_of};
 ghost use Rattle.c_types.specs.Found.{first_among};
 ghost use Rattle.c_programs.specs.Initials as spec;
@@ -15,6 +14,7 @@ use c_types::{
     BaseType, FaultKind, Found, Layer, Meaning, Names, Operand, Target, TypeRef, accepts,
     have_same_base, note, type_target,
 };
+use rr_base::Position;
 
 /// A part of which there are so many, all of one type.
 fn alike_part<'a>(many: u64, of: TypeRef<'a>, index: usize) -> Option<Option<TypeRef<'a>>>
@@ -150,7 +150,7 @@ fn note_global_value<N: Names>(names: &N, of: Option<TypeRef>, e: &Expr, first: 
         }
     };
     let at = first_place(e);
-    note(first, comes, FaultKind::NotConstant, at.0, at.1);
+    note(first, comes, FaultKind::NotConstant, at);
 }
 
 /// Whether an object may start as the operand; where its type isn't known some type would do.
@@ -191,14 +191,14 @@ fn note_value<'a, N: Names>(
     is_global: bool,
     target: Target<'a>,
     of: Option<TypeRef<'a>>,
-    at: (u32, u32),
+    at: Position,
     e: &Expr,
     first: &mut Option<Found>,
 )
-    ensures { first.new ≡ first_among first.old (spec.value_faults (N.known names.now) is_global (shown_target target.entry) (shown_maybe of.entry) (position_at at.0 at.1) (exp_of e.now)) }
+    ensures { first.new ≡ first_among first.old (spec.value_faults (N.known names.now) is_global (shown_target target.entry) (shown_maybe of.entry) at (exp_of e.now)) }
 {
     let standing = judge(names, target, e, first);
-    note_mismatch(first, !starts_as(of, Operand::of(standing)), at.0, at.1);
+    note_mismatch(first, !starts_as(of, Operand::of(standing)), at);
     if is_global {
         note_global_value(names, of, e, first);
     }
@@ -210,11 +210,11 @@ fn note_initial<'a, N: Names>(
     is_global: bool,
     target: Target<'a>,
     of: Option<TypeRef<'a>>,
-    at: (u32, u32),
+    at: Position,
     initial: &Initial,
     first: &mut Option<Found>,
 )
-    ensures { first.new ≡ first_among first.old (spec.initial_faults (N.known names.now) is_global (shown_target target.entry) (shown_maybe of.entry) (position_at at.0 at.1) (init_of initial.now)) }
+    ensures { first.new ≡ first_among first.old (spec.initial_faults (N.known names.now) is_global (shown_target target.entry) (shown_maybe of.entry) at (init_of initial.now)) }
 {
     match initial {
         Initial::Value(e) => note_value(names, is_global, target, of, at, e, first),
@@ -222,10 +222,10 @@ fn note_initial<'a, N: Names>(
             note_parts(names, is_global, of, at, parts.as_slice(), first);
         }
         Initial::Mutex { .. } => {
-            note_mismatch(first, !may_be_base(BaseType::Mutex, of), at.0, at.1);
+            note_mismatch(first, !may_be_base(BaseType::Mutex, of), at);
         }
         Initial::Cond { .. } => {
-            note_mismatch(first, !may_be_base(BaseType::Cond, of), at.0, at.1);
+            note_mismatch(first, !may_be_base(BaseType::Cond, of), at);
         }
     }
 }
@@ -236,11 +236,11 @@ fn note_parts<'a, N: Names>(
     names: &'a N,
     is_global: bool,
     of: Option<TypeRef<'a>>,
-    at: (u32, u32),
+    at: Position,
     parts: &[Initial],
     first: &mut Option<Found>,
 )
-    ensures { first.new ≡ first_among first.old (spec.inits_faults (N.known names.now) is_global (shown_maybe of.entry) 0 (position_at at.0 at.1) (listed_inits (map init_of parts.now))) }
+    ensures { first.new ≡ first_among first.old (spec.inits_faults (N.known names.now) is_global (shown_maybe of.entry) 0 at (listed_inits (map init_of parts.now))) }
 {
     for (index, initial) in parts.iter().enumerate() {
         let part = part_at(names, of, index);
@@ -253,7 +253,7 @@ fn note_parts<'a, N: Names>(
             initial,
             first,
         );
-        note_mismatch(first, part.is_none(), at.0, at.1);
+        note_mismatch(first, part.is_none(), at);
     }
 }
 
@@ -262,11 +262,11 @@ pub fn note_start<'a, N: Names>(
     names: &'a N,
     is_global: bool,
     of: Option<TypeRef<'a>>,
-    at: (u32, u32),
+    at: Position,
     initial: &Initial,
     first: &mut Option<Found>,
 )
-    ensures { first.new ≡ first_among first.old (spec.start_faults (N.known names.now) is_global (shown_maybe of.entry) (position_at at.0 at.1) (init_of initial.now)) }
+    ensures { first.new ≡ first_among first.old (spec.start_faults (N.known names.now) is_global (shown_maybe of.entry) at (init_of initial.now)) }
 {
     note_initial(names, is_global, value_target(of), of, at, initial, first);
 }

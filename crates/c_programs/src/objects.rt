@@ -3,7 +3,6 @@
 
 ghost use Rattle.std.specs.Prelude.{◌≡◌, OnOk, IfOk, map};
 ghost use Rattle.c_tree.specs.Tree.{initialised};
-ghost use Rattle.rr_base.specs.Positions.{position_at};
 ghost use Rattle.c_tree.specs.View.{declared_of, init_of, object_of, declares_of};
 ghost use Rattle.c_types.specs.Found.{first_among};
 ghost use Rattle.c_types.specs.Scopes as scopes;
@@ -16,9 +15,10 @@ use crate::declarators::{declared_type, note_declarator, note_size, note_taken};
 use crate::initials::note_start;
 use crate::structs::cells_of_some;
 use crate::table::{Declared, Table};
-use c_rules::{is_main, note_mismatch};
+use c_rules::{is_main, name_place, note_mismatch};
 use c_tree::{Declaration, Declarator, Initial, Item, Name, Specifier};
 use c_types::{FaultKind, Found, ObjectType, TypeRef, note};
+use rr_base::Position;
 use std::alloc::{AllocError, Global};
 
 /// The greatest number of cells that all globals may have.
@@ -51,15 +51,9 @@ fn note_global_name(is_global: bool, cells: u32, name: &Name, first: &mut Option
     ensures { first.new ≡ first_among first.old (spec.global_name_faults is_global cells name.now) }
 {
     if is_global {
-        note_mismatch(first, is_main(name.text.as_slice()), name.line, name.column);
+        note_mismatch(first, is_main(name.text.as_slice()), name_place(name));
         let comes = cells > MAX_GLOBAL_CELLS;
-        note(
-            first,
-            comes,
-            FaultKind::GlobalsTooLarge,
-            name.line,
-            name.column,
-        );
+        note(first, comes, FaultKind::GlobalsTooLarge, name_place(name));
     }
 }
 
@@ -128,11 +122,11 @@ fn note_initialised<'a>(
     specifier: &Specifier,
     declarator: &'a Declarator,
     initial: &Initial,
-    at: (u32, u32),
+    at: Position,
     first: &mut Option<Found>,
 ) -> Result<(), AllocError>
     ensures known { OnOk result (known_of table.new ≡ spec.after_declared (known_of table.old) is_global specifier.now (declared_of declarator.now)) }
-    ensures first { OnOk result (first.new ≡ first_among first.old (spec.object_faults (known_of table.old) is_global specifier.now (initialised (declared_of declarator.now) (init_of initial.now) (position_at at.0 at.1)))) }
+    ensures first { OnOk result (first.new ≡ first_among first.old (spec.object_faults (known_of table.old) is_global specifier.now (initialised (declared_of declarator.now) (init_of initial.now) at))) }
 {
     let of = declared_type(alloc, &*table, specifier, declarator)?;
     note_declared(&*table, is_global, specifier, declarator, &of, first);
@@ -164,7 +158,10 @@ fn note_object<'a>(
             line,
             column,
         } => {
-            let at = (*line, *column);
+            let at = Position {
+                line: *line,
+                column: *column,
+            };
             note_initialised(
                 alloc, table, is_global, specifier, declarator, initial, at, first,
             )

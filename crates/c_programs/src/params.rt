@@ -2,7 +2,6 @@
 #![tactic(auto, using(c_types::proofs::First::first_of_both))]
 
 ghost use Rattle.std.specs.Prelude.{◌≡◌, OnOk, IfOk};
-ghost use Rattle.rr_base.specs.Positions.{position_at};
 ghost use Rattle.c_programs.specs.Declarators as spec;
 ghost use Rattle.c_types.specs.Found.{first_among};
 ghost use Rattle.c_types.specs.Scopes as scopes;
@@ -10,10 +9,10 @@ ghost use Rattle.c_programs.specs.Table.{known_of};
 
 use crate::declarators::{is_struct_specifier, is_void_specifier, note_taken, put_pointers};
 use crate::table::{Declared, Table};
-use c_rules::{note_mismatch, note_specifier};
+use c_rules::{name_place, note_mismatch, note_specifier};
 use c_tree::{Name, Param, Params, Specifier};
 use c_types::{BaseType, Found, Names, ObjectType, StarredType, Wanted, base_of};
-use rr_base::List;
+use rr_base::{List, Position};
 use std::alloc::{AllocError, Global};
 
 /// Void and structs can't be passed, nor given.
@@ -67,12 +66,15 @@ pub fn param_type<N: Names>(
     }
 }
 
-fn param_place(p: &Param) -> (u32, u32)
-    ensures { position_at result.0 result.1 ≡ spec.param_place p.now }
+fn param_place(p: &Param) -> Position
+    ensures { result ≡ spec.param_place p.now }
 {
     match &p.name {
-        Some(name) => (name.line, name.column),
-        None => (p.line, p.column),
+        Some(name) => name_place(name),
+        None => Position {
+            line: p.line,
+            column: p.column,
+        },
     }
 }
 
@@ -90,8 +92,8 @@ fn note_param(table: &Table, is_definition: bool, p: &Param, first: &mut Option<
 {
     let at = param_place(p);
     note_specifier(table, p.stars == 0, &p.specifier, first);
-    note_mismatch(first, cannot_pass(&p.specifier, p.stars), at.0, at.1);
-    note_mismatch(first, is_definition && p.name.is_none(), at.0, at.1);
+    note_mismatch(first, cannot_pass(&p.specifier, p.stars), at);
+    note_mismatch(first, is_definition && p.name.is_none(), at);
     note_param_name(table, &p.name, first);
 }
 

@@ -3,7 +3,6 @@
 
 ghost use Rattle.std.specs.Prelude.{◌≡◌, ◌++◌, OnOk, map};
 ghost use Rattle.c_tree.specs.Tree.{listed_parts};
-ghost use Rattle.rr_base.specs.Positions.{position_at};
 ghost use Rattle.c_tree.specs.View.{exp_of, maybe_of, start_of, stmt_of, part_of};
 ghost use Rattle.c_types.specs.Found.{first_among};
 ghost use Rattle.c_rules.specs.Faults as faults;
@@ -16,6 +15,7 @@ use crate::table::Table;
 use c_rules::{can_go, judge, note_mismatch, own_place};
 use c_tree::{Expr, ForStart, Part, Stmt};
 use c_types::{Found, Names, Operand, Standing, StarredType, Target, TypeRef, accepts};
+use rr_base::Position;
 use std::alloc::{AllocError, Global};
 
 /// Notes a value that can't be let go.
@@ -23,7 +23,7 @@ fn note_go(of: Standing, e: &Expr, first: &mut Option<Found>)
     ensures { first.new ≡ first_among first.old (faults.go_faults (shown_standing of.entry) (exp_of e.now)) }
 {
     let at = own_place(e);
-    note_mismatch(first, !can_go(of), at.0, at.1);
+    note_mismatch(first, !can_go(of), at);
 }
 
 /// An expression for what it does, if there is one.
@@ -40,15 +40,15 @@ fn note_computed<N: Names>(names: &N, e: &Option<Expr>, first: &mut Option<Found
 }
 
 /// A condition of the statement at the place.
-fn note_condition<N: Names>(names: &N, at: (u32, u32), e: &Expr, first: &mut Option<Found>)
-    ensures { first.new ≡ first_among first.old (spec.condition_faults (N.known names.now) (position_at at.0 at.1) (exp_of e.now)) }
+fn note_condition<N: Names>(names: &N, at: Position, e: &Expr, first: &mut Option<Found>)
+    ensures { first.new ≡ first_among first.old (spec.condition_faults (N.known names.now) at (exp_of e.now)) }
 {
     let of = Operand::of(judge(names, Target::No, e, first));
-    note_mismatch(first, !of.is_scalar(), at.0, at.1);
+    note_mismatch(first, !of.is_scalar(), at);
 }
 
-fn note_test<N: Names>(names: &N, at: (u32, u32), e: &Option<Expr>, first: &mut Option<Found>)
-    ensures { first.new ≡ first_among first.old (spec.test_faults (N.known names.now) (position_at at.0 at.1) (maybe_of e.now)) }
+fn note_test<N: Names>(names: &N, at: Position, e: &Option<Expr>, first: &mut Option<Found>)
+    ensures { first.new ≡ first_among first.old (spec.test_faults (N.known names.now) at (maybe_of e.now)) }
 {
     match e {
         None => {}
@@ -68,17 +68,17 @@ fn gives_fit(gives: Option<StarredType>, of: Operand) -> bool
 fn note_return<N: Names>(
     names: &N,
     gives: Option<StarredType>,
-    at: (u32, u32),
+    at: Position,
     e: &Option<Expr>,
     first: &mut Option<Found>,
 )
-    ensures { first.new ≡ first_among first.old (spec.return_faults (N.known names.now) gives (position_at at.0 at.1) (maybe_of e.now)) }
+    ensures { first.new ≡ first_among first.old (spec.return_faults (N.known names.now) gives at (maybe_of e.now)) }
 {
     match e {
         None => {}
         Some(e) => {
             let of = Operand::of(judge(names, Target::No, e, first));
-            note_mismatch(first, !gives_fit(gives, of), at.0, at.1);
+            note_mismatch(first, !gives_fit(gives, of), at);
         }
     }
 }
@@ -108,11 +108,11 @@ fn note_head_of_for<'a>(
     start: &'a ForStart,
     test: &Option<Expr>,
     step: &Option<Expr>,
-    at: (u32, u32),
+    at: Position,
     first: &mut Option<Found>,
 ) -> Result<(), AllocError>
     ensures known { OnOk result (known_of table.new ≡ spec.after_start (known_of table.old) (start_of start.now)) }
-    ensures first { OnOk result (let known = known_of table.old in let s = start_of start.now in first.new ≡ first_among first.old (spec.start_of_for_faults known s ++ spec.test_faults (spec.after_start known s) (position_at at.0 at.1) (maybe_of test.now) ++ spec.computed_faults (spec.after_start known s) (maybe_of step.now))) }
+    ensures first { OnOk result (let known = known_of table.old in let s = start_of start.now in first.new ≡ first_among first.old (spec.start_of_for_faults known s ++ spec.test_faults (spec.after_start known s) at (maybe_of test.now) ++ spec.computed_faults (spec.after_start known s) (maybe_of step.now))) }
 {
     note_start_of_for(alloc, table, start, first)?;
     note_test(&*table, at, test, first);
@@ -145,11 +145,19 @@ pub fn note_statement<'a>(
             Ok(())
         }
         Stmt::Break { line, column } => {
-            note_mismatch(first, !in_loop, *line, *column);
+            let at = Position {
+                line: *line,
+                column: *column,
+            };
+            note_mismatch(first, !in_loop, at);
             Ok(())
         }
         Stmt::Continue { line, column } => {
-            note_mismatch(first, !in_loop, *line, *column);
+            let at = Position {
+                line: *line,
+                column: *column,
+            };
+            note_mismatch(first, !in_loop, at);
             Ok(())
         }
         Stmt::Return {
@@ -157,7 +165,11 @@ pub fn note_statement<'a>(
             line,
             column,
         } => {
-            note_return(&*table, gives, (*line, *column), value, first);
+            let at = Position {
+                line: *line,
+                column: *column,
+            };
+            note_return(&*table, gives, at, value, first);
             Ok(())
         }
         Stmt::If {
@@ -167,7 +179,11 @@ pub fn note_statement<'a>(
             line,
             column,
         } => {
-            note_condition(&*table, (*line, *column), test, first);
+            let at = Position {
+                line: *line,
+                column: *column,
+            };
+            note_condition(&*table, at, test, first);
             note_statement(alloc, table, gives, in_loop, yes, first)?;
             match no {
                 None => Ok(()),
@@ -180,7 +196,11 @@ pub fn note_statement<'a>(
             line,
             column,
         } => {
-            note_condition(&*table, (*line, *column), test, first);
+            let at = Position {
+                line: *line,
+                column: *column,
+            };
+            note_condition(&*table, at, test, first);
             note_statement(alloc, table, gives, true, body, first)
         }
         Stmt::Do {
@@ -190,7 +210,11 @@ pub fn note_statement<'a>(
             column,
         } => {
             note_statement(alloc, table, gives, true, body, first)?;
-            note_condition(&*table, (*line, *column), test, first);
+            let at = Position {
+                line: *line,
+                column: *column,
+            };
+            note_condition(&*table, at, test, first);
             Ok(())
         }
         Stmt::For {
@@ -202,7 +226,11 @@ pub fn note_statement<'a>(
             column,
         } => {
             table.open(alloc)?;
-            note_head_of_for(alloc, table, start, test, step, (*line, *column), first)?;
+            let at = Position {
+                line: *line,
+                column: *column,
+            };
+            note_head_of_for(alloc, table, start, test, step, at, first)?;
             note_statement(alloc, table, gives, true, body, first)?;
             table.close();
             Ok(())

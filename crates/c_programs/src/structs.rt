@@ -12,6 +12,7 @@ ghost use Rattle.c_programs.specs.Table.{known_of};
 use crate::declarators::{declared_type, note_declarator, note_size};
 use crate::members::add_member;
 use crate::table::{Members, Table};
+use c_rules::name_place;
 use c_tree::{Declarator, Member, Name, Specifier};
 use c_types::{FaultKind, Found, MAX_CELLS, Names, ObjectType, TypeRef, note};
 use indexmap::IndexMap;
@@ -54,13 +55,7 @@ fn note_member<'a, N: Names>(
     let of = declared_type(alloc, names, specifier, declarator)?;
     content.cells = (content.cells + cells_of_some(names, &of)).min(MAX_CELLS + 1);
     let is_there = add_member(&mut content.members, name.text.as_slice(), of)?;
-    note(
-        first,
-        is_there,
-        FaultKind::DuplicateName,
-        name.line,
-        name.column,
-    );
+    note(first, is_there, FaultKind::DuplicateName, name_place(name));
     Ok(())
 }
 
@@ -128,8 +123,7 @@ pub fn note_struct<'a>(
         first,
         is_defined,
         FaultKind::DuplicateName,
-        name.line,
-        name.column,
+        name_place(name),
     );
     let mut content = Content {
         members: IndexMap::new(alloc),

@@ -2,7 +2,6 @@
 #![tactic(auto, using(c_types::proofs::First::first_of_both))]
 
 ghost use Rattle.std.specs.Prelude.{◌≡◌};
-ghost use Rattle.rr_base.specs.Positions.{position_at};
 ghost use Rattle.c_types.specs.Found.{first_among};
 ghost use Rattle.c_types.specs.Types.{pointer_to};
 ghost use Rattle.c_types.specs.Operands.{assigns};
@@ -16,10 +15,11 @@ use c_types::{
     BaseType, FaultKind, Found, Meaning, Names, Operand, Standing, TypeRef, are_compatible,
     assigns, assigns_some, casts_to, library_named, moves, note, type_named,
 };
+use rr_base::Position;
 
 /// The place of the expression's own token.
-pub fn own_place(e: &Expr) -> (u32, u32)
-    ensures { position_at result.0 result.1 ≡ spec.own_place (exp_of e.now) }
+pub fn own_place(e: &Expr) -> Position
+    ensures { result ≡ spec.own_place (exp_of e.now) }
 {
     match e {
         Expr::Comma { line, column, .. }
@@ -41,13 +41,16 @@ pub fn own_place(e: &Expr) -> (u32, u32)
         | Expr::Letter { line, column, .. }
         | Expr::Text { line, column, .. }
         | Expr::Null { line, column }
-        | Expr::Paren { line, column, .. } => (*line, *column),
+        | Expr::Paren { line, column, .. } => Position {
+            line: *line,
+            column: *column,
+        },
     }
 }
 
 /// The place of the expression's first token.
-pub fn first_place(e: &Expr) -> (u32, u32)
-    ensures { position_at result.0 result.1 ≡ spec.first_place (exp_of e.now) }
+pub fn first_place(e: &Expr) -> Position
+    ensures { result ≡ spec.first_place (exp_of e.now) }
 {
     match e {
         Expr::Comma { first, .. } => first_place(first),
@@ -69,21 +72,34 @@ pub fn first_place(e: &Expr) -> (u32, u32)
         | Expr::Letter { line, column, .. }
         | Expr::Text { line, column, .. }
         | Expr::Null { line, column }
-        | Expr::Paren { line, column, .. } => (*line, *column),
+        | Expr::Paren { line, column, .. } => Position {
+            line: *line,
+            column: *column,
+        },
+    }
+}
+
+/// Where the name stands.
+pub fn name_place(name: &Name) -> Position
+    ensures { result ≡ spec.name_place name.now }
+{
+    Position {
+        line: name.line,
+        column: name.column,
     }
 }
 
 /// Notes that types don't match at the place, if `comes`.
-pub fn note_mismatch(first: &mut Option<Found>, comes: bool, line: u32, column: u32)
-    ensures { first.new ≡ first_among first.old (spec.mismatch comes (position_at line column)) }
+pub fn note_mismatch(first: &mut Option<Found>, comes: bool, at: Position)
+    ensures { first.new ≡ first_among first.old (spec.mismatch comes at) }
 {
-    note(first, comes, FaultKind::TypeMismatch, line, column);
+    note(first, comes, FaultKind::TypeMismatch, at);
 }
 
-fn note_place(first: &mut Option<Found>, is_place: bool, line: u32, column: u32)
-    ensures { first.new ≡ first_among first.old (spec.place_faults is_place (position_at line column)) }
+fn note_place(first: &mut Option<Found>, is_place: bool, at: Position)
+    ensures { first.new ≡ first_among first.old (spec.place_faults is_place at) }
 {
-    note(first, !is_place, FaultKind::NotPlace, line, column);
+    note(first, !is_place, FaultKind::NotPlace, at);
 }
 
 fn is_unknown_struct<N: Names>(names: &N, needs_size: bool, name: &Name) -> bool
@@ -107,7 +123,7 @@ pub fn note_specifier<N: Names>(
     match specifier {
         Specifier::Struct { name, .. } => {
             let comes = is_unknown_struct(names, needs_size, name);
-            note(first, comes, FaultKind::UnknownName, name.line, name.column);
+            note(first, comes, FaultKind::UnknownName, name_place(name));
         }
         Specifier::Int { .. } => {}
         Specifier::Long { .. } => {}
@@ -262,14 +278,14 @@ pub fn note_prefix<N: Names>(
     op: PrefixOp,
     operand: &Expr,
     of: Standing,
-    at: (u32, u32),
+    at: Position,
     first: &mut Option<Found>,
 )
-    ensures { first.new ≡ first_among first.old (spec.prefix_faults (N.known names.now) op (exp_of operand.now) (shown_standing of.entry) (position_at at.0 at.1)) }
+    ensures { first.new ≡ first_among first.old (spec.prefix_faults (N.known names.now) op (exp_of operand.now) (shown_standing of.entry) at) }
 {
     let is_place = !needs_place(op) || can_be_place(names, operand);
-    note_place(first, is_place, at.0, at.1);
-    note_mismatch(first, !prefix_takes(op, of), at.0, at.1);
+    note_place(first, is_place, at);
+    note_mismatch(first, !prefix_takes(op, of), at);
 }
 
 /// Notes what is wrong with a `++` or `--` behind its operand.
@@ -277,13 +293,13 @@ pub fn note_step<N: Names>(
     names: &N,
     operand: &Expr,
     of: Standing,
-    at: (u32, u32),
+    at: Position,
     first: &mut Option<Found>,
 )
-    ensures { first.new ≡ first_among first.old (spec.step_faults (N.known names.now) (exp_of operand.now) (shown_standing of.entry) (position_at at.0 at.1)) }
+    ensures { first.new ≡ first_among first.old (spec.step_faults (N.known names.now) (exp_of operand.now) (shown_standing of.entry) at) }
 {
-    note_place(first, can_be_place(names, operand), at.0, at.1);
-    note_mismatch(first, !steps(of), at.0, at.1);
+    note_place(first, can_be_place(names, operand), at);
+    note_mismatch(first, !steps(of), at);
 }
 
 /// Notes what is wrong with an assignment.
@@ -293,24 +309,24 @@ pub fn note_assign<N: Names>(
     left: &Expr,
     to: Standing,
     from: Operand,
-    at: (u32, u32),
+    at: Position,
     first: &mut Option<Found>,
 )
-    ensures { first.new ≡ first_among first.old (spec.assign_faults (N.known names.now) op (exp_of left.now) (shown_standing to.entry) (shown_operand from.entry) (position_at at.0 at.1)) }
+    ensures { first.new ≡ first_among first.old (spec.assign_faults (N.known names.now) op (exp_of left.now) (shown_standing to.entry) (shown_operand from.entry) at) }
 {
-    note_place(first, can_be_place(names, left), at.0, at.1);
-    note_mismatch(first, !assigns_to(op, to, from), at.0, at.1);
+    note_place(first, can_be_place(names, left), at);
+    note_mismatch(first, !assigns_to(op, to, from), at);
 }
 
 /// Notes what is wrong with the type that a `sizeof` names.
-pub fn note_sizeof_type<N: Names>(names: &N, of: &CType, at: (u32, u32), first: &mut Option<Found>)
-    ensures { first.new ≡ first_among first.old (spec.sizeof_type_faults (N.known names.now) of.now (position_at at.0 at.1)) }
+pub fn note_sizeof_type<N: Names>(names: &N, of: &CType, at: Position, first: &mut Option<Found>)
+    ensures { first.new ≡ first_among first.old (spec.sizeof_type_faults (N.known names.now) of.now at) }
 {
     let is_void = match type_named(names, of) {
         Some(of) => of.is_void(),
         None => false,
     };
-    note_mismatch(first, is_void, at.0, at.1);
+    note_mismatch(first, is_void, at);
     note_specifier(names, of.stars == 0, &of.specifier, first);
 }
 
@@ -319,13 +335,13 @@ pub fn note_cast<N: Names>(
     names: &N,
     to: &CType,
     from: Operand,
-    at: (u32, u32),
+    at: Position,
     first: &mut Option<Found>,
 )
-    ensures { first.new ≡ first_among first.old (spec.cast_faults (N.known names.now) to.now (shown_operand from.entry) (position_at at.0 at.1)) }
+    ensures { first.new ≡ first_among first.old (spec.cast_faults (N.known names.now) to.now (shown_operand from.entry) at) }
 {
     let allowed = casts_to(type_named(names, to), to.stars) && from.is_scalar();
-    note_mismatch(first, !allowed, at.0, at.1);
+    note_mismatch(first, !allowed, at);
     note_specifier(names, false, &to.specifier, first);
 }
 
@@ -357,12 +373,12 @@ pub fn note_member<N: Names>(
     of: Operand,
     number: Option<usize>,
     name: &Name,
-    at: (u32, u32),
+    at: Position,
     first: &mut Option<Found>,
 )
-    ensures { first.new ≡ first_among first.old (spec.member_faults (N.known names.now) (shown_operand of.entry) number name.now (position_at at.0 at.1)) }
+    ensures { first.new ≡ first_among first.old (spec.member_faults (N.known names.now) (shown_operand of.entry) number name.now at) }
 {
-    note_mismatch(first, lacks_struct(of, number), at.0, at.1);
+    note_mismatch(first, lacks_struct(of, number), at);
     let lacks = lacks_member(names, number, name.text.as_slice());
-    note(first, lacks, FaultKind::UnknownName, name.line, name.column);
+    note(first, lacks, FaultKind::UnknownName, name_place(name));
 }

@@ -3,7 +3,6 @@
 
 ghost use Rattle.std.specs.Prelude.{◌≡◌, map};
 ghost use Rattle.c_tree.specs.Tree.{listed};
-ghost use Rattle.rr_base.specs.Positions.{position_at};
 ghost use Rattle.c_types.specs.Scopes.{seen};
 ghost use Rattle.c_types.specs.Found.{first_among};
 ghost use Rattle.c_rules.specs.Faults as spec;
@@ -21,39 +20,40 @@ use c_types::{
     FaultKind, Found, LibraryName, Meaning, Names, Operand, Standing, Target, TypeRef, Wanted,
     Wants, accepts, library_named, note, wanted_by,
 };
+use rr_base::Position;
 
-fn note_undeclared(name: &[u8], at: (u32, u32), first: &mut Option<Found>)
-    ensures { first.new ≡ first_among first.old (spec.undeclared_faults name.now (position_at at.0 at.1)) }
+fn note_undeclared(name: &[u8], at: Position, first: &mut Option<Found>)
+    ensures { first.new ≡ first_among first.old (spec.undeclared_faults name.now at) }
 {
     if constant_named(name).is_some() {
         return;
     }
     if library_named(name).is_some() {
-        note(first, true, FaultKind::TypeMismatch, at.0, at.1);
+        note(first, true, FaultKind::TypeMismatch, at);
     } else {
-        note(first, true, FaultKind::UnknownName, at.0, at.1);
+        note(first, true, FaultKind::UnknownName, at);
     }
 }
 
 /// Notes what is wrong with a name that stands for itself.
-pub fn note_named<N: Names>(names: &N, name: &[u8], at: (u32, u32), first: &mut Option<Found>)
-    ensures { first.new ≡ first_among first.old (spec.named_faults (N.known names.now) (seen (N.known names.now) name.now) name.now (position_at at.0 at.1)) }
+pub fn note_named<N: Names>(names: &N, name: &[u8], at: Position, first: &mut Option<Found>)
+    ensures { first.new ≡ first_among first.old (spec.named_faults (N.known names.now) (seen (N.known names.now) name.now) name.now at) }
 {
     match names.seen(name) {
         Some(Meaning::Variable(_)) => {}
         Some(Meaning::Function(_)) => {
             let undefined = !names.is_function_defined(name);
-            note(first, undefined, FaultKind::UnknownName, at.0, at.1);
-            note_mismatch(first, true, at.0, at.1);
+            note(first, undefined, FaultKind::UnknownName, at);
+            note_mismatch(first, true, at);
         }
         None => note_undeclared(name, at, first),
     }
 }
 
-fn note_count(many: usize, count: usize, at: (u32, u32), first: &mut Option<Found>)
-    ensures { first.new ≡ first_among first.old (spec.count_faults many count (position_at at.0 at.1)) }
+fn note_count(many: usize, count: usize, at: Position, first: &mut Option<Found>)
+    ensures { first.new ≡ first_among first.old (spec.count_faults many count at) }
 {
-    note(first, many != count, FaultKind::BadCall, at.0, at.1);
+    note(first, many != count, FaultKind::BadCall, at);
 }
 
 fn begins_with_text(arguments: &[Expr]) -> bool
@@ -84,17 +84,17 @@ pub fn arguments_of(arguments: &[Expr]) -> Arguments
     }
 }
 
-fn note_printf_count(of: Arguments, at: (u32, u32), first: &mut Option<Found>)
-    ensures { first.new ≡ first_among first.old (spec.printf_count_faults of.is_format of.format of.many (position_at at.0 at.1)) }
+fn note_printf_count(of: Arguments, at: Position, first: &mut Option<Found>)
+    ensures { first.new ≡ first_among first.old (spec.printf_count_faults of.is_format of.format of.many at) }
 {
     if !of.is_format {
-        note(first, of.many == 0, FaultKind::BadCall, at.0, at.1);
+        note(first, of.many == 0, FaultKind::BadCall, at);
         return;
     }
     match of.format {
         Some(numbers) => {
             let differ = of.many == 0 || of.many - 1 != numbers;
-            note(first, differ, FaultKind::BadCall, at.0, at.1);
+            note(first, differ, FaultKind::BadCall, at);
         }
         None => {}
     }
@@ -114,15 +114,15 @@ fn note_library_call(
     call: LibraryName,
     target: Target,
     of: Arguments,
-    at: (u32, u32),
+    at: Position,
     first: &mut Option<Found>,
 )
-    ensures { first.new ≡ first_among first.old (spec.library_call_faults call (shown_target target.entry) of.is_format of.format of.many (position_at at.0 at.1)) }
+    ensures { first.new ≡ first_among first.old (spec.library_call_faults call (shown_target target.entry) of.is_format of.format of.many at) }
 {
     match call {
         LibraryName::Malloc => {
             let comes = has_no_target(target);
-            note(first, comes, FaultKind::OutOfProfile, at.0, at.1);
+            note(first, comes, FaultKind::OutOfProfile, at);
             note_count(of.many, 1, at, first);
         }
         LibraryName::PrintFormat => note_printf_count(of, at, first),
@@ -134,18 +134,18 @@ fn note_unseen_call(
     name: &[u8],
     target: Target,
     of: Arguments,
-    at: (u32, u32),
+    at: Position,
     first: &mut Option<Found>,
 )
-    ensures { first.new ≡ first_among first.old (spec.unseen_call_faults (library_named name.now) name.now (shown_target target.entry) of.is_format of.format of.many (position_at at.0 at.1)) }
+    ensures { first.new ≡ first_among first.old (spec.unseen_call_faults (library_named name.now) name.now (shown_target target.entry) of.is_format of.format of.many at) }
 {
     match library_named(name) {
         Some(call) => note_library_call(call, target, of, at, first),
         None => {
             if constant_named(name).is_some() {
-                note(first, true, FaultKind::TypeMismatch, at.0, at.1);
+                note(first, true, FaultKind::TypeMismatch, at);
             } else {
-                note(first, true, FaultKind::UnknownName, at.0, at.1);
+                note(first, true, FaultKind::UnknownName, at);
             }
         }
     }
@@ -157,17 +157,17 @@ pub fn note_callee<N: Names>(
     name: &[u8],
     target: Target,
     of: Arguments,
-    at: (u32, u32),
+    at: Position,
     first: &mut Option<Found>,
 )
-    ensures { first.new ≡ first_among first.old (spec.callee_faults (N.known names.now) name.now (shown_target target.entry) of.is_format of.format of.many (position_at at.0 at.1) (seen (N.known names.now) name.now)) }
+    ensures { first.new ≡ first_among first.old (spec.callee_faults (N.known names.now) name.now (shown_target target.entry) of.is_format of.format of.many at (seen (N.known names.now) name.now)) }
 {
     match names.seen(name) {
-        Some(Meaning::Variable(_)) => note_mismatch(first, true, at.0, at.1),
+        Some(Meaning::Variable(_)) => note_mismatch(first, true, at),
         Some(Meaning::Function(signature)) => {
-            note(first, is_main(name), FaultKind::BadCall, at.0, at.1);
+            note(first, is_main(name), FaultKind::BadCall, at);
             let undefined = !names.is_function_defined(name);
-            note(first, undefined, FaultKind::UnknownName, at.0, at.1);
+            note(first, undefined, FaultKind::UnknownName, at);
             note_count(of.many, signature.params.len(), at, first);
         }
         None => note_unseen_call(name, target, of, at, first),
@@ -187,7 +187,7 @@ pub fn note_format<N: Names>(names: &N, name: &[u8], arguments: &[Expr], first: 
     if let [format, ..] = arguments {
         if begins_with_text(arguments) && format_of(arguments).is_none() {
             let at = own_place(format);
-            note(first, true, FaultKind::OutOfProfile, at.0, at.1);
+            note(first, true, FaultKind::OutOfProfile, at);
         }
     }
 }
@@ -198,10 +198,10 @@ pub fn note_call<N: Names>(
     name: &[u8],
     target: Target,
     arguments: &[Expr],
-    at: (u32, u32),
+    at: Position,
     first: &mut Option<Found>,
 )
-    ensures { first.new ≡ first_among first.old (spec.call_faults (N.known names.now) (shown_target target.entry) name.now (listed (map exp_of arguments.now)) (position_at at.0 at.1)) }
+    ensures { first.new ≡ first_among first.old (spec.call_faults (N.known names.now) (shown_target target.entry) name.now (listed (map exp_of arguments.now)) at) }
 {
     note_callee(names, name, target, arguments_of(arguments), at, first);
     note_format(names, name, arguments, first);
@@ -230,18 +230,18 @@ pub fn wants_of<'a, N: Names>(names: &'a N, name: &[u8], format: Option<usize>) 
     }
 }
 
-fn note_root_name<N: Names>(names: &N, name: &[u8], at: (u32, u32), first: &mut Option<Found>)
-    ensures { first.new ≡ first_among first.old (spec.root_name_faults (N.known names.now) (seen (N.known names.now) name.now) name.now (position_at at.0 at.1)) }
+fn note_root_name<N: Names>(names: &N, name: &[u8], at: Position, first: &mut Option<Found>)
+    ensures { first.new ≡ first_among first.old (spec.root_name_faults (N.known names.now) (seen (N.known names.now) name.now) name.now at) }
 {
     match names.seen(name) {
         Some(Meaning::Variable(_)) => {}
         Some(Meaning::Function(_)) => {
             let undefined = !names.is_function_defined(name);
-            note(first, undefined, FaultKind::UnknownName, at.0, at.1);
+            note(first, undefined, FaultKind::UnknownName, at);
         }
         None => {
             let unknown = constant_named(name).is_none() && library_named(name).is_none();
-            note(first, unknown, FaultKind::UnknownName, at.0, at.1);
+            note(first, unknown, FaultKind::UnknownName, at);
         }
     }
 }
@@ -251,7 +251,11 @@ fn note_root<N: Names>(names: &N, e: &Expr, first: &mut Option<Found>)
 {
     match e {
         Expr::Name { name, line, column } => {
-            note_root_name(names, name.as_slice(), (*line, *column), first);
+            let at = Position {
+                line: *line,
+                column: *column,
+            };
+            note_root_name(names, name.as_slice(), at, first);
         }
         _ => {}
     }
@@ -263,42 +267,24 @@ pub fn note_argument<N: Names>(
     wanted: Wanted,
     e: &Expr,
     of: Standing,
-    at: (u32, u32),
+    at: Position,
     first: &mut Option<Found>,
 )
-    ensures { first.new ≡ first_among first.old (spec.argument_faults (N.known names.now) wanted (exp_of e.now) (shown_standing of.entry) (position_at at.0 at.1)) }
+    ensures { first.new ≡ first_among first.old (spec.argument_faults (N.known names.now) wanted (exp_of e.now) (shown_standing of.entry) at) }
 {
     let begin = first_place(e);
     match wanted {
         Wanted::Fits(to) => {
             let fits = accepts(TypeRef::starred(to.stars, to.base), Operand::of(of));
-            note_mismatch(first, !fits, at.0, at.1);
+            note_mismatch(first, !fits, at);
         }
         Wanted::Anything => {}
-        Wanted::Attribute => note(
-            first,
-            !is_null(of),
-            FaultKind::OutOfProfile,
-            begin.0,
-            begin.1,
-        ),
+        Wanted::Attribute => note(first, !is_null(of), FaultKind::OutOfProfile, begin),
         Wanted::Root => {
-            note(
-                first,
-                !is_root(names, e),
-                FaultKind::BadRoot,
-                begin.0,
-                begin.1,
-            );
+            note(first, !is_root(names, e), FaultKind::BadRoot, begin);
             note_root(names, e, first);
         }
-        Wanted::Text => note(
-            first,
-            !is_text(e),
-            FaultKind::OutOfProfile,
-            begin.0,
-            begin.1,
-        ),
+        Wanted::Text => note(first, !is_text(e), FaultKind::OutOfProfile, begin),
     }
 }
 

@@ -4,7 +4,6 @@
 ghost use Rattle.std.specs.Prelude.{◌≡◌, ◌++◌, not, map};
 ghost use Rattle.c_tree.specs.Tree as trees;
 ghost use Rattle.c_tree.specs.Tree.{listed};
-ghost use Rattle.rr_base.specs.Positions.{position_at};
 ghost use Rattle.c_tree.specs.View.{exp_of};
 ghost use Rattle.c_types.specs.Found.{first_among};
 ghost use Rattle.c_types.specs.Constants as constants;
@@ -30,24 +29,25 @@ use c_types::{
     pointed_struct, prefix_standing, sizeof_standing, sizeof_type_standing, stepped, struct_of,
     takes, type_named,
 };
+use rr_base::Position;
 
 /// Notes that the expression's value is let go though it can't be.
 pub fn note_going(e: &Expr, of: Standing, first: &mut Option<Found>)
     ensures { first.new ≡ first_among first.old (spec.go_faults (shown_standing of.entry) (exp_of e.now)) }
 {
     let at = own_place(e);
-    note_mismatch(first, !can_go(of), at.0, at.1);
+    note_mismatch(first, !can_go(of), at);
 }
 
 // A name as an expression (C99 6.5.1).
 fn judge_name<'a, N: Names>(
     names: &'a N,
     name: &[u8],
-    at: (u32, u32),
+    at: Position,
     first: &mut Option<Found>,
 ) -> Standing<'a>
     ensures standing { shown_standing result ≡ standings.named_standing (seen (N.known names.now) name.now) (constants.constant_named name.now) }
-    ensures first { first.new ≡ first_among first.old (spec.named_faults (N.known names.now) (seen (N.known names.now) name.now) name.now (position_at at.0 at.1)) }
+    ensures first { first.new ≡ first_among first.old (spec.named_faults (N.known names.now) (seen (N.known names.now) name.now) name.now at) }
 {
     note_named(names, name, at, first);
     named_standing(names.seen(name), constant_named(name))
@@ -57,11 +57,11 @@ fn judge_name<'a, N: Names>(
 fn judge_sizeof_type<'a, N: Names>(
     names: &'a N,
     of: &CType,
-    at: (u32, u32),
+    at: Position,
     first: &mut Option<Found>,
 ) -> Standing<'a>
     ensures standing { shown_standing result ≡ standings.sizeof_type_standing (N.known names.now) (type_named (N.known names.now) of.now) }
-    ensures first { first.new ≡ first_among first.old (spec.sizeof_type_faults (N.known names.now) of.now (position_at at.0 at.1)) }
+    ensures first { first.new ≡ first_among first.old (spec.sizeof_type_faults (N.known names.now) of.now at) }
 {
     note_sizeof_type(names, of, at, first);
     sizeof_type_standing(names, type_named(names, of))
@@ -104,7 +104,7 @@ pub fn judge<'a, N: Names>(
             let yes = Operand::of(judge(names, Target::No, yes, first));
             let no = Operand::of(judge(names, Target::No, no, first));
             let allowed = test.is_scalar() && can_choose(yes, no);
-            note_mismatch(first, !allowed, at.0, at.1);
+            note_mismatch(first, !allowed, at);
             conditional_standing(test, yes, no)
         }
         Expr::Binary {
@@ -115,7 +115,7 @@ pub fn judge<'a, N: Names>(
         } => {
             let a = Operand::of(judge(names, Target::No, left, first));
             let b = Operand::of(judge(names, Target::No, right, first));
-            note_mismatch(first, !takes(*op, a, b), at.0, at.1);
+            note_mismatch(first, !takes(*op, a, b), at);
             binary_standing(*op, a, b)
         }
         Expr::Prefix { op, operand, .. } => judge_prefix(names, *op, operand, at, first),
@@ -125,7 +125,7 @@ pub fn judge<'a, N: Names>(
         Expr::Index { base, index, .. } => {
             let a = Operand::of(judge(names, Target::No, base, first));
             let b = Operand::of(judge(names, Target::No, index, first));
-            note_mismatch(first, !can_index(a, b), at.0, at.1);
+            note_mismatch(first, !can_index(a, b), at);
             index_standing(a, b)
         }
         Expr::Member { base, name, .. } => judge_member(names, base, name, at, first),
@@ -150,7 +150,7 @@ pub fn judge<'a, N: Names>(
         Expr::Number { value, .. } => number_standing(*value),
         Expr::Letter { .. } => Standing::Whole,
         Expr::Text { .. } => {
-            note(first, true, FaultKind::BadCall, at.0, at.1);
+            note(first, true, FaultKind::BadCall, at);
             Standing::NoType
         }
         Expr::Null { .. } => Standing::Null,
@@ -164,11 +164,11 @@ fn judge_prefix<'a, N: Names>(
     names: &'a N,
     op: PrefixOp,
     operand: &Expr,
-    at: (u32, u32),
+    at: Position,
     first: &mut Option<Found>,
 ) -> Standing<'a>
     ensures standing { shown_standing result ≡ standings.prefix_standing op (standings.standing (N.known names.now) standings.no_target (exp_of operand.now)) }
-    ensures first { first.new ≡ first_among first.old (spec.faults (N.known names.now) standings.no_target (exp_of operand.now) ++ spec.prefix_faults (N.known names.now) op (exp_of operand.now) (standings.standing (N.known names.now) standings.no_target (exp_of operand.now)) (position_at at.0 at.1)) }
+    ensures first { first.new ≡ first_among first.old (spec.faults (N.known names.now) standings.no_target (exp_of operand.now) ++ spec.prefix_faults (N.known names.now) op (exp_of operand.now) (standings.standing (N.known names.now) standings.no_target (exp_of operand.now)) at) }
 {
     let of = judge(names, Target::No, operand, first);
     note_prefix(names, op, operand, of, at, first);
@@ -180,14 +180,14 @@ fn judge_prefix<'a, N: Names>(
 fn judge_sizeof<'a, N: Names>(
     names: &'a N,
     operand: &Expr,
-    at: (u32, u32),
+    at: Position,
     first: &mut Option<Found>,
 ) -> Standing<'a>
     ensures standing { shown_standing result ≡ standings.sizeof_standing (N.known names.now) (standings.standing (N.known names.now) standings.no_target (exp_of operand.now)) }
-    ensures first { first.new ≡ first_among first.old (spec.faults (N.known names.now) standings.no_target (exp_of operand.now) ++ spec.mismatch (not (standings.is_sized (N.known names.now) (standings.standing (N.known names.now) standings.no_target (exp_of operand.now)))) (position_at at.0 at.1)) }
+    ensures first { first.new ≡ first_among first.old (spec.faults (N.known names.now) standings.no_target (exp_of operand.now) ++ spec.mismatch (not (standings.is_sized (N.known names.now) (standings.standing (N.known names.now) standings.no_target (exp_of operand.now)))) at) }
 {
     let of = judge(names, Target::No, operand, first);
-    note_mismatch(first, !is_sized(names, of), at.0, at.1);
+    note_mismatch(first, !is_sized(names, of), at);
     sizeof_standing(names, of)
 }
 
@@ -197,11 +197,11 @@ fn judge_cast<'a, N: Names>(
     names: &'a N,
     operand: &Expr,
     to: &CType,
-    at: (u32, u32),
+    at: Position,
     first: &mut Option<Found>,
 ) -> Standing<'a>
-    ensures standing { shown_standing result ≡ standings.standing (N.known names.now) standings.no_target (trees.cast to.now (exp_of operand.now) (position_at at.0 at.1)) }
-    ensures first { first.new ≡ first_among first.old (spec.faults (N.known names.now) standings.no_target (trees.cast to.now (exp_of operand.now) (position_at at.0 at.1))) }
+    ensures standing { shown_standing result ≡ standings.standing (N.known names.now) standings.no_target (trees.cast to.now (exp_of operand.now) at) }
+    ensures first { first.new ≡ first_among first.old (spec.faults (N.known names.now) standings.no_target (trees.cast to.now (exp_of operand.now) at)) }
 {
     let named = type_named(names, to);
     let from = Operand::of(judge(names, cast_target(named, to.stars), operand, first));
@@ -215,11 +215,11 @@ fn judge_member<'a, N: Names>(
     names: &'a N,
     base: &Expr,
     name: &Name,
-    at: (u32, u32),
+    at: Position,
     first: &mut Option<Found>,
 ) -> Standing<'a>
-    ensures standing { shown_standing result ≡ standings.standing (N.known names.now) standings.no_target (trees.member (exp_of base.now) name.now (position_at at.0 at.1)) }
-    ensures first { first.new ≡ first_among first.old (spec.faults (N.known names.now) standings.no_target (trees.member (exp_of base.now) name.now (position_at at.0 at.1))) }
+    ensures standing { shown_standing result ≡ standings.standing (N.known names.now) standings.no_target (trees.member (exp_of base.now) name.now at) }
+    ensures first { first.new ≡ first_among first.old (spec.faults (N.known names.now) standings.no_target (trees.member (exp_of base.now) name.now at)) }
 {
     let of = judge(names, Target::No, base, first);
     let number = struct_of(of);
@@ -233,11 +233,11 @@ fn judge_arrow<'a, N: Names>(
     names: &'a N,
     base: &Expr,
     name: &Name,
-    at: (u32, u32),
+    at: Position,
     first: &mut Option<Found>,
 ) -> Standing<'a>
-    ensures standing { shown_standing result ≡ standings.standing (N.known names.now) standings.no_target (trees.arrow (exp_of base.now) name.now (position_at at.0 at.1)) }
-    ensures first { first.new ≡ first_among first.old (spec.faults (N.known names.now) standings.no_target (trees.arrow (exp_of base.now) name.now (position_at at.0 at.1))) }
+    ensures standing { shown_standing result ≡ standings.standing (N.known names.now) standings.no_target (trees.arrow (exp_of base.now) name.now at) }
+    ensures first { first.new ≡ first_among first.old (spec.faults (N.known names.now) standings.no_target (trees.arrow (exp_of base.now) name.now at)) }
 {
     let of = Operand::of(judge(names, Target::No, base, first));
     let number = pointed_struct(of);
@@ -250,11 +250,11 @@ fn judge_arrow<'a, N: Names>(
 fn judge_step<'a, N: Names>(
     names: &'a N,
     operand: &Expr,
-    at: (u32, u32),
+    at: Position,
     first: &mut Option<Found>,
 ) -> Standing<'a>
     ensures standing { shown_standing result ≡ standings.stepped (standings.standing (N.known names.now) standings.no_target (exp_of operand.now)) }
-    ensures first { first.new ≡ first_among first.old (spec.faults (N.known names.now) standings.no_target (exp_of operand.now) ++ spec.step_faults (N.known names.now) (exp_of operand.now) (standings.standing (N.known names.now) standings.no_target (exp_of operand.now)) (position_at at.0 at.1)) }
+    ensures first { first.new ≡ first_among first.old (spec.faults (N.known names.now) standings.no_target (exp_of operand.now) ++ spec.step_faults (N.known names.now) (exp_of operand.now) (standings.standing (N.known names.now) standings.no_target (exp_of operand.now)) at) }
 {
     let of = judge(names, Target::No, operand, first);
     note_step(names, operand, of, at, first);
@@ -313,12 +313,12 @@ fn judge_where<'a, N: Names>(
 fn judge_argument<N: Names>(
     names: &N,
     wanted: Wanted,
-    at: (u32, u32),
+    at: Position,
     e: &Expr,
     first: &mut Option<Found>,
 ) -> bool
     ensures fits { result ≡ standings.fits_wanted (N.known names.now) wanted (exp_of e.now) (standings.standing (N.known names.now) standings.no_target (exp_of e.now)) }
-    ensures first { first.new ≡ first_among first.old (spec.one_argument_faults (N.known names.now) wanted (position_at at.0 at.1) (exp_of e.now) (spec.faults (N.known names.now) standings.no_target (exp_of e.now))) }
+    ensures first { first.new ≡ first_among first.old (spec.one_argument_faults (N.known names.now) wanted at (exp_of e.now) (spec.faults (N.known names.now) standings.no_target (exp_of e.now))) }
 {
     let of = judge_where(names, is_judged(wanted, e), e, first);
     note_argument(names, wanted, e, of, at, first);
@@ -330,12 +330,12 @@ fn judge_argument<N: Names>(
 fn judge_arguments<N: Names>(
     names: &N,
     wanted: Wants,
-    at: (u32, u32),
+    at: Position,
     arguments: &[Expr],
     first: &mut Option<Found>,
 ) -> bool
     ensures fit { result ≡ standings.fit_wanted (N.known names.now) (shown_wants wanted.entry) (listed (map exp_of arguments.now)) }
-    ensures first { first.new ≡ first_among first.old (spec.arguments_faults (N.known names.now) (shown_wants wanted.entry) (position_at at.0 at.1) (listed (map exp_of arguments.now))) }
+    ensures first { first.new ≡ first_among first.old (spec.arguments_faults (N.known names.now) (shown_wants wanted.entry) at (listed (map exp_of arguments.now))) }
 {
     let mut wants = wanted;
     let mut fit = true;

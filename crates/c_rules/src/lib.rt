@@ -9,7 +9,7 @@ mod constants;
 mod judging;
 mod sizes;
 
-pub use blame::{first_place, note_mismatch, note_specifier, own_place};
+pub use blame::{first_place, name_place, note_mismatch, note_specifier, own_place};
 pub use blame_call::wants_of;
 pub use calls::{
     behind, call_standing, can_go, fits_wanted, format_of, given_by_call, is_main, let_go,

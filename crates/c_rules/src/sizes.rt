@@ -2,7 +2,6 @@
 #![tactic(auto, using(c_types::proofs::First::first_of_both))]
 
 ghost use Rattle.std.specs.Prelude.{◌≡◌};
-ghost use Rattle.rr_base.specs.Positions.{position_at};
 ghost use Rattle.c_tree.specs.View.{exp_of};
 ghost use Rattle.c_types.specs.Scopes.{cells_of_some};
 ghost use Rattle.c_types.specs.Found.{first_among};
@@ -14,7 +13,7 @@ use crate::constants::{is_constant, value_of};
 use crate::judging::judge;
 use c_tree::Expr;
 use c_types::{FaultKind, Found, Names, Standing, Target, TypeRef, note, type_named};
-use rr_base::Trap;
+use rr_base::{Position, Trap};
 
 fn cells_of_standing<N: Names>(names: &N, of: Standing) -> u32
     ensures { result ≡ spec.cells_of_standing (N.known names.now) (shown_standing of.entry) }
@@ -77,7 +76,7 @@ pub fn note_constant<N: Names>(names: &N, e: &Expr, first: &mut Option<Found>)
 {
     let comes = !is_constant(e) || is_sound(names, e) && is_trap(value_of(names, e));
     let at = first_place(e);
-    note(first, comes, FaultKind::NotConstant, at.0, at.1);
+    note(first, comes, FaultKind::NotConstant, at);
 }
 
 fn is_positive(number: i64) -> bool
@@ -102,12 +101,12 @@ fn is_short_length<N: Names>(names: &N, e: &Expr) -> bool
 }
 
 /// Notes what is wrong with the length of an array that is declared by the name at the place.
-pub fn note_length<N: Names>(names: &N, at: (u32, u32), e: &Expr, first: &mut Option<Found>)
-    ensures { first.new ≡ first_among first.old (spec.length_faults (N.known names.now) (position_at at.0 at.1) (exp_of e.now)) }
+pub fn note_length<N: Names>(names: &N, at: Position, e: &Expr, first: &mut Option<Found>)
+    ensures { first.new ≡ first_among first.old (spec.length_faults (N.known names.now) at (exp_of e.now)) }
 {
     judge(names, Target::No, e, first);
     note_constant(names, e, first);
-    note_mismatch(first, is_short_length(names, e), at.0, at.1);
+    note_mismatch(first, is_short_length(names, e), at);
 }
 
 fn positive(number: i64) -> Option<u64>

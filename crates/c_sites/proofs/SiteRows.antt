@@ -78,7 +78,7 @@ abbrev row : Holder → ℕ → Layout → Holder × Position × Layout
 row holder column layout = (holder, at column, layout)
 
 abbrev rows_of : List Outer → List (Holder × Position × Layout)
-rows_of os = map (λ s. (s.holder, s.place, layout_by (kinds_of_structs os) s.of)) (program_spots os)
+rows_of os = map (λ s. (s.holder, s.at, layout_by (kinds_of_structs os) s.of)) (program_spots os)
 
 -- the formal of `f` is 0, and `a` is 1; of `h` the formals are 2 and 3
 pub numbers_are : map program_addressed (first_source ∷ second_source ∷ []) ≡ (2 ∷ []) ∷ (3 ∷ []) ∷ []

@@ -1,6 +1,5 @@
 -- How what has cells of its own shows.
 use Rattle.std.specs.Prelude.{List, map}
-use Rattle.rr_base.specs.Positions.{position_at}
 use Rattle.c_sites.specs.declared.spot.Holder.{Holder as RustHolder}
 use Rattle.c_sites.specs.declared.spot.Holder.TheVariants as holder
 use Rattle.c_sites.specs.declared.spot.Owner.{Owner}
@@ -15,7 +14,7 @@ shown_holder (holder.Local f name) = a_local f.now name.now
 shown_holder holder.Allocation = an_allocation
 
 abbrev pub shown_spot : RustSpot → Spot
-shown_spot s = spot_at (shown_holder s.holder) (position_at s.line s.column) s.of
+shown_spot s = spot_at (shown_holder s.holder) s.at s.of
 
 abbrev pub shown_spots : List RustSpot → List Spot
 shown_spots ss = map shown_spot ss

@@ -1,7 +1,6 @@
 -- What has cells of its own: each global, each local or formal that is kept in cells, each `malloc`, in the order of the
 -- text (C99 6.2.4, 7.20.3.3).
-use Rattle.std.specs.Prelude.{ℕ, ◌+◌, ◌==◌, nat_le, Bool, true, false, not, ◌&&◌, ◌||◌, if◌then◌else◌, List, [], ◌∷◌, ◌++◌, length, map, pos, codes, Option, Some, None, is_some}
-use Rattle.std.specs.Fmt.{signed_decimal}
+use Rattle.std.specs.Prelude.{ℕ, ◌+◌, ◌==◌, nat_le, Bool, true, false, not, ◌&&◌, ◌||◌, if◌then◌else◌, List, [], ◌∷◌, ◌++◌, length, map, codes, decimal, Option, Some, None, is_some}
 use Rattle.rr_base.specs.declared.layout.CellKind.{CellKind}
 use Rattle.rr_base.specs.declared.layout.Layout.{Layout}
 use Rattle.rr_base.specs.declared.layout.Site.{Site}
@@ -12,7 +11,7 @@ use Rattle.c_tree.specs.declared.ctype.Specifier.TheVariants as specifier
 use Rattle.c_tree.specs.declared.program.Param.{Param}
 use Rattle.c_tree.specs.Tree.{Exp, comma, assign, conditional, binary, prefix, sizeof_exp, sizeof_type, cast, index, member, arrow, post_increment, post_decrement, named, call, number, letter, text, null, paren, Exps, no_exp, and_exp, Declared, declared, Init, value, braces, mutex_start, cond_start, Inits, no_init, and_init, Object, plain, initialised, Declares, declares, Start, start_declares, start_computes, Statement, block, compute, break_at, continue_at, gives, branch, branch_else, while_loop, do_loop, for_loop, Parts, no_part, and_declares, and_does, Code, defined, prototype, Fields, fields, Outer, structure, function, objects}
 use Rattle.rr_base.specs.declared.position.Position.{Position}
-use Rattle.rr_base.specs.Positions.{position_at}
+use Rattle.c_rules.specs.Faults.{name_place}
 use Rattle.c_types.specs.declared.types.ObjectType.{ObjectType}
 use Rattle.c_types.specs.declared.library.LibraryName.{LibraryName}
 use Rattle.c_types.specs.declared.library.LibraryName.TheVariants as library
@@ -36,14 +35,14 @@ pub data Holder : Type 0 where
 -- with its type, where that has no fault
 pub record Spot : Type 0 where
   pub holder : Holder
-  pub place : Position
+  pub at : Position
   pub of : Option ObjectType
 
 abbrev pub spot_at : Holder → Position → Option ObjectType → Spot
-spot_at holder at t = record { holder = holder; place = at; of = t }
+spot_at holder at t = record { holder = holder; at = at; of = t }
 
 abbrev pub spot_named : Holder → Name → Option ObjectType → Spot
-spot_named holder name t = spot_at holder (position_at name.line name.column) t
+spot_named holder name t = spot_at holder (name_place name) t
 
 -- ---- allocations
 
@@ -276,7 +275,7 @@ kinds_of_structs os = struct_kinds (map types_of_members (known_behind (known_at
 
 -- `x`, `f.x@L:C` and `malloc@L:C`: 46 is `.`, 64 is `@`, and 58 is `:`
 abbrev pub at_place : Text → Position → Text
-at_place name place = name ++ 64 ∷ signed_decimal (pos place.line) ++ 58 ∷ signed_decimal (pos place.column)
+at_place name place = name ++ 64 ∷ decimal place.line ++ 58 ∷ decimal place.column
 
 abbrev pub local_name : Text → Text → Position → Text
 local_name f name place = at_place (f ++ 46 ∷ name) place
@@ -300,10 +299,9 @@ layout_by structs (Some t) = if is_laid_out structs t then layout_of_type struct
 -- where the structs of the file have these cells
 abbrev pub site_of : List (List CellKind) → Spot → Site
 site_of structs spot = record {
-  name = site_name spot.holder spot.place;
+  name = site_name spot.holder spot.at;
   layout = layout_by structs spot.of;
-  line = spot.place.line;
-  column = spot.place.column;
+  at = spot.at;
 }
 
 abbrev pub program_sites : List Outer → List Site

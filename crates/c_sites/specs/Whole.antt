@@ -15,7 +15,7 @@ most_sites = 1023
 
 abbrev pub spot_faults : Option Spot → List Found
 spot_faults None = []
-spot_faults (Some spot) = found_at fault.TooManySites spot.place ∷ []
+spot_faults (Some spot) = found_at fault.TooManySites spot.at ∷ []
 
 -- one site more than there may be
 abbrev pub sites_faults : List Spot → List Found

@@ -14,7 +14,7 @@ use c_tree::{AssignOp, CType, Declarator, Expr, Initial, Member};
 use c_types::{
     LibraryName, Names, Target, assigned_target, cast_target, library_named, type_named,
 };
-use rr_base::List;
+use rr_base::{List, Position};
 use std::alloc::{AllocError, Global};
 
 fn is_malloc_call(call: Option<LibraryName>) -> bool
@@ -99,7 +99,11 @@ pub fn push_allocations<N: Names>(
             column,
         } => {
             let is_malloc = is_malloc(names, name.as_slice());
-            push_allocation(alloc, is_malloc, target, (*line, *column), out)?;
+            let at = Position {
+                line: *line,
+                column: *column,
+            };
+            push_allocation(alloc, is_malloc, target, at, out)?;
             push_all_allocations(alloc, names, arguments.as_slice(), out)
         }
         Expr::Paren { inner, .. } => push_allocations(alloc, names, target, inner, out),

@@ -12,6 +12,7 @@ use crate::sites::note_sites;
 use c_programs::{Table, note_function, note_objects, note_struct};
 use c_tree::{External, Program};
 use c_types::{FaultKind, Found, Names};
+use rr_base::Position;
 use std::alloc::{AllocError, Global};
 use thiserror::Error;
 
@@ -29,7 +30,7 @@ pub enum TypeFault {
 impl TypeFault {
     ghost use Rattle.c_sites.specs.Answers.{told_number};
 
-    /// The number by which messages tell the fault; none where memory is wanting.
+    /// The number by which messages tell the fault; none for `OutOfMemory`.
     pub fn number(&self) -> Option<u8>
         ensures { result ≡ told_number self.now }
     {
@@ -95,8 +96,7 @@ fn with_main(first: Option<Found>, has_main: bool) -> Option<Found>
             }
             Some(Found {
                 fault: FaultKind::NoMain,
-                line: 1,
-                column: 1,
+                at: Position { line: 1, column: 1 },
             })
         }
     }

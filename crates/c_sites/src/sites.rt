@@ -1,7 +1,5 @@
 //! The sites of a source: the name and the layout of all that has cells of its own.
-ghost use Rattle.std.specs.Prelude.{◌≡◌, ◌++◌, pos, codes, length, map, slice_get, IfOk, OnOk};
-ghost use Rattle.std.specs.Fmt.{signed_decimal};
-ghost use Rattle.rr_base.specs.Positions.{position_at};
+ghost use Rattle.std.specs.Prelude.{◌≡◌, ◌++◌, codes, length, map, slice_get, IfOk, OnOk};
 ghost use Rattle.c_tree.specs.View.{program_of};
 ghost use Rattle.c_types.specs.Found.{first_among};
 ghost use Rattle.c_types.specs.Scopes.{members_of, counted_cells};
@@ -24,23 +22,17 @@ use c_types::{
     FaultKind, Found, MAX_CELLS, Names, ObjectType, TypeRef, cells_of, cells_of_structs,
     element_of, layout_of_type, note,
 };
-use itoa::Buffer;
-use rr_base::{Bytes, CellKind, Layout, List, Site};
+use number_text::push_numbered;
+use rr_base::{Bytes, CellKind, Layout, List, Position, Site};
 use std::alloc::{AllocError, Global};
 
-fn push_decimal(text: &mut Bytes, number: u32) -> Result<(), AllocError>
-    ensures { OnOk result (text.new ≡ text.old ++ signed_decimal (pos number)) }
+fn with_place(mut text: Bytes, at: Position) -> Result<Bytes, AllocError>
+    ensures { IfOk result (λ it. it ≡ spec.at_place text at) }
 {
-    text.extend_from_slice(Buffer::new().format(i64::from(number)).as_bytes())
-}
-
-fn with_place(mut text: Bytes, line: u32, column: u32) -> Result<Bytes, AllocError>
-    ensures { IfOk result (λ it. it ≡ spec.at_place text (position_at line column)) }
-{
-    text.push(b'@')?;
-    push_decimal(&mut text, line)?;
-    text.push(b':')?;
-    push_decimal(&mut text, column)?;
+    let line = u64::from(at.line);
+    let column = u64::from(at.column);
+    push_numbered(&mut text, b"@", line)?;
+    push_numbered(&mut text, b":", column)?;
     Ok(text)
 }
 
@@ -48,31 +40,30 @@ fn local_name(
     alloc: Global,
     function: &[u8],
     name: &[u8],
-    line: u32,
-    column: u32,
+    at: Position,
 ) -> Result<Bytes, AllocError>
-    ensures { IfOk result (λ it. it ≡ spec.local_name function.now name.now (position_at line column)) }
+    ensures { IfOk result (λ it. it ≡ spec.local_name function.now name.now at) }
 {
     let mut text = Bytes::from_slice(alloc, function)?;
     text.push(b'.')?;
     text.extend_from_slice(name)?;
-    with_place(text, line, column)
+    with_place(text, at)
 }
 
-fn allocation_name(alloc: Global, line: u32, column: u32) -> Result<Bytes, AllocError>
-    ensures { IfOk result (λ it. it ≡ spec.at_place (codes "malloc") (position_at line column)) }
+fn allocation_name(alloc: Global, at: Position) -> Result<Bytes, AllocError>
+    ensures { IfOk result (λ it. it ≡ spec.at_place (codes "malloc") at) }
 {
     let text = Bytes::from_slice(alloc, b"malloc")?;
-    with_place(text, line, column)
+    with_place(text, at)
 }
 
-fn site_name(alloc: Global, holder: Holder, line: u32, column: u32) -> Result<Bytes, AllocError>
-    ensures { IfOk result (λ it. it ≡ spec.site_name (shown_holder holder.entry) (position_at line column)) }
+fn site_name(alloc: Global, holder: Holder, at: Position) -> Result<Bytes, AllocError>
+    ensures { IfOk result (λ it. it ≡ spec.site_name (shown_holder holder.entry) at) }
 {
     match holder {
         Holder::Global(name) => Bytes::from_slice(alloc, name),
-        Holder::Local(function, name) => local_name(alloc, function, name, line, column),
-        Holder::Allocation => allocation_name(alloc, line, column),
+        Holder::Local(function, name) => local_name(alloc, function, name, at),
+        Holder::Allocation => allocation_name(alloc, at),
     }
 }
 
@@ -126,13 +117,12 @@ fn site_of(
     requires { sizes.now ≡ map (λ kinds. counted_cells (length kinds)) structs.now }
     ensures { IfOk result (λ site. site ≡ spec.site_of structs.now (shown_spot spot.now)) }
 {
-    let name = site_name(alloc, spot.holder, spot.line, spot.column)?;
+    let name = site_name(alloc, spot.holder, spot.at)?;
     let layout = layout_of(alloc, &spot.of, structs, sizes)?;
     Ok(Site {
         name,
         layout,
-        line: spot.line,
-        column: spot.column,
+        at: spot.at,
     })
 }
 
@@ -208,7 +198,7 @@ fn note_too_many(spots: &[Spot], first: &mut Option<Found>)
 {
     match spots.get(MAX_SITES) {
         None => {}
-        Some(spot) => note(first, true, FaultKind::TooManySites, spot.line, spot.column),
+        Some(spot) => note(first, true, FaultKind::TooManySites, spot.at),
     }
 }
 

@@ -2,7 +2,6 @@
 #![tactic(auto, using(crate::proofs::Spotted::spotted))]
 
 ghost use Rattle.std.specs.Prelude.{◌≡◌, ◌++◌, IfOk, OnOk, map};
-ghost use Rattle.rr_base.specs.Positions.{position_at};
 ghost use Rattle.c_tree.specs.View.{exp_of};
 ghost use Rattle.c_sites.specs.Spots as spec;
 ghost use Rattle.c_sites.specs.SpotViews.{shown_holder, shown_spots, shown_where};
@@ -10,9 +9,10 @@ ghost use Rattle.c_types.specs.Shown.{shown_type, shown_target};
 
 use crate::marks::Marks;
 use c_programs::{copy_of, put_pointers};
+use c_rules::name_place;
 use c_tree::{Expr, Name, Specifier};
 use c_types::{ObjectType, Target, TypeRef};
-use rr_base::List;
+use rr_base::{List, Position};
 use std::alloc::{AllocError, Global};
 
 /// What holds cells.
@@ -28,8 +28,7 @@ pub enum Holder<'a> {
 #[derive(Drop)]
 pub struct Spot<'a> {
     pub holder: Holder<'a>,
-    pub line: u32,
-    pub column: u32,
+    pub at: Position,
     pub of: Option<ObjectType>,
 }
 
@@ -126,8 +125,7 @@ pub fn push_kept<'a>(
     let of = copy_of(alloc, of)?;
     out.push(Spot {
         holder,
-        line: name.line,
-        column: name.column,
+        at: name_place(name),
         of,
     })
 }
@@ -163,10 +161,10 @@ pub fn push_allocation(
     alloc: Global,
     is_malloc: bool,
     target: Target,
-    at: (u32, u32),
+    at: Position,
     out: &mut List<Spot>,
 ) -> Result<(), AllocError>
-    ensures { OnOk result (shown_spots out.new ≡ shown_spots out.old ++ spec.where_malloc is_malloc (shown_target target.entry) (position_at at.0 at.1)) }
+    ensures { OnOk result (shown_spots out.new ≡ shown_spots out.old ++ spec.where_malloc is_malloc (shown_target target.entry) at) }
 {
     if !is_malloc {
         return Ok(());
@@ -174,8 +172,7 @@ pub fn push_allocation(
     let of = type_of_target(alloc, target)?;
     out.push(Spot {
         holder: Holder::Allocation,
-        line: at.0,
-        column: at.1,
+        at,
         of,
     })
 }

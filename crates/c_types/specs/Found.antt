@@ -21,12 +21,12 @@ number_of fault.OutOfProfile = 20
 
 abbrev pub is_before : Found → Found → Bool
 is_before x y =
-    if x.line == y.line
-    then (if x.column == y.column then nat_lt (number_of x.fault) (number_of y.fault) else nat_lt x.column y.column)
-    else nat_lt x.line y.line
+    if x.at.line == y.at.line
+    then (if x.at.column == y.at.column then nat_lt (number_of x.fault) (number_of y.fault) else nat_lt x.at.column y.at.column)
+    else nat_lt x.at.line y.at.line
 
 abbrev pub found_at : FaultKind → Position → Found
-found_at kind at = record { fault = kind; line = at.line; column = at.column }
+found_at kind at = record { fault = kind; at = at }
 
 -- the first of what was found before and another one
 abbrev pub first_of : Option Found → Found → Option Found

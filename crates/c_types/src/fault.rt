@@ -1,8 +1,8 @@
 //! Faults of types with their places, and the first of several.
 ghost use Rattle.std.specs.Prelude.{◌≡◌};
 ghost use Rattle.c_types.specs.Found as spec;
-ghost use Rattle.rr_base.specs.Positions.{position_at};
 
+use rr_base::Position;
 use thiserror::Error;
 
 /// A rule that a source breaks.
@@ -56,13 +56,12 @@ impl FaultKind {
     }
 }
 
-/// A fault and its place, line and column from 1.
+/// A fault and its place.
 #[derive(Clone, Copy, Debug, Error)]
-#[error("{line}:{column}: {fault}")]
+#[error("{}:{}: {fault}", .at.line, .at.column)]
 pub struct Found {
     pub fault: FaultKind,
-    pub line: u32,
-    pub column: u32,
+    pub at: Position,
 }
 
 impl Found {
@@ -70,28 +69,21 @@ impl Found {
     fn is_before(self, other: Found) -> bool
         ensures { result ≡ spec.is_before self other }
     {
-        if self.line != other.line {
-            return self.line < other.line;
-        }
-        if self.column != other.column {
-            return self.column < other.column;
+        if self.at != other.at {
+            return self.at < other.at;
         }
         self.fault.number() < other.fault.number()
     }
 }
 
 /// Keeps the fault where it comes before the first one that was found so far.
-pub fn note(first: &mut Option<Found>, comes: bool, fault: FaultKind, line: u32, column: u32)
-    ensures { first.new ≡ spec.first_among first.old (spec.where_it_comes comes fault (position_at line column)) }
+pub fn note(first: &mut Option<Found>, comes: bool, fault: FaultKind, at: Position)
+    ensures { first.new ≡ spec.first_among first.old (spec.where_it_comes comes fault at) }
 {
     if !comes {
         return;
     }
-    let found = Found {
-        fault,
-        line,
-        column,
-    };
+    let found = Found { fault, at };
     let is_first = match *first {
         None => true,
         Some(other) => found.is_before(other),

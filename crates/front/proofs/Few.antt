@@ -47,14 +47,14 @@ one_token_more n t (Err f) h = tt
 
 one_piece_more : (n : ℕ) (x : Piece) (text : Text) (r : Reading) (more : ℕ → Reading → Found) → ((k : ℕ) (s : Reading) → AtMost n (more k s)) → AtMost (suc n) (met x text r more)
 one_piece_more n (piece.Blank k) text r more h = one_more n (more k r) (h k r)
-one_piece_more n (piece.Token kind k) text r more h = one_token_more n _ (more k (record r { token_line = r.place.line })) (h k (record r { token_line = r.place.line }))
+one_piece_more n (piece.Token kind k) text r more h = one_token_more n _ (more k (record r { token_line = r.cursor.at.line })) (h k (record r { token_line = r.cursor.at.line }))
 one_piece_more n (piece.Define from to value k) text r more h = one_more n (more k _) (h k _)
 one_piece_more n (piece.Fault f k) text r more h = tt
 
 few_from : (left : ℕ) (r : Reading) (text : Text) → AtMost (length text) (tokens_from left r text)
 few_from left r [] = omega arith
 few_from (suc left) r (b ∷ bs) = one_more (length bs) (tokens_from left (passed b r) bs) (few_from left (passed b r) bs)
-few_from zero r (b ∷ bs) = one_piece_more (length bs) (piece_at (nat_lt r.token_line r.place.line) r.defined (b ∷ bs)) (b ∷ bs) r (λ n s. tokens_from (n - 1) (passed b s) bs) (λ n s. few_from (n - 1) (passed b s) bs)
+few_from zero r (b ∷ bs) = one_piece_more (length bs) (piece_at (nat_lt r.token_line r.cursor.at.line) r.defined (b ∷ bs)) (b ∷ bs) r (λ n s. tokens_from (n - 1) (passed b s) bs) (λ n s. few_from (n - 1) (passed b s) bs)
 
 few_tokens : (text : Text) → AtMost (length text) (tokens_of text)
 unfolding tokens_of

@@ -9,18 +9,16 @@ use c_lexer::{LexFault, Token, tokens};
 use c_parser::{ParseFault, parse};
 use c_sites::{TypeFault, Typed, check};
 use c_tree::Program;
-use rr_base::List;
+use rr_base::{List, Position};
 use std::alloc::Global;
 use thiserror::Error;
 
-/// Why a source is refused: the number by which messages tell it, and the line and column at which it stands, both from
-/// 1 and counted in bytes.
+/// Why a source is refused: the number by which messages tell it, and the place at which it stands.
 #[derive(Clone, Copy, Debug, PartialEq, Eq, Error)]
-#[error("fault {number} at {line}:{column}")]
+#[error("fault {number} at {}:{}", .at.line, .at.column)]
 pub struct SourceFault {
     pub number: u8,
-    pub line: u32,
-    pub column: u32,
+    pub at: Position,
 }
 
 /// Why a source isn't compiled.
@@ -33,41 +31,28 @@ pub enum CompileFault {
     OutOfMemory,
 }
 
-// What is told of a fault in the tokens; nothing where memory is wanting.
+// The fault of this number at this place, where it has both.
+fn fault_at(number: Option<u8>, at: Option<Position>) -> Option<SourceFault>
+    ensures { result ≡ spec.fault_at number at }
+{
+    match (number, at) {
+        (Some(number), Some(at)) => Some(SourceFault { number, at }),
+        _ => None,
+    }
+}
+
+// What is told of a fault in the tokens; nothing of `OutOfMemory`.
 fn refusal_of(fault: LexFault) -> Option<SourceFault>
     ensures { result ≡ spec.refusal_of fault }
 {
-    let (number, line, column) = match fault {
-        LexFault::BadByte { line, column } => (1, line, column),
-        LexFault::OpenComment { line, column } => (2, line, column),
-        LexFault::OpenText { line, column } => (3, line, column),
-        LexFault::BadEscape { line, column } => (4, line, column),
-        LexFault::WideNumber { line, column } => (5, line, column),
-        LexFault::BadDirective { line, column } => (6, line, column),
-        LexFault::OutOfMemory => return None,
-    };
-    Some(SourceFault {
-        number,
-        line,
-        column,
-    })
+    fault_at(fault.number(), fault.place())
 }
 
-// What is told of a fault of the grammar; nothing where memory is wanting.
+// What is told of a fault of the grammar; nothing of `OutOfMemory`.
 fn told_of(fault: ParseFault) -> Option<SourceFault>
     ensures { result ≡ spec.told_of fault }
 {
-    let (number, line, column) = match fault {
-        ParseFault::Syntax { line, column } => (7, line, column),
-        ParseFault::Nesting { line, column } => (8, line, column),
-        ParseFault::OutOfProfile { line, column } => (20, line, column),
-        ParseFault::OutOfMemory => return None,
-    };
-    Some(SourceFault {
-        number,
-        line,
-        column,
-    })
+    fault_at(fault.number(), fault.place())
 }
 
 fn compile_fault(fault: Option<SourceFault>) -> CompileFault
@@ -87,8 +72,7 @@ fn by_tree(alloc: Global, program: Program) -> Result<Typed, CompileFault>
         Ok(typed) => Ok(typed),
         Err(TypeFault::Found(found)) => Err(CompileFault::Source(SourceFault {
             number: found.fault.number(),
-            line: found.line,
-            column: found.column,
+            at: found.at,
         })),
         Err(TypeFault::OutOfMemory) => Err(CompileFault::OutOfMemory),
     }

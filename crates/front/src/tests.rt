@@ -613,7 +613,7 @@ fn shown(alloc: Global, text: &[u8]) -> Result<String, Fail>
         Err(CompileFault::Source(fault)) => write!(
             out,
             "{} {}:{}",
-            fault.number, fault.line, fault.column
+            fault.number, fault.at.line, fault.at.column
         )?,
         Err(CompileFault::OutOfMemory) => out.push_str("no memory")?,
     }

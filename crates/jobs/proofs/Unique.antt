@@ -74,8 +74,8 @@ input_once left most what r s h g =
 
 -- ---- sources
 
-same_refusal : (f g : SourceFault) → f ≡ g → answer.SourceRefused f.number f.line f.column ≡ answer.SourceRefused g.number g.line g.column
-same_refusal f g e = ap (λ (x : SourceFault). answer.SourceRefused x.number x.line x.column) e
+same_refusal : (f g : SourceFault) → f ≡ g → answer.SourceRefused f.number f.at.line f.at.column ≡ answer.SourceRefused g.number g.at.line g.at.column
+same_refusal f g e = ap (λ (x : SourceFault). answer.SourceRefused x.number x.at.line x.at.column) e
 
 pub tree_once : (source : List ℕ) (r s : Result (List Outer) Answer) → IsTree source r → IsTree source s → r ≡ s
 tree_once source (Ok os) (Ok xs) h g = cc (one_reading source (sound os) (sound xs) h g)

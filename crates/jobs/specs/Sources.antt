@@ -29,7 +29,7 @@ use Rattle.sync_objects.specs.declared.entry.Entry.{Entry}
 -- reading a source: its tree, or its first fault
 abbrev pub IsTree : (source : List ℕ) → Result (List Outer) Answer → Type 0
 IsTree source (Ok os) = IsReading source (sound os)
-IsTree source (Err a) = (fault : SourceFault) × IsReading source (refused fault) × (a ≡ answer.SourceRefused fault.number fault.line fault.column)
+IsTree source (Err a) = (fault : SourceFault) × IsReading source (refused fault) × (a ≡ answer.SourceRefused fault.number fault.at.line fault.at.column)
 
 -- the code of the tree with what the analyses find of it, where the profile tells which functions may be at work at once, and
 -- with its weak locks

@@ -17,12 +17,12 @@ pub(crate) const SOURCE_BYTES: u32 = 1_048_576;
 
 // What is told of a source's fault.
 fn refusal_of(fault: SourceFault) -> Answer
-    ensures { result ≡ answer.SourceRefused fault.number fault.line fault.column }
+    ensures { result ≡ answer.SourceRefused fault.number fault.at.line fault.at.column }
 {
     Answer::SourceRefused {
         number: fault.number,
-        line: fault.line,
-        column: fault.column,
+        line: fault.at.line,
+        column: fault.at.column,
     }
 }
 

@@ -19,8 +19,8 @@ fn refused(fault: CompileFault) -> Result<Answer, AllocError> {
     match fault {
         CompileFault::Source(fault) => Ok(Answer::SourceRefused {
             number: fault.number,
-            line: fault.line,
-            column: fault.column,
+            line: fault.at.line,
+            column: fault.at.column,
         }),
         CompileFault::OutOfMemory => Err(AllocError),
     }

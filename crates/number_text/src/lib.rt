@@ -1,4 +1,4 @@
-//! Numbers in decimal behind a word, as every text of the program prints them. It stands on `rr_base` and `itoa`.
+//! A word, and after it a number in decimal. It stands on `rr_base` and `itoa`.
 #![tactic(auto)]
 
 mod numbered;

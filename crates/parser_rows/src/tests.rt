@@ -153,9 +153,9 @@ static EXPRESSIONS: [(&[u8], &str); 26] = [
 
 fn write_fault(out: &mut String, fault: ParseFault) -> Result<(), Fail> {
     let (kind, line, column) = match fault {
-        ParseFault::Syntax { line, column } => ("Syntax", line, column),
-        ParseFault::Nesting { line, column } => ("Nesting", line, column),
-        ParseFault::OutOfProfile { line, column } => ("OutOfProfile", line, column),
+        ParseFault::Syntax { at } => ("Syntax", at.line, at.column),
+        ParseFault::Nesting { at } => ("Nesting", at.line, at.column),
+        ParseFault::OutOfProfile { at } => ("OutOfProfile", at.line, at.column),
         ParseFault::OutOfMemory => ("OutOfMemory", 0, 0),
     };
     write!(out, "{kind} {line}:{column}")?;

@@ -21,7 +21,7 @@ pub enum ProfileFault {
 impl ProfileFault {
     ghost use Rattle.profile_book.specs.Faults.{number_of};
 
-    /// The number by which messages tell the fault; none where memory is wanting.
+    /// The number by which messages tell the fault; none for `OutOfMemory`.
     pub fn number(self) -> Option<u8>
         ensures { result ≡ number_of self }
     {

@@ -5,15 +5,16 @@ ghost use Rattle.reads_text.specs.Text as spec;
 
 use core_run::Access;
 use itoa::Buffer;
+use number_text::push_numbered;
 use rr_base::{Bytes, List};
 use std::alloc::{AllocError, Global};
 
-// A number, and a blank behind it.
+// A number, and a blank after it.
 fn push_number(out: &mut Bytes, number: u32) -> Result<(), AllocError>
     ensures { OnOk result (out.new ≡ out.old ++ (decimal number ++ 32 ∷ [])) }
 {
-    let mut buffer = Buffer::new();
-    out.extend_from_slice(buffer.format(number).as_bytes())?;
+    let number = u64::from(number);
+    push_numbered(out, b"", number)?;
     out.push(b' ')
 }
 

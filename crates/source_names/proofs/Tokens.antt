@@ -178,14 +178,14 @@ with_spelled k n r (Err f) h g = tt
 
 met_spelled : (p : Piece) (bs : Text) (r : Reading) (more : ℕ → Reading → Found) → IsFine p → ((n : ℕ) (s : Reading) → AreSpelled (more n s)) → AreSpelled (met p bs r more)
 met_spelled (piece.Blank n) bs r more h m = m n r
-met_spelled (piece.Token k n) bs r more h m = with_spelled k n r _ h (m n (record r { token_line = r.place.line }))
+met_spelled (piece.Token k n) bs r more h m = with_spelled k n r _ h (m n (record r { token_line = r.cursor.at.line }))
 met_spelled (piece.Define from to value n) bs r more h m = m n (record r { defined = r.defined ++ (slice_range bs from to, value) ∷ [] })
 met_spelled (piece.Fault f n) bs r more h m = tt
 
 spelled_from : (left : ℕ) (r : Reading) (bs : Text) → AreSpelled (tokens_from left r bs)
 spelled_from left r [] = tt
 spelled_from (suc left) r (b ∷ bs) = spelled_from left (passed b r) bs
-spelled_from zero r (b ∷ bs) = met_spelled (piece_at (nat_lt r.token_line r.place.line) r.defined (b ∷ bs)) (b ∷ bs) r _ (piece_fine (nat_lt r.token_line r.place.line) r.defined (b ∷ bs)) (λ n s. spelled_from (n - 1) (passed b s) bs)
+spelled_from zero r (b ∷ bs) = met_spelled (piece_at (nat_lt r.token_line r.cursor.at.line) r.defined (b ∷ bs)) (b ∷ bs) r _ (piece_fine (nat_lt r.token_line r.cursor.at.line) r.defined (b ∷ bs)) (λ n s. spelled_from (n - 1) (passed b s) bs)
 
 pub tokens_are_spelled : (text : Text) → AreSpelled (tokens_of text)
 unfolding tokens_of

@@ -92,7 +92,7 @@ AreKept h (n ∷ ns) = IsKept (home_numbered h.frame (Some n)) × AreKept h ns
 
 abbrev pub places_of : List Spot → List Position
 places_of [] = []
-places_of (s ∷ ss) = s.place ∷ places_of ss
+places_of (s ∷ ss) = s.at ∷ places_of ss
 
 -- ---- what stands for an expression
 

@@ -6,7 +6,6 @@ use Rattle.c_lexer.specs.Bytes.{Text}
 use Rattle.c_tree.specs.declared.name.Name.{Name}
 use Rattle.c_tree.specs.declared.program.Param.{Param}
 use Rattle.c_tree.specs.Tree.{Parts}
-use Rattle.rr_base.specs.Positions.{position_at}
 use Rattle.c_types.specs.declared.types.ObjectType.{ObjectType}
 use Rattle.c_types.specs.declared.library.StarredType.{StarredType}
 use Rattle.c_types.specs.Scopes.{Known, member_of, cells_of_type, opened}
@@ -38,14 +37,14 @@ abbrev ArrivesBelow : ℕ → ℕ → Arrival → Type 0
 ArrivesBelow registers objects (core.arrives r k at) = (r < registers) × (k < objects)
 
 one_arrives : (registers objects r k : ℕ) (l : Local) (b : Bool) → l.is_kept ≡ b → r < registers → k + one_if l.is_kept ≤ objects
-    → Each (ArrivesBelow registers objects) (if b then core.arrives r k (record { line = l.line; column = l.column }) ∷ [] else [])
+    → Each (ArrivesBelow registers objects) (if b then core.arrives r k l.at ∷ [] else [])
 one_arrives registers objects r k l true is lt le = let one : one_if l.is_kept ≡ 1 = ap one_if is in ((lt, omega (arith, le, one)), tt)
 one_arrives registers objects r k l false is lt le = tt
 
 all_arrive : (registers objects r k : ℕ) (ls : List Local) → r + length ls ≤ registers → k + kept_count ls ≤ objects → Each (ArrivesBelow registers objects) (arrivals_of r k ls)
 all_arrive registers objects r k [] few kept = tt
 all_arrive registers objects r k (l ∷ ls) few kept =
-    each_both (ArrivesBelow registers objects) (if l.is_kept then core.arrives r k (record { line = l.line; column = l.column }) ∷ [] else []) (arrivals_of (r + 1) (k + one_if l.is_kept) ls)
+    each_both (ArrivesBelow registers objects) (if l.is_kept then core.arrives r k l.at ∷ [] else []) (arrivals_of (r + 1) (k + one_if l.is_kept) ls)
     (one_arrives registers objects r k l l.is_kept refl (omega (arith, few)) (omega (arith, kept)))
     (all_arrive registers objects (r + 1) (k + one_if l.is_kept) ls (omega (arith, few)) (omega (arith, kept)))
 
@@ -165,8 +164,8 @@ module _ (p : Program) (home : ℕ → Option ℕ) (structs : ℕ) (s : Source) 
       sites_append : (xs ys : List Local) → sites_of s.sites (xs ++ ys) ≡ sites_of s.sites xs ++ sites_of s.sites ys
       sites_append [] ys = refl
       sites_append (x ∷ xs) ys =
-          ap (λ zs. (if x.is_kept then site_at s.sites (position_at x.line x.column) ∷ [] else []) ++ zs) (sites_append xs ys)
-          ∙ sym (append_assoc (if x.is_kept then site_at s.sites (position_at x.line x.column) ∷ [] else []) (sites_of s.sites xs) (sites_of s.sites ys))
+          ap (λ zs. (if x.is_kept then site_at s.sites x.at ∷ [] else []) ++ zs) (sites_append xs ys)
+          ∙ sym (append_assoc (if x.is_kept then site_at s.sites x.at ∷ [] else []) (sites_of s.sites xs) (sites_of s.sites ys))
 
   arrivals_here : Each (ArrivesBelow (length function_here.pointers) (length function_here.objects)) function_here.arrivals
   arrivals_here =

@@ -4,7 +4,6 @@ use Rattle.std.proofs.lemmas.List.{length-map}
 use Rattle.rr_base.proofs.Lists.{slice_get-append_at}
 use Rattle.rr_base.specs.declared.layout.Site.{Site}
 use Rattle.c_tree.specs.Tree.{Declares, declares, Start, start_declares, start_computes, Statement, block, compute, break_at, continue_at, gives, branch, branch_else, while_loop, do_loop, for_loop, Parts, no_part, and_declares, and_does}
-use Rattle.rr_base.specs.Positions.{position_at}
 use Rattle.c_sites.specs.Addresses.{is_among, count_of_declares, count_of_start, count_of_locals, count_of_parts}
 use Rattle.c_elaborate.specs.declared.home.Home.{Home}
 use Rattle.c_elaborate.specs.declared.home.Home.TheVariants as kept_in
@@ -171,7 +170,7 @@ sites_count_one false s rest n e = omega (arith, e)
 
 pub sites_count : (sites : List Site) (ls : List Local) → length (sites_of sites ls) ≡ kept_count ls
 sites_count sites [] = refl
-sites_count sites (l ∷ ls) = sites_count_one l.is_kept (site_at sites (position_at l.line l.column)) (sites_of sites ls) (kept_count ls) (sites_count sites ls)
+sites_count sites (l ∷ ls) = sites_count_one l.is_kept (site_at sites l.at) (sites_of sites ls) (kept_count ls) (sites_count sites ls)
 
 -- the home of each formal and local of a function fits it
 pub homes_fit : (sites : List Site) (formals locals : List Local)

@@ -19,7 +19,7 @@ use Rattle.source_sound.proofs.Environment.{IsFormedTarget, IsKept, AreKept, pla
 -- each of these has a site
 abbrev pub HaveSpots : Program → List Site → List Spot → Type 0
 HaveSpots p sites [] = Unit {0}
-HaveSpots p sites (s ∷ ss) = HasSite p (site_at sites s.place) × HaveSpots p sites ss
+HaveSpots p sites (s ∷ ss) = HasSite p (site_at sites s.at) × HaveSpots p sites ss
 
 pub spots_parts : (p : Program) (sites : List Site) (xs ys : List Spot) → HaveSpots p sites (xs ++ ys) → HaveSpots p sites xs × HaveSpots p sites ys
 spots_parts p sites [] ys have = (tt, have)

@@ -31,7 +31,7 @@ counted ss at h =
 -- each of the spots has a site among these
 abbrev pub AreSited : List Site → List Spot → Type 0
 AreSited ss [] = Unit {0}
-AreSited ss (x ∷ xs) = StandsIn ss x.place × AreSited ss xs
+AreSited ss (x ∷ xs) = StandsIn ss x.at × AreSited ss xs
 
 pub sited_parts : (ss : List Site) (xs ys : List Spot) → AreSited ss (xs ++ ys) → AreSited ss xs × AreSited ss ys
 sited_parts ss [] ys h = (tt, h)
@@ -41,7 +41,7 @@ more_sited : (s : Site) (ss : List Site) (xs : List Spot) → AreSited ss xs →
 more_sited s ss [] h = tt
 more_sited s ss (x ∷ xs) h = (inr h.0, more_sited s ss xs h.1)
 
-same_place : (kinds : List (List CellKind)) (x : Spot) → stands_at x.place (site_of kinds x) ≡ true
+same_place : (kinds : List (List CellKind)) (x : Spot) → stands_at x.at (site_of kinds x) ≡ true
 same_place kinds x = grind (arith, nat_tests)
 
 pub all_sited : (kinds : List (List CellKind)) (xs : List Spot) → AreSited (map (site_of kinds) xs) xs

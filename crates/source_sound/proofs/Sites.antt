@@ -5,7 +5,6 @@ use Rattle.c_lexer.specs.Bytes.{Text}
 use Rattle.c_tree.specs.declared.ctype.Specifier.{Specifier}
 use Rattle.c_tree.specs.declared.program.Param.{Param}
 use Rattle.c_tree.specs.Tree.{Declared, declared, Object, plain, initialised, Declares, declares, Start, start_declares, start_computes, Statement, block, compute, break_at, continue_at, gives, branch, branch_else, while_loop, do_loop, for_loop, Parts, no_part, and_declares, and_does}
-use Rattle.rr_base.specs.Positions.{position_at}
 use Rattle.c_types.specs.Scopes.{Known, opened}
 use Rattle.c_types.specs.Standing.{no_target}
 use Rattle.c_programs.specs.Declarators.{declared_type, param_type, after_param}
@@ -39,23 +38,23 @@ module _ (p : Program) (sites : List Site) (ns : List ℕ) where
   -- each local of these, with numbers from n on, has a site where it is kept in cells
   abbrev pub AreSited : ℕ → List Local → Type 0
   AreSited n [] = Unit {0}
-  AreSited n (l ∷ ls) = ((l.is_kept || is_among ns n) ≡ true → HasSite p (site_at sites (position_at l.line l.column))) × AreSited (n + 1) ls
+  AreSited n (l ∷ ls) = ((l.is_kept || is_among ns n) ≡ true → HasSite p (site_at sites l.at)) × AreSited (n + 1) ls
 
   sited_both : (n m : ℕ) (xs ys : List Local) → m ≡ n + length xs → AreSited n xs → AreSited m ys → AreSited n (xs ++ ys)
   sited_both n m [] ys e a b = let is : m ≡ n = omega (arith, e) in subst (λ k. AreSited k ys) is b
   sited_both n m (x ∷ xs) ys e a b = let is : m ≡ n + 1 + length xs = omega (arith, e) in (a.0, sited_both (n + 1) m xs ys is a.1 b)
 
-  one_site : (b : Bool) (l : Local) → (b ≡ true → HasSite p (site_at sites (position_at l.line l.column))) → Each (HasSite p) (if b then site_at sites (position_at l.line l.column) ∷ [] else [])
+  one_site : (b : Bool) (l : Local) → (b ≡ true → HasSite p (site_at sites l.at)) → Each (HasSite p) (if b then site_at sites l.at ∷ [] else [])
   one_site true l has = (has refl, tt)
   one_site false l has = tt
 
   pub sites_there : (n : ℕ) (ls : List Local) → AreSited n ls → Each (HasSite p) (sites_of sites (marked ns n ls))
   sites_there n [] are = tt
   sites_there n (l ∷ ls) are =
-      each_both (HasSite p) (if l.is_kept || is_among ns n then site_at sites (position_at l.line l.column) ∷ [] else []) (sites_of sites (marked ns (n + 1) ls))
+      each_both (HasSite p) (if l.is_kept || is_among ns n then site_at sites l.at ∷ [] else []) (sites_of sites (marked ns (n + 1) ls))
       (one_site (l.is_kept || is_among ns n) l are.0) (sites_there (n + 1) ls are.1)
 
-  kept_spot : (b : Bool) (spot : Spot) → HaveSpots p sites (where_kept b spot) → b ≡ true → HasSite p (site_at sites spot.place)
+  kept_spot : (b : Bool) (spot : Spot) → HaveSpots p sites (where_kept b spot) → b ≡ true → HasSite p (site_at sites spot.at)
   kept_spot true spot have e = have.0
   kept_spot false spot have e = let no : ⊥ = cc in absurd no
 

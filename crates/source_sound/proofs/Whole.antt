@@ -59,7 +59,7 @@ program_is os = refl
 have_spots : (p : Program) (sites : List Site) (xs : List Spot) → p.sites ≡ sites → AreSited sites xs → HaveSpots p sites xs
 have_spots p sites [] e h = tt
 have_spots p sites (x ∷ xs) e h =
-    let c = counted sites x.place h.0 in
+    let c = counted sites x.at h.0 in
     let long : length p.sites ≡ length sites = ap length e in
     ((c.0, omega (arith, c.1, long)), have_spots p sites xs e h.1)
 

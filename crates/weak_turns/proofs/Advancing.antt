@@ -26,11 +26,11 @@ module _ (cells : Board) (a b : Seat) (lacks : Bool) (tells : Tells a b (memory_
   pub carried : (r : Stepping) → IsSeatOf cells b → IsCarrying cells a r → IsCarrying cells b r
   carried r of h = carrying_on cells a b r note looked_at of h
 
-  -- memory was seen to be out
+  -- the machine was seen to be out of memory
   pub advances_out : (since : List ℕ) (budget turn : ℕ) → Advances cells a b since since budget turn None
   advances_out since budget turn = (note, looked_at, refl)
 
-  -- or was wanting
+  -- or ran out of it
   pub advances_none : (c : Seat) (since : List ℕ) (budget turn : ℕ) → IsSameSeat b c → Advances cells a c since since budget turn None
   advances_none c since budget turn same = (note, meets_then a b c note [] looked_at (meets_same b c same.view same.marks), refl)
 

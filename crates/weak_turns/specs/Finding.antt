@@ -70,7 +70,7 @@ pub record HasRested (r q : Stepping) : Type 0 where
   pub reads : q.reads ≡ r.reads
   pub rest : settled q.flow.code q.flow.setup q.flow.number q.flow.kept.thread ≡ settled r.flow.code r.flow.setup r.flow.number r.flow.kept.thread
 
--- a turn's step, or none where memory was seen to be out, or was wanting
+-- a turn's step, or none where the machine was seen to be out of memory, or ran out of it
 abbrev pub Advances : Board → (old new : Seat) → (since later : List ℕ) → (budget turn : ℕ) → Option Played → Type 0
 Advances cells old new since later budget turn None = (fresh : List Note) × Meets old new fresh × (later ≡ since)
 Advances cells old new since later budget turn (Some p) = (mid : Seat) × (fresh : List Note) × Meets old mid fresh × Saw fresh (memory_place cells.code cells.setup) 0 × StepIs cells mid new since later budget turn fresh p

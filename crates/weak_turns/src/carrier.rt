@@ -88,7 +88,7 @@ impl<'c, 'a> Carrier<'c, 'a> {
         (seat, run)
     }
 
-    /// A turn, and what it has come to. Where memory is wanting all other carriers of these cells are told.
+    /// A turn, and what it has come to. Out of memory, it tells all other carriers of these cells.
     pub fn play(&mut self) -> Played
         ensures same { IsSameCarrier self.old self.new }
         ensures turns { RoseBy 1 self.old.turns self.new.turns }

@@ -94,7 +94,7 @@ pub(crate) fn step(
     }
 }
 
-/// A turn of a thread that hasn't ended. None where memory was seen to be out, or was wanting, which all others are told.
+/// A turn of a thread that hasn't ended. None where the machine was seen to be out of memory, or ran out of it, which all others are told.
 pub(crate) fn advance(
     cells: &Cells,
     seat: &mut Seat,

@@ -51,7 +51,7 @@ for_statement-returns-clause-numbers t c =
 pub for_statement-returns-clause-statement : goal.for_statement-returns-clause-statement
 for_statement-returns-clause-statement t c =
     for_made (source_in c.args.source.now) (frame_in c.args.frame.now) (known_of c.args.table.now) _ (numbered_of c.args.numbers.now) _
-    (start_of c.args.begin.now) (maybe_of c.args.test.now) (maybe_of c.args.step.now) (stmt_of c.args.body.now) (position_at c.args.at.0 c.args.at.1) _
+    (start_of c.args.begin.now) (maybe_of c.args.test.now) (maybe_of c.args.step.now) (stmt_of c.args.body.now) c.args.at _
     c.in_ok-open.ensures c.in_ok-open-2.ensures c.in_ok-made.ensures.statement
 
 pub statement-returns-in-Block-clause-numbers : goal.statement-returns-in-Block-clause-numbers

@@ -2,7 +2,7 @@ use Rattle.std.proofs.Common.{map, ◌+◌, sym, ◌∙◌, arith}
 use Rattle.std.proofs.lemmas.List.{map_push}
 use Rattle.std.proofs.lemmas.Result.{err_from_is_err_and}
 use Rattle.c_tree.specs.View.{exp_of}
-use Rattle.c_parse_rules.specs.Gives.{lexemes, place_of}
+use Rattle.c_parse_rules.specs.Gives.{lexemes}
 use Rattle.c_grammar.specs.Phrase as phrase
 use Rattle.c_parse_rules.proofs.Turns.{no_longer, more_turn, enclosed_stop, opened_stop, member_turn, arrow_turn}
 use Rattle.c_expressions.proofs.expression.+read.Goals as goal
@@ -22,13 +22,13 @@ pub enclosed-returns-in_err-rest : goal.enclosed-returns-in_err-rest
 enclosed-returns-in_err-rest t c =
     let p = err_from_is_err_and c.from_residual-in_err-rest.result c.from_residual-in_err-rest.ensures.1 in
     rw (p.1, p.2)
-    (enclosed_stop c.in_err-rest.field-0.0 c.args.level (c.args.level + 1) (place_of c.args.place) (lexemes c.args.tokens.now) (lexemes c.in_ok-inner.rest.now) (exp_of c.in_ok-inner.inner) (omega arith) c.in_ok-inner.ensures c.in_err-rest.ensures.taken)
+    (enclosed_stop c.in_err-rest.field-0.0 c.args.level (c.args.level + 1) c.args.place (lexemes c.args.tokens.now) (lexemes c.in_ok-inner.rest.now) (exp_of c.in_ok-inner.inner) (omega arith) c.in_ok-inner.ensures c.in_err-rest.ensures.taken)
 
 pub opened-returns-in_err-rest : goal.opened-returns-in_err-rest
 opened-returns-in_err-rest t c =
     let p = err_from_is_err_and c.from_residual-in_err-rest.result c.from_residual-in_err-rest.ensures.1 in
     rw (p.1, p.2)
-    (opened_stop c.in_err-rest.field-0.0 c.args.level (c.args.level + 1) (place_of c.args.place) (lexemes c.args.tokens.now) (lexemes c.in_ok-to.rest.now) c.in_ok-to.to (omega arith) (sym c.begins_type.ensures ∙ c.if-begins_type.true) c.in_ok-to.ensures c.in_err-rest.ensures.taken)
+    (opened_stop c.in_err-rest.field-0.0 c.args.level (c.args.level + 1) c.args.place (lexemes c.args.tokens.now) (lexemes c.in_ok-to.rest.now) c.in_ok-to.to (omega arith) (sym c.begins_type.ensures ∙ c.if-begins_type.true) c.in_ok-to.ensures c.in_err-rest.ensures.taken)
 
 pub postfix-returns-then-begins_with-2 : goal.postfix-returns-then-begins_with-2
 postfix-returns-then-begins_with-2 t c =

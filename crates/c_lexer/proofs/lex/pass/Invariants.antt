@@ -4,9 +4,9 @@ use Rattle.c_lexer.proofs.lex.pass.Given as goal
 
 abbrev pub invariant-loop-b : goal.invariant-loop-b
 invariant-loop-b l = record {
-  rest : after (drop l.b-index l.text) l.place ≡ after l.text l.fn.place;
-  at : l.place.at ≡ l.fn.place.at + l.b-index;
-  line : l.place.line ≤ l.fn.place.line + l.b-index;
-  column : l.place.column ≤ l.fn.place.column + l.b-index;
-  first : 1 ≤ l.place.column;
+  rest : after (drop l.b-index l.text) l.cursor ≡ after l.text l.fn.cursor;
+  offset : l.cursor.offset ≡ l.fn.cursor.offset + l.b-index;
+  line : l.cursor.at.line ≤ l.fn.cursor.at.line + l.b-index;
+  column : l.cursor.at.column ≤ l.fn.cursor.at.column + l.b-index;
+  first : 1 ≤ l.cursor.at.column;
 }

@@ -8,12 +8,12 @@ use Rattle.c_lexer.proofs.lex.tokens.Given as goal
 -- the tokens so far and those of the rest are those of the text
 abbrev pub invariant-loop-rest : goal.invariant-loop-rest
 invariant-loop-rest l = record {
-  tokens : with_front l.found (tokens_from 0 (record { place = l.place; token_line = l.token_line; defined = l.names }) l.rest) ≡ tokens_of l.text;
-  at : l.place.at + length l.rest ≡ length l.text;
-  line : l.place.line ≤ 1 + l.place.at;
-  column : l.place.column ≤ 1 + l.place.at;
-  first : 1 ≤ l.place.column;
-  order : AreInOrder 0 l.place.at l.found;
+  tokens : with_front l.found (tokens_from 0 (record { cursor = l.cursor; token_line = l.token_line; defined = l.names }) l.rest) ≡ tokens_of l.text;
+  offset : l.cursor.offset + length l.rest ≡ length l.text;
+  line : l.cursor.at.line ≤ 1 + l.cursor.offset;
+  column : l.cursor.at.column ≤ 1 + l.cursor.offset;
+  first : 1 ≤ l.cursor.at.column;
+  order : AreInOrder 0 l.cursor.offset l.found;
   placed : All IsPlaced l.found;
 }
 

@@ -4,7 +4,7 @@ use Rattle.std.proofs.lemmas.Result.{err_from_is_err_and}
 use Rattle.c_tree.specs.declared.statement.Stmt.{Stmt}
 use Rattle.c_tree.specs.Tree.{Statement}
 use Rattle.c_tree.specs.View.{exp_of, stmt_of, part_of}
-use Rattle.c_parse_rules.specs.Gives.{lexemes, place_of, Gives}
+use Rattle.c_parse_rules.specs.Gives.{lexemes, Gives}
 use Rattle.c_grammar.specs.Parse.{Outcome}
 use Rattle.c_parse_rules.proofs.Behind.{if_then, no_block}
 use Rattle.c_parse_rules.proofs.HeadSteps.{stops_from}
@@ -32,7 +32,7 @@ pub branch-returns : goal.branch-returns
 branch-returns t c =
     let P : Outcome Statement → Type 0 = λ o. Gives (λ (s : Stmt). stmt_of s) c.otherwise.result o in
     subst P
-    (sym (if_then c.args.level (place_of c.args.place) (lexemes c.args.tokens.now) (lexemes c.in_ok-test.rest.now) (lexemes c.in_ok-yes.rest.now) (exp_of c.in_ok-test.test.value) (stmt_of c.in_ok-yes.yes.value) c.in_ok-test.ensures c.in_ok-yes.ensures))
+    (sym (if_then c.args.level c.args.place (lexemes c.args.tokens.now) (lexemes c.in_ok-test.rest.now) (lexemes c.in_ok-yes.rest.now) (exp_of c.in_ok-test.test.value) (stmt_of c.in_ok-yes.yes.value) c.in_ok-test.ensures c.in_ok-yes.ensures))
     c.otherwise.ensures
 
 pub statement-returns-in_err-found : goal.statement-returns-in_err-found

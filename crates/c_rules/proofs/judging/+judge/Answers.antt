@@ -1,6 +1,5 @@
 use Rattle.std.proofs.Common.{◌≡◌, ◌∷◌, map, sym, ap, ◌∙◌, rules}
 use Rattle.c_tree.specs.Tree.{listed}
-use Rattle.rr_base.specs.Positions.{position_at}
 use Rattle.c_tree.specs.View.{exp_of}
 use Rattle.c_tree.proofs.Views.{exps_of_row-list}
 use Rattle.c_types.specs.Found.{first_among}
@@ -25,7 +24,7 @@ judge-returns-in-Call-clause-standing g t c =
 
 pub judge-returns-in-Call-clause-first : goal.judge-returns-in-Call-clause-first
 judge-returns-in-Call-clause-first g t c =
-    rw (c.in-Call.is, exps_of_row-list) (call_faulty (g.N.Names.known c.args.names.now) (shown_target c.args.target) c.in-Call.name c.as_slice-name.result.now c.in-Call.arguments c.as_slice-arguments.result.now _ (position_at c.own_place-at.result.0 c.own_place-at.result.1) c.format_of-format.result (shown_wants c.wants_of-wants.result) c.args.first.now c.note_call.new.first c.judge_arguments-fit.new.first c.as_slice-name.ensures c.as_slice-arguments.ensures (rw c.in-Call.is at c.own_place-at.ensures) c.format_of-format.ensures c.wants_of-wants.ensures c.note_call.ensures c.judge_arguments-fit.ensures.first)
+    rw (c.in-Call.is, exps_of_row-list) (call_faulty (g.N.Names.known c.args.names.now) (shown_target c.args.target) c.in-Call.name c.as_slice-name.result.now c.in-Call.arguments c.as_slice-arguments.result.now _ c.own_place-at.result c.format_of-format.result (shown_wants c.wants_of-wants.result) c.args.first.now c.note_call.new.first c.judge_arguments-fit.new.first c.as_slice-name.ensures c.as_slice-arguments.ensures (rw c.in-Call.is at c.own_place-at.ensures) c.format_of-format.ensures c.wants_of-wants.ensures c.note_call.ensures c.judge_arguments-fit.ensures.first)
 
 pub judge_rest-loop-e-preserved : goal.judge_rest-loop-e-preserved
 judge_rest-loop-e-preserved g t c = record {
@@ -39,11 +38,11 @@ judge_arguments-loop-e-preserved g t c = elim c.match-next.branch [
       let wanted : shown_wants c.loop-e.wants ≡ w.in-Some.next ∷ shown_wants c.match-next.wants = w.in-Some.ensures ∙ sym (ap (λ z. w.in-Some.next ∷ shown_wants z) w.wants-is) in
       record {
         fit = wanted_fits (g.N.Names.known c.args.names.now) w.in-Some.next (shown_wants c.match-next.wants) (shown_wants c.loop-e.wants) c.args.arguments.now c.loop-e.e-index c.e-item.result c.loop-e.fit w.judge_argument-fit.result c.match-next.fit (fit_wanted (g.N.Names.known c.args.names.now) (shown_wants c.args.wanted) (listed (map exp_of c.args.arguments.now))) c.loop-e-test.true c.e-item.is wanted w.judge_argument-fit.ensures.fits w.fit-is c.loop-e.invariant.fit;
-        faults = wanted_faulty (g.N.Names.known c.args.names.now) w.in-Some.next (shown_wants c.match-next.wants) (shown_wants c.loop-e.wants) (position_at c.args.at.0 c.args.at.1) c.args.arguments.now c.loop-e.e-index c.e-item.result c.loop-e.first w.judge_argument-fit.new.first c.match-next.first (first_among c.args.first.now (arguments_faults (g.N.Names.known c.args.names.now) (shown_wants c.args.wanted) (position_at c.args.at.0 c.args.at.1) (listed (map exp_of c.args.arguments.now)))) c.loop-e-test.true c.e-item.is wanted w.first-is w.judge_argument-fit.ensures.first c.loop-e.invariant.faults;
+        faults = wanted_faulty (g.N.Names.known c.args.names.now) w.in-Some.next (shown_wants c.match-next.wants) (shown_wants c.loop-e.wants) c.args.at c.args.arguments.now c.loop-e.e-index c.e-item.result c.loop-e.first w.judge_argument-fit.new.first c.match-next.first (first_among c.args.first.now (arguments_faults (g.N.Names.known c.args.names.now) (shown_wants c.args.wanted) c.args.at (listed (map exp_of c.args.arguments.now)))) c.loop-e-test.true c.e-item.is wanted w.first-is w.judge_argument-fit.ensures.first c.loop-e.invariant.faults;
       }
   | judge_arguments-in-None w ↦
       rw w.wants-is (record {
         fit = unwanted_fits (g.N.Names.known c.args.names.now) (shown_wants c.loop-e.wants) c.args.arguments.now c.loop-e.e-index c.e-item.result c.loop-e.fit c.match-next.fit (fit_wanted (g.N.Names.known c.args.names.now) (shown_wants c.args.wanted) (listed (map exp_of c.args.arguments.now))) c.loop-e-test.true c.e-item.is w.in-None.ensures w.fit-is c.loop-e.invariant.fit;
-        faults = unwanted_faulty (g.N.Names.known c.args.names.now) (shown_wants c.loop-e.wants) (position_at c.args.at.0 c.args.at.1) c.args.arguments.now c.loop-e.e-index c.e-item.result c.loop-e.first w.judge.new.first c.match-next.first (first_among c.args.first.now (arguments_faults (g.N.Names.known c.args.names.now) (shown_wants c.args.wanted) (position_at c.args.at.0 c.args.at.1) (listed (map exp_of c.args.arguments.now)))) c.loop-e-test.true c.e-item.is w.in-None.ensures w.first-is w.judge.ensures.first c.loop-e.invariant.faults;
+        faults = unwanted_faulty (g.N.Names.known c.args.names.now) (shown_wants c.loop-e.wants) c.args.at c.args.arguments.now c.loop-e.e-index c.e-item.result c.loop-e.first w.judge.new.first c.match-next.first (first_among c.args.first.now (arguments_faults (g.N.Names.known c.args.names.now) (shown_wants c.args.wanted) c.args.at (listed (map exp_of c.args.arguments.now)))) c.loop-e-test.true c.e-item.is w.in-None.ensures w.first-is w.judge.ensures.first c.loop-e.invariant.faults;
       })
 ]

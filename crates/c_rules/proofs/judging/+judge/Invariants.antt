@@ -1,6 +1,5 @@
 use Rattle.std.proofs.Common.{◌≡◌, ◌&&◌, drop, map}
 use Rattle.c_tree.specs.Tree.{listed}
-use Rattle.rr_base.specs.Positions.{position_at}
 use Rattle.c_tree.specs.View.{exp_of}
 use Rattle.c_types.specs.Found.{first_among}
 use Rattle.c_types.specs.Shown.{shown_standing, shown_wants}
@@ -18,5 +17,5 @@ invariant-judge_rest-loop-e g l = record {
 abbrev pub invariant-judge_arguments-loop-e : goal.invariant-judge_arguments-loop-e
 invariant-judge_arguments-loop-e g l = record {
   fit : (l.fit && fit_wanted (g.N.Names.known l.names) (shown_wants l.wants) (listed (map exp_of (drop l.e-index l.arguments)))) ≡ fit_wanted (g.N.Names.known l.names) (shown_wants l.fn.wanted) (listed (map exp_of l.fn.arguments));
-  faults : first_among l.first (arguments_faults (g.N.Names.known l.names) (shown_wants l.wants) (position_at l.at.0 l.at.1) (listed (map exp_of (drop l.e-index l.arguments)))) ≡ first_among l.fn.first (arguments_faults (g.N.Names.known l.names) (shown_wants l.fn.wanted) (position_at l.at.0 l.at.1) (listed (map exp_of l.fn.arguments)));
+  faults : first_among l.first (arguments_faults (g.N.Names.known l.names) (shown_wants l.wants) l.at (listed (map exp_of (drop l.e-index l.arguments)))) ≡ first_among l.fn.first (arguments_faults (g.N.Names.known l.names) (shown_wants l.fn.wanted) l.at (listed (map exp_of l.fn.arguments)));
 }
