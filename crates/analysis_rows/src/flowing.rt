@@ -122,6 +122,7 @@ fn code_of(alloc: Global, body: Body) -> Result<Code, AllocError> {
         sites: List::new(alloc),
         globals: List::new(alloc),
         global_kinds: List::new(alloc),
+        global_bases: List::new(alloc),
         locks: List::new(alloc),
     })
 }

@@ -1,8 +1,11 @@
 //! Instructions written by hand.
 use abstract_machine::LibraryCall;
 use flow_code::{Act, Instr};
-use rr_base::List;
+use rr_base::{List, Position};
 use std::alloc::{AllocError, Global};
+
+/// Where each instruction and site stands.
+pub const START: Position = Position { line: 1, column: 1 };
 
 /// A call of the library whose result goes nowhere.
 pub fn library(alloc: Global, call: LibraryCall, arguments: &[u32]) -> Result<Act, AllocError> {
@@ -18,11 +21,7 @@ pub fn library(alloc: Global, call: LibraryCall, arguments: &[u32]) -> Result<Ac
 pub fn instrs(alloc: Global, acts: Vec<Act>) -> Result<List<Instr>, AllocError> {
     let mut instrs = List::new(alloc);
     for act in acts {
-        instrs.push(Instr {
-            line: 1,
-            column: 1,
-            act,
-        })?;
+        instrs.push(Instr { at: START, act })?;
     }
     Ok(instrs)
 }

@@ -2,7 +2,7 @@ ghost use Rattle.std.specs.Prelude.{◌≡◌, ◌<◌};
 ghost use Rattle.facts.specs.PointsTo as spec;
 ghost use Rattle.facts.specs.PointsTo.{IsPointsTo};
 
-use crate::made::instrs;
+use crate::made::{START, instrs};
 use abstract_machine::LibraryCall;
 use facts::{Node, PointsTo};
 use flow_code::{Act, Code, Function, Work, is_valid};
@@ -104,8 +104,7 @@ fn site_of(alloc: Global, kind: CellKind, size: u32, element: u32) -> Result<Sit
     Ok(Site {
         name: List::new(alloc),
         layout,
-        line: 1,
-        column: 1,
+        at: START,
     })
 }
 
@@ -151,6 +150,17 @@ fn kinds_of(alloc: Global, rows: &[(CellKind, u32, u32)]) -> Result<List<CellKin
     Ok(kinds)
 }
 
+// The objects lie one behind another.
+fn bases_of(alloc: Global, rows: &[(CellKind, u32, u32)]) -> Result<List<Option<u32>>, AllocError> {
+    let mut bases = List::new(alloc);
+    let mut next: u32 = 0;
+    for (_kind, size, _element) in rows {
+        bases.push(Some(next))?;
+        next = next.saturating_add(*size);
+    }
+    Ok(bases)
+}
+
 fn code_of(
     alloc: Global,
     functions: List<Function>,
@@ -165,6 +175,7 @@ fn code_of(
         sites,
         globals,
         global_kinds,
+        global_bases: bases_of(alloc, rows)?,
         locks: List::new(alloc),
     })
 }
@@ -248,6 +259,24 @@ fn stores_are_loaded(rt: HostRuntime) -> Result<(), Fail> {
         (register(0, 1), first, second),
         (register(0, 2), second, None),
         (cells(1), None, None),
+    ];
+    assert_eq!(rt; first_wrong(alloc, &code, &rows)?, None);
+    Ok(())
+}
+
+// int a; int *p = &a; int **unused = &p; int main(void) { return 1; }
+#[test]
+fn unnamed_globals_count(rt: HostRuntime) -> Result<(), Fail> {
+    let alloc = rt.alloc();
+    let steps = [Step::Compute(0, Work::Constant(1)), Step::Return(0)];
+    let mut functions = List::new(alloc);
+    functions.push(function_of(alloc, b"main", 0, &[false], &steps)?)?;
+    let words = [0, (1 << 54) + (1 << 16), (2 << 54) + (1 << 32) + (1 << 16)];
+    let code = code_of(alloc, functions, &[WHOLE, POINTER, POINTER], &words)?;
+    let rows = [
+        (cells(1), None, None),
+        (cells(2), Some(place(1, 0)), None),
+        (cells(3), Some(place(2, 0)), None),
     ];
     assert_eq!(rt; first_wrong(alloc, &code, &rows)?, None);
     Ok(())

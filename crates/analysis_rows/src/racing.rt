@@ -114,6 +114,7 @@ fn code(alloc: Global) -> Result<Code, AllocError>
         sites: List::new(alloc),
         globals: List::new(alloc),
         global_kinds: List::new(alloc),
+        global_bases: List::new(alloc),
         locks: List::new(alloc),
     })
 }

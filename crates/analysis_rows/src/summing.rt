@@ -1,4 +1,4 @@
-use crate::made::{instrs, library};
+use crate::made::{START, instrs, library};
 use abstract_machine::LibraryCall;
 use facts::{Guarded, LockPath, Minus, RelLocks, Summary};
 use flow_code::{Act, Code, Function, Work, is_valid};
@@ -183,8 +183,7 @@ fn code_of(alloc: Global, program: Program) -> Result<Code, AllocError> {
         sites.push(Site {
             name: List::new(alloc),
             layout,
-            line: 1,
-            column: 1,
+            at: START,
         })?;
     }
     Ok(Code {
@@ -192,6 +191,7 @@ fn code_of(alloc: Global, program: Program) -> Result<Code, AllocError> {
         sites,
         globals: List::from_slice(alloc, &[0, 0, 0])?,
         global_kinds: List::from_slice(alloc, &kinds)?,
+        global_bases: List::from_slice(alloc, &[Some(0), Some(1), Some(2)])?,
         locks: List::new(alloc),
     })
 }

@@ -1,5 +1,5 @@
 -- Worked rows of what core trees do.
-use Rattle.std.proofs.Common.{◌≡◌, ℕ, ℤ, pos, true, false, List, [], ◌∷◌, replicate, Some, refl, codes}
+use Rattle.std.proofs.Common.{◌≡◌, ℕ, ℤ, pos, true, false, List, [], ◌∷◌, replicate, Some, None, refl, codes}
 use Rattle.sync_objects.specs.Setup.{SetupView}
 use Rattle.sync_objects.specs.declared.object.ObjId.TheVariants as object_id
 use Rattle.sync_objects.specs.declared.operation.Op.TheVariants as op
@@ -34,7 +34,7 @@ abbrev main_of : Statement → Function
 main_of body = record { name = codes "main"; place = at 2; formals = 0; pointers = false ∷ []; objects = []; arrivals = []; gives_pointer = false; body = body }
 
 abbrev program_of : Statement → Program
-program_of body = record { functions = main_of body ∷ []; sites = site_g ∷ []; globals = 0 ∷ []; global_kinds = kind.Whole ∷ [] }
+program_of body = record { functions = main_of body ∷ []; sites = site_g ∷ []; globals = 0 ∷ []; global_kinds = kind.Whole ∷ []; global_bases = Some 0 ∷ [] }
 
 -- int g; int main(void) { g = 1 + 2; return g; }
 abbrev first_program : Program
@@ -140,6 +140,7 @@ call_program = record {
   sites = site_g ∷ record { name = codes "f.n@6:1"; layout = record { size = 1; element = 1; kinds = kind.Whole ∷ [] }; at = record { line = 6; column = 1 } } ∷ [];
   globals = 0 ∷ [];
   global_kinds = kind.Whole ∷ [];
+  global_bases = Some 0 ∷ None ∷ [];
 }
 
 -- the formal has the first cell of the thread's arena

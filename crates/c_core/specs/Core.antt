@@ -93,6 +93,8 @@ pub record Program : Type 0 where
   -- the start words and the kinds of the global cells
   pub globals : List ℕ
   pub global_kinds : List CellKind
+  -- the first global cell of each site's object
+  pub global_bases : List (Option ℕ)
 
 -- ---- lists of trees
 

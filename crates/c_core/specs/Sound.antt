@@ -8,7 +8,7 @@ use Rattle.rr_base.specs.declared.layout.Site.{Site}
 use Rattle.abstract_machine.specs.declared.library_call.LibraryCall.{LibraryCall}
 use Rattle.abstract_machine.specs.declared.library_call.LibraryCall.TheVariants as library_call
 use Rattle.abstract_machine.specs.declared.operator.BinaryOp.{BinaryOp}
-use Rattle.abstract_machine.specs.Pointers.{site_at}
+use Rattle.abstract_machine.specs.Pointers.{site_at, base_at}
 use Rattle.abstract_machine.specs.Cells.{size_of}
 use Rattle.abstract_machine.specs.Kinds.{is_comparison, library_kinds}
 use Rattle.abstract_machine.specs.Layouts.{sites_fit}
@@ -166,15 +166,15 @@ pub record AreAtHome (p : Program) (home : ℕ → Option ℕ) : Type 0 where
   pub words : (k w : ℕ) → slice_get p.global_kinds k ≡ Some kind.Pointer → slice_get p.globals k ≡ Some w → (w ≡ 0) ⊎ IsAddress p home w
 
 pub record IsSound (p : Program) : Type 0 where
-  -- the first cell of each site's global object
-  pub home : ℕ → Option ℕ
-  pub homes : AreAtHome p home
-  pub functions : (k : ℕ) (f : Function) → slice_get p.functions k ≡ Some f → IsSoundFunction p home f
+  pub homes : AreAtHome p (base_at p.global_bases)
+  pub functions : (k : ℕ) (f : Function) → slice_get p.functions k ≡ Some f → IsSoundFunction p (base_at p.global_bases) f
   -- one function is `main`, and it has no formals
   pub one_main : count_by is_main p.functions ≡ 1
   pub main_alone : (k : ℕ) (f : Function) → slice_get p.functions k ≡ Some f → is_main f ≡ true → f.formals ≡ 0
   -- each global cell has a kind
   pub cell_kinds : length p.global_kinds ≡ length p.globals
+  -- each site is told whether its object is a global's
+  pub bases : length p.global_bases ≡ length p.sites
   -- each site has a layout
   pub layouts : sites_fit p.sites ≡ true
   -- the limits

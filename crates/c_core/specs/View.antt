@@ -105,4 +105,5 @@ core_of c = record {
   sites = c.sites;
   globals = c.globals;
   global_kinds = c.global_kinds;
+  global_bases = c.global_bases;
 }

@@ -36,4 +36,6 @@ pub struct Core {
     pub globals: List<u64>,
     /// The kind of each global cell.
     pub global_kinds: List<CellKind>,
+    /// The first global cell of each site's object, in the order of the sites; none of a site that is no global.
+    pub global_bases: List<Option<u32>>,
 }

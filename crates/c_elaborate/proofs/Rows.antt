@@ -1,5 +1,5 @@
 -- Worked rows of the core trees of sources.
-use Rattle.std.proofs.Common.{◌≡◌, ℕ, pos, true, false, List, [], ◌∷◌, Some, refl, codes}
+use Rattle.std.proofs.Common.{◌≡◌, ℕ, pos, true, false, List, [], ◌∷◌, Some, None, refl, codes}
 use Rattle.rr_base.specs.Words.{pack}
 use Rattle.rr_base.specs.declared.layout.CellKind.TheVariants as cell
 use Rattle.abstract_machine.specs.declared.operator.BinaryOp.TheVariants as flow
@@ -75,3 +75,8 @@ pub first_functions_are : (core_of_source first_source).functions ≡ record {
 } ∷ []
 unfolding core_of_source behind constant_named library_named
 first_functions_are = refl
+
+-- `g` begins at the first global cell, and the sites of `b`, `v` and the `malloc` are no globals
+pub first_bases_are : (core_of_source first_source).global_bases ≡ Some 0 ∷ None ∷ None ∷ None ∷ []
+unfolding core_of_source behind constant_named library_named
+first_bases_are = refl

@@ -1,5 +1,5 @@
 -- The cells of globals: the pointer to each, and the words as which they start (C99 6.6, 6.7.8).
-use Rattle.std.specs.Prelude.{ℕ, ◌+◌, ◌-◌, true, if◌then◌else◌, List, [], ◌∷◌, ◌++◌, length, replicate, Option, Ok, Err}
+use Rattle.std.specs.Prelude.{ℕ, ◌+◌, ◌-◌, true, if◌then◌else◌, List, [], ◌∷◌, ◌++◌, length, replicate, Option, Some, None, Ok, Err}
 use Rattle.rr_base.specs.declared.layout.CellKind.{CellKind}
 use Rattle.rr_base.specs.declared.layout.Site.{Site}
 use Rattle.rr_base.specs.Words.{pack}
@@ -49,6 +49,17 @@ abbrev pub global_kinds : List Spot → List Site → List CellKind
 global_kinds [] sites = []
 global_kinds (spot ∷ spots) [] = []
 global_kinds (spot ∷ spots) (s ∷ sites) = holder_kinds spot.holder s.layout.kinds ++ global_kinds spots sites
+
+abbrev pub holder_base : Holder → ℕ → Option ℕ
+holder_base (a_global name) base = Some base
+holder_base (a_local f name) base = None
+holder_base an_allocation base = None
+
+-- for each spot the first cell of its global, where so many global cells lie before
+abbrev pub global_bases : (base : ℕ) → List Spot → List Site → List (Option ℕ)
+global_bases base [] sites = []
+global_bases base (spot ∷ spots) [] = []
+global_bases base (spot ∷ spots) (s ∷ sites) = holder_base spot.holder base ∷ global_bases (base + holder_cells spot.holder s.layout.size) spots sites
 
 -- ---- start words
 

@@ -12,7 +12,7 @@ use Rattle.c_sites.specs.Spots.{known_behind, kinds_of_structs, program_spots, p
 use Rattle.c_core.specs.Core as core
 use Rattle.c_elaborate.specs.Here.{Source}
 use Rattle.c_elaborate.specs.Functions.{definition}
-use Rattle.c_elaborate.specs.Globals.{globals_after, global_kinds, objects_words}
+use Rattle.c_elaborate.specs.Globals.{globals_after, global_kinds, global_bases, objects_words}
 
 abbrev pub code_functions : Source → List ℕ → Known → ℕ → Name → Signature → Params → Code → List core.Function
 code_functions s ns known n name f ps prototype = []
@@ -54,4 +54,5 @@ core_of_source os = record {
   sites = program_sites os;
   globals = outers_words (source_of os) (known_at_start os) os;
   global_kinds = global_kinds (program_spots os) (program_sites os);
+  global_bases = global_bases 0 (program_spots os) (program_sites os);
 }

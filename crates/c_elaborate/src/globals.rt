@@ -148,6 +148,39 @@ pub fn global_kinds(
     Ok(kinds)
 }
 
+fn holder_base(holder: Holder, base: u32) -> Option<u32>
+    ensures { result ≡ spec.holder_base (shown_holder holder.entry) base }
+{
+    match holder {
+        Holder::Global(_) => Some(base),
+        Holder::Local(_, _) | Holder::Allocation => None,
+    }
+}
+
+/// The first cell of each spot's global; none of a spot that is no global.
+pub fn global_bases(
+    alloc: Global,
+    spots: &[Spot],
+    sites: &[Site],
+) -> Result<List<Option<u32>>, AllocError>
+    ensures { IfOk result (λ bs. bs ≡ spec.global_bases 0 (shown_spots spots.now) sites.now) }
+{
+    let mut bases = List::new(alloc);
+    let mut base: u32 = 0;
+    let mut spots = spots;
+    let mut sites = sites;
+    while let [spot, more_spots @ ..] = spots {
+        let [first, more_sites @ ..] = sites else {
+            return Ok(bases);
+        };
+        bases.push(holder_base(spot.holder, base))?;
+        base = sum(base, holder_cells(spot.holder, first.layout.size))?;
+        spots = more_spots;
+        sites = more_sites;
+    }
+    Ok(bases)
+}
+
 /// A global array, or what `&` is applied to; else null.
 fn address_word(source: &Source, e: &Expr) -> u64
     ensures { result ≡ spec.address_word (source_in source.now) (exp_of e.now) }

@@ -16,7 +16,7 @@ ghost use Rattle.c_elaborate.specs.Views.{source_in};
 ghost use Rattle.c_elaborate.specs.Whole as spec;
 
 use crate::functions::definition;
-use crate::globals::{global_kinds, globals_in, push_objects};
+use crate::globals::{global_bases, global_kinds, globals_in, push_objects};
 use crate::here::Source;
 use c_core::{Core, CoreFunction};
 use c_programs::{Table, declare_function, listed, note_struct, signature_of};
@@ -166,58 +166,80 @@ fn walked<'a>(
     Ok((functions, words))
 }
 
-/// What is known of a whole source, and the kinds of its global cells, where those are marked to which `&` is applied.
+/// What is known of a whole source, the kinds of its global cells and the first ones of its globals, where those are
+/// marked to which `&` is applied.
 fn source_of<'a>(
     alloc: Global,
     marks: &'a Marks,
     program: &'a Program,
     sites: &'a [Site],
-) -> Result<(Source<'a>, List<CellKind>), AllocError>
+) -> Result<(Source<'a>, List<CellKind>, List<Option<u32>>), AllocError>
     requires marks { marks.now.numbers ≡ program_addressed (program_of program.now) }
     requires sites { sites.now ≡ program_sites (program_of program.now) }
     ensures source { IfOk result (λ r. source_in r.0 ≡ spec.source_of (program_of program.now)) }
     ensures kinds { IfOk result (λ r. r.1 ≡ spec_globals.global_kinds (program_spots (program_of program.now)) (program_sites (program_of program.now))) }
+    ensures bases { IfOk result (λ r. r.2 ≡ spec_globals.global_bases 0 (program_spots (program_of program.now)) (program_sites (program_of program.now))) }
 {
     let (whole, spots) = spots_in(alloc, marks, program)?;
     let kinds = kinds_of_structs(alloc, &whole)?;
     let globals = globals_in(alloc, spots.as_slice(), sites)?;
     let global_kinds = global_kinds(alloc, spots.as_slice(), sites)?;
+    let global_bases = global_bases(alloc, spots.as_slice(), sites)?;
     let source = Source {
         whole,
         kinds,
         sites,
         globals,
     };
-    Ok((source, global_kinds))
+    Ok((source, global_kinds, global_bases))
 }
 
-/// The functions, the start words and the kinds of the global cells of a source, of which the marks and the sites are known.
+/// The functions of a source, the start words and the kinds of its global cells and the first ones of its globals, where
+/// the marks and the sites are known.
 #[tactic(auto, unfolding(crate::specs::Whole::core_of_source))]
 fn made_of(
     alloc: Global,
     marks: &Marks,
     program: &Program,
     sites: &[Site],
-) -> Result<(List<CoreFunction>, List<u64>, List<CellKind>), AllocError>
+) -> Result<
+    (
+        List<CoreFunction>,
+        List<u64>,
+        List<CellKind>,
+        List<Option<u32>>,
+    ),
+    AllocError,
+>
     requires marks { marks.now.numbers ≡ program_addressed (program_of program.now) }
     requires sites { sites.now ≡ program_sites (program_of program.now) }
     ensures functions { IfOk result (λ r. map function_of r.0 ≡ (spec.core_of_source (program_of program.now)).functions) }
     ensures words { IfOk result (λ r. r.1 ≡ (spec.core_of_source (program_of program.now)).globals) }
     ensures kinds { IfOk result (λ r. r.2 ≡ (spec.core_of_source (program_of program.now)).global_kinds) }
+    ensures bases { IfOk result (λ r. r.3 ≡ (spec.core_of_source (program_of program.now)).global_bases) }
 {
-    let (source, kinds) = source_of(alloc, marks, program, sites)?;
+    let (source, kinds, bases) = source_of(alloc, marks, program, sites)?;
     let (functions, words) = walked(alloc, &source, marks, program)?;
-    Ok((functions, words, kinds))
+    Ok((functions, words, kinds, bases))
 }
 
 /// The same of a source without a fault.
 fn parts_of(
     alloc: Global,
     typed: &Typed,
-) -> Result<(List<CoreFunction>, List<u64>, List<CellKind>), AllocError>
+) -> Result<
+    (
+        List<CoreFunction>,
+        List<u64>,
+        List<CellKind>,
+        List<Option<u32>>,
+    ),
+    AllocError,
+>
     ensures functions { IfOk result (λ r. map function_of r.0 ≡ (spec.core_of_source (program_of (program_in typed.now))).functions) }
     ensures words { IfOk result (λ r. r.1 ≡ (spec.core_of_source (program_of (program_in typed.now))).globals) }
     ensures kinds { IfOk result (λ r. r.2 ≡ (spec.core_of_source (program_of (program_in typed.now))).global_kinds) }
+    ensures bases { IfOk result (λ r. r.3 ≡ (spec.core_of_source (program_of (program_in typed.now))).global_bases) }
 {
     let program = typed.program();
     let marks = addressed_in(alloc, program)?;
@@ -233,11 +255,12 @@ fn parts_of(
 pub fn elaborate(alloc: Global, typed: Typed) -> Result<Core, AllocError>
     ensures { IfOk result (λ c. core_of c ≡ spec.core_of_source (program_of (program_in typed))) }
 {
-    let (functions, globals, global_kinds) = parts_of(alloc, &typed)?;
+    let (functions, globals, global_kinds, global_bases) = parts_of(alloc, &typed)?;
     Ok(Core {
         functions,
         sites: typed.into_sites(),
         globals,
         global_kinds,
+        global_bases,
     })
 }

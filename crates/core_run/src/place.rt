@@ -82,7 +82,7 @@ pub(crate) fn line_at(code: &Code, function: u32, instr: usize) -> u32
     ensures { result ≡ line_in (instr_in (slice_get code.now.functions function) instr) }
 {
     match instr_at(code, function, instr) {
-        Some(i) => i.line,
+        Some(i) => i.at.line,
         None => 0,
     }
 }

@@ -2,7 +2,7 @@
 use abstract_machine::{BinaryOp, LibraryCall, Piece};
 use core_run::{Entry, Formula, Walk, walk};
 use flow_code::{Act, Base, Bound, Code, Function, Instr, LockInfo, Region, Span, Work, is_valid};
-use rr_base::{Bytes, CellKind, Layout, List, PtrWord, Site};
+use rr_base::{Bytes, CellKind, Layout, List, Position, PtrWord, Site};
 use std::alloc::{AllocError, Global};
 use std::test::Fail;
 use sync_objects::{ObjId, OpName, Setup};
@@ -33,8 +33,7 @@ fn site(alloc: Global, kind: CellKind, size: u32) -> Result<Site, AllocError> {
             element: 1,
             kinds,
         },
-        line: 1,
-        column: 1,
+        at: Position { line: 1, column: 1 },
     })
 }
 
@@ -74,8 +73,7 @@ fn call(alloc: Global, call: LibraryCall, arguments: &[u32]) -> Result<Act, Allo
 // A list of instructions from the acts in turn.
 fn add(instrs: &mut List<Instr>, act: Act) -> Result<(), AllocError> {
     instrs.push(Instr {
-        line: 1,
-        column: 1,
+        at: Position { line: 1, column: 1 },
         act,
     })
 }
@@ -189,8 +187,10 @@ fn code_of(
     let mut sites = List::new(alloc);
     let mut globals = List::new(alloc);
     let mut global_kinds = List::new(alloc);
+    let mut global_bases = List::new(alloc);
     for (kind, size) in kinds.iter().zip(sizes) {
         sites.push(site(alloc, *kind, *size)?)?;
+        global_bases.push(Some(globals.len().min(64) as u32))?;
         for _k in 0..*size {
             globals.push(0)?;
             global_kinds.push(*kind)?;
@@ -198,6 +198,7 @@ fn code_of(
     }
     for _k in 0..2 {
         sites.push(site(alloc, CellKind::Whole, 1)?)?;
+        global_bases.push(None)?;
     }
     let lock = LockInfo {
         site: guarded,
@@ -209,6 +210,7 @@ fn code_of(
         sites,
         globals,
         global_kinds,
+        global_bases,
         locks: lone(alloc, lock)?,
     })
 }

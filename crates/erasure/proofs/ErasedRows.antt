@@ -44,7 +44,7 @@ bytes_row = refl
 -- ---- frames
 
 instr : Act → Instr
-instr a = record { line = 1; column = 1; act = a }
+instr a = record { at = record { line = 1; column = 1 }; act = a }
 
 -- a Mark within a region
 guarded : Code
@@ -63,6 +63,7 @@ guarded = record {
   sites = [];
   globals = [];
   global_kinds = [];
+  global_bases = [];
   locks = [];
 }
 

@@ -66,7 +66,7 @@ locking = record {
   gives_pointer = false;
   loops = [];
   regions = [];
-  instrs = record { line = 1; column = 1; act = act.Compute 1 (work.Member 0 2) } ∷ record { line = 2; column = 1; act = act.Library call.MutexLock (1 ∷ []) None } ∷ record { line = 3; column = 1; act = act.Return None } ∷ [];
+  instrs = record { at = record { line = 1; column = 1 }; act = act.Compute 1 (work.Member 0 2) } ∷ record { at = record { line = 2; column = 1 }; act = act.Library call.MutexLock (1 ∷ []) None } ∷ record { at = record { line = 3; column = 1 }; act = act.Return None } ∷ [];
 }
 
 namings_row : argument_namings locking ≡ [] ∷ (Named (Formal 0 2) ∷ []) ∷ [] ∷ []

@@ -4,7 +4,7 @@
 use Rattle.std.specs.Prelude.{◌≡◌, ◌↔◌, ℕ, ◌+◌, ◌%◌, ◌<◌, ◌==◌, nat_lt, ◌&&◌, ◌||◌, Bool, true, false, if◌then◌else◌, ℤ, pos, ◌+ℤ◌, ◌*ℤ◌, List, [], ◌∷◌, ◌++◌, length, take, drop, slice_get, slice_index_or, unsigned_abs, Option, Some, None}
 use Rattle.std.specs.Int.{int_rem_euclid}
 use Rattle.std.specs.List.{Contains}
-use Rattle.rr_base.specs.Words.{site_of, base_of, class_of}
+use Rattle.rr_base.specs.Words.{site_of, class_of}
 use Rattle.rr_base.specs.declared.layout.CellKind.{CellKind}
 use Rattle.rr_base.specs.declared.layout.Place.{Place}
 use Rattle.rr_base.specs.declared.layout.Site.{Site}
@@ -17,8 +17,8 @@ use Rattle.flow_code.specs.declared.code.Code.{Code}
 use Rattle.flow_code.specs.declared.code.Function.{Function}
 use Rattle.flow_code.specs.declared.work.Work.{Work}
 use Rattle.flow_code.specs.declared.work.Work.TheVariants as work
-use Rattle.flow_code.specs.Addresses.{address_at, address_of}
-use Rattle.abstract_machine.specs.Pointers.{directed, site_at}
+use Rattle.flow_code.specs.Addresses.{address_at}
+use Rattle.abstract_machine.specs.Pointers.{directed, site_at, base_at}
 use Rattle.facts.specs.Blocks.{constant_at}
 use Rattle.facts.specs.declared.constraint.Node.{Node}
 use Rattle.facts.specs.declared.constraint.Node.TheVariants.{Register, Result, Ended, Cells}
@@ -130,12 +130,12 @@ cells_constraints s element offset (k ∷ ks) (w ∷ ws) = word_constraints s el
 
 abbrev pub object_constraints : Code → (s : ℕ) → Site → Option ℕ → List Constraint
 object_constraints code s site None = []
-object_constraints code s site (Some w) = cells_constraints s site.layout.element 0 (take site.layout.size (drop (base_of w) code.global_kinds)) (drop (base_of w) code.globals)
+object_constraints code s site (Some base) = cells_constraints s site.layout.element 0 (take site.layout.size (drop base code.global_kinds)) (drop base code.globals)
 
 -- those of the global objects of these sites, numbered from s on
 abbrev pub sites_constraints : Code → (s : ℕ) → List Site → List Constraint
 sites_constraints code s [] = []
-sites_constraints code s (site ∷ sites) = object_constraints code s site (address_of code s) ++ sites_constraints code (s + 1) sites
+sites_constraints code s (site ∷ sites) = object_constraints code s site (base_at code.global_bases s) ++ sites_constraints code (s + 1) sites
 
 abbrev pub constraints_of : Code → List Constraint
 constraints_of code = functions_constraints 0 code.functions ++ sites_constraints code 1 code.sites

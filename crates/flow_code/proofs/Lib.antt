@@ -5,6 +5,7 @@ pub mod Dues
 pub mod Endings
 pub mod Filling
 pub mod Goings
+pub mod Objects
 pub mod Placing
 pub mod Quietly
 pub mod Ranges

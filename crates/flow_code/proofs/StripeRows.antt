@@ -24,13 +24,13 @@ use Rattle.flow_code.specs.Threads.{Thread, OpenRegion}
 
 -- an array of eight numbers, whose lock has eight stripes, and a number, whose lock has one
 abbrev array : Site
-array = record { name = []; layout = record { size = 8; element = 1; kinds = [] }; line = 2; column = 5 }
+array = record { name = []; layout = record { size = 8; element = 1; kinds = [] }; at = record { line = 2; column = 5 } }
 
 abbrev alone : Site
-alone = record { name = []; layout = record { size = 1; element = 1; kinds = [] }; line = 3; column = 5 }
+alone = record { name = []; layout = record { size = 1; element = 1; kinds = [] }; at = record { line = 3; column = 5 } }
 
 abbrev instr : ℕ → Instr
-instr r = record { line = 1; column = 1; act = act.Take r }
+instr r = record { at = record { line = 1; column = 1 }; act = act.Take r }
 
 -- function 0 takes region 0 at 0 and region 1 at 1, and gives them at 2 and 3
 abbrev ofs : List Region → Function
@@ -41,7 +41,7 @@ ofs regions = record {
   registers = 1;
   pointers = [];
   gives_pointer = false;
-  instrs = instr 0 ∷ instr 1 ∷ record { line = 1; column = 1; act = act.Give 1 } ∷ record { line = 1; column = 1; act = act.Give 0 } ∷ [];
+  instrs = instr 0 ∷ instr 1 ∷ record { at = record { line = 1; column = 1 }; act = act.Give 1 } ∷ record { at = record { line = 1; column = 1 }; act = act.Give 0 } ∷ [];
   loops = [];
   regions = regions;
 }
@@ -52,6 +52,7 @@ code_of regions = record {
   sites = array ∷ alone ∷ [];
   globals = [];
   global_kinds = [];
+  global_bases = [];
   locks = record { site = 1; class = 0; stripes = 8 } ∷ record { site = 2; class = 0; stripes = 1 } ∷ [];
 }
 

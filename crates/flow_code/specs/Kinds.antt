@@ -1,6 +1,5 @@
 -- Which registers, functions and sites an instruction of a valid code names, and the kind of each register.
-use Rattle.std.specs.Prelude.{ℕ, ◌+◌, ◌==◌, nat_lt, nat_le, ◌&&◌, ◌||◌, Bool, true, false, not, ℤ, pos, negsuc, List, [], ◌∷◌, length, take, Option, Some, None, slice_get, is_some}
-use Rattle.rr_base.specs.Words.{site_of, base_of, length_of, offset_of}
+use Rattle.std.specs.Prelude.{ℕ, ◌==◌, nat_lt, nat_le, ◌&&◌, ◌||◌, Bool, true, false, not, ℤ, pos, negsuc, List, [], ◌∷◌, length, take, Option, Some, None, slice_get, is_some}
 use Rattle.flow_code.specs.declared.act.Act.{Act}
 use Rattle.flow_code.specs.declared.act.Act.TheVariants as act
 use Rattle.abstract_machine.specs.declared.library_call.LibraryCall.{LibraryCall}
@@ -12,7 +11,7 @@ use Rattle.flow_code.specs.declared.work.Work.TheVariants as work
 use Rattle.abstract_machine.specs.declared.operator.BinaryOp.{BinaryOp}
 use Rattle.flow_code.specs.Works.{is_pointer}
 use Rattle.flow_code.specs.Threads.{is_main_in}
-use Rattle.abstract_machine.specs.Cells.{size_of}
+use Rattle.flow_code.specs.Addresses.{is_address}
 use Rattle.abstract_machine.specs.Kinds.{is_comparison, library_kinds}
 
 -- ---- registers
@@ -51,10 +50,6 @@ is_null (negsuc n) = false
 -- the code has the site; the first one has number 1
 abbrev pub is_site : Code → ℕ → Bool
 is_site code s = nat_le 1 s && nat_le s (length code.sites)
-
--- the word is the address of a whole object that lies within the global cells
-abbrev pub is_address : Code → ℕ → Bool
-is_address code w = is_site code (site_of w) && (length_of w == size_of code.sites (site_of w)) && (offset_of w == 0) && nat_le (base_of w + length_of w) (length code.globals)
 
 -- two pointers compare; every other operator takes whole numbers
 abbrev pub binary_fits : Function → ℕ → BinaryOp → ℕ → ℕ → Bool

@@ -64,7 +64,7 @@ instr_at code frame = instr_in (slice_get code.functions frame.function) frame.i
 
 abbrev pub line_in : Option Instr → ℕ
 line_in None = 0
-line_in (Some i) = i.line
+line_in (Some i) = i.at.line
 
 abbrev pub line_of_function : Option Function → ℕ
 line_of_function None = 0

@@ -58,7 +58,7 @@ is_within_limits code = nat_le (length code.functions) (2 ^ 20) && nat_le (lengt
 
 -- a code is valid where it is within the limits; the cells of each site have kinds; each weak lock has a site and 1 or 8
 -- stripes; one function is `main`; what each function names is there, each register is used as the kind that it is, and
--- control stays in the function (Kinds.antt, Order.antt, Regions.antt); and the global cells belong to the sites of which
--- there are addresses (Addresses.antt)
+-- control stays in the function (Kinds.antt, Order.antt, Regions.antt); and the objects of globals lie within the
+-- global cells, and apart (Addresses.antt)
 abbrev pub is_valid : Code → Bool
 is_valid code = is_within_limits code && sites_fit code.sites && all_locks_fit code code.locks && has_one_main code.functions && functions_fit code code.functions && globals_fit code

@@ -1,12 +1,11 @@
 use crate::work::Work;
 use abstract_machine::LibraryCall;
-use rr_base::List;
+use rr_base::{List, Position};
 
-/// An instruction, with the line and column in the source at which it stands.
+/// An instruction, and where in the source it stands.
 #[derive(Debug, Drop)]
 pub struct Instr {
-    pub line: u32,
-    pub column: u32,
+    pub at: Position,
     pub act: Act,
 }
 

@@ -1,23 +1,59 @@
-// The addresses of globals in a code, and whether the objects of global sites lie apart.
-ghost use Rattle.std.specs.Prelude.{◌≡◌, ◌≤◌, drop, length};
+// The addresses of globals, and whether the objects of globals lie apart.
+ghost use Rattle.std.specs.Prelude.{◌≡◌, drop};
+ghost use Rattle.rr_base.specs.Words.{pack};
+ghost use Rattle.abstract_machine.specs.Pointers as pointers;
 ghost use Rattle.flow_code.specs.Addresses as spec;
 
-use crate::act::{Act, Instr};
-use crate::code::{Code, Function};
-use crate::kinds::is_address;
-use crate::work::Work;
+use crate::code::Code;
+use abstract_machine::site_at;
 use rr_base::{CellKind, PtrWord, Site};
 
-// The address that an instruction computes.
-fn address_in(act: &Act) -> Option<u64>
-    ensures { result ≡ spec.address_in act.now }
+/// The first global cell of the object of the site with this number; none of a site that is no global.
+pub fn base_at(bases: &[Option<u32>], site: u16) -> Option<u32>
+    ensures { result ≡ pointers.base_at bases.now site }
 {
-    match act {
-        Act::Compute {
-            into: _,
-            work: Work::Address(word),
-        } => Some(word.word()),
-        _ => None,
+    if site == 0 {
+        return None;
+    }
+    match bases.get(usize::from(site) - 1) {
+        Some(base) => *base,
+        None => None,
+    }
+}
+
+// The word of a pointer to a whole object. In a code that isn't valid it may need more than 64 bits.
+fn whole(site: u16, base: u32, size: u32) -> u128
+    ensures { result ≡ pack site base size 0 }
+{
+    let site = u128::from(site) * (1 << 54);
+    let base = u128::from(base) * (1 << 32);
+    let size = u128::from(size) * (1 << 16);
+    site + base + size
+}
+
+// The pointer to the object of a global site.
+fn address_of(code: &Code, site: u16) -> Option<u128>
+    ensures { result ≡ spec.address_of code.now site }
+{
+    let object = site_at(code.sites.as_slice(), site)?;
+    let base = base_at(code.global_bases.as_slice(), site)?;
+    Some(whole(site, base, object.layout.size))
+}
+
+/// Whether the site's object is a global's.
+pub(crate) fn is_global(code: &Code, site: u16) -> bool
+    ensures { result ≡ spec.is_global code.now site }
+{
+    address_of(code, site).is_some()
+}
+
+/// Whether the word is the pointer to the whole object of a global site.
+pub(crate) fn is_address(code: &Code, word: u64) -> bool
+    ensures { result ≡ spec.is_address code.now word }
+{
+    match address_of(code, PtrWord::from_word(word).site()) {
+        Some(address) => u128::from(word) == address,
+        None => false,
     }
 }
 
@@ -29,144 +65,6 @@ fn address_at(kind: CellKind, word: u64) -> Option<u64>
         CellKind::Pointer => { if word == 0 { None } else { Some(word) } }
         CellKind::Whole | CellKind::Mutex | CellKind::Cond | CellKind::Barrier => None,
     }
-}
-
-fn of_site(site: u16, address: Option<u64>) -> Option<u64>
-    ensures { result ≡ spec.of_site site address }
-{
-    match address {
-        Some(word) => {
-            if PtrWord::from_word(word).site() == site {
-                Some(word)
-            } else {
-                None
-            }
-        }
-        None => None,
-    }
-}
-
-fn first_in_instrs(site: u16, instrs: &[Instr]) -> Option<u64>
-    ensures { result ≡ spec.first_in_instrs site instrs.now }
-{
-    for instr in instrs {
-        if let Some(word) = of_site(site, address_in(&instr.act)) {
-            return Some(word);
-        }
-    }
-    None
-}
-
-fn first_in_functions(site: u16, functions: &[Function]) -> Option<u64>
-    ensures { result ≡ spec.first_in_functions site functions.now }
-{
-    for function in functions {
-        if let Some(word) = first_in_instrs(site, function.instrs.as_slice()) {
-            return Some(word);
-        }
-    }
-    None
-}
-
-fn first_in_words(site: u16, kinds: &[CellKind], words: &[u64]) -> Option<u64>
-    ensures { result ≡ spec.first_in_words site kinds.now words.now }
-{
-    let mut kinds_left = kinds;
-    let mut words_left = words;
-    while let [kind, more @ ..] = kinds_left {
-        let [word, rest @ ..] = words_left else {
-            return None;
-        };
-        if let Some(word) = of_site(site, address_at(*kind, *word)) {
-            return Some(word);
-        }
-        kinds_left = more;
-        words_left = rest;
-    }
-    None
-}
-
-// The first address of a site in the code.
-fn address_of(code: &Code, site: u16) -> Option<u64>
-    ensures { result ≡ spec.address_of code.now site }
-{
-    match first_in_functions(site, code.functions.as_slice()) {
-        Some(word) => Some(word),
-        None => first_in_words(site, code.global_kinds.as_slice(), code.globals.as_slice()),
-    }
-}
-
-/// Whether the code has an address of the site.
-pub(crate) fn is_global(code: &Code, site: u16) -> bool
-    ensures { result ≡ spec.is_global code.now site }
-{
-    address_of(code, site).is_some()
-}
-
-fn lie_apart(first: u64, second: u64) -> bool
-    ensures { result ≡ spec.lie_apart first second }
-{
-    let first = PtrWord::from_word(first);
-    let second = PtrWord::from_word(second);
-    first.base() + u32::from(first.length()) <= second.base()
-        || second.base() + u32::from(second.length()) <= first.base()
-}
-
-fn agrees(word: u64, address: Option<u64>) -> bool
-    ensures { result ≡ spec.agrees word address }
-{
-    match address {
-        Some(other) => {
-            if PtrWord::from_word(word).site() == PtrWord::from_word(other).site() {
-                word == other
-            } else {
-                lie_apart(word, other)
-            }
-        }
-        None => true,
-    }
-}
-
-fn instrs_agree(word: u64, instrs: &[Instr]) -> bool
-    ensures { result ≡ spec.instrs_agree word instrs.now }
-{
-    instrs
-        .iter()
-        .all(|instr| agrees(word, address_in(&instr.act)))
-}
-
-fn words_agree(word: u64, kinds: &[CellKind], words: &[u64]) -> bool
-    ensures { result ≡ spec.words_agree word kinds.now words.now }
-{
-    let mut kinds_left = kinds;
-    let mut words_left = words;
-    while let [kind, more @ ..] = kinds_left {
-        let [other, rest @ ..] = words_left else {
-            return true;
-        };
-        if !agrees(word, address_at(*kind, *other)) {
-            return false;
-        }
-        kinds_left = more;
-        words_left = rest;
-    }
-    true
-}
-
-fn functions_agree(word: u64, functions: &[Function]) -> bool
-    ensures { result ≡ spec.functions_agree word functions.now }
-{
-    functions
-        .iter()
-        .all(|function| instrs_agree(word, function.instrs.as_slice()))
-}
-
-// Whether all addresses of the code agree with this one.
-fn all_agree(word: u64, code: &Code) -> bool
-    ensures { result ≡ spec.all_agree word code.now }
-{
-    functions_agree(word, code.functions.as_slice())
-        && words_agree(word, code.global_kinds.as_slice(), code.globals.as_slice())
 }
 
 // Whether the kinds of the first cells are these.
@@ -198,40 +96,71 @@ fn kinds_from(kinds: &[CellKind], base: u32) -> &[CellKind]
     }
 }
 
-fn cells_fit(code: &Code, site: &Site, word: u64) -> bool
-    ensures { result ≡ spec.cells_fit code.now site.now word }
+fn lies_apart(base: u32, cells: u32, other: Option<u32>, site: &Site) -> bool
+    ensures { result ≡ spec.lies_apart base cells other site.now }
 {
-    begin_with(
-        kinds_from(
-            code.global_kinds.as_slice(),
-            PtrWord::from_word(word).base(),
-        ),
-        site.layout.kinds.as_slice(),
-    )
+    let Some(other) = other else {
+        return true;
+    };
+    u64::from(base) + u64::from(cells) <= u64::from(other)
+        || u64::from(other) + u64::from(site.layout.size) <= u64::from(base)
 }
 
-fn stands_alone(code: &Code, site: &Site, address: Option<u64>) -> bool
-    ensures { result ≡ spec.stands_alone code.now site.now address }
+// Whether the cells from `base` on, so many, are none of those of these sites' objects.
+fn all_apart(base: u32, cells: u32, bases: &[Option<u32>], sites: &[Site]) -> bool
+    ensures { result ≡ spec.all_apart base cells bases.now sites.now }
 {
-    match address {
-        Some(word) => cells_fit(code, site, word) && all_agree(word, code),
-        None => true,
-    }
-}
-
-// Whether each site that is global has one address, and its object has its cells for itself.
-fn sites_stand_alone(code: &Code) -> bool
-    requires { length code.now.sites ≤ 1023 }
-    ensures { result ≡ spec.sites_stand_alone code.now 1 code.now.sites }
-{
-    let mut number: u16 = 1;
-    let mut rest = code.sites.as_slice();
-    while let [site, more @ ..] = rest {
-        if !stands_alone(code, site, address_of(code, number)) {
+    let mut bases_left = bases;
+    let mut sites_left = sites;
+    while let [other, more @ ..] = bases_left {
+        let [site, rest @ ..] = sites_left else {
+            return true;
+        };
+        if !lies_apart(base, cells, *other, site) {
             return false;
         }
-        number += 1;
-        rest = more;
+        bases_left = more;
+        sites_left = rest;
+    }
+    true
+}
+
+// Whether an object lies within the global cells, with the kinds of its layout, and has no cell of a later one.
+fn object_fits(
+    code: &Code,
+    base: Option<u32>,
+    site: &Site,
+    bases: &[Option<u32>],
+    sites: &[Site],
+) -> bool
+    ensures { result ≡ spec.object_fits code.now base site.now bases.now sites.now }
+{
+    let Some(base) = base else {
+        return true;
+    };
+    let size = site.layout.size;
+    base as usize + size as usize <= code.globals.len()
+        && begin_with(
+            kinds_from(code.global_kinds.as_slice(), base),
+            site.layout.kinds.as_slice(),
+        )
+        && all_apart(base, size, bases, sites)
+}
+
+fn objects_fit(code: &Code, bases: &[Option<u32>], sites: &[Site]) -> bool
+    ensures { result ≡ spec.objects_fit code.now bases.now sites.now }
+{
+    let mut bases_left = bases;
+    let mut sites_left = sites;
+    while let [base, more @ ..] = bases_left {
+        let [site, rest @ ..] = sites_left else {
+            return true;
+        };
+        if !object_fits(code, *base, site, more, rest) {
+            return false;
+        }
+        bases_left = more;
+        sites_left = rest;
     }
     true
 }
@@ -264,12 +193,12 @@ fn words_fit(code: &Code, kinds: &[CellKind], words: &[u64]) -> bool
     true
 }
 
-/// Whether each global cell has a kind, a word that fits, and belongs to one site at most.
+/// Whether each global cell has a kind and a word that fits, and belongs to one site at most.
 pub(crate) fn globals_fit(code: &Code) -> bool
-    requires { length code.now.sites ≤ 1023 }
     ensures { result ≡ spec.globals_fit code.now }
 {
     code.global_kinds.len() == code.globals.len()
+        && code.global_bases.len() == code.sites.len()
         && words_fit(code, code.global_kinds.as_slice(), code.globals.as_slice())
-        && sites_stand_alone(code)
+        && objects_fit(code, code.global_bases.as_slice(), code.sites.as_slice())
 }

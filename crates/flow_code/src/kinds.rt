@@ -5,12 +5,12 @@ ghost use Rattle.abstract_machine.specs.Kinds as kinds;
 ghost use Rattle.flow_code.specs.Kinds as spec;
 
 use crate::act::Act;
+use crate::addresses::is_address;
 use crate::code::{Code, Function};
 use crate::entering::is_main;
 use crate::work::Work;
 use crate::works::is_pointer;
-use abstract_machine::{BinaryOp, LibraryCall, Piece, size_of};
-use rr_base::PtrWord;
+use abstract_machine::{BinaryOp, LibraryCall, Piece};
 
 pub(crate) fn has_register(function: &Function, r: u32) -> bool
     ensures { result ≡ spec.has_register function.now r }
@@ -89,19 +89,6 @@ pub(crate) fn is_site(code: &Code, site: u16) -> bool
     ensures { result ≡ spec.is_site code.now site }
 {
     1 <= site && usize::from(site) <= code.sites.len()
-}
-
-// Whether the word is the address of a whole object that lies within the global cells.
-pub(crate) fn is_address(code: &Code, word: u64) -> bool
-    ensures { result ≡ spec.is_address code.now word }
-{
-    let address = PtrWord::from_word(word);
-    let size = size_of(code.sites.as_slice(), address.site());
-    let end = address.base() as usize + usize::from(address.length());
-    is_site(code, address.site())
-        && u32::from(address.length()) == size
-        && address.offset() == 0
-        && end <= code.globals.len()
 }
 
 fn binary_fits(function: &Function, into: u32, op: BinaryOp, left: u32, right: u32) -> bool

@@ -22,6 +22,7 @@ mod work;
 mod works;
 
 pub use act::{Act, Instr};
+pub use addresses::base_at;
 pub use code::{Code, Function, LockInfo, LoopInfo};
 pub use constants::constants_fit;
 pub use entering::{fill, fitted_in, is_main, objects_len, place};

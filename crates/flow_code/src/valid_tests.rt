@@ -1,6 +1,6 @@
 use crate::{Act, Base, Bound, Code, Function, Instr, LockInfo, Region, Span, Work, is_valid};
 use abstract_machine::{BinaryOp, LibraryCall, Piece};
-use rr_base::{Bytes, CellKind, Layout, List, PtrWord, Site};
+use rr_base::{Bytes, CellKind, Layout, List, Position, PtrWord, Site};
 use std::alloc::{AllocError, Global};
 use std::test::Fail;
 
@@ -11,6 +11,7 @@ struct Shape {
     element: u32,
     kind: CellKind,
     word: u64,
+    bases: [Option<u32>; 2],
     stripes: u8,
     locks: [u16; 2],
     counter: u32,
@@ -21,6 +22,8 @@ struct Shape {
     jump: u32,
 }
 
+const START: Position = Position { line: 1, column: 1 };
+
 // The address of the one global, an object of two cells.
 const GLOBAL: u64 = (1 << 54) + (2 << 16);
 
@@ -30,6 +33,7 @@ fn good() -> Shape {
         element: 2,
         kind: CellKind::Whole,
         word: GLOBAL,
+        bases: [Some(0), None],
         stripes: 8,
         locks: [0, 1],
         counter: 1,
@@ -62,17 +66,12 @@ fn site(alloc: Global, kinds: &[CellKind], size: u32, element: u32) -> Result<Si
     Ok(Site {
         name: List::new(alloc),
         layout,
-        line: 1,
-        column: 1,
+        at: START,
     })
 }
 
 fn instr(act: Act) -> Instr {
-    Instr {
-        line: 1,
-        column: 1,
-        act,
-    }
+    Instr { at: START, act }
 }
 
 // A first instruction, a Mark, a jump and a return.
@@ -163,6 +162,7 @@ fn code_of(alloc: Global, shape: Shape, first: Act) -> Result<Code, AllocError> 
         sites: pair(alloc, global, local)?,
         globals: List::from_slice(alloc, &[7, shape.word])?,
         global_kinds: List::from_slice(alloc, &[shape.kind, CellKind::Pointer])?,
+        global_bases: List::from_slice(alloc, &shape.bases)?,
         locks: locks(alloc, shape.stripes)?,
     })
 }
@@ -201,6 +201,27 @@ fn codes_are_valid(rt: HostRuntime) -> Result<(), Fail> {
         (
             Shape {
                 word: GLOBAL + (1 << 54),
+                ..good
+            },
+            false,
+        ),
+        (
+            Shape {
+                bases: [None, None],
+                ..good
+            },
+            false,
+        ),
+        (
+            Shape {
+                bases: [Some(0), Some(0)],
+                ..good
+            },
+            false,
+        ),
+        (
+            Shape {
+                bases: [Some(1), None],
                 ..good
             },
             false,

@@ -1,5 +1,5 @@
--- Instructions that fit their function at their places, jump onward or to a Mark, and name only such addresses as are said.
-use Rattle.std.proofs.Common.{◌≡◌, ℕ, ◌+◌, ◌<◌, true, ◌&&◌, nat_lt, List, [], ◌∷◌, ◌++◌, length, Option, Some, None, slice_get, is_none, refl, sym, ap, subst, arith}
+-- Instructions that fit their function at their places and jump onward or to a Mark.
+use Rattle.std.proofs.Common.{◌≡◌, ℕ, ◌+◌, ◌<◌, true, ◌&&◌, nat_lt, List, [], ◌∷◌, ◌++◌, length, Some, slice_get, is_none, refl, ap, subst, arith}
 use Rattle.std.proofs.lemmas.Bool.{and_from, or_left, or_right, lt-ltb}
 use Rattle.flow_code.specs.declared.act.Act.{Act}
 use Rattle.flow_code.specs.declared.act.Act.TheVariants as act
@@ -11,25 +11,14 @@ use Rattle.flow_code.specs.Threads.{object_of}
 use Rattle.flow_code.specs.Next.{act_in}
 use Rattle.flow_code.specs.Kinds.{has_register, has_instr, work_fits, act_fits}
 use Rattle.flow_code.specs.Order.{is_mark, jump_fits, jumps_fit_at, jumps_fit, make_no_objects, makes_no_object}
-use Rattle.flow_code.specs.Addresses.{address_in}
 use Rattle.flow_code.specs.Valid.{acts_fit}
 use Rattle.rr_base.specs.declared.position.Position.{Position}
 use Rattle.flow_lower.specs.Lowered.{instr}
 
--- the address, if there is one, is such a one
-abbrev pub Each : (ℕ → Type 0) → Option ℕ → Type 0
-Each P None = Unit {0}
-Each P (Some w) = P w
-
-abbrev pub HaveAddresses : (ℕ → Type 0) → List Instr → Type 0
-HaveAddresses P [] = Unit {0}
-HaveAddresses P (i ∷ is) = Each P (address_in i.act) × HaveAddresses P is
-
-module _ (code : Code) (f : Function) (P : ℕ → Type 0) where
+module _ (code : Code) (f : Function) where
   pub record IsGood (at : ℕ) (a : Act) : Type 0 where
     pub fits : act_fits code f a ≡ true
     pub jumps : jumps_fit_at f.instrs at a ≡ true
-    pub address : Each P (address_in a)
     pub plain : is_none (object_of a) ≡ true
 
   -- these, from this place on
@@ -54,18 +43,14 @@ module _ (code : Code) (f : Function) (P : ℕ → Type 0) where
   good_jumps at [] h = refl
   good_jumps at (i ∷ is) h = and_from (jumps_fit_at f.instrs at i.act) (jumps_fit f.instrs (at + 1) is) h.0.jumps (good_jumps (at + 1) is h.1)
 
-  pub good_addresses : (at : ℕ) (is : List Instr) → AreGood at is → HaveAddresses P is
-  good_addresses at [] h = tt
-  good_addresses at (i ∷ is) h = (h.0.address, good_addresses (at + 1) is h.1)
-
   pub good_plain : (at : ℕ) (is : List Instr) → AreGood at is → make_no_objects is ≡ true
   good_plain at [] h = refl
   good_plain at (i ∷ is) h = and_from (makes_no_object i) (make_no_objects is) h.0.plain (good_plain (at + 1) is h.1)
 
   -- ---- instructions
 
-  pub computed : (at into : ℕ) (w : Work) → address_in (act.Compute into w) ≡ None → work_fits code f into w ≡ true → IsGood at (act.Compute into w)
-  computed at into w none h = record { fits = h; jumps = refl; address = subst (Each P) (sym none) tt; plain = refl }
+  pub computed : (at into : ℕ) (w : Work) → work_fits code f into w ≡ true → IsGood at (act.Compute into w)
+  computed at into w h = record { fits = h; jumps = refl; plain = refl }
 
   onward : (at to : ℕ) → at < to → jump_fits f.instrs at to ≡ true
   onward at to lt = or_left (nat_lt at to) (is_mark (act_in (slice_get f.instrs to))) (lt-ltb at to lt)
@@ -77,16 +62,16 @@ module _ (code : Code) (f : Function) (P : ℕ → Type 0) where
   there to lt = lt-ltb to (length f.instrs) lt
 
   pub jumps_on : (at to : ℕ) → at < to → to < length f.instrs → IsGood at (act.Jump to)
-  jumps_on at to lt in' = record { fits = there to in'; jumps = onward at to lt; address = tt; plain = refl }
+  jumps_on at to lt in' = record { fits = there to in'; jumps = onward at to lt; plain = refl }
 
   pub jumps_back : (at to : ℕ) (p : Position) → slice_get f.instrs to ≡ Some (instr p act.Mark) → to < length f.instrs → IsGood at (act.Jump to)
-  jumps_back at to p e in' = record { fits = there to in'; jumps = backward at to p e; address = tt; plain = refl }
+  jumps_back at to p e in' = record { fits = there to in'; jumps = backward at to p e; plain = refl }
 
   branch_fits : (on x y : ℕ) → has_register f on ≡ true → x < length f.instrs → y < length f.instrs → act_fits code f (act.Branch on x y) ≡ true
   branch_fits on x y h in_x in_y = and_from (has_register f on && has_instr f x) (has_instr f y) (and_from (has_register f on) (has_instr f x) h (there x in_x)) (there y in_y)
 
   pub branches_on : (at on x y : ℕ) → has_register f on ≡ true → at < x → at < y → x < length f.instrs → y < length f.instrs → IsGood at (act.Branch on x y)
-  branches_on at on x y h lt_x lt_y in_x in_y = record { fits = branch_fits on x y h in_x in_y; jumps = and_from (jump_fits f.instrs at x) (jump_fits f.instrs at y) (onward at x lt_x) (onward at y lt_y); address = tt; plain = refl }
+  branches_on at on x y h lt_x lt_y in_x in_y = record { fits = branch_fits on x y h in_x in_y; jumps = and_from (jump_fits f.instrs at x) (jump_fits f.instrs at y) (onward at x lt_x) (onward at y lt_y); plain = refl }
 
   pub branches_back : (at on x y : ℕ) (p : Position) → has_register f on ≡ true → slice_get f.instrs x ≡ Some (instr p act.Mark) → at < y → x < length f.instrs → y < length f.instrs → IsGood at (act.Branch on x y)
-  branches_back at on x y p h e lt_y in_x in_y = record { fits = branch_fits on x y h in_x in_y; jumps = and_from (jump_fits f.instrs at x) (jump_fits f.instrs at y) (backward at x p e) (onward at y lt_y); address = tt; plain = refl }
+  branches_back at on x y p h e lt_y in_x in_y = record { fits = branch_fits on x y h in_x in_y; jumps = and_from (jump_fits f.instrs at x) (jump_fits f.instrs at y) (backward at x p e) (onward at y lt_y); plain = refl }

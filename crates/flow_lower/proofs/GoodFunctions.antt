@@ -9,7 +9,8 @@ use Rattle.flow_code.specs.declared.act.Instr.{Instr}
 use Rattle.flow_code.specs.declared.code.Code.{Code}
 use Rattle.flow_code.specs.declared.code.Function.{Function as FlowFunction}
 use Rattle.flow_code.specs.Next.{act_in}
-use Rattle.flow_code.specs.Kinds.{has_pointer, is_site, act_fits, is_address}
+use Rattle.flow_code.specs.Kinds.{has_pointer, is_site, act_fits}
+use Rattle.flow_code.specs.Addresses.{is_address}
 use Rattle.flow_code.specs.Order.{is_end, ends_in_itself, makes_no_object, make_no_objects, objects_are_first, jumps_fit, order_fits}
 use Rattle.flow_code.specs.Valid.{registers_fit, acts_fit, loops_fit, function_fits}
 use Rattle.rr_base.specs.declared.position.Position.{Position}
@@ -20,7 +21,7 @@ use Rattle.c_core.specs.Sound.{HasSite, IsCallable, IsAddress, IsSoundArrival, I
 use Rattle.flow_lower.proofs.Lengths.{statement_length, arrivals_length}
 use Rattle.flow_lower.proofs.Places.{HasAt, has_front, start_of, body_at, end_at, statement_part, behind_objects, has_body, has_end, has_kinds}
 use Rattle.flow_lower.proofs.Fitting.{pointer}
-use Rattle.flow_lower.proofs.Good.{HaveAddresses, AreGood, good_append, good_acts, good_jumps, good_addresses, good_plain}
+use Rattle.flow_lower.proofs.Good.{AreGood, good_append, good_acts, good_jumps, good_plain}
 use Rattle.flow_lower.proofs.Images.{IsImage, IsCallee}
 use Rattle.flow_lower.proofs.GoodExpressions.{stores}
 use Rattle.flow_lower.proofs.GoodStatements.{statement_good}
@@ -50,10 +51,6 @@ objects_first : (place : Position) (r : ℕ) (sites : List ℕ) (rest : List Ins
 objects_first place r [] rest h = none_first rest h
 objects_first place r (site ∷ more) rest h = objects_first place (r + 1) more rest h
 
-objects_address : (P : ℕ → Type 0) (place : Position) (r : ℕ) (sites : List ℕ) (rest : List Instr) → HaveAddresses P rest → HaveAddresses P (objects_code place r sites ++ rest)
-objects_address P place r [] rest h = h
-objects_address P place r (site ∷ more) rest h = (tt, objects_address P place (r + 1) more rest h)
-
 -- ---- the end
 
 last_ends : (is : List Instr) (i : Instr) → is_end (Some i.act) ≡ true → ends_in_itself (is ++ i ∷ []) ≡ true
@@ -73,7 +70,7 @@ module _ (p : Program) (home : ℕ → Option ℕ) (f : Function) (code : Code) 
   first = length f.pointers
 
   abbrev Good : ℕ → List Instr → Type 0
-  Good at is = AreGood code g (IsAddress p home) at is
+  Good at is = AreGood code g at is
 
   objects_fit : (place : Position) (r : ℕ) (sites : List ℕ) → ((n : ℕ) → n < length sites → slice_get g.pointers (r + n) ≡ Some true) → ((k site : ℕ) → slice_get sites k ≡ Some site → HasSite p site) → acts_fit code g (objects_code place r sites) ≡ true
   objects_fit place r [] have are = refl
@@ -102,21 +99,18 @@ module _ (p : Program) (home : ℕ → Option ℕ) (f : Function) (code : Code) 
 
   rest_good : Good (start_of f) (behind_objects f)
   rest_good =
-      good_append code g (IsAddress p home) (start_of f) (length f.arrivals) (arrivals_code first f.arrivals) (statement_part f ++ one f.place (act.Return None)) (arrivals_length first f.arrivals) (arrivals_good f.arrivals (start_of f) sound.arrivals)
-      (good_append code g (IsAddress p home) (body_at f) (statement_size (body_kept f)) (statement_part f) (one f.place (act.Return None)) (statement_length first (body_kept f) (first + length f.objects) (body_at f) (end_at f) (end_at f)) body_good
-      (record { fits = refl; jumps = refl; address = tt; plain = refl }, tt))
+      good_append code g (start_of f) (length f.arrivals) (arrivals_code first f.arrivals) (statement_part f ++ one f.place (act.Return None)) (arrivals_length first f.arrivals) (arrivals_good f.arrivals (start_of f) sound.arrivals)
+      (good_append code g (body_at f) (statement_size (body_kept f)) (statement_part f) (one f.place (act.Return None)) (statement_length first (body_kept f) (first + length f.objects) (body_at f) (end_at f) (end_at f)) body_good
+      (record { fits = refl; jumps = refl; plain = refl }, tt))
 
   pub acts_are : acts_fit code g (body_code f) ≡ true
-  acts_are = acts_append code g (objects_code f.place first f.objects) (behind_objects f) (objects_fit f.place first f.objects image.objects sound.objects) (good_acts code g (IsAddress p home) (start_of f) (behind_objects f) rest_good)
+  acts_are = acts_append code g (objects_code f.place first f.objects) (behind_objects f) (objects_fit f.place first f.objects image.objects sound.objects) (good_acts code g (start_of f) (behind_objects f) rest_good)
 
   pub jumps_are : jumps_fit g.instrs 0 (body_code f) ≡ true
-  jumps_are = objects_jump g.instrs f.place first 0 f.objects (behind_objects f) (subst (λ n. jumps_fit g.instrs n (behind_objects f) ≡ true) (omega arith) (good_jumps code g (IsAddress p home) (start_of f) (behind_objects f) rest_good))
+  jumps_are = objects_jump g.instrs f.place first 0 f.objects (behind_objects f) (subst (λ n. jumps_fit g.instrs n (behind_objects f) ≡ true) (omega arith) (good_jumps code g (start_of f) (behind_objects f) rest_good))
 
   pub objects_are : objects_are_first (body_code f) ≡ true
-  objects_are = objects_first f.place first f.objects (behind_objects f) (good_plain code g (IsAddress p home) (start_of f) (behind_objects f) rest_good)
-
-  pub addresses_are : HaveAddresses (IsAddress p home) (body_code f)
-  addresses_are = objects_address (IsAddress p home) f.place first f.objects (behind_objects f) (good_addresses code g (IsAddress p home) (start_of f) (behind_objects f) rest_good)
+  objects_are = objects_first f.place first f.objects (behind_objects f) (good_plain code g (start_of f) (behind_objects f) rest_good)
 
   pub ends_are : ends_in_itself (body_code f) ≡ true
   ends_are = behind_ends (objects_code f.place first f.objects) (arrivals_code first f.arrivals) (statement_part f) (instr f.place (act.Return None)) refl
@@ -190,6 +184,3 @@ module _ (p : Program) (home : ℕ → Option ℕ) (sound : (k : ℕ) (f : Funct
       (and_from (registers_fit g && order_fits (body_code f)) (acts_fit (lowered p) g (body_code f))
       (and_from (registers_fit g) (order_fits (body_code f)) (registers_are f s.formals) (order_is f s))
       (acts_are p home f (lowered p) g (image_of f) s refl refl)) (loops_are f s)) refl
-
-  pub function_addresses : (f : Function) → IsSoundFunction p home f → HaveAddresses (IsAddress p home) (body_code f)
-  function_addresses f s = addresses_are p home f (lowered p) (function_code f) (image_of f) s refl refl

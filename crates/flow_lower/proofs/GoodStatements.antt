@@ -9,7 +9,7 @@ use Rattle.rr_base.specs.declared.position.Position.{Position}
 use Rattle.c_core.specs.Core.{Exp, Statement, block, compute, branch, branch_else, while_loop, do_loop, for_loop, break_at, continue_at, gives, Statements, no_statement, and_statement, Function, Program}
 use Rattle.c_core.specs.Meaning.{is_pointer}
 use Rattle.flow_lower.specs.Lowered.{held, instr, one, exp_kinds, maybe_kinds, width, exp_size, maybe_size, test_size, exp_code, maybe_code, test_code, return_code, statement_kinds, statements_kinds, statement_size, statements_size, statement_code, statements_code}
-use Rattle.c_core.specs.Sound.{IsAddress, IsSoundExp, IsSoundMaybe, IsSoundResult, IsSoundStatement, AreSoundStatements}
+use Rattle.c_core.specs.Sound.{IsSoundExp, IsSoundMaybe, IsSoundResult, IsSoundStatement, AreSoundStatements}
 use Rattle.flow_lower.proofs.Lengths.{exp_length, test_length, statement_length}
 use Rattle.flow_lower.proofs.Places.{HasAt, has_at, has_front, has_back}
 use Rattle.flow_lower.proofs.Fitting.{registered, kinded}
@@ -25,10 +25,10 @@ module _ (p : Program) (home : ℕ → Option ℕ) (f : Function) (code : Code) 
   ks = g.pointers
 
   abbrev Good : ℕ → List Instr → Type 0
-  Good at is = AreGood code g (IsAddress p home) at is
+  Good at is = AreGood code g at is
 
   behind_statement : (a : Statement) (r pc out on : ℕ) (rest : List Instr) → Good pc (statement_code first a r pc out on) → Good (pc + statement_size a) rest → Good pc (statement_code first a r pc out on ++ rest)
-  behind_statement a r pc out on rest h k = good_append code g (IsAddress p home) pc (statement_size a) (statement_code first a r pc out on) rest (statement_length first a r pc out on) h k
+  behind_statement a r pc out on rest h k = good_append code g pc (statement_size a) (statement_code first a r pc out on) rest (statement_length first a r pc out on) h k
 
   -- ---- what stands where in the whole code
 
@@ -47,7 +47,7 @@ module _ (p : Program) (home : ℕ → Option ℕ) (f : Function) (code : Code) 
   -- ---- the parts of statements
 
   maybe_good : (e : Option Exp) (r pc : ℕ) (rest : List Instr) → IsSoundMaybe p home f e → HasAt ks r (maybe_kinds e) → pc + maybe_size e < total → Good (pc + maybe_size e) rest → Good pc (maybe_code first e r pc ++ rest)
-  maybe_good None r pc rest s h lt k = good_append code g (IsAddress p home) pc 0 [] rest refl tt k
+  maybe_good None r pc rest s h lt k = good_append code g pc 0 [] rest refl tt k
   maybe_good (Some e) r pc rest s h lt k = behind_exp p home f code g first image e r pc rest (exp_good p home f code g first image e r pc s h lt) k
 
   -- a register that is tested
@@ -55,17 +55,17 @@ module _ (p : Program) (home : ℕ → Option ℕ) (f : Function) (code : Code) 
   tested e r s h = registered g image.sized (held first e r) (is_pointer e) (held_kind p home f code g first image e r s h)
 
   test_good : (at : Position) (e : Option Exp) (r pc out : ℕ) (rest : List Instr) → IsSoundMaybe p home f e → HasAt ks r (maybe_kinds e) → pc + test_size e < out → out < total → Good (pc + test_size e) rest → Good pc (test_code first at e r pc out ++ rest)
-  test_good at None r pc out rest s h lt in' k = good_append code g (IsAddress p home) pc 0 [] rest refl tt k
+  test_good at None r pc out rest s h lt in' k = good_append code g pc 0 [] rest refl tt k
   test_good at (Some e) r pc out rest s h lt in' k =
-      good_append code g (IsAddress p home) pc (exp_size e + 1) (test_code first at (Some e) r pc out) rest (test_length first at (Some e) r pc out)
+      good_append code g pc (exp_size e + 1) (test_code first at (Some e) r pc out) rest (test_length first at (Some e) r pc out)
       (behind_exp p home f code g first image e r pc (one at (act.Branch (held first e r) (pc + exp_size e + 1) out)) (exp_good p home f code g first image e r pc s h (omega (arith, lt, in')))
-      (branches_on code g (IsAddress p home) (pc + exp_size e) (held first e r) (pc + exp_size e + 1) out (tested e r s h) (omega arith) (omega (arith, lt)) (omega (arith, lt, in')) in', tt)) k
+      (branches_on code g (pc + exp_size e) (held first e r) (pc + exp_size e + 1) out (tested e r s h) (omega arith) (omega (arith, lt)) (omega (arith, lt, in')) in', tt)) k
 
   return_good : (at : Position) (e : Option Exp) (r pc : ℕ) → IsSoundResult p home f e → HasAt ks r (maybe_kinds e) → pc + maybe_size e < total → Good pc (return_code first at e r pc)
-  return_good at None r pc s h lt = (record { fits = refl; jumps = refl; address = tt; plain = refl }, tt)
+  return_good at None r pc s h lt = (record { fits = refl; jumps = refl; plain = refl }, tt)
   return_good at (Some e) r pc s h lt =
       behind_exp p home f code g first image e r pc (one at (act.Return (Some (held first e r)))) (exp_good p home f code g first image e r pc s.1 h lt)
-      (record { fits = ap (λ k. has_kind g k (held first e r)) image.gives ∙ kinded g image.sized (held first e r) f.gives_pointer (held_kind p home f code g first image e r s.1 h ∙ ap Some s.0); jumps = refl; address = tt; plain = refl }, tt)
+      (record { fits = ap (λ k. has_kind g k (held first e r)) image.gives ∙ kinded g image.sized (held first e r) f.gives_pointer (held_kind p home f code g first image e r s.1 h ∙ ap Some s.0); jumps = refl; plain = refl }, tt)
 
   -- ---- statements
 
@@ -83,7 +83,7 @@ module _ (p : Program) (home : ℕ → Option ℕ) (f : Function) (code : Code) 
         let ka = has_back ks r (exp_kinds e) (statement_kinds a) h in
         let ca = (after_exp e r pc behind_e c).1 in
         behind_exp p home f code g first image e r pc behind_e (exp_good p home f code g first image e r pc s.0 ke (omega (arith, le, in_out))) (
-          branches_on code g (IsAddress p home) (pc + exp_size e) (held first e r) yes' end (tested e r s.0 ke) (omega arith) (omega arith) (omega (arith, le, in_out)) (omega (arith, le, in_out)),
+          branches_on code g (pc + exp_size e) (held first e r) yes' end (tested e r s.0 ke) (omega arith) (omega arith) (omega (arith, le, in_out)) (omega (arith, le, in_out)),
           statement_good a x yes' out on s.1 ka ca (omega (arith, le)) in_out (omega (arith, le')) in_on,
         )
     statement_good (branch_else e a b at) r pc out on s h c le in_out le' in_on =
@@ -103,9 +103,9 @@ module _ (p : Program) (home : ℕ → Option ℕ) (f : Function) (code : Code) 
         let ca = before a x yes' out on behind_a ce.1 in
         let cb = (after_statement a x yes' out on behind_a ce.1).1 in
         behind_exp p home f code g first image e r pc behind_e (exp_good p home f code g first image e r pc s.0 ke (omega (arith, le, in_out))) (
-          branches_on code g (IsAddress p home) (pc + exp_size e) (held first e r) yes' no' (tested e r s.0 ke) (omega arith) (omega arith) (omega (arith, le, in_out)) (omega (arith, le, in_out)),
+          branches_on code g (pc + exp_size e) (held first e r) yes' no' (tested e r s.0 ke) (omega arith) (omega arith) (omega (arith, le, in_out)) (omega (arith, le, in_out)),
           behind_statement a x yes' out on behind_a (statement_good a x yes' out on s.1 ka ca (omega (arith, le)) in_out (omega (arith, le')) in_on) (
-            jumps_on code g (IsAddress p home) (yes' + statement_size a) (no' + statement_size b) (omega arith) (omega (arith, le, in_out)),
+            jumps_on code g (yes' + statement_size a) (no' + statement_size b) (omega arith) (omega (arith, le, in_out)),
             statement_good b y no' out on s.2 kb cb (omega (arith, le)) in_out (omega (arith, le')) in_on,
           ),
         )
@@ -121,11 +121,11 @@ module _ (p : Program) (home : ℕ → Option ℕ) (f : Function) (code : Code) 
         let ce = after_exp e r (pc + 1) behind_e c.1 in
         let ca = before a x body end (body + statement_size a) behind_a ce.1 in
         let in_end : end < total = omega (arith, le, in_out) in (
-          record { fits = refl; jumps = refl; address = tt; plain = refl },
+          record { fits = refl; jumps = refl; plain = refl },
           behind_exp p home f code g first image e r (pc + 1) behind_e (exp_good p home f code g first image e r (pc + 1) s.0 ke (omega (arith, in_end))) (
-            branches_on code g (IsAddress p home) (pc + 1 + exp_size e) (held first e r) body end (tested e r s.0 ke) (omega arith) (omega arith) (omega (arith, in_end)) in_end,
+            branches_on code g (pc + 1 + exp_size e) (held first e r) body end (tested e r s.0 ke) (omega arith) (omega arith) (omega (arith, in_end)) in_end,
             behind_statement a x body end (body + statement_size a) behind_a (statement_good a x body end (body + statement_size a) s.1 ka ca (omega arith) in_end (omega arith) (omega (arith, in_end)))
-                (jumps_back code g (IsAddress p home) (body + statement_size a) pc at c.0 (omega (arith, in_end)), tt),
+                (jumps_back code g (body + statement_size a) pc at c.0 (omega (arith, in_end)), tt),
           ),
         )
     statement_good (do_loop a e at) r pc out on s h c le in_out le' in_on =
@@ -138,10 +138,10 @@ module _ (p : Program) (home : ℕ → Option ℕ) (f : Function) (code : Code) 
         let ke = has_back ks r (statement_kinds a) (exp_kinds e) h in
         let ca = before a r (pc + 1) end test behind_a c.1 in
         let in_end : end < total = omega (arith, le, in_out) in (
-          record { fits = refl; jumps = refl; address = tt; plain = refl },
+          record { fits = refl; jumps = refl; plain = refl },
           behind_statement a r (pc + 1) end test behind_a (statement_good a r (pc + 1) end test s.0 ka ca (omega arith) in_end (omega arith) (omega (arith, in_end)))
               (behind_exp p home f code g first image e x test behind_e (exp_good p home f code g first image e x test s.1 ke (omega (arith, in_end)))
-              (branches_back code g (IsAddress p home) (test + exp_size e) (held first e x) pc end at (tested e x s.1 ke) c.0 (omega arith) (omega (arith, in_end)) in_end, tt)),
+              (branches_back code g (test + exp_size e) (held first e x) pc end at (tested e x s.1 ke) c.0 (omega arith) (omega (arith, in_end)) in_end, tt)),
         )
     statement_good (for_loop start test step a at) r pc out on s h c le in_out le' in_on =
         let mark = pc + statement_size start in
@@ -166,14 +166,14 @@ module _ (p : Program) (home : ℕ → Option ℕ) (f : Function) (code : Code) 
         let ca = before a inner body end last behind_a (after_test at test tested' (mark + 1) end behind_test c_mark.1) in
         let in_end : end < total = omega (arith, le, in_out) in
         behind_statement start r pc out on behind_start (statement_good start r pc out on s.0 k_start c_start (omega (arith, le)) in_out (omega (arith, le')) in_on) (
-          record { fits = refl; jumps = refl; address = tt; plain = refl },
+          record { fits = refl; jumps = refl; plain = refl },
           test_good at test tested' (mark + 1) end behind_test s.1 k_test (omega arith) in_end (
               behind_statement a inner body end last behind_a (statement_good a inner body end last s.3 ka ca (omega arith) in_end (omega arith) (omega (arith, in_end)))
-              (maybe_good step stepped last behind_step s.2 k_step (omega (arith, in_end)) (jumps_back code g (IsAddress p home) (last + maybe_size step) mark at c_mark.0 (omega (arith, in_end)), tt))
+              (maybe_good step stepped last behind_step s.2 k_step (omega (arith, in_end)) (jumps_back code g (last + maybe_size step) mark at c_mark.0 (omega (arith, in_end)), tt))
               ),
         )
-    statement_good (break_at at) r pc out on s h c le in_out le' in_on = (jumps_on code g (IsAddress p home) pc out (omega (arith, le)) in_out, tt)
-    statement_good (continue_at at) r pc out on s h c le in_out le' in_on = (jumps_on code g (IsAddress p home) pc on (omega (arith, le')) in_on, tt)
+    statement_good (break_at at) r pc out on s h c le in_out le' in_on = (jumps_on code g pc out (omega (arith, le)) in_out, tt)
+    statement_good (continue_at at) r pc out on s h c le in_out le' in_on = (jumps_on code g pc on (omega (arith, le')) in_on, tt)
     statement_good (gives e at) r pc out on s h c le in_out le' in_on = return_good at e r pc s h (omega (arith, le, in_out))
 
     pub statements_good : (ss : Statements) (r pc out on : ℕ) → AreSoundStatements p home f ss → HasAt ks r (statements_kinds ss) → HasAt g.instrs pc (statements_code first ss r pc out on)

@@ -8,7 +8,8 @@ use Rattle.flow_code.specs.declared.code.Code.{Code}
 use Rattle.flow_code.specs.declared.code.Function.{Function as FlowFunction}
 use Rattle.flow_code.specs.Works.{is_pointer}
 use Rattle.flow_code.specs.Threads.{is_main_in}
-use Rattle.flow_code.specs.Kinds.{formal_kinds, have_kinds, value_fits, call_fits, may_start, starts_fit, act_fits, is_site, is_address}
+use Rattle.flow_code.specs.Kinds.{formal_kinds, have_kinds, value_fits, call_fits, may_start, starts_fit, act_fits, is_site}
+use Rattle.flow_code.specs.Addresses.{is_address}
 use Rattle.c_core.specs.Core.{Function, Program}
 use Rattle.c_core.specs.Sound.{IsCallable, Starts, HasSite, IsAddress}
 use Rattle.flow_lower.proofs.Fitting.{kinded}

@@ -11,7 +11,7 @@ use Rattle.flow_code.specs.declared.code.LoopInfo.{LoopInfo}
 use Rattle.flow_code.specs.declared.region.Bound.TheVariants as bound
 use Rattle.flow_code.specs.declared.work.Work.TheVariants as work
 use Rattle.abstract_machine.specs.declared.operator.BinaryOp.TheVariants as binary_op
-use Rattle.abstract_machine.specs.Pointers.{site_at}
+use Rattle.abstract_machine.specs.Pointers.{site_at, base_at}
 use Rattle.abstract_machine.specs.Cells.{size_of}
 use Rattle.flow_code.specs.Valid.{is_valid}
 use Rattle.rr_base.specs.declared.position.Position.{Position}
@@ -168,20 +168,18 @@ of_another = refl
 -- ---- sound trees
 
 abbrev site_g : Site
-site_g = record { name = codes "g"; layout = record { size = 1; element = 1; kinds = kind.Whole ∷ [] }; line = 1; column = 5 }
+site_g = record { name = codes "g"; layout = record { size = 1; element = 1; kinds = kind.Whole ∷ [] }; at = record { line = 1; column = 5 } }
 
 -- int g; int main(void) { int n; g = n + 2; return g; }
 abbrev main_body : Statement
 main_body = block (and_statement (compute (store g (binary binary_op.Add (register 0 false (at 3)) (number (pos 2) (at 3)) (at 3)) (at 3))) (and_statement (gives (Some (load g false (at 4))) (at 4)) no_statement))
 
 abbrev sound_program : Program
-sound_program = record { functions = main_of main_body ∷ []; sites = site_g ∷ []; globals = 0 ∷ []; global_kinds = kind.Whole ∷ [] }
+sound_program = record { functions = main_of main_body ∷ []; sites = site_g ∷ []; globals = 0 ∷ []; global_kinds = kind.Whole ∷ []; global_bases = Some 0 ∷ [] }
 
 -- `g` has cell 0
 abbrev home : ℕ → Option ℕ
-home zero = None
-home (suc zero) = Some 0
-home (suc (suc s)) = None
+home = base_at (Some 0 ∷ [])
 
 g_there : (s base : ℕ) → home s ≡ Some base → (site : Site) × (site_at (site_g ∷ []) s ≡ Some site) × LiesAt sound_program site base
 g_there zero base e = absurd cc
@@ -221,12 +219,12 @@ no_formals (suc k) f e m = absurd cc
 
 pub program_is_sound : IsSound sound_program
 program_is_sound = record {
-  home = home;
   homes = record { there = g_there; apart = g_alone; words = g_starts };
   functions = main_sound;
   one_main = refl;
   main_alone = no_formals;
   cell_kinds = refl;
+  bases = refl;
   layouts = refl;
   few_functions = omega arith;
   few_sites = omega arith;

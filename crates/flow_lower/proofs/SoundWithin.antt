@@ -3,6 +3,7 @@ use Rattle.std.proofs.Common.{◌≡◌, ℕ, suc, ◌<◌, Bool, true, false, n
 use Rattle.std.specs.List.{position_or_len}
 use Rattle.std.proofs.lemmas.Bool.{ltb-true}
 use Rattle.std.proofs.lemmas.Option.{slice_get_within}
+use Rattle.abstract_machine.specs.Pointers.{base_at}
 use Rattle.c_core.specs.Core as core
 use Rattle.c_core.specs.Core.{Exp, null, load, unary, binary, move, advance, member, between, to_pointer, to_number, copy, both, either, conditional, comma, set_register, store, change_register, change_cell, call, library, allocate, Exps, no_exp, and_exp, Statement, block, compute, branch, branch_else, while_loop, do_loop, for_loop, break_at, continue_at, gives, Statements, no_statement, and_statement, Arrival, arrives, Function, Program}
 use Rattle.c_core.specs.Meaning.{is_main}
@@ -96,4 +97,4 @@ main_there fs e = by (nat_lt (position_or_len is_main fs) (length fs)) refl
     by false lt = some_function fs e
 
 pub sound_within : (p : Program) → IsSound p → IsWithin p
-sound_within p s = record { main = main_there p.functions s.one_main; functions = λ i f is. function_within p s.home f (s.functions i f is) }
+sound_within p s = record { main = main_there p.functions s.one_main; functions = λ i f is. function_within p (base_at p.global_bases) f (s.functions i f is) }

@@ -6,12 +6,13 @@ use Rattle.flow_code.specs.declared.code.Code.{Code}
 use Rattle.flow_code.specs.Addresses.{globals_fit}
 use Rattle.flow_code.specs.Valid.{function_fits, functions_fit, is_main_function, mains_in, mains_have_no_formals, has_one_main, is_within_limits, is_valid}
 use Rattle.abstract_machine.specs.Layouts.{sites_fit}
+use Rattle.abstract_machine.specs.Pointers.{base_at}
 use Rattle.c_core.specs.Core.{Function, Program}
 use Rattle.c_core.specs.Meaning.{is_main}
 use Rattle.flow_lower.specs.Lowered.{lowered, function_code}
-use Rattle.c_core.specs.Sound.{IsAddress, IsSound}
-use Rattle.flow_lower.proofs.GoodFunctions.{function_is, function_addresses}
-use Rattle.flow_lower.proofs.GoodGlobals.{address_is, globals_are, functions_have}
+use Rattle.c_core.specs.Sound.{IsSound}
+use Rattle.flow_lower.proofs.GoodFunctions.{function_is}
+use Rattle.flow_lower.proofs.GoodGlobals.{address_is, globals_are}
 
 -- ---- lists of functions
 
@@ -54,13 +55,10 @@ module _ (p : Program) (sound : IsSound p) where
   one_main = and_from (mains_in (map function_code p.functions) == 1) (mains_have_no_formals (map function_code p.functions)) (eq-eqb (mains_in (map function_code p.functions)) 1 (same_count p.functions ∙ sound.one_main)) (no_formals p.functions sound.main_alone)
 
   functions : functions_fit (lowered p) (lowered p).functions ≡ true
-  functions = all_fit (lowered p) p.functions (λ k f is. function_is p sound.home sound.functions (address_is p sound.home sound.homes sound.layouts sound.few_cells) f (sound.functions k f is))
+  functions = all_fit (lowered p) p.functions (λ k f is. function_is p (base_at p.global_bases) sound.functions (address_is p sound.homes sound.layouts sound.few_cells) f (sound.functions k f is))
 
   globals : globals_fit (lowered p) ≡ true
-  globals =
-      globals_are p sound.home sound.homes sound.layouts sound.few_cells
-      (functions_have (IsAddress p sound.home) p.functions (λ k f is. function_addresses p sound.home sound.functions (address_is p sound.home sound.homes sound.layouts sound.few_cells) f (sound.functions k f is)))
-      sound.cell_kinds
+  globals = globals_are p sound.homes sound.layouts sound.few_cells sound.cell_kinds sound.bases
 
   pub valid : is_valid (lowered p) ≡ true
   valid =

@@ -21,7 +21,7 @@ use Rattle.flow_lower.specs.Loops.{statement_loops}
 pub use Rattle.flow_lower.specs.Sizes.{gives_nothing, library_size, exp_size, exps_size, maybe_size, test_size, statement_size, statements_size}
 
 abbrev pub instr : Position → Act → Instr
-instr at a = record { line = at.line; column = at.column; act = a }
+instr at a = record { at = at; act = a }
 
 abbrev pub one : Position → Act → List Instr
 one at a = instr at a ∷ []
@@ -281,5 +281,6 @@ lowered p = record {
   sites = p.sites;
   globals = p.globals;
   global_kinds = p.global_kinds;
+  global_bases = p.global_bases;
   locks = [];
 }

@@ -43,11 +43,7 @@ impl Next {
 pub fn push(out: &mut List<Instr>, at: Position, act: Act) -> Result<(), AllocError>
     ensures { OnOk result (out.new ≡ out.old ++ spec.one at act) }
 {
-    out.push(Instr {
-        line: at.line,
-        column: at.column,
-        act,
-    })
+    out.push(Instr { at, act })
 }
 
 /// One instruction more, which computes.

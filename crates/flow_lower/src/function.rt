@@ -164,6 +164,7 @@ pub fn lower(alloc: Global, core: Core) -> Result<Code, AllocError>
         sites,
         globals,
         global_kinds,
+        global_bases,
     } = core;
     let functions = lower_functions(alloc, functions.as_slice())?;
     Ok(Code {
@@ -171,6 +172,7 @@ pub fn lower(alloc: Global, core: Core) -> Result<Code, AllocError>
         sites,
         globals,
         global_kinds,
+        global_bases,
         locks: List::new(alloc),
     })
 }

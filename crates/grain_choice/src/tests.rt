@@ -5,10 +5,12 @@ use abstract_machine::LibraryCall;
 use facts::{AccessAt, Pair};
 use flow_code::{Act, Code, Function, Instr, Work};
 use profiles::{FunctionPairs, Profile};
-use rr_base::{Bytes, List, Place};
+use rr_base::{Bytes, List, Place, Position};
 use std::alloc::{AllocError, Global};
 use std::test::Fail;
 use weak_facts::{Grain, Grained, Range};
+
+const START: Position = Position { line: 1, column: 1 };
 
 const H: u32 = 0;
 
@@ -90,8 +92,7 @@ fn function(alloc: Global, name: &[u8], steps: &[Step]) -> Result<Function, Allo
     let mut instrs = List::new(alloc);
     for step in steps {
         instrs.push(Instr {
-            line: 1,
-            column: 1,
+            at: START,
             act: act(alloc, *step)?,
         })?;
     }
@@ -119,6 +120,7 @@ fn code(alloc: Global, steps: [&[Step]; 4]) -> Result<Code, AllocError> {
         sites: List::new(alloc),
         globals: List::new(alloc),
         global_kinds: List::new(alloc),
+        global_bases: List::new(alloc),
         locks: List::new(alloc),
     })
 }

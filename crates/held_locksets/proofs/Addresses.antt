@@ -1,16 +1,19 @@
 -- Words of pointers that move, and of addresses as a run counts their cells.
-use Rattle.std.proofs.Common.{◌≡◌, ℕ, ◌+◌, ◌*◌, ◌%◌, ◌^◌, ◌<◌, ◌≤◌, ◌==◌, ◌&&◌, nat_le, Bool, true, false, if◌then◌else◌, ℤ, pos, negsuc, ◌+ℤ◌, List, length, Ok, Err, refl, sym, ap, ◌∙◌, arith, eqb-true, eq-eqb}
+use Rattle.std.proofs.Common.{◌≡◌, ℕ, zero, suc, ◌+◌, ◌*◌, ◌%◌, ◌^◌, ◌<◌, ◌≤◌, ◌==◌, ◌&&◌, nat_le, Bool, true, false, if◌then◌else◌, ℤ, pos, negsuc, ◌+ℤ◌, List, length, Some, Ok, Err, refl, sym, ap, subst, ◌∙◌, arith, eq-eqb}
 use Rattle.std.proofs.lemmas.Bool.{and_parts, leb-true}
+use Rattle.std.proofs.lemmas.Option.{same_Some, slice_get_within}
 use Rattle.std.proofs.lemmas.Int.{ints}
 use Rattle.rr_base.specs.Words as pointer
 use Rattle.rr_base.specs.Words.{site_of, base_of, length_of, offset_of, pack, moved_to}
 use Rattle.rr_base.specs.declared.trap.Trap.TheVariants.{BadDereference, OutOfObject}
 use Rattle.rr_base.specs.declared.layout.Site.{Site}
-use Rattle.abstract_machine.specs.Pointers.{moved}
+use Rattle.abstract_machine.specs.Pointers.{site_at, moved}
 use Rattle.abstract_machine.specs.Operators.{based}
-use Rattle.abstract_machine.specs.Cells.{size_of}
 use Rattle.flow_code.specs.declared.code.Code.{Code}
-use Rattle.flow_code.specs.Kinds.{is_site, is_address}
+use Rattle.flow_code.specs.Addresses.{is_address}
+use Rattle.flow_code.specs.Valid.{is_valid}
+use Rattle.flow_code.proofs.Objects.{lies_at, address_parts}
+use Rattle.flow_code.proofs.ValidParts.{few_sites, few_globals, layout_is_fit, globals_are_fit}
 
 pub on_base : (v n : ℕ) → offset_of v + n < 2 ^ 16 → base_of (v + n) ≡ base_of v
 on_base v n h = omega arith
@@ -68,14 +71,29 @@ moved_behind sites v n w m by near h e = read (nat_le (site_of (v + n)) (length 
     read true g = go (site_of (v + n) == 0) g
     read false g = absurd (not_there g)
 
+address_moves : (slots site base cells w : ℕ) → slots ≤ 16 → site ≤ 1023 → base ≤ 2 ^ 20 → cells ≤ 65535 → w ≡ pack site base cells 0 → (base_of (based slots w) ≡ base_of w + 2 * slots) × (offset_of (based slots w) ≡ 0)
+address_moves slots site base cells w few low near short is = (omega arith, omega arith)
+
+-- a site of a valid code: its number is low, and its objects have few cells
+site_is_small : (code : Code) → is_valid code ≡ true → (k : ℕ) (site : Site) → site_at code.sites k ≡ Some site → (k ≤ 1023) × (site.layout.size ≤ 65535)
+site_is_small code valid zero site e = cc
+site_is_small code valid (suc k) site e =
+    let n = site.layout.size in
+    let fits = layout_is_fit code valid k site e in
+    let a = and_parts (nat_le 1 n && nat_le n 65535 && (length site.layout.kinds == n) && nat_le 1 site.layout.element) (n % site.layout.element == 0) fits in
+    let b = and_parts (nat_le 1 n && nat_le n 65535 && (length site.layout.kinds == n)) (nat_le 1 site.layout.element) a.0 in
+    let c = and_parts (nat_le 1 n && nat_le n 65535) (length site.layout.kinds == n) b.0 in
+    let d = and_parts (nat_le 1 n) (nat_le n 65535) c.0 in
+    let few = few_sites code valid in
+    let lt = slice_get_within code.sites k site e in
+    (omega arith, leb-true n 65535 d.1)
+
 -- an address as a run counts its cells
-pub based_address : (code : Code) (slots w : ℕ) → slots ≤ 16 → length code.sites ≤ 1023 → length code.globals ≤ 2 ^ 20 → is_address code w ≡ true → (base_of (based slots w) ≡ base_of w + 2 * slots) × (offset_of (based slots w) ≡ 0)
-based_address code slots w few sites globals h =
-    let a = and_parts (is_site code (site_of w) && (length_of w == size_of code.sites (site_of w)) && (offset_of w == 0)) (nat_le (base_of w + length_of w) (length code.globals)) h in
-    let b = and_parts (is_site code (site_of w) && (length_of w == size_of code.sites (site_of w))) (offset_of w == 0) a.0 in
-    let c = and_parts (is_site code (site_of w)) (length_of w == size_of code.sites (site_of w)) b.0 in
-    let d = and_parts (nat_le 1 (site_of w)) (nat_le (site_of w) (length code.sites)) c.0 in
-    let room = leb-true (base_of w + length_of w) (length code.globals) a.1 in
-    let here = leb-true (site_of w) (length code.sites) d.1 in
-    let start = eqb-true (offset_of w) 0 b.1 in
-    (omega arith, omega arith)
+pub based_address : (code : Code) (slots w : ℕ) → slots ≤ 16 → is_valid code ≡ true → is_address code w ≡ true → (base_of (based slots w) ≡ base_of w + 2 * slots) × (offset_of (based slots w) ≡ 0)
+based_address code slots w few valid h =
+    let x = address_parts code w h in
+    let small = site_is_small code valid (site_of w) x.site x.is_site in
+    let lies = lies_at code (globals_are_fit code valid) (site_of w) x.base x.is_base in
+    let same : lies.site ≡ x.site = same_Some lies.site x.site (sym lies.is_site ∙ x.is_site) in
+    let room : x.base + x.site.layout.size ≤ length code.globals = subst (λ (z : Site). x.base + z.layout.size ≤ length code.globals) same lies.within in
+    address_moves slots (site_of w) x.base x.site.layout.size w few small.0 (let globals = few_globals code valid in omega arith) small.1 x.is_word

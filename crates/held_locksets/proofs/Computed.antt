@@ -18,9 +18,11 @@ use Rattle.flow_code.specs.declared.code.Code.{Code}
 use Rattle.flow_code.specs.declared.code.Function.{Function}
 use Rattle.flow_code.specs.declared.work.Work.{Work}
 use Rattle.flow_code.specs.declared.work.Work.TheVariants as work
+use Rattle.flow_code.specs.Addresses.{is_address}
 use Rattle.flow_code.specs.Constants.{constant_fits}
-use Rattle.flow_code.specs.Kinds.{has_register, has_pointer, has_whole, has_kind, is_address, work_fits}
+use Rattle.flow_code.specs.Kinds.{has_register, has_pointer, has_whole, has_kind, work_fits}
 use Rattle.abstract_machine.specs.Kinds.{is_comparison}
+use Rattle.flow_code.specs.Valid.{is_valid}
 use Rattle.flow_code.specs.Works.{work_of, is_pointer}
 use Rattle.facts.specs.Blocks.{assigned, assigns, is_register, constant_of}
 use Rattle.facts.specs.Paths.{Root, global, Known, known_on, known_on_by, at_cells, known_of}
@@ -93,7 +95,7 @@ fits_number : (z : ℤ) → fits z ≡ true → number (word z) ≡ z
 fits_number (pos n) h = to_z-of_z {w = w64} (record { sfits = ltb-true n (2 ^ 63) h })
 fits_number (negsuc n) h = to_z-of_z {w = w64} (record { sfits = ltb-true n (2 ^ 63) h })
 
-module _ (code : Code) (slots : ℕ) (few : slots ≤ 16) (sites : length code.sites ≤ 1023) (globals : length code.globals ≤ 2 ^ 20) (f : Function) (k into : ℕ) (rs : List ℕ) (h : IsKnown slots f k rs) where
+module _ (code : Code) (slots : ℕ) (few : slots ≤ 16) (valid : is_valid code ≡ true) (f : Function) (k into : ℕ) (rs : List ℕ) (h : IsKnown slots f k rs) where
   through_moved : (o : Option Known) (r v : ℕ) (d : ℤ) (n : Known) → known_before f k r ≡ o → known_on o d ≡ Some n → moved code.sites (register rs r) d ≡ Ok v → IsBehind slots f rs n v
   through_moved None r v d n e g i = cc
   through_moved (Some m) r v d n e g i = on_known slots f rs code.sites m n d (register rs r) v (h.words r m e) g i
@@ -107,7 +109,7 @@ module _ (code : Code) (slots : ℕ) (few : slots ≤ 16) (sites : length code.s
 
   known_work : (w : Work) (v : ℕ) (n : Known) → work_fits code f into w ≡ true → work_of slots code.sites f.pointers rs w ≡ Ok v → known_of (known_before f k) (constant_before f k) (Some (act.Compute into w)) ≡ Some n → IsBehind slots f rs n v
   known_work (work.Address w) v n fit g e =
-      let based_is = based_address code slots w few sites globals (and_parts (has_pointer f into) (is_address code w) fit).1 in
+      let based_is = based_address code slots w few valid (and_parts (has_pointer f into) (is_address code w) fit).1 in
       let same : based slots w ≡ v = cc in
       subst (λ z. IsBehind slots f rs z v) (same_Some (known_to (global (base_of w)) 0) n e)
       (subst (λ z. IsBehind slots f rs (known_to (global (base_of w)) 0) z) same (record { root = based slots w; is = based_is; word = omega arith; near = omega arith }))

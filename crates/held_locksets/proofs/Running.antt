@@ -25,7 +25,7 @@ use Rattle.flow_code.specs.Next.{act_in, act_at, past, jumped, given, value_of, 
 use Rattle.flow_code.specs.Threads.{Frame, Thread, instr_in, is_main}
 use Rattle.flow_code.specs.Valid.{is_valid, function_fits}
 use Rattle.flow_code.specs.Works.{work_of}
-use Rattle.flow_code.proofs.ValidParts.{each, few_sites, few_globals, function_is_fit, act_is_fit}
+use Rattle.flow_code.proofs.ValidParts.{each, function_is_fit, act_is_fit}
 use Rattle.facts.specs.Blocks.{ends_block, goes_to, is_target, may_end_block, follows_end, assigned, is_register, constant_of}
 use Rattle.facts.specs.Paths.{known_of}
 use Rattle.facts.specs.Summaries.{StandsAt}
@@ -240,7 +240,7 @@ module _ (code : Code) (valid : is_valid code ≡ true) (constants : constants_f
       by (Err k) g = h
       by (Ok v) g =
           let work = subst (λ f. work_of s.slots code.sites (pointers_in f) th.top.registers w ≡ Ok v) x.here.function g in
-          let c = computes code s.slots few (few_sites code valid) (few_globals code valid) x.function th.top.instr into th.top.registers (h.0 x.function x.here.function) w v work_is_fit constant_is_fit work in
+          let c = computes code s.slots few valid x.function th.top.instr into th.top.registers (h.0 x.function x.here.function) w v work_is_fit constant_is_fit work in
           (goes_on code s.slots th.top (act.Compute into w) x (slice_set th.top.registers into v) h.0 (changes_as code s.slots x.function th.top.instr (act.Compute into w) x.instr.act th.top.registers (slice_set th.top.registers into v) x.is c), h.1)
   known_act (Some (act.Alloc into site None)) answer e = (plain (act.Alloc into site None) (stands code th.top (act.Alloc into site None) e) refl refl, h.1)
   known_act (Some (act.Alloc into site (Some size))) answer e = (puts (act.Alloc into site (Some size)) (stands code th.top (act.Alloc into site (Some size)) e) into _ refl refl refl, h.1)

@@ -5,11 +5,12 @@ use Rattle.std.specs.Ordering.{is_lt, is_eq, nat_cmp, bool_cmp, ordering_then}
 use Rattle.std.specs.declared.cmp.Ordering.TheVariants.{Less, Equal, Greater}
 use Rattle.std.proofs.lemmas.Bool.Decides.{nat_tests}
 use Rattle.rr_base.specs.declared.layout.Place.{Place}
+use Rattle.rr_base.specs.declared.position.Position.{Position}
 use Rattle.facts.specs.Pairs.{place_less, place_same}
 use Rattle.facts.proofs.TotalOrders.{Orders, orders_numbers, orders_by, orders_places}
 use Rattle.listing.specs.declared.line.Line.{Line}
 use Rattle.listing.specs.declared.line.Shown.{Shown}
-use Rattle.listing.specs.Lines.{kind_less, kind_same, shown_less, shown_same, line_less}
+use Rattle.listing.specs.Lines.{kind_less, kind_same, position_less, position_same, shown_less, shown_same, line_less}
 
 kinds_self : (s : Bool) → kind_less s s ≡ false
 kinds_self true = refl
@@ -38,18 +39,11 @@ kinds_total false false h k = refl
 orders_kinds : Orders kind_less kind_same
 orders_kinds = record { same_is = kinds_same; same_self = kinds_same_self; self = kinds_self; along = kinds_along; total = kinds_total }
 
--- a column and a kind
-abbrev behind_less : ℕ × Bool → ℕ × Bool → Bool
-behind_less x y = nat_lt x.0 y.0 || ((x.0 == y.0) && kind_less x.1 y.1)
-
-abbrev behind_same : ℕ × Bool → ℕ × Bool → Bool
-behind_same x y = (x.0 == y.0) && kind_same x.1 y.1
-
-orders_behind : Orders behind_less behind_same
-orders_behind = orders_by (λ (x : ℕ × Bool). x.0) (λ x. x.1) nat_lt (λ x y. x == y) kind_less kind_same orders_numbers orders_kinds (λ x y e f. λ i. (e i, f i))
+orders_positions : Orders position_less position_same
+orders_positions = orders_by (λ (p : Position). p.line) (λ p. p.column) nat_lt (λ x y. x == y) nat_lt (λ x y. x == y) orders_numbers orders_numbers (λ x y e f. λ i. record { line = e i; column = f i })
 
 pub orders_shown : Orders shown_less shown_same
-orders_shown = orders_by (λ (x : Shown). x.line) (λ x. (x.column, x.store)) nat_lt (λ x y. x == y) behind_less behind_same orders_numbers orders_behind (λ x y e f. λ i. record { line = e i; column = (f i).0; store = (f i).1 })
+orders_shown = orders_by (λ (x : Shown). x.at) (λ x. x.store) position_less position_same kind_less kind_same orders_positions orders_kinds (λ x y e f. λ i. record { at = e i; store = f i })
 
 -- two accesses
 abbrev both_less : Shown × Shown → Shown × Shown → Bool
@@ -104,8 +98,11 @@ kind_cmp_less false false = refl
 abbrev pub place_cmp : Place → Place → Ordering
 place_cmp p q = ordering_then (nat_cmp p.site q.site) (nat_cmp p.class q.class)
 
+abbrev pub position_cmp : Position → Position → Ordering
+position_cmp p q = ordering_then (nat_cmp p.line q.line) (nat_cmp p.column q.column)
+
 abbrev pub shown_cmp : Shown → Shown → Ordering
-shown_cmp x y = ordering_then (nat_cmp x.line y.line) (ordering_then (nat_cmp x.column y.column) (bool_cmp x.store y.store))
+shown_cmp x y = ordering_then (position_cmp x.at y.at) (bool_cmp x.store y.store)
 
 abbrev pub line_cmp : Line → Line → Ordering
 line_cmp l m = ordering_then (place_cmp l.place m.place) (ordering_then (shown_cmp l.first m.first) (shown_cmp l.second m.second))
@@ -125,16 +122,17 @@ place_cmp_less p q = then_less (nat_cmp p.site q.site) (nat_cmp p.class q.class)
 place_cmp_same : (p q : Place) → is_eq (place_cmp p q) ≡ place_same p q
 place_cmp_same p q = then_same (nat_cmp p.site q.site) (nat_cmp p.class q.class) ∙ (λ i. number_same p.site q.site i && number_same p.class q.class i)
 
+position_cmp_less : (p q : Position) → is_lt (position_cmp p q) ≡ position_less p q
+position_cmp_less p q = then_less (nat_cmp p.line q.line) (nat_cmp p.column q.column) ∙ lex (number_less p.line q.line) (number_same p.line q.line) (number_less p.column q.column)
+
+position_cmp_same : (p q : Position) → is_eq (position_cmp p q) ≡ position_same p q
+position_cmp_same p q = then_same (nat_cmp p.line q.line) (nat_cmp p.column q.column) ∙ (λ i. number_same p.line q.line i && number_same p.column q.column i)
+
 pub shown_cmp_less : (x y : Shown) → is_lt (shown_cmp x y) ≡ shown_less x y
-shown_cmp_less x y =
-    then_less (nat_cmp x.line y.line) (ordering_then (nat_cmp x.column y.column) (bool_cmp x.store y.store))
-    ∙ lex (number_less x.line y.line) (number_same x.line y.line)
-    (then_less (nat_cmp x.column y.column) (bool_cmp x.store y.store) ∙ lex (number_less x.column y.column) (number_same x.column y.column) (kind_cmp_less x.store y.store))
+shown_cmp_less x y = then_less (position_cmp x.at y.at) (bool_cmp x.store y.store) ∙ lex (position_cmp_less x.at y.at) (position_cmp_same x.at y.at) (kind_cmp_less x.store y.store)
 
 shown_cmp_same : (x y : Shown) → is_eq (shown_cmp x y) ≡ shown_same x y
-shown_cmp_same x y =
-    then_same (nat_cmp x.line y.line) (ordering_then (nat_cmp x.column y.column) (bool_cmp x.store y.store))
-    ∙ (λ i. number_same x.line y.line i && (then_same (nat_cmp x.column y.column) (bool_cmp x.store y.store) ∙ (λ j. number_same x.column y.column j && kind_cmp_same x.store y.store j)) i)
+shown_cmp_same x y = then_same (position_cmp x.at y.at) (bool_cmp x.store y.store) ∙ (λ i. position_cmp_same x.at y.at i && kind_cmp_same x.store y.store i)
 
 pub line_cmp_less : (l m : Line) → is_lt (line_cmp l m) ≡ line_less l m
 line_cmp_less l m =

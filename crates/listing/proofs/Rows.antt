@@ -14,10 +14,10 @@ use Rattle.listing.specs.Lines.{shown, shown_less, line_of}
 use Rattle.listing.specs.Text.{place_text, line_text, races_text_of}
 
 abbrev site : List ℕ → Site
-site name = record { name = name; layout = record { size = 1; element = 1; kinds = [] }; line = 1; column = 1 }
+site name = record { name = name; layout = record { size = 1; element = 1; kinds = [] }; at = record { line = 1; column = 1 } }
 
 abbrev instr : (line column : ℕ) → Act → Instr
-instr line column a = record { line = line; column = column; act = a }
+instr line column a = record { at = record { line = line; column = column }; act = a }
 
 abbrev function : List Instr → Function
 function is = record { name = []; line = 1; formals = 0; registers = 2; pointers = []; gives_pointer = false; instrs = is; loops = []; regions = [] }
@@ -29,6 +29,7 @@ code = record {
   sites = site (codes "items") ∷ site (codes "x") ∷ [];
   globals = [];
   global_kinds = [];
+  global_bases = [];
   locks = [];
 }
 
@@ -38,14 +39,14 @@ at f k = record { function = f; instr = k }
 abbrev pair : (site class : ℕ) → AccessAt → AccessAt → Pair
 pair s c a b = record { place = record { site = s; class = c }; first = a; second = b }
 
-pub create_row : shown code (at 1 1) ≡ record { line = 12; column = 3; store = true }
+pub create_row : shown code (at 1 1) ≡ record { at = record { line = 12; column = 3 }; store = true }
 create_row = refl
 
 -- the code has no such instruction
-pub nowhere_row : shown code (at 1 2) ≡ record { line = 0; column = 0; store = false }
+pub nowhere_row : shown code (at 1 2) ≡ record { at = record { line = 0; column = 0 }; store = false }
 nowhere_row = refl
 
-pub kinds_row : shown_less (record { line = 7; column = 3; store = false }) (record { line = 7; column = 3; store = true }) ≡ true
+pub kinds_row : shown_less (record { at = record { line = 7; column = 3 }; store = false }) (record { at = record { line = 7; column = 3 }; store = true }) ≡ true
 kinds_row = refl
 
 pub place_row : place_text code (record { site = 1; class = 12 }) ≡ codes "items+12"

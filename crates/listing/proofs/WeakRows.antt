@@ -15,10 +15,10 @@ use Rattle.listing.specs.Sorting.{sorted_by}
 use Rattle.listing.specs.WeakText.{access_before, weak_text_of}
 
 abbrev site : List ℕ → Site
-site name = record { name = name; layout = record { size = 1; element = 1; kinds = [] }; line = 1; column = 1 }
+site name = record { name = name; layout = record { size = 1; element = 1; kinds = [] }; at = record { line = 1; column = 1 } }
 
 abbrev instr : (line column : ℕ) → Act → Instr
-instr line column a = record { line = line; column = column; act = a }
+instr line column a = record { at = record { line = line; column = column }; act = a }
 
 abbrev function : List ℕ → List Instr → Function
 function name is = record { name = name; line = 1; formals = 0; registers = 2; pointers = []; gives_pointer = false; instrs = is; loops = []; regions = [] }
@@ -30,7 +30,7 @@ abbrev store : Act
 store = act.StoreCell 0 1
 
 abbrev code : List Function → Code
-code fs = record { functions = fs; sites = site (codes "x") ∷ site (codes "v") ∷ []; globals = []; global_kinds = []; locks = [] }
+code fs = record { functions = fs; sites = site (codes "x") ∷ site (codes "v") ∷ []; globals = []; global_kinds = []; global_bases = []; locks = [] }
 
 abbrev lock : (site class stripes : ℕ) → LockInfo
 lock s c n = record { site = s; class = c; stripes = n }

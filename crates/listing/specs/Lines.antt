@@ -1,6 +1,7 @@
 -- The lines by which race pairs are listed: where each access stands in the source, and the order of lines.
 use Rattle.std.specs.Prelude.{◌==◌, ◌&&◌, ◌||◌, nat_lt, Bool, true, false, not, if◌then◌else◌, List, Option, Some, None, slice_get}
 use Rattle.rr_base.specs.declared.layout.Place.{Place}
+use Rattle.rr_base.specs.declared.position.Position.{Position}
 use Rattle.flow_code.specs.declared.act.Instr.{Instr}
 use Rattle.flow_code.specs.declared.code.Code.{Code}
 use Rattle.flow_code.specs.Threads.{instrs_in}
@@ -19,8 +20,8 @@ is_store None = false
 is_store (Some a) = a.store
 
 abbrev pub shown_in : Option Instr → Shown
-shown_in None = record { line = 0; column = 0; store = false }
-shown_in (Some i) = record { line = i.line; column = i.column; store = is_store (access_of i.act) }
+shown_in None = record { at = record { line = 0; column = 0 }; store = false }
+shown_in (Some i) = record { at = i.at; store = is_store (access_of i.act) }
 
 abbrev pub shown : Code → AccessAt → Shown
 shown code a = shown_in (slice_get (instrs_in (slice_get code.functions a.function)) a.instr)
@@ -33,12 +34,19 @@ abbrev pub kind_same : Bool → Bool → Bool
 kind_same true t = t
 kind_same false t = not t
 
--- by line, then by column, then by kind
+-- by line, then by column
+abbrev pub position_less : Position → Position → Bool
+position_less p q = nat_lt p.line q.line || ((p.line == q.line) && nat_lt p.column q.column)
+
+abbrev pub position_same : Position → Position → Bool
+position_same p q = (p.line == q.line) && (p.column == q.column)
+
+-- by position, then by kind
 abbrev pub shown_less : Shown → Shown → Bool
-shown_less x y = nat_lt x.line y.line || ((x.line == y.line) && (nat_lt x.column y.column || ((x.column == y.column) && kind_less x.store y.store)))
+shown_less x y = position_less x.at y.at || (position_same x.at y.at && kind_less x.store y.store)
 
 abbrev pub shown_same : Shown → Shown → Bool
-shown_same x y = (x.line == y.line) && ((x.column == y.column) && kind_same x.store y.store)
+shown_same x y = position_same x.at y.at && kind_same x.store y.store
 
 -- ---- the line of a pair: its first access isn't behind its second
 

@@ -24,7 +24,7 @@ kind_text false = codes " load "
 
 -- ` load 5:9`
 abbrev pub shown_text : Shown → List ℕ
-shown_text x = (kind_text x.store ++ decimal x.line) ++ (codes ":" ++ decimal x.column)
+shown_text x = (kind_text x.store ++ decimal x.at.line) ++ (codes ":" ++ decimal x.at.column)
 
 -- `race x+0 load 5:9 store 7:3`
 abbrev pub line_text : Code → Line → List ℕ

@@ -8,7 +8,7 @@ use Rattle.weak_facts.specs.declared.grain.Grain.{Grain}
 use Rattle.weak_facts.specs.declared.grain.Grain.TheVariants as grain
 use Rattle.weak_facts.specs.declared.grain.Grained.{Grained}
 use Rattle.weak_facts.specs.Grains.{name_of}
-use Rattle.listing.specs.declared.line.Shown.{Shown}
+use Rattle.rr_base.specs.declared.position.Position.{Position}
 use Rattle.listing.specs.Lines.{shown, shown_less}
 use Rattle.listing.specs.Sorting.{sorted_by}
 use Rattle.listing.specs.Text.{place_text, kind_text}
@@ -27,8 +27,8 @@ locks_text code n (l ∷ ls) = lock_text code n l ++ locks_text code (n + 1) ls
 -- ---- accesses
 
 -- a place in the source behind a word: `loop 4:1`
-abbrev pub spot_text : List ℕ → Shown → List ℕ
-spot_text word x = (word ++ decimal x.line) ++ (codes ":" ++ decimal x.column)
+abbrev pub spot_text : List ℕ → Position → List ℕ
+spot_text word at = (word ++ decimal at.line) ++ (codes ":" ++ decimal at.column)
 
 abbrev pub beside : AccessAt → ℕ → AccessAt
 beside a k = record { function = a.function; instr = k }
@@ -40,13 +40,13 @@ function_text code f = codes "function " ++ name_of code f
 -- the first access that is guarded with it; or the access alone, by its own place
 abbrev pub grain_text : Code → AccessAt → Grain → List ℕ
 grain_text code a grain.Function = function_text code a.function
-grain_text code a (grain.Loop mark) = spot_text (codes "loop ") (shown code (beside a mark))
-grain_text code a (grain.Block first) = spot_text (codes "block ") (shown code (beside a first))
-grain_text code a grain.Instruction = spot_text (codes "instruction ") (shown code a)
+grain_text code a (grain.Loop mark) = spot_text (codes "loop ") (shown code (beside a mark)).at
+grain_text code a (grain.Block first) = spot_text (codes "block ") (shown code (beside a first)).at
+grain_text code a grain.Instruction = spot_text (codes "instruction ") (shown code a).at
 
 -- `access 5:9 load instruction 5:9`
 abbrev pub access_text : Code → Grained → List ℕ
-access_text code g = spot_text (codes "access ") (shown code g.access) ++ kind_text (shown code g.access).store ++ grain_text code g.access g.grain ++ 10 ∷ []
+access_text code g = spot_text (codes "access ") (shown code g.access).at ++ kind_text (shown code g.access).store ++ grain_text code g.access g.grain ++ 10 ∷ []
 
 -- by line, then by column, then loads before stores; accesses of one place and kind stay as they stand
 abbrev pub access_before : Code → Grained → Grained → Bool

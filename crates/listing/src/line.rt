@@ -1,10 +1,9 @@
-use rr_base::Place;
+use rr_base::{Place, Position};
 
-/// An access as the source shows it. They are ordered by line, then by column, then loads before stores.
+/// An access as the source shows it. They are ordered as they stand there, loads before stores at one position.
 #[derive(Clone, Copy, Debug, PartialEq, Eq, PartialOrd, Ord)]
 pub struct Shown {
-    pub line: u32,
-    pub column: u32,
+    pub at: Position,
     pub store: bool,
 }
 

@@ -7,6 +7,7 @@ use crate::line::{Line, Shown};
 use abstract_machine::LibraryCall;
 use facts::{AccessAt, Pair};
 use flow_code::{Act, Code};
+use rr_base::Position;
 use std::alloc::{AllocError, Global};
 
 fn call_stores(call: &LibraryCall, arguments: &[u32]) -> bool
@@ -41,8 +42,7 @@ pub(crate) fn shown(code: &Code, at: AccessAt) -> Shown
     ensures { result ≡ lines.shown code.now at }
 {
     let nowhere = Shown {
-        line: 0,
-        column: 0,
+        at: Position { line: 0, column: 0 },
         store: false,
     };
     let Some(function) = code.functions.get(at.function as usize) else {
@@ -50,8 +50,7 @@ pub(crate) fn shown(code: &Code, at: AccessAt) -> Shown
     };
     match function.instrs.get(at.instr as usize) {
         Some(instr) => Shown {
-            line: instr.line,
-            column: instr.column,
+            at: instr.at,
             store: stores(&instr.act),
         },
         None => nowhere,

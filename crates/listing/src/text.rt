@@ -31,8 +31,8 @@ pub(crate) fn kind(store: bool) -> &'static [u8]
 fn push_shown(out: &mut Bytes, access: Shown) -> Result<(), AllocError>
     ensures { OnOk result (out.new ≡ out.old ++ listing.shown_text access) }
 {
-    push_numbered(out, kind(access.store), u64::from(access.line))?;
-    push_numbered(out, b":", u64::from(access.column))
+    push_numbered(out, kind(access.store), u64::from(access.at.line))?;
+    push_numbered(out, b":", u64::from(access.at.column))
 }
 
 fn push_line(out: &mut Bytes, code: &Code, line: &Line) -> Result<(), AllocError>

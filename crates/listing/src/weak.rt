@@ -4,13 +4,12 @@ ghost use Rattle.weak_facts.specs.Grains.{name_of};
 ghost use Rattle.listing.specs.Sorting.{sorted_by};
 ghost use Rattle.listing.specs.WeakText as listing;
 
-use crate::line::Shown;
 use crate::lines::shown;
 use crate::text::{kind, push_place};
 use facts::AccessAt;
 use flow_code::{Code, LockInfo};
 use number_text::push_numbered;
-use rr_base::{Bytes, List, Place};
+use rr_base::{Bytes, List, Place, Position};
 use std::alloc::{AllocError, Global};
 use weak_facts::{Grain, Grained};
 
@@ -38,7 +37,7 @@ fn push_locks(out: &mut Bytes, code: &Code, locks: &[LockInfo]) -> Result<(), Al
 }
 
 // A place in the source behind a word.
-fn push_spot(out: &mut Bytes, word: &[u8], at: Shown) -> Result<(), AllocError>
+fn push_spot(out: &mut Bytes, word: &[u8], at: Position) -> Result<(), AllocError>
     ensures { OnOk result (out.new ≡ out.old ++ listing.spot_text word.now at) }
 {
     push_numbered(out, word, u64::from(at.line))?;
@@ -80,18 +79,18 @@ fn push_grain(
 {
     match grain {
         Grain::Function => push_function(out, code, access.function),
-        Grain::Loop(mark) => push_spot(out, b"loop ", shown(code, beside(access, mark))),
-        Grain::Block(first) => push_spot(out, b"block ", shown(code, beside(access, first))),
-        Grain::Instruction => push_spot(out, b"instruction ", shown(code, access)),
+        Grain::Loop(mark) => push_spot(out, b"loop ", shown(code, beside(access, mark)).at),
+        Grain::Block(first) => push_spot(out, b"block ", shown(code, beside(access, first)).at),
+        Grain::Instruction => push_spot(out, b"instruction ", shown(code, access).at),
     }
 }
 
 fn push_access(out: &mut Bytes, code: &Code, row: &Grained) -> Result<(), AllocError>
     ensures { OnOk result (out.new ≡ out.old ++ listing.access_text code.now row.now) }
 {
-    let at = shown(code, row.access);
-    push_spot(out, b"access ", at)?;
-    out.extend_from_slice(kind(at.store))?;
+    let access = shown(code, row.access);
+    push_spot(out, b"access ", access.at)?;
+    out.extend_from_slice(kind(access.store))?;
     push_grain(out, code, row.access, row.grain)?;
     out.push(b'\n')
 }

@@ -5,10 +5,12 @@ use super::*;
 use abstract_machine::{BinaryOp, LibraryCall};
 use facts::PointsTo;
 use flow_code::{Act, Bound, Code, Function, Instr, LoopInfo, Work};
-use rr_base::{Layout, List, Place, PtrWord, Site};
+use rr_base::{Layout, List, Place, Position, PtrWord, Site};
 use std::alloc::{AllocError, Global};
 use std::test::Fail;
 use weak_facts::{LoopAt, Range};
+
+const ORIGIN: Position = Position { line: 1, column: 1 };
 
 // An instruction; the numbers are registers, and those of jumps and branches instructions.
 #[derive(Clone, Copy)]
@@ -195,8 +197,7 @@ fn act(alloc: Global, step: Step) -> Act {
 fn push_steps(alloc: Global, steps: &[Step], instrs: &mut List<Instr>) -> Result<(), AllocError> {
     for step in steps {
         instrs.push(Instr {
-            line: 1,
-            column: 1,
+            at: ORIGIN,
             act: act(alloc, *step),
         })?;
     }
@@ -303,8 +304,7 @@ fn site(alloc: Global, element: u32) -> Result<Site, AllocError> {
             element,
             kinds: List::new(alloc),
         },
-        line: 1,
-        column: 1,
+        at: ORIGIN,
     })
 }
 
@@ -330,6 +330,7 @@ fn code(alloc: Global, row: Row) -> Result<Code, AllocError>
         sites,
         globals: List::new(alloc),
         global_kinds: List::new(alloc),
+        global_bases: List::new(alloc),
         locks: List::new(alloc),
     })
 }

@@ -10,13 +10,15 @@ use Rattle.flow_code.specs.declared.code.Code.{Code}
 use Rattle.flow_code.specs.declared.code.Function.{Function}
 use Rattle.flow_code.specs.declared.work.Work.{Work}
 use Rattle.flow_code.specs.declared.work.Work.TheVariants as work
-use Rattle.flow_code.specs.Addresses.{globals_fit}
+use Rattle.flow_code.specs.Addresses.{is_address, globals_fit}
 use Rattle.flow_code.specs.Constants.{constant_fits, constants_fit_in, constants_fit}
-use Rattle.flow_code.specs.Kinds.{has_register, has_pointer, has_whole, has_kind, same_register_kind, is_null, is_site, is_address, work_fits, value_fits, call_fits, library_value_fits, starts_fit, have_kinds, formal_kinds, act_fits}
+use Rattle.flow_code.specs.Kinds.{has_register, has_pointer, has_whole, has_kind, same_register_kind, is_null, is_site, work_fits, value_fits, call_fits, library_value_fits, starts_fit, have_kinds, formal_kinds, act_fits}
 use Rattle.abstract_machine.specs.Kinds.{is_comparison, library_kinds}
 use Rattle.flow_code.specs.Next.{act_in}
 use Rattle.flow_code.specs.Threads.{is_main_in}
 use Rattle.flow_code.specs.Valid.{is_valid, is_within_limits, all_locks_fit, has_one_main, functions_fit, function_fits, most_locks}
+use Rattle.flow_code.proofs.Objects.{address_site, address_whole}
+use Rattle.flow_code.proofs.ValidParts.{few_sites, few_globals}
 use Rattle.abstract_machine.specs.Layouts.{sites_fit}
 use Rattle.flow_code.specs.Works.{is_pointer}
 use Rattle.abstract_machine.specs.declared.library_call.LibraryCall.{LibraryCall}
@@ -159,27 +161,11 @@ first_alike w n cells offset site = record { site = omega arith; cells = omega a
 -- an address of a valid code, based, is like a pointer to the first cell of its site
 pub address_alike : (code : Code) → is_valid code ≡ true → (slots w : ℕ) → slots ≤ 16 → is_address code w ≡ true → IsAlike (pointer_at (site_of w) 0 (size_of code.sites (site_of w))) (based slots w) × (site_of (based slots w) ≤ length code.sites)
 address_alike code valid slots w few h =
-    let a = both (is_site code (site_of w) && (length_of w == size_of code.sites (site_of w)) && (offset_of w == 0)) (nat_le (base_of w + length_of w) (length code.globals)) h in
-    let b = both (is_site code (site_of w) && (length_of w == size_of code.sites (site_of w))) (offset_of w == 0) a.0 in
-    let c = both (is_site code (site_of w)) (length_of w == size_of code.sites (site_of w)) b.0 in
-    let d = both (nat_le 1 (site_of w)) (nat_le (site_of w) (length code.sites)) c.0 in
-    let cells : length_of w ≡ size_of code.sites (site_of w) = grind (arith, nat_tests, c.1) in
-    let offset : offset_of w ≡ 0 = grind (arith, nat_tests, b.1) in
-    let low : base_of w + length_of w ≤ length code.globals = grind (arith, nat_tests, a.1) in
+    let p = address_whole code valid w h in
+    let d = both (nat_le 1 (site_of w)) (nat_le (site_of w) (length code.sites)) (address_site code w h) in
     let known : site_of w ≤ length code.sites = grind (arith, nat_tests, d.1) in
-    let sites : length code.sites ≤ 1023 = grind (arith, nat_tests, limits.0) in
-    let globals : length code.globals ≤ 2 ^ 20 = grind (arith, nat_tests, limits.1) in
-    let x = based_alike slots w few (omega (arith, low, globals)) (omega (arith, known, sites)) in
-    let y = first_alike w (size_of code.sites (site_of w)) cells offset (omega (arith, known, sites)) in
+    let sites = few_sites code valid in
+    let globals = few_globals code valid in
+    let x = based_alike slots w few (omega (arith, p.within, globals)) (omega (arith, known, sites)) in
+    let y = first_alike w (size_of code.sites (site_of w)) p.cells p.offset (omega (arith, known, sites)) in
     (record { site = y.site ∙ sym x.site; cells = y.cells ∙ sym x.cells; offset = y.offset ∙ sym x.offset }, omega (arith, known, x.site))
-  where
-    limits : (nat_le (length code.sites) 1023 ≡ true) × (nat_le (length code.globals) (2 ^ 20) ≡ true)
-    limits =
-        let a = both (is_within_limits code && sites_fit code.sites && all_locks_fit code code.locks && has_one_main code.functions && functions_fit code code.functions) (globals_fit code) valid in
-        let b = both (is_within_limits code && sites_fit code.sites && all_locks_fit code code.locks && has_one_main code.functions) (functions_fit code code.functions) a.0 in
-        let c = both (is_within_limits code && sites_fit code.sites && all_locks_fit code code.locks) (has_one_main code.functions) b.0 in
-        let d = both (is_within_limits code && sites_fit code.sites) (all_locks_fit code code.locks) c.0 in
-        let e = both (is_within_limits code) (sites_fit code.sites) d.0 in
-        let g = both (nat_le (length code.functions) (2 ^ 20) && nat_le (length code.sites) 1023 && nat_le (length code.globals) (2 ^ 20)) (nat_le (length code.locks) most_locks) e.0 in
-        let i = both (nat_le (length code.functions) (2 ^ 20) && nat_le (length code.sites) 1023) (nat_le (length code.globals) (2 ^ 20)) g.0 in
-        ((both (nat_le (length code.functions) (2 ^ 20)) (nat_le (length code.sites) 1023) i.0).1, i.1)

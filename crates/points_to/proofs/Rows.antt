@@ -18,10 +18,10 @@ use Rattle.facts.specs.PointsTo.{place, place_on, act_constraints, constraints_o
 use Rattle.points_to.specs.Nodes.{number_of, place_from, widths_of}
 
 abbrev site_of_kind : CellKind → Site
-site_of_kind kind = record { name = []; layout = record { size = 1; element = 1; kinds = kind ∷ [] }; line = 1; column = 1 }
+site_of_kind kind = record { name = []; layout = record { size = 1; element = 1; kinds = kind ∷ [] }; at = record { line = 1; column = 1 } }
 
 abbrev instrs : List Act → List Instr
-instrs acts = map (λ a. record { line = 1; column = 1; act = a }) acts
+instrs acts = map (λ a. record { at = record { line = 1; column = 1 }; act = a }) acts
 
 -- int a; int b; int *p = &a; int main(void) { int *q = p; p = &b; *q = 1; return 1; }
 abbrev stored : Code
@@ -48,6 +48,7 @@ stored = record {
   sites = site_of_kind cell.Whole ∷ site_of_kind cell.Whole ∷ site_of_kind cell.Pointer ∷ [];
   globals = 0 ∷ 0 ∷ pack 1 0 1 0 ∷ [];
   global_kinds = cell.Whole ∷ cell.Whole ∷ cell.Pointer ∷ [];
+  global_bases = Some 0 ∷ Some 1 ∷ Some 2 ∷ [];
   locks = [];
 }
 
@@ -106,7 +107,7 @@ join_constraints = refl
 
 -- elements of two cells: one cell back from the first is the second of the element before
 abbrev pairs : List Site
-pairs = record { name = []; layout = record { size = 2; element = 2; kinds = cell.Whole ∷ cell.Whole ∷ [] }; line = 1; column = 1 } ∷ []
+pairs = record { name = []; layout = record { size = 2; element = 2; kinds = cell.Whole ∷ cell.Whole ∷ [] }; at = record { line = 1; column = 1 } } ∷ []
 
 pub one_back : place_on pairs (place 1 0) (negsuc 0) ≡ place 1 1
 one_back = refl

@@ -3,7 +3,7 @@ use Rattle.std.proofs.Common.{◌≡◌, ℕ, zero, suc, ◌+◌, ◌%◌, ◌^�
 use Rattle.std.specs.Prelude.{slice_get, nat_lt, nat_le, ◌&&◌, ◌==◌, not, if◌then◌else◌}
 use Rattle.std.specs.List.{Contains, list_all}
 use Rattle.std.proofs.lemmas.Option.{slice_get_within, same_Some}
-use Rattle.rr_base.specs.Words.{site_of, base_of, length_of, offset_of, class_of}
+use Rattle.rr_base.specs.Words.{site_of, class_of}
 use Rattle.rr_base.specs.declared.layout.CellKind.{CellKind}
 use Rattle.rr_base.specs.declared.layout.Site.{Site}
 use Rattle.flow_code.specs.declared.act.Act.{Act}
@@ -17,12 +17,13 @@ use Rattle.flow_code.specs.declared.work.Work.{Work}
 use Rattle.flow_code.specs.declared.work.Work.TheVariants as work
 use Rattle.flow_code.specs.Works.{is_pointer}
 use Rattle.flow_code.specs.Threads.{is_main_in}
-use Rattle.abstract_machine.specs.Cells.{size_of}
-use Rattle.flow_code.specs.Kinds.{has_register, has_pointer, has_whole, has_kind, have_kinds, formal_kinds, is_site, is_address, work_fits, value_fits, call_fits, may_start, starts_fit, library_value_fits, act_fits}
+use Rattle.abstract_machine.specs.Pointers.{base_at}
+use Rattle.flow_code.specs.Kinds.{has_register, has_pointer, has_whole, has_kind, have_kinds, formal_kinds, is_site, work_fits, value_fits, call_fits, may_start, starts_fit, library_value_fits, act_fits}
 use Rattle.abstract_machine.specs.Kinds.{library_kinds}
-use Rattle.flow_code.specs.Addresses.{address_at, address_of, word_fits, words_fit, sites_stand_alone, globals_fit}
+use Rattle.flow_code.specs.Addresses.{address_at, is_address, word_fits, words_fit, globals_fit}
 use Rattle.flow_code.specs.Order.{order_fits}
 use Rattle.flow_code.specs.Valid.{registers_fit, acts_fit, loops_fit, regions_fit, function_fits, functions_fit, all_locks_fit, has_one_main, most_locks, is_within_limits, is_valid}
+use Rattle.flow_code.proofs.Objects.{words_do_fit, address_site}
 use Rattle.abstract_machine.specs.Layouts.{layout_fits, sites_fit}
 use Rattle.facts.specs.Blocks.{constant_at}
 use Rattle.facts.specs.declared.constraint.Node.{Node}
@@ -101,10 +102,7 @@ site_place code some s h =
     (at_most 1 s b.0, at_most s (length code.sites) b.1, some_class (element_of code.sites s) (some s))
 
 address_place : (code : Code) → Elements code → (w : ℕ) → is_address code w ≡ true → IsPlace code.sites (place (site_of w) 0)
-address_place code some w h =
-    let a = both (is_site code (site_of w) && (length_of w == size_of code.sites (site_of w)) && (offset_of w == 0)) (nat_le (base_of w + length_of w) (length code.globals)) h in
-    let b = both (is_site code (site_of w) && (length_of w == size_of code.sites (site_of w))) (offset_of w == 0) a.0 in
-    site_place code some (site_of w) (both (is_site code (site_of w)) (length_of w == size_of code.sites (site_of w)) b.0).0
+address_place code some w h = site_place code some (site_of w) (address_site code w h)
 
 -- ---- registers and results
 
@@ -286,17 +284,17 @@ cells_within code some s element offset first last is (k ∷ ks) (w ∷ ws) h =
 
 object_within : (code : Code) → Elements code → words_fit code code.global_kinds code.globals ≡ true → (s : ℕ) (site : Site) → 1 ≤ s → s ≤ length code.sites → site.layout.element ≡ element_of code.sites s → (o : Option ℕ) → Each code (object_constraints code s site o)
 object_within code some words s site first last is None = tt
-object_within code some words s site first last is (Some w) =
-    cells_within code some s site.layout.element 0 first last is (take site.layout.size (drop (base_of w) code.global_kinds)) (drop (base_of w) code.globals)
-    (words_take code site.layout.size (drop (base_of w) code.global_kinds) (drop (base_of w) code.globals) (words_drop code (base_of w) code.global_kinds code.globals words))
+object_within code some words s site first last is (Some base) =
+    cells_within code some s site.layout.element 0 first last is (take site.layout.size (drop base code.global_kinds)) (drop base code.globals)
+    (words_take code site.layout.size (drop base code.global_kinds) (drop base code.globals) (words_drop code base code.global_kinds code.globals words))
 
 sites_within : (code : Code) → Elements code → words_fit code code.global_kinds code.globals ≡ true → (s : ℕ) (sites : List Site) → ((j : ℕ) (site : Site) → slice_get sites j ≡ Some site → slice_get code.sites (s + j) ≡ Some site) → Each code (sites_constraints code (s + 1) sites)
 sites_within code some words s [] at = tt
 sites_within code some words s (site ∷ sites) at =
     let zero_on : s + 0 ≡ s = omega arith in
     let got : slice_get code.sites s ≡ Some site = subst (λ n. slice_get code.sites n ≡ Some site) zero_on (at 0 site refl) in
-    each_append code (object_constraints code (s + 1) site (address_of code (s + 1))) (sites_constraints code (s + 1 + 1) sites)
-    (object_within code some words (s + 1) site (omega arith) (omega (arith, slice_get_within code.sites s site got)) (sym (ap (element_of code.sites) (add-one s) ∙ ap element_in got)) (address_of code (s + 1)))
+    each_append code (object_constraints code (s + 1) site (base_at code.global_bases (s + 1))) (sites_constraints code (s + 1 + 1) sites)
+    (object_within code some words (s + 1) site (omega arith) (omega (arith, slice_get_within code.sites s site got)) (sym (ap (element_of code.sites) (add-one s) ∙ ap element_in got)) (base_at code.global_bases (s + 1)))
     (sites_within code some words (s + 1) sites (λ j x e. let on : s + suc j ≡ s + 1 + j = omega arith in subst (λ n. slice_get code.sites n ≡ Some x) on (at (suc j) x e)))
 
 -- ---- the code
@@ -312,13 +310,12 @@ valid_there code h =
     let e = both (is_within_limits code && sites_fit code.sites) (all_locks_fit code code.locks) d.0 in
     let l = both (is_within_limits code) (sites_fit code.sites) e.0 in
     let m = both (nat_le (length code.functions) (2 ^ 20)) (nat_le (length code.sites) 1023) (both (nat_le (length code.functions) (2 ^ 20) && nat_le (length code.sites) 1023) (nat_le (length code.globals) (2 ^ 20)) (both (nat_le (length code.functions) (2 ^ 20) && nat_le (length code.sites) 1023 && nat_le (length code.globals) (2 ^ 20)) (nat_le (length code.locks) most_locks) l.0).0).0 in
-    let w = both (length code.global_kinds == length code.globals) (words_fit code code.global_kinds code.globals) (both ((length code.global_kinds == length code.globals) && words_fit code code.global_kinds code.globals) (sites_stand_alone code 1 code.sites) a.1).0 in
     let some : Elements code = size_fits code.sites l.1 in
     record {
       within = λ c k. each_in code (constraints_of code) c
           (each_append code (functions_constraints 0 code.functions) (sites_constraints code 1 code.sites)
           (functions_within code some (formals_fit code b.1) 0 code.functions b.1 (starting code.functions))
-          (sites_within code some w.1 0 code.sites (starting code.sites))) k;
+          (sites_within code some (words_do_fit code a.1) 0 code.sites (starting code.sites))) k;
       elements = some;
       sites = at_most (length code.sites) 1023 m.1;
       functions = at_most (length code.functions) (2 ^ 20) m.0;

@@ -316,6 +316,6 @@ pub fn constraints_of(alloc: Global, code: &Code) -> Result<List<Constraint>, Al
 {
     let mut out = List::new(alloc);
     push_functions(alloc, code.functions.as_slice(), &mut out)?;
-    push_sites(alloc, code, &mut out)?;
+    push_sites(code, &mut out)?;
     Ok(out)
 }

@@ -22,7 +22,7 @@ use Rattle.race_pairs.specs.Touches.{reached}
 use Rattle.race_pairs.specs.Races.{alone, may_meet, pair_of}
 
 abbrev instr : Act → Instr
-instr a = record { line = 1; column = 1; act = a }
+instr a = record { at = record { line = 1; column = 1 }; act = a }
 
 abbrev function : List ℕ → List Instr → Function
 function name is = record { name = name; line = 1; formals = 0; registers = 2; pointers = []; gives_pointer = false; instrs = is; loops = []; regions = [] }
@@ -37,6 +37,7 @@ code = record {
   sites = [];
   globals = [];
   global_kinds = [];
+  global_bases = [];
   locks = [];
 }
 

@@ -29,7 +29,7 @@ never = 2 ^ 32 - 1
 -- a seat that was joined to another one: it carries nothing
 abbrev pub nobody : SeatView
 nobody = record {
-  code = record { functions = []; sites = []; globals = []; global_kinds = []; locks = [] };
+  code = record { functions = []; sites = []; globals = []; global_kinds = []; global_bases = []; locks = [] };
   setup = record { slots = 0; cells = 0; limit = 0; input = [] };
   from = 0;
   carried = [];

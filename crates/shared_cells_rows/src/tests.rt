@@ -2,7 +2,7 @@
 ghost use Rattle.std.specs.Prelude.{◌≡◌, length, IfOk};
 
 use flow_code::{Act, Code, Function, Instr, LockInfo, is_valid};
-use rr_base::{Bytes, CellKind, Layout, List, Site};
+use rr_base::{Bytes, CellKind, Layout, List, Position, Site};
 use shared_cells::{Attempt, Cells};
 use std::alloc::{AllocError, Global};
 use std::test::Fail;
@@ -18,8 +18,7 @@ fn lone<T: Drop>(alloc: Global, item: T) -> Result<List<T>, AllocError>
 
 fn main_alone(alloc: Global) -> Result<Function, AllocError> {
     let end = Instr {
-        line: 1,
-        column: 1,
+        at: Position { line: 1, column: 1 },
         act: Act::Return { value: None },
     };
     Ok(Function {
@@ -46,8 +45,7 @@ fn code(alloc: Global) -> Result<Code, AllocError>
     let site = Site {
         name: List::new(alloc),
         layout,
-        line: 1,
-        column: 1,
+        at: Position { line: 1, column: 1 },
     };
     let lock = LockInfo {
         site: 1,
@@ -59,6 +57,7 @@ fn code(alloc: Global) -> Result<Code, AllocError>
         sites: lone(alloc, site)?,
         globals: List::new(alloc),
         global_kinds: List::new(alloc),
+        global_bases: lone(alloc, None)?,
         locks: lone(alloc, lock)?,
     })
 }

@@ -1,18 +1,18 @@
 -- Where the global objects lie: one behind another, each with the kinds of its layout, and each name leads to its pointer.
-use Rattle.std.proofs.Common.{◌≡◌, ℕ, zero, suc, ◌+◌, ◌≤◌, Bool, true, false, ◌==◌, if◌then◌else◌, List, [], ◌∷◌, ◌++◌, map, length, Option, Some, None, is_some, slice_get, ◌⊎◌, inl, inr, refl, sym, ap, ◌∙◌, subst, arith, true≢false, length-append}
+use Rattle.std.proofs.Common.{◌≡◌, ℕ, zero, suc, ◌+◌, ◌<◌, ◌≤◌, Bool, true, false, ◌==◌, if◌then◌else◌, List, [], ◌∷◌, ◌++◌, map, length, Option, Some, None, is_some, slice_get, slice_index_or, ◌⊎◌, inl, inr, refl, sym, ap, ◌∙◌, subst, arith, true≢false, length-append}
 use Rattle.std.proofs.lemmas.Bool.Decides.{nat_tests}
 use Rattle.std.proofs.lemmas.Option.{same_Some, none-some}
 use Rattle.rr_base.specs.Words.{pack}
 use Rattle.rr_base.specs.declared.layout.CellKind.{CellKind}
 use Rattle.rr_base.specs.declared.layout.Layout.{Layout}
-use Rattle.abstract_machine.specs.Pointers.{site_at}
+use Rattle.abstract_machine.specs.Pointers.{site_at, base_at}
 use Rattle.abstract_machine.specs.Cells.{size_of, size_in}
 use Rattle.c_lexer.specs.Bytes.{Text}
 use Rattle.c_lexer.specs.Names.{entry_of}
 use Rattle.c_types.specs.Scopes.{with_name}
 use Rattle.c_sites.specs.Spots.{Holder, a_global, a_local, an_allocation, Spot, site_of, layout_by}
 use Rattle.c_elaborate.specs.Here.{pointer_or_null}
-use Rattle.c_elaborate.specs.Globals.{with_global, holder_cells, globals_after, holder_kinds, global_kinds}
+use Rattle.c_elaborate.specs.Globals.{with_global, holder_cells, globals_after, holder_kinds, global_kinds, holder_base, global_bases}
 use Rattle.source_sound.proofs.FileLists.{text_same}
 use Rattle.source_sound.proofs.FileScope.{AllOf, all_with, found_entry, entry_kept, entry_new}
 use Rattle.source_sound.proofs.Structs.{layout_length}
@@ -40,15 +40,10 @@ module _ (ks : List (List CellKind)) where
   abbrev pub layout_at : Spot → Layout
   layout_at x = layout_by ks x.of
 
-  abbrev pub home_by : Holder → ℕ → Option ℕ
-  home_by (a_global name) base = Some base
-  home_by (a_local f name) base = None
-  home_by an_allocation base = None
-
   -- the first cell of the global with this site, where these spots have sites from k on and cells from base on
   abbrev pub home_from : ℕ → ℕ → List Spot → ℕ → Option ℕ
   home_from k base [] s = None
-  home_from k base (x ∷ xs) s = if s == k then home_by x.holder base else home_from (k + 1) (base + holder_cells x.holder (layout_at x).size) xs s
+  home_from k base (x ∷ xs) s = if s == k then holder_base x.holder base else home_from (k + 1) (base + holder_cells x.holder (layout_at x).size) xs s
 
   abbrev pub size_from : ℕ → List Spot → ℕ → ℕ
   size_from k [] s = 0
@@ -73,7 +68,7 @@ module _ (ks : List (List CellKind)) where
     pub within : offset + (layout_at spot).size ≤ length kinds
     pub kinds_are : (i : ℕ) (cell : CellKind) → slice_get (layout_at spot).kinds i ≡ Some cell → slice_get kinds (offset + i) ≡ Some cell
 
-  first_home : (k base s b : ℕ) (x : Spot) (xs : List Spot) (h : Holder) (rest : List CellKind) → (s == k) ≡ true → home_by h base ≡ Some b → IsHome k base (x ∷ xs) (holder_kinds h (layout_at x).kinds ++ rest) s b
+  first_home : (k base s b : ℕ) (x : Spot) (xs : List Spot) (h : Holder) (rest : List CellKind) → (s == k) ≡ true → holder_base h base ≡ Some b → IsHome k base (x ∷ xs) (holder_kinds h (layout_at x).kinds ++ rest) s b
   first_home k base s b x xs (a_global name) rest same e =
       let long = length-append (layout_at x).kinds rest in
       let own = layout_length ks x.of in
@@ -114,22 +109,50 @@ module _ (ks : List (List CellKind)) where
   home_found k base [] s b e = absurd (none-some b e)
   home_found k base (x ∷ xs) s b e = by (λ h. home_found (k + 1) (base + holder_cells x.holder (layout_at x).size) xs s b h) (s == k) refl e
     where
-      by : (home_from (k + 1) (base + holder_cells x.holder (layout_at x).size) xs s ≡ Some b → IsHome (k + 1) (base + holder_cells x.holder (layout_at x).size) xs (kinds_in xs) s b) → (c : Bool) → (s == k) ≡ c → (if c then home_by x.holder base else home_from (k + 1) (base + holder_cells x.holder (layout_at x).size) xs s) ≡ Some b → IsHome k base (x ∷ xs) (holder_kinds x.holder (layout_at x).kinds ++ kinds_in xs) s b
+      by : (home_from (k + 1) (base + holder_cells x.holder (layout_at x).size) xs s ≡ Some b → IsHome (k + 1) (base + holder_cells x.holder (layout_at x).size) xs (kinds_in xs) s b) → (c : Bool) → (s == k) ≡ c → (if c then holder_base x.holder base else home_from (k + 1) (base + holder_cells x.holder (layout_at x).size) xs s) ≡ Some b → IsHome k base (x ∷ xs) (holder_kinds x.holder (layout_at x).kinds ++ kinds_in xs) s b
       by rec true same e = first_home k base s b x xs x.holder (kinds_in xs) same e
       by rec false other e = next_home k base s b (holder_cells x.holder (layout_at x).size) x xs (holder_kinds x.holder (layout_at x).kinds) (kinds_in xs) other (cells_kinds x.holder (layout_at x) (layout_length ks x.of)) (rec e)
+
+  -- ---- the bases that the core tree tells
+
+  abbrev pub bases_in : ℕ → List Spot → List (Option ℕ)
+  bases_in base xs = global_bases base xs (map (site_of ks) xs)
+
+  pub bases_length : (base : ℕ) (xs : List Spot) → length (bases_in base xs) ≡ length (map (site_of ks) xs)
+  bases_length base [] = refl
+  bases_length base (x ∷ xs) = ap suc (bases_length (base + holder_cells x.holder (layout_at x).size) xs)
+
+  base_from : (k base : ℕ) (xs : List Spot) (j n : ℕ) → n ≡ k + j → slice_index_or (bases_in base xs) j None ≡ home_from k base xs n
+  base_from k base [] j n e = refl
+  base_from k base (x ∷ xs) zero n e =
+      let same : n ≡ k = omega (arith, e) in
+      sym (ap (λ c. if c then holder_base x.holder base else home_from (k + 1) (base + holder_cells x.holder (layout_at x).size) xs n) (ap (λ m. m == k) same ∙ own_number k))
+  base_from k base (x ∷ xs) (suc j) n e =
+      base_from (k + 1) (base + holder_cells x.holder (layout_at x).size) xs j n (omega (arith, e))
+      ∙ sym (ap (λ c. if c then holder_base x.holder base else home_from (k + 1) (base + holder_cells x.holder (layout_at x).size) xs n) (other_number n k (λ same. omega (arith, same, e))))
+
+  none_before : (k base : ℕ) (xs : List Spot) (s : ℕ) → s < k → home_from k base xs s ≡ None
+  none_before k base [] s lt = refl
+  none_before k base (x ∷ xs) s lt =
+      ap (λ c. if c then holder_base x.holder base else home_from (k + 1) (base + holder_cells x.holder (layout_at x).size) xs s) (other_number s k (λ same. omega (arith, same, lt)))
+      ∙ none_before (k + 1) (base + holder_cells x.holder (layout_at x).size) xs s (omega (arith, lt))
+
+  pub base_is : (xs : List Spot) (s : ℕ) → base_at (bases_in 0 xs) s ≡ home_from 1 0 xs s
+  base_is xs zero = sym (none_before 1 0 xs 0 (omega arith))
+  base_is xs (suc j) = base_from 1 0 xs j (suc j) (omega arith)
 
   -- ---- no two have a cell in common
 
   abbrev pub Apart : ℕ → List Spot → (s t b c : ℕ) → Type 0
   Apart k xs s t b c = (b + size_from k xs s ≤ c) ⊎ (c + size_from k xs t ≤ b)
 
-  holder_size : (h : Holder) (base b size : ℕ) → home_by h base ≡ Some b → (b ≡ base) × (holder_cells h size ≡ size)
+  holder_size : (h : Holder) (base b size : ℕ) → holder_base h base ≡ Some b → (b ≡ base) × (holder_cells h size ≡ size)
   holder_size (a_global name) base b size e = (sym (same_Some base b e), refl)
   holder_size (a_local f name) base b size e = absurd (none-some b e)
   holder_size an_allocation base b size e = absurd (none-some b e)
 
   -- the first one ends before the others begin
-  first_apart : (k base : ℕ) (x : Spot) (xs : List Spot) (s t b c : ℕ) → (s == k) ≡ true → home_by x.holder base ≡ Some b → home_from (k + 1) (base + holder_cells x.holder (layout_at x).size) xs t ≡ Some c → b + size_from k (x ∷ xs) s ≤ c
+  first_apart : (k base : ℕ) (x : Spot) (xs : List Spot) (s t b c : ℕ) → (s == k) ≡ true → holder_base x.holder base ≡ Some b → home_from (k + 1) (base + holder_cells x.holder (layout_at x).size) xs t ≡ Some c → b + size_from k (x ∷ xs) s ≤ c
   first_apart k base x xs s t b c same e g =
       let own = holder_size x.holder base b (layout_at x).size e in
       let later = home_found (k + 1) (base + holder_cells x.holder (layout_at x).size) xs t c g in
@@ -154,7 +177,7 @@ module _ (ks : List (List CellKind)) where
       both p q (inl h) = inl (subst (λ z. b + z ≤ c) (own s p) h)
       both p q (inr h) = inr (subst (λ z. c + z ≤ b) (own t q) h)
 
-      by : (later s ≡ Some b → later t ≡ Some c → Apart (k + 1) xs s t b c) → (i j : Bool) → (s == k) ≡ i → (t == k) ≡ j → (if i then home_by x.holder base else later s) ≡ Some b → (if j then home_by x.holder base else later t) ≡ Some c → Apart k (x ∷ xs) s t b c
+      by : (later s ≡ Some b → later t ≡ Some c → Apart (k + 1) xs s t b c) → (i j : Bool) → (s == k) ≡ i → (t == k) ≡ j → (if i then holder_base x.holder base else later s) ≡ Some b → (if j then holder_base x.holder base else later t) ≡ Some c → Apart k (x ∷ xs) s t b c
       by rec true true p q e g = absurd (ne (same_number s k p ∙ sym (same_number t k q)))
       by rec true false p q e g = inl (first_apart k base x xs s t b c p e g)
       by rec false true p q e g = inr (first_apart k base x xs t s c b q g e)
@@ -167,12 +190,12 @@ module _ (ks : List (List CellKind)) where
     abbrev pub AreGood : ℕ → ℕ → List Spot → Type 0
     AreGood k base xs = (s b : ℕ) → home_from k base xs s ≡ Some b → Good (pack s b (size_from k xs s) 0)
 
-    with_good : (h : Holder) (w : ℕ) (gs : List (Text × ℕ)) → (home_by h w ≡ Some w → Good w) → AllOf (λ name v. Good v) gs → AllOf (λ name v. Good v) (with_global h w gs)
+    with_good : (h : Holder) (w : ℕ) (gs : List (Text × ℕ)) → (holder_base h w ≡ Some w → Good w) → AllOf (λ name v. Good v) gs → AllOf (λ name v. Good v) (with_global h w gs)
     with_good (a_global name) w gs good h = all_with (λ name v. Good v) gs name w h (good refl)
     with_good (a_local f name) w gs good h = h
     with_good an_allocation w gs good h = h
 
-    home_own : (h : Holder) (w base : ℕ) → home_by h w ≡ Some w → home_by h base ≡ Some base
+    home_own : (h : Holder) (w base : ℕ) → holder_base h w ≡ Some w → holder_base h base ≡ Some base
     home_own (a_global name) w base e = refl
     home_own (a_local f name) w base e = absurd (none-some w e)
     home_own an_allocation w base e = absurd (none-some w e)
@@ -182,7 +205,7 @@ module _ (ks : List (List CellKind)) where
     globals_good k base gs (x ∷ xs) good h =
         let own = own_number k in
         let size : size_from k (x ∷ xs) k ≡ (layout_at x).size = ap (λ z. if z then (layout_at x).size else size_from (k + 1) xs k) own in
-        let first = (λ (e : home_by x.holder (pack k base (layout_at x).size 0) ≡ Some (pack k base (layout_at x).size 0)). subst (λ z. Good (pack k base z 0)) size (good k base (ap (λ z. if z then home_by x.holder base else home_from (k + 1) (base + holder_cells x.holder (layout_at x).size) xs k) own ∙ home_own x.holder (pack k base (layout_at x).size 0) base e))) in
+        let first = (λ (e : holder_base x.holder (pack k base (layout_at x).size 0) ≡ Some (pack k base (layout_at x).size 0)). subst (λ z. Good (pack k base z 0)) size (good k base (ap (λ z. if z then holder_base x.holder base else home_from (k + 1) (base + holder_cells x.holder (layout_at x).size) xs k) own ∙ home_own x.holder (pack k base (layout_at x).size 0) base e))) in
         globals_good (k + 1) (base + holder_cells x.holder (layout_at x).size) (with_global x.holder (pack k base (layout_at x).size 0) gs) xs (rest k base x xs good) (with_good x.holder (pack k base (layout_at x).size 0) gs first h)
       where
         rest : (k base : ℕ) (x : Spot) (xs : List Spot) → AreGood k base (x ∷ xs) → AreGood (k + 1) (base + holder_cells x.holder (layout_at x).size) xs
@@ -190,7 +213,7 @@ module _ (ks : List (List CellKind)) where
             let found = home_found (k + 1) (base + holder_cells x.holder (layout_at x).size) xs s b e in
             let number = found.number in
             let other : (s == k) ≡ false = other_number s k (λ is. omega (arith, is, number)) in
-            subst (λ z. Good (pack s b z 0)) (ap (λ z. if z then (layout_at x).size else size_from (k + 1) xs s) other) (good s b (ap (λ z. if z then home_by x.holder base else home_from (k + 1) (base + holder_cells x.holder (layout_at x).size) xs s) other ∙ e))
+            subst (λ z. Good (pack s b z 0)) (ap (λ z. if z then (layout_at x).size else size_from (k + 1) xs s) other) (good s b (ap (λ z. if z then holder_base x.holder base else home_from (k + 1) (base + holder_cells x.holder (layout_at x).size) xs s) other ∙ e))
 
     some_good : (o : Option ℕ) → is_some o ≡ true → ((w : ℕ) → o ≡ Some w → Good w) → Good (pointer_or_null o)
     some_good None e h = absurd (true≢false (sym e))

@@ -5,6 +5,7 @@ use Rattle.std.proofs.lemmas.List.{length-map}
 use Rattle.rr_base.specs.Words.{pack}
 use Rattle.rr_base.specs.declared.layout.CellKind.{CellKind}
 use Rattle.rr_base.specs.declared.layout.Site.{Site}
+use Rattle.abstract_machine.specs.Pointers.{base_at}
 use Rattle.abstract_machine.specs.Cells.{size_of}
 use Rattle.abstract_machine.specs.Layouts.{sites_fit}
 use Rattle.c_lexer.specs.Bytes.{Text}
@@ -17,13 +18,13 @@ use Rattle.c_sites.specs.Spots.{Spot, site_of, known_behind, kinds_of_structs, p
 use Rattle.c_sites.specs.Whole.{first_fault}
 use Rattle.c_core.specs.Core.{Program}
 use Rattle.c_elaborate.specs.Here.{Source, global_named}
-use Rattle.c_elaborate.specs.Globals.{global_kinds}
+use Rattle.c_elaborate.specs.Globals.{global_kinds, global_bases}
 use Rattle.c_elaborate.specs.Whole.{outers_functions, outers_words, source_of, core_of_source}
 use Rattle.c_core.specs.Sound.{IsAddress, IsSoundFunction, LiesAt, AreAtHome, IsSound}
 use Rattle.source_sound.proofs.Faultless.{IsFaultless, faultless}
 use Rattle.source_sound.proofs.Sited.{AreSited, all_sited, counted}
 use Rattle.source_sound.proofs.FileStructs.{AreStructs}
-use Rattle.source_sound.proofs.Homes.{IsHome, Apart, home_from, size_from, kinds_in, home_found, homes_apart, globals_good, named_good, all_named, site_there, size_there}
+use Rattle.source_sound.proofs.Homes.{IsHome, Apart, home_from, size_from, kinds_in, home_found, bases_length, base_is, homes_apart, globals_good, named_good, all_named, site_there, size_there}
 use Rattle.source_sound.proofs.Words.{words_length, word_got}
 use Rattle.source_sound.proofs.FileObjects.{IsWhole, GoesOn}
 use Rattle.source_sound.proofs.Grown.{outers_grow}
@@ -50,6 +51,7 @@ program_of os = record {
   sites = program_sites os;
   globals = outers_words (source_of os) (known_at_start os) os;
   global_kinds = global_kinds (program_spots os) (program_sites os);
+  global_bases = global_bases 0 (program_spots os) (program_sites os);
 }
 
 pub program_is : (os : List Outer) → core_of_source os ≡ program_of os
@@ -81,7 +83,10 @@ module _ (os : List Outer) (h : IsFaultless os) (members : StructsHaveMembers os
 
   -- where each global lies
   abbrev pub home : ℕ → Option ℕ
-  home = home_from kinds 1 0 spots
+  home = base_at p.global_bases
+
+  home_is : (s b : ℕ) → home s ≡ Some b → home_from kinds 1 0 spots s ≡ Some b
+  home_is s b e = sym (base_is kinds spots s) ∙ e
 
   first_structs : AreStructs start
   first_structs = record { sized = record { sizes = refl; small = tt; many = refl }; members = tt }
@@ -98,8 +103,8 @@ module _ (os : List Outer) (h : IsFaultless os) (members : StructsHaveMembers os
 
   -- ---- addresses
 
-  address : (t b : ℕ) → home t ≡ Some b → IsAddress p home (pack t b (size_from kinds 1 spots t) 0)
-  address t b e = (t, b, e, ap (λ z. pack t b z 0) (sym (size_there kinds 0 spots t b e)))
+  address : (t b : ℕ) → home_from kinds 1 0 spots t ≡ Some b → IsAddress p home (pack t b (size_from kinds 1 spots t) 0)
+  address t b e = (t, b, base_is kinds spots t ∙ e, ap (λ z. pack t b z 0) (sym (size_there kinds 0 spots t b e)))
 
   pub good : (name : Text) → is_some (entry_of (source_of os).globals name) ≡ true → IsAddress p home (global_named (source_of os) name)
   good name e = named_good kinds (IsAddress p home) (source_of os).globals name (globals_good kinds (IsAddress p home) 1 0 [] spots address tt) e
@@ -128,14 +133,14 @@ module _ (os : List Outer) (h : IsFaultless os) (members : StructsHaveMembers os
   abbrev IsApart : (s t b c : ℕ) → Type 0
   IsApart s t b c = (b + size_of p.sites s ≤ c) ⊎ (c + size_of p.sites t ≤ b)
 
-  apart_by : (s t b c : ℕ) → home s ≡ Some b → home t ≡ Some c → Apart kinds 1 spots s t b c → IsApart s t b c
+  apart_by : (s t b c : ℕ) → home_from kinds 1 0 spots s ≡ Some b → home_from kinds 1 0 spots t ≡ Some c → Apart kinds 1 spots s t b c → IsApart s t b c
   apart_by s t b c e g (inl le) = inl (subst (λ z. b + z ≤ c) (sym (size_there kinds 0 spots s b e)) le)
   apart_by s t b c e g (inr le) = inr (subst (λ z. c + z ≤ b) (sym (size_there kinds 0 spots t c g)) le)
 
   pub at_home : AreAtHome p home
   at_home = record {
-    there = λ s b e. let is = home_found kinds 1 0 spots s b e in (site_of kinds is.spot, site_there kinds 0 spots s b is, lies s b is);
-    apart = λ s t b c e g ne. apart_by s t b c e g (homes_apart kinds 1 0 spots s t b c e g ne);
+    there = λ s b e. let is = home_found kinds 1 0 spots s b (home_is s b e) in (site_of kinds is.spot, site_there kinds 0 spots s b is, lies s b is);
+    apart = λ s t b c e g ne. let first = home_is s b e in let second = home_is t c g in apart_by s t b c first second (homes_apart kinds 1 0 spots s t b c first second ne);
     words = λ k w e g. word_got (IsAddress p home) (kinds_in kinds spots) p.globals words.words_are k w e g;
   }
 
@@ -162,12 +167,12 @@ module _ (os : List Outer) (h : IsFaultless os) (members : StructsHaveMembers os
 
     pub program_sound : IsSound p
     program_sound = record {
-      home = home;
       homes = at_home;
       functions = λ k f e. one_is (λ z. IsSoundFunction p home z) p.functions all_functions k f e;
       one_main = one_main os p.functions names h.main;
       main_alone = λ k f e is. (one_is (λ z. IsOfFile structs (known_behind start os) z) p.functions of_file k f e).alone is;
       cell_kinds = cells;
+      bases = bases_length kinds 0 spots;
       layouts = all_fit kinds spots laid_out;
       few_functions = few;
       few_sites = let long = length-map spots (site_of kinds) in let le = h.sites in omega (arith, long, le);

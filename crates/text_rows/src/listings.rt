@@ -1,10 +1,12 @@
 use facts::{AccessAt, Pair};
 use flow_code::{Act, Code, Function, Instr, LockInfo};
 use listing::{races_text, weak_text};
-use rr_base::{CellKind, Layout, List, Place, Site};
+use rr_base::{CellKind, Layout, List, Place, Position, Site};
 use std::alloc::{AllocError, Global};
 use std::test::Fail;
 use weak_facts::{Grain, Grained};
+
+const START: Position = Position { line: 1, column: 1 };
 
 const X: Place = Place { site: 2, class: 0 };
 
@@ -30,8 +32,7 @@ fn site(alloc: Global, name: &[u8]) -> Result<Site, AllocError> {
             element: 1,
             kinds: List::from_slice(alloc, &[CellKind::Whole])?,
         },
-        line: 1,
-        column: 1,
+        at: START,
     })
 }
 
@@ -54,7 +55,10 @@ fn functions(alloc: Global) -> Result<List<Function>, AllocError> {
                         through: 0,
                     }
                 };
-                instrs.push(Instr { line, column, act })?;
+                instrs.push(Instr {
+                    at: Position { line, column },
+                    act,
+                })?;
             }
         }
         functions.push(Function {
@@ -81,6 +85,7 @@ fn code(alloc: Global) -> Result<Code, AllocError> {
         sites,
         globals: List::new(alloc),
         global_kinds: List::new(alloc),
+        global_bases: List::new(alloc),
         locks: List::new(alloc),
     })
 }

@@ -286,7 +286,7 @@ strip_functions code t locked rs rows f (fn ∷ fns) h n =
     ∙ ap (λ zs. fn ∷ zs) (strip_functions code t locked rs rows (f + 1) fns a.1 b.1)
 
 code_with : Code → List Function → List LockInfo → Code
-code_with code fns locks = record { functions = fns; sites = code.sites; globals = code.globals; global_kinds = code.global_kinds; locks = locks }
+code_with code fns locks = record { functions = fns; sites = code.sites; globals = code.globals; global_kinds = code.global_kinds; global_bases = code.global_bases; locks = locks }
 
 pub strip-weakened : (code : Code) (t : Tables) (vs : List Pair) (rs : List Range) (rows : List Grained) → is_valid code ≡ true → is_plain code ≡ true → strip (weakened code t vs rs rows) ≡ code
 unfolding weakened code_with

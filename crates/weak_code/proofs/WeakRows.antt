@@ -81,13 +81,13 @@ last_row = refl
 -- ---- codes with one function
 
 at : Act → Instr
-at a = record { line = 1; column = 1; act = a }
+at a = record { at = record { line = 1; column = 1 }; act = a }
 
 function : List Act → List LoopInfo → Function
 function acts loops = record { name = []; line = 1; formals = 0; registers = 9; pointers = []; gives_pointer = true; instrs = map at acts; loops = loops; regions = [] }
 
 code_of : Function → Code
-code_of fn = record { functions = fn ∷ []; sites = []; globals = []; global_kinds = []; locks = [] }
+code_of fn = record { functions = fn ∷ []; sites = []; globals = []; global_kinds = []; global_bases = []; locks = [] }
 
 -- each register may point to the first place of site 1
 tables : Tables

@@ -47,6 +47,7 @@ strip code = record {
   sites = code.sites;
   globals = code.globals;
   global_kinds = code.global_kinds;
+  global_bases = code.global_bases;
   locks = [];
 }
 

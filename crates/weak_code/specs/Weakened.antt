@@ -24,9 +24,9 @@ retarget to (act.Jump k) = act.Jump (to k)
 retarget to (act.Branch on then_at else_at) = act.Branch on (to then_at) (to else_at)
 retarget to a = a
 
--- a Take or Give has the line and column of the next instruction that is neither
+-- a Take or Give stands where the next instruction does that is neither
 abbrev pub at_instr : Instr → Act → Instr
-at_instr i a = record { line = i.line; column = i.column; act = a }
+at_instr i a = record { at = i.at; act = a }
 
 -- what stands before the k-th instruction, and then that one
 abbrev pub block : List Stretch → (all : List Instr) → (k : ℕ) → Instr → List Instr
@@ -79,5 +79,6 @@ weakened code t vs rs rows = record {
   sites = code.sites;
   globals = code.globals;
   global_kinds = code.global_kinds;
+  global_bases = code.global_bases;
   locks = locks_for code t rows (places_in vs);
 }

@@ -35,7 +35,7 @@ abbrev pub function_with : Function → List Instr → List LoopInfo → List Re
 function_with fn is ls rs = record { name = fn.name; line = fn.line; formals = fn.formals; registers = fn.registers; pointers = fn.pointers; gives_pointer = fn.gives_pointer; instrs = is; loops = ls; regions = rs }
 
 abbrev pub code_with : Code → List Function → List LockInfo → Code
-code_with code fns locks = record { functions = fns; sites = code.sites; globals = code.globals; global_kinds = code.global_kinds; locks = locks }
+code_with code fns locks = record { functions = fns; sites = code.sites; globals = code.globals; global_kinds = code.global_kinds; global_bases = code.global_bases; locks = locks }
 
 -- what calls see of a function
 abbrev pub bare : Function → Function

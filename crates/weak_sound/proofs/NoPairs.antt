@@ -138,7 +138,7 @@ no_rows code rs profile [] g = refl
 no_rows code rs profile (x ∷ xs) g = let e = g.racy x (0, (omega arith), refl) in cc
 
 code_with : Code → List Function → List LockInfo → Code
-code_with code fns locks = record { functions = fns; sites = code.sites; globals = code.globals; global_kinds = code.global_kinds; locks = locks }
+code_with code fns locks = record { functions = fns; sites = code.sites; globals = code.globals; global_kinds = code.global_kinds; global_bases = code.global_bases; locks = locks }
 
 pub no_pairs : (code : Code) (t : Tables) (rs : List Range) (profile : Profile) (rows : List Grained) → is_valid code ≡ true → is_plain code ≡ true → AreGrains code [] rs profile rows → weakened code t [] rs rows ≡ code
 unfolding weakened code_with

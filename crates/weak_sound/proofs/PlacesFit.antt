@@ -3,12 +3,11 @@ use Rattle.std.proofs.Common.{◌≡◌, ℕ, zero, suc, ◌+◌, ◌%◌, ◌<�
 use Rattle.std.specs.Prelude.{slice_get, nat_lt, nat_le, ◌==◌, if◌then◌else◌, unsigned_abs}
 use Rattle.std.specs.Int.{int_rem_euclid}
 use Rattle.std.specs.List.{Contains}
-use Rattle.rr_base.specs.Words.{site_of, base_of, length_of, offset_of}
+use Rattle.rr_base.specs.Words.{site_of}
 use Rattle.rr_base.specs.declared.layout.CellKind.{CellKind}
 use Rattle.rr_base.specs.declared.layout.Place.{Place}
 use Rattle.rr_base.specs.declared.layout.Site.{Site}
-use Rattle.abstract_machine.specs.Cells.{size_of}
-use Rattle.abstract_machine.specs.Pointers.{directed}
+use Rattle.abstract_machine.specs.Pointers.{directed, base_at}
 use Rattle.abstract_machine.specs.declared.library_call.LibraryCall.{LibraryCall}
 use Rattle.abstract_machine.specs.declared.library_call.LibraryCall.TheVariants as call
 use Rattle.flow_code.specs.declared.act.Act.{Act}
@@ -18,9 +17,10 @@ use Rattle.flow_code.specs.declared.code.Code.{Code}
 use Rattle.flow_code.specs.declared.code.Function.{Function}
 use Rattle.flow_code.specs.declared.work.Work.{Work}
 use Rattle.flow_code.specs.declared.work.Work.TheVariants as work
-use Rattle.flow_code.specs.Addresses.{address_at, address_of, word_fits, words_fit}
-use Rattle.flow_code.specs.Kinds.{has_pointer, is_site, is_address, value_fits, act_fits}
+use Rattle.flow_code.specs.Addresses.{address_at, is_address, word_fits, words_fit}
+use Rattle.flow_code.specs.Kinds.{has_pointer, is_site, value_fits, act_fits}
 use Rattle.flow_code.specs.Valid.{acts_fit}
+use Rattle.flow_code.proofs.Objects.{address_site}
 use Rattle.abstract_machine.specs.Layouts.{layout_fits, sites_fit}
 use Rattle.facts.specs.Blocks.{constant_at}
 use Rattle.facts.specs.declared.constraint.Node.{Node}
@@ -98,10 +98,7 @@ module _ (code : Code) (some : (s : ℕ) → 1 ≤ element_of code.sites s) wher
       (at_most 1 s b.0, at_most s (length code.sites) b.1, some_if (nat_lt 64 (element_of code.sites s)) (element_of code.sites s) (some s))
 
   address_place : (w : ℕ) → is_address code w ≡ true → IsPlaceOf code.sites (place (site_of w) 0)
-  address_place w h =
-      let a = both (is_site code (site_of w) && (length_of w == size_of code.sites (site_of w)) && (offset_of w == 0)) (nat_le (base_of w + length_of w) (length code.globals)) h in
-      let b = both (is_site code (site_of w) && (length_of w == size_of code.sites (site_of w))) (offset_of w == 0) a.0 in
-      site_place (site_of w) (both (is_site code (site_of w)) (length_of w == size_of code.sites (site_of w)) b.0).0
+  address_place w h = site_place (site_of w) (address_site code w h)
 
   -- ---- of instructions
 
@@ -187,13 +184,13 @@ module _ (code : Code) (some : (s : ℕ) → 1 ≤ element_of code.sites s) wher
 
   object_gives : words_fit code code.global_kinds code.globals ≡ true → (s : ℕ) (site : Site) (o : Option ℕ) → GivePlaces code.sites (object_constraints code s site o)
   object_gives words s site None = tt
-  object_gives words s site (Some w) =
-      cells_give s site.layout.element 0 (take site.layout.size (drop (base_of w) code.global_kinds)) (drop (base_of w) code.globals)
-      (words_take site.layout.size (drop (base_of w) code.global_kinds) (drop (base_of w) code.globals) (words_drop (base_of w) code.global_kinds code.globals words))
+  object_gives words s site (Some base) =
+      cells_give s site.layout.element 0 (take site.layout.size (drop base code.global_kinds)) (drop base code.globals)
+      (words_take site.layout.size (drop base code.global_kinds) (drop base code.globals) (words_drop base code.global_kinds code.globals words))
 
   sites_give : words_fit code code.global_kinds code.globals ≡ true → (s : ℕ) (sites : List Site) → GivePlaces code.sites (sites_constraints code s sites)
   sites_give words s [] = tt
-  sites_give words s (site ∷ sites) = give_append code.sites (object_constraints code s site (address_of code s)) (sites_constraints code (s + 1) sites) (object_gives words s site (address_of code s)) (sites_give words (s + 1) sites)
+  sites_give words s (site ∷ sites) = give_append code.sites (object_constraints code s site (base_at code.global_bases s)) (sites_constraints code (s + 1) sites) (object_gives words s site (base_at code.global_bases s)) (sites_give words (s + 1) sites)
 
   constraints_give : ((k : ℕ) (fn : Function) → slice_get code.functions k ≡ Some fn → acts_fit code fn fn.instrs ≡ true) → words_fit code code.global_kinds code.globals ≡ true → GivePlaces code.sites (constraints_of code)
   constraints_give acts words = give_append code.sites (functions_constraints 0 code.functions) (sites_constraints code 1 code.sites) (functions_give 0 code.functions acts) (sites_give words 1 code.sites)

@@ -23,6 +23,7 @@ use Rattle.flow_code.specs.declared.region.Span.{Span}
 use Rattle.flow_code.specs.declared.work.Work.TheVariants as work
 use Rattle.flow_code.specs.Next.{act_in}
 use Rattle.flow_code.specs.Order.{is_mark}
+use Rattle.flow_code.specs.Addresses.{is_address}
 use Rattle.flow_code.specs.Kinds.{has_register, has_pointer, has_whole, has_kind, have_kinds, starts_fit, library_value_fits, act_fits}
 use Rattle.abstract_machine.specs.Kinds.{library_kinds}
 use Rattle.flow_code.specs.Regions.{ascend, are_locks, locks_fit, base_fits, bound_is_whole, span_fits, spans_fit, region_fits}
@@ -39,7 +40,7 @@ use Rattle.weak_code.specs.Stretches.{same_grain, with_grain, all_locks, last_of
 use Rattle.weak_sound.proofs.Tests.{both, two}
 use Rattle.weak_sound.proofs.OrderFits.{IsBehind, AreBehind}
 use Rattle.weak_sound.proofs.ActsFit.{function_with, code_with}
-use Rattle.weak_sound.proofs.AddressesFit.{HaveAddresses, global_same, address_global}
+use Rattle.weak_sound.proofs.AddressesFit.{address_global}
 use Rattle.weak_sound.proofs.Accesses.{Each, each_append, each_filter, each_at, each_filter_map, AreLocks, all_are, IsFit, grain_at}
 
 -- ---- behind a function's objects
@@ -160,8 +161,8 @@ made_does is k r a h = by (maker_at is k r) h
 
 -- ---- the regions of one function
 
-module _ (code : Code) (fns : List Function) (locks : List LockInfo) (have : HaveAddresses code fns)
-    (f : ℕ) (fn : Function) (at : slice_get code.functions f ≡ Some fn) (acts : (k : ℕ) (i : Instr) → slice_get fn.instrs k ≡ Some i → act_fits code fn i.act ≡ true)
+module _ (code : Code) (fns : List Function) (locks : List LockInfo)
+    (fn : Function) (acts : (k : ℕ) (i : Instr) → slice_get fn.instrs k ≡ Some i → act_fits code fn i.act ≡ true)
     (is : List Instr) (ls : List LoopInfo) (rs : List Region) where
   abbrev Weak : Code
   Weak = code_with code fns locks
@@ -173,11 +174,7 @@ module _ (code : Code) (fns : List Function) (locks : List LockInfo) (have : Hav
   does_fit a d = subst (λ z. act_fits code fn z ≡ true) d.3 (acts d.0 d.1 d.2)
 
   addressed : (into w : ℕ) → Does fn.instrs (act.Compute into (work.Address w)) → base_fits Weak New (base.Site (site_of w)) ≡ true
-  addressed into w d = global_same code fns locks have (site_of w) ∙ address_global code f fn d.0 d.1 w at d.2 (ap address d.3)
-    where
-      address : Act → Option ℕ
-      address (act.Compute into (work.Address w)) = Some w
-      address _ = None
+  addressed into w d = address_global code w (both (has_pointer fn into) (is_address code w) (does_fit (act.Compute into (work.Address w)) d)).1
 
   origin_fits : (r : ℕ) (o : Option Act) → has_pointer fn r ≡ true → ((a : Act) → o ≡ Some a → Does fn.instrs a) → base_fits Weak New (origin_of r o) ≡ true
   origin_fits r (Some (act.Compute into (work.Address w))) p d = addressed into w (d (act.Compute into (work.Address w)) refl)

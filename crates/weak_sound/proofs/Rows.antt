@@ -1,5 +1,5 @@
 -- Worked rows of loops that share a Mark: then the weakened code of a valid code may not be valid.
-use Rattle.std.proofs.Common.{◌≡◌, true, false, List, [], ◌∷◌, map, None, refl, pos, codes}
+use Rattle.std.proofs.Common.{◌≡◌, true, false, List, [], ◌∷◌, map, Some, None, refl, pos, codes}
 use Rattle.rr_base.specs.Words.{pack}
 use Rattle.rr_base.specs.declared.layout.CellKind.TheVariants as kind
 use Rattle.rr_base.specs.declared.layout.Place.{Place}
@@ -23,7 +23,7 @@ use Rattle.weak_sound.specs.Apart.{loops_are_apart}
 
 -- `int x[4]; int main(void) { for (int i = 0; i < 4; i++) x[i] = i; }`
 at : Act → Instr
-at a = record { line = 1; column = 1; act = a }
+at a = record { at = record { line = 1; column = 1 }; act = a }
 
 instrs : List Instr
 instrs = map at (
@@ -43,9 +43,10 @@ other = record { at = 1; first = 5; last = 12; counter = 3; bound = bound.Number
 code_with : List LoopInfo → Code
 code_with loops = record {
   functions = record { name = codes "main"; line = 1; formals = 0; registers = 11; pointers = false ∷ false ∷ false ∷ true ∷ true ∷ false ∷ false ∷ false ∷ false ∷ false ∷ false ∷ []; gives_pointer = false; instrs = instrs; loops = loops; regions = [] } ∷ [];
-  sites = record { name = codes "x"; layout = record { size = 4; element = 1; kinds = kind.Whole ∷ kind.Whole ∷ kind.Whole ∷ kind.Whole ∷ [] }; line = 1; column = 5 } ∷ [];
+  sites = record { name = codes "x"; layout = record { size = 4; element = 1; kinds = kind.Whole ∷ kind.Whole ∷ kind.Whole ∷ kind.Whole ∷ [] }; at = record { line = 1; column = 5 } } ∷ [];
   globals = 0 ∷ 0 ∷ 0 ∷ 0 ∷ [];
   global_kinds = kind.Whole ∷ kind.Whole ∷ kind.Whole ∷ kind.Whole ∷ [];
+  global_bases = Some 0 ∷ [];
   locks = [];
 }
 

@@ -11,12 +11,13 @@ use Rattle.flow_code.specs.declared.code.LoopInfo.{LoopInfo}
 use Rattle.flow_code.specs.declared.region.Bound.{Bound}
 use Rattle.flow_code.specs.declared.region.Bound.TheVariants as bound
 use Rattle.flow_code.specs.declared.region.Region.{Region}
-use Rattle.flow_code.specs.Addresses.{globals_fit, words_fit, sites_stand_alone}
+use Rattle.flow_code.specs.Addresses.{globals_fit}
 use Rattle.flow_code.specs.Kinds.{act_fits, has_instr, has_register}
 use Rattle.flow_code.specs.Order.{order_fits}
 use Rattle.flow_code.specs.Regions.{bound_is_register, loop_fits, region_fits}
 use Rattle.flow_code.specs.Threads.{objects_of}
 use Rattle.flow_code.specs.Valid.{is_valid, is_within_limits, all_locks_fit, is_main_function, mains_in, mains_have_no_formals, has_one_main, most_locks, functions_fit, function_fits, registers_fit, acts_fit, loops_fit, regions_fit}
+use Rattle.flow_code.proofs.Objects.{words_do_fit}
 use Rattle.abstract_machine.specs.Layouts.{sites_fit}
 use Rattle.facts.specs.declared.constraint.Node.TheVariants.{Register}
 use Rattle.facts.specs.declared.locks.Summary.{Summary}
@@ -39,7 +40,7 @@ use Rattle.weak_sound.specs.Apart.{loops_are_apart}
 use Rattle.weak_sound.proofs.Tests.{both, two, all_at, length_map}
 use Rattle.weak_sound.proofs.OrderFits.{AreBehind, order}
 use Rattle.weak_sound.proofs.ActsFit.{function_with, code_with, bare, seat_within, place_within, acts}
-use Rattle.weak_sound.proofs.AddressesFit.{have_addresses, globals}
+use Rattle.weak_sound.proofs.AddressesFit.{globals}
 use Rattle.weak_sound.proofs.PlacesFit.{IsPlaceOf, place_of_code}
 use Rattle.weak_sound.proofs.LocksFit.{places_all, places_ascend, few_places, pointed, locks_are_fit}
 use Rattle.weak_sound.proofs.Accesses.{Each, IsFit, LoopsAreCounted, accesses_fit}
@@ -106,9 +107,9 @@ module _ (code : Code) (t : Tables) (locked : List Place) (rs : List Range) (row
       let p = parts code fn h in
       let pl : ArePlain (length fn.instrs) fn.instrs = plain_acts code fn fn.instrs none p.acts in
       let fit = accesses_fit code t locked rs rows counted f fn at in
-      let each = stretches_right code Functions locks (have_addresses code t locked rs rows) f fn at (λ k i g. all_at (λ j. act_fits code fn j.act) fn.instrs k i p.acts g)
+      let each = stretches_right code Functions locks fn (λ k i g. all_at (λ j. act_fits code fn j.act) fn.instrs k i p.acts g)
       (weakened_instrs ss fn.instrs) (map (moved_loop ss fn.instrs) fn.loops) (map (λ s. s.region) ss) (racy_accesses code t locked rs rows f) (subst (λ n. Each (IsFit fn n) (racy_accesses code t locked rs rows f)) (sym many) fit) in
-      let r = regions_right code Functions locks (have_addresses code t locked rs rows) f fn at (λ k i g. all_at (λ j. act_fits code fn j.act) fn.instrs k i p.acts g)
+      let r = regions_right code Functions locks fn (λ k i g. all_at (λ j. act_fits code fn j.act) fn.instrs k i p.acts g)
       (weakened_instrs ss fn.instrs) (map (moved_loop ss fn.instrs) fn.loops) (map (λ s. s.region) ss) (stretches_of fn (racy_accesses code t locked rs rows f)) each in
       let s = subst (λ (z : List Stretch). AreBehind (length (objects_of fn.instrs)) z × (list_all (region_fits Weak (function_with fn (weakened_instrs ss fn.instrs) (map (moved_loop ss fn.instrs) fn.loops) (map (λ s. s.region) ss))) (map (λ s. s.region) z) ≡ true)) (sym e) r in
       five (registers_fit (with_stretches fn ss)) (order_fits (weakened_instrs ss fn.instrs)) (acts_fit Weak (with_stretches fn ss) (weakened_instrs ss fn.instrs)) (loops_fit (with_stretches fn ss) (map (moved_loop ss fn.instrs) fn.loops)) (regions_fit Weak (with_stretches fn ss) (map (λ s. s.region) ss)) p.registers (order ss fn.instrs pl s.0 p.order)
@@ -175,9 +176,9 @@ weakened_valid code t ss vs rs profile rows v p apart answers =
     let c = both (is_within_limits code && sites_fit code.sites && all_locks_fit code code.locks) (has_one_main code.functions) b.0 in
     let d = both (is_within_limits code && sites_fit code.sites) (all_locks_fit code code.locks) c.0 in
     let e = both (is_within_limits code) (sites_fit code.sites) d.0 in
-    let w = both (length code.global_kinds == length code.globals) (words_fit code code.global_kinds code.globals) (both ((length code.global_kinds == length code.globals) && words_fit code code.global_kinds code.globals) (sites_stand_alone code 1 code.sites) a.1).0 in
+    let w = words_do_fit code a.1 in
     let m = both (nat_le (length code.functions) (2 ^ 20)) (nat_le (length code.sites) 1023) (both (nat_le (length code.functions) (2 ^ 20) && nat_le (length code.sites) 1023) (nat_le (length code.globals) (2 ^ 20)) (both (nat_le (length code.functions) (2 ^ 20) && nat_le (length code.sites) 1023 && nat_le (length code.globals) (2 ^ 20)) (nat_le (length code.locks) most_locks) e.0).0).0 in
-    let place = λ (f r : ℕ) (q : Place) (h : MayPoint code (Register f r) q). place_of_code code e.1 (λ k fn g. (parts code fn (all_at (function_fits code) code.functions k fn b.1 g)).acts) w.1 (Register f r) q h in
+    let place = λ (f r : ℕ) (q : Place) (h : MayPoint code (Register f r) q). place_of_code code e.1 (λ k fn g. (parts code fn (all_at (function_fits code) code.functions k fn b.1 g)).acts) w (Register f r) q h in
     let of = places_all (IsPlaceOf code.sites) vs (λ k x g. pointed code t answers.points place x.first x.place (answers.pairs.race x (contained vs k x g)).touches.0) in
     let few : length (places_in vs) ≤ most_locks = few_places code.sites (places_in vs) (at_most (length code.sites) 1023 m.1) of (places_ascend vs answers.pairs.ascending) in
     let many : length (locks_for code t rows (places_in vs)) ≡ length (places_in vs) = long (places_in vs) in
@@ -188,7 +189,7 @@ weakened_valid code t ss vs rs profile rows v p apart answers =
     (locks_are_fit code (weakened code t vs rs rows) t rows (places_in vs) refl of)
     (one_main code t (places_in vs) rs rows (locks_for code t rows (places_in vs)) many counted c.1)
     (functions code t (places_in vs) rs rows (locks_for code t rows (places_in vs)) many counted p b.1)
-    (globals code (weakened_functions code t (places_in vs) rs rows 0 code.functions) (locks_for code t rows (places_in vs)) (have_addresses code t (places_in vs) rs rows) ∙ a.1)
+    (globals code (weakened_functions code t (places_in vs) rs rows 0 code.functions) (locks_for code t rows (places_in vs)) ∙ a.1)
   where
     at_most : (m n : ℕ) → nat_le m n ≡ true → m ≤ n
     at_most m n h = grind arith

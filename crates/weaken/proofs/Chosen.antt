@@ -233,19 +233,20 @@ pub functions_step_in : (code : Code) (t : Tables) (locked : List Place) (rs : L
     → old ++ weakened_functions code t locked rs rows f (drop f code.functions) ≡ all → new ++ weakened_functions code t locked rs rows (f + 1) (drop (f + 1) code.functions) ≡ all
 functions_step_in code t locked rs rows f g old new all lt e p q = let x = found code.functions f lt in functions_step code t locked rs rows f x.0 g old new all x.1 e p q
 
-code_of : List Function → List Site → List ℕ → List CellKind → List LockInfo → Code
-code_of fns sites globals kinds locks = record { functions = fns; sites = sites; globals = globals; global_kinds = kinds; locks = locks }
+code_of : List Function → List Site → List ℕ → List CellKind → List (Option ℕ) → List LockInfo → Code
+code_of fns sites globals kinds bases locks = record { functions = fns; sites = sites; globals = globals; global_kinds = kinds; global_bases = bases; locks = locks }
 
-pub weakened-is : (code : Code) (t : Tables) (vs : List Pair) (rs : List Range) (rows : List Grained) (ps : List Place) (fns : List Function) (sites : List Site) (globals : List ℕ) (kinds : List CellKind) (locks : List LockInfo)
-    → ps ≡ places_in vs → fns ≡ weakened_functions code t ps rs rows 0 code.functions → sites ≡ code.sites → globals ≡ code.globals → kinds ≡ code.global_kinds → locks ≡ locks_for code t rows ps
-    → record { functions = fns; sites = sites; globals = globals; global_kinds = kinds; locks = locks } ≡ weakened code t vs rs rows
+pub weakened-is : (code : Code) (t : Tables) (vs : List Pair) (rs : List Range) (rows : List Grained) (ps : List Place) (fns : List Function) (sites : List Site) (globals : List ℕ) (kinds : List CellKind) (bases : List (Option ℕ)) (locks : List LockInfo)
+    → ps ≡ places_in vs → fns ≡ weakened_functions code t ps rs rows 0 code.functions → sites ≡ code.sites → globals ≡ code.globals → kinds ≡ code.global_kinds → bases ≡ code.global_bases → locks ≡ locks_for code t rows ps
+    → record { functions = fns; sites = sites; globals = globals; global_kinds = kinds; global_bases = bases; locks = locks } ≡ weakened code t vs rs rows
 unfolding weakened code_of
-weakened-is code t vs rs rows ps fns sites globals kinds locks e f g h i j =
-    ap (λ z. code_of z sites globals kinds locks) (f ∙ ap (λ z. weakened_functions code t z rs rows 0 code.functions) e)
-    ∙ ap (λ z. code_of (weakened_functions code t (places_in vs) rs rows 0 code.functions) z globals kinds locks) g
-    ∙ ap (λ z. code_of (weakened_functions code t (places_in vs) rs rows 0 code.functions) code.sites z kinds locks) h
-    ∙ ap (λ z. code_of (weakened_functions code t (places_in vs) rs rows 0 code.functions) code.sites code.globals z locks) i
-    ∙ ap (λ z. code_of (weakened_functions code t (places_in vs) rs rows 0 code.functions) code.sites code.globals code.global_kinds z) (j ∙ ap (locks_for code t rows) e)
+weakened-is code t vs rs rows ps fns sites globals kinds bases locks e f g h i b j =
+    ap (λ z. code_of z sites globals kinds bases locks) (f ∙ ap (λ z. weakened_functions code t z rs rows 0 code.functions) e)
+    ∙ ap (λ z. code_of (weakened_functions code t (places_in vs) rs rows 0 code.functions) z globals kinds bases locks) g
+    ∙ ap (λ z. code_of (weakened_functions code t (places_in vs) rs rows 0 code.functions) code.sites z kinds bases locks) h
+    ∙ ap (λ z. code_of (weakened_functions code t (places_in vs) rs rows 0 code.functions) code.sites code.globals z bases locks) i
+    ∙ ap (λ z. code_of (weakened_functions code t (places_in vs) rs rows 0 code.functions) code.sites code.globals code.global_kinds z locks) b
+    ∙ ap (λ z. code_of (weakened_functions code t (places_in vs) rs rows 0 code.functions) code.sites code.globals code.global_kinds code.global_bases z) (j ∙ ap (locks_for code t rows) e)
 
 pub weakened_same : (code : Code) (t : Tables) (us vs : List Pair) (qs rs : List Range) (ws rows : List Grained) → us ≡ vs → qs ≡ rs → ws ≡ rows → weakened code t us qs ws ≡ weakened code t vs rs rows
 weakened_same code t us vs qs rs ws rows e f g = ap (λ z. weakened code t z qs ws) e ∙ ap (λ z. weakened code t vs z ws) f ∙ ap (weakened code t vs rs) g

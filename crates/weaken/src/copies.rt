@@ -23,8 +23,7 @@ fn copied_site(alloc: Global, site: &Site) -> Result<Site, AllocError>
     Ok(Site {
         name: site.name.copied(alloc)?,
         layout: copied_layout(alloc, &site.layout)?,
-        line: site.line,
-        column: site.column,
+        at: site.at,
     })
 }
 

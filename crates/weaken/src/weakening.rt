@@ -240,12 +240,14 @@ fn weaken_at(
     let sites = copied_sites(alloc, code.sites.as_slice())?;
     let globals = code.globals.copied(alloc)?;
     let global_kinds = code.global_kinds.copied(alloc)?;
+    let global_bases = code.global_bases.copied(alloc)?;
     let locks = locks_for(alloc, code, points, locked, rows)?;
     Ok(Code {
         functions,
         sites,
         globals,
         global_kinds,
+        global_bases,
         locks,
     })
 }

@@ -118,15 +118,11 @@ fn retargeted(
     }
 }
 
-/// Puts a weak instruction that has the line and column of another.
+/// Puts a weak instruction that stands where another does.
 fn put_weak(written: &mut List<Instr>, instr: &Instr, act: Act) -> Result<(), AllocError>
     ensures { OnOk result (written.new ≡ written.old ++ spec.at_instr instr.now act ∷ []) }
 {
-    written.push(Instr {
-        line: instr.line,
-        column: instr.column,
-        act,
-    })
+    written.push(Instr { at: instr.at, act })
 }
 
 /// Puts the Gives of some regions, the last first.

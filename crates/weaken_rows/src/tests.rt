@@ -6,12 +6,14 @@ ghost use Rattle.flow_code.specs.Valid as validity;
 use abstract_machine::{BinaryOp, LibraryCall};
 use facts::{AccessAt, Pair, PointsTo};
 use flow_code::{Act, Base, Bound, Code, Function, Instr, LoopInfo, Region, Span, Work, is_valid};
-use rr_base::{CellKind, Layout, List, Place, PtrWord, Site};
+use rr_base::{CellKind, Layout, List, Place, Position, PtrWord, Site};
 use std::alloc::{AllocError, Global};
 use std::fmt::Write;
 use std::test::Fail;
 use weak_facts::{Grain, Grained, Grains, Range};
 use weaken::weaken;
+
+const START: Position = Position { line: 1, column: 1 };
 
 const X: Place = Place { site: 1, class: 0 };
 
@@ -209,8 +211,7 @@ fn instrs_of(alloc: Global, ops: &[Op]) -> Result<List<Instr>, AllocError> {
     let mut instrs = List::new(alloc);
     for op in ops {
         instrs.push(Instr {
-            line: 1,
-            column: 1,
+            at: START,
             act: act_of(alloc, *op)?,
         })?;
     }
@@ -257,8 +258,7 @@ fn site(alloc: Global, kinds: &[CellKind], size: u32) -> Result<Site, AllocError
             element: 1,
             kinds: List::from_slice(alloc, kinds)?,
         },
-        line: 1,
-        column: 1,
+        at: START,
     })
 }
 
@@ -279,6 +279,7 @@ fn code_of(alloc: Global, row: Row) -> Result<Code, AllocError>
         sites: sites(alloc)?,
         globals: List::from_slice(alloc, &[0; 4])?,
         global_kinds: List::from_slice(alloc, &[CellKind::Whole; 4])?,
+        global_bases: List::from_slice(alloc, &[Some(0), None])?,
         locks: List::new(alloc),
     })
 }

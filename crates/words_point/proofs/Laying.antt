@@ -1,6 +1,7 @@
 -- New objects of a thread, each at the first free cell of its arena.
 use Rattle.std.proofs.Common.{◌≡◌, ℕ, zero, suc, ◌+◌, ◌%◌, ◌<◌, ◌≤◌, ◌^◌, ◌&&◌, ◌==◌, nat_lt, nat_le, not, Bool, true, false, if◌then◌else◌, List, ◌∷◌, length, Some, refl, sym, ap, subst, ◌∙◌, ℤ, pos, negsuc, arith, eqb-true}
 use Rattle.std.proofs.lemmas.Bool.{leb-true}
+use Rattle.std.proofs.lemmas.Option.{slice_get_within}
 use Rattle.rr_base.specs.Words.{site_of, base_of, length_of, offset_of, pack, class_of}
 use Rattle.rr_base.proofs.Lists.{slice_get_inside}
 use Rattle.rr_base.proofs.WordLaws.{site_of-pack, base_of-pack, length_of-pack, offset_of-pack, pack-lt}
@@ -42,14 +43,20 @@ size_parts n m c d e h =
     let two = left (nat_le 1 n && nat_le n m) c (left (nat_le 1 n && nat_le n m && c) d (left (nat_le 1 n && nat_le n m && c && d) e h)) in
     (leb-true 1 n (left (nat_le 1 n) (nat_le n m) two), leb-true n m (right (nat_le 1 n) (nat_le n m) two))
 
+pub site_has : (code : Code) → is_valid code ≡ true → (k : ℕ) (site : Site) → site_at code.sites k ≡ Some site → HasSite code k
+site_has code valid zero site e = cc
+site_has code valid (suc k) site e =
+    let lt = slice_get_within code.sites k site e in
+    let p = size_parts site.layout.size 65535 (length site.layout.kinds == site.layout.size) (nat_le 1 site.layout.element) (site.layout.size % site.layout.element == 0) (layout_is_fit code valid k site e) in
+    let few = few_sites code valid in
+    record { site = site; is_site = e; some = p.0; few = p.1; low = omega arith }
+
 pub site_is : (code : Code) → is_valid code ≡ true → (k : ℕ) → is_site code k ≡ true → HasSite code k
 site_is code valid zero h = cc
 site_is code valid (suc k) h =
     let le = leb-true (suc k) (length code.sites) (right (nat_le 1 (suc k)) (nat_le (suc k) (length code.sites)) h) in
     let x = slice_get_inside code.sites k (omega arith) in
-    let p = size_parts x.0.layout.size 65535 (length x.0.layout.kinds == x.0.layout.size) (nat_le 1 x.0.layout.element) (x.0.layout.size % x.0.layout.element == 0) (layout_is_fit code valid k x.0 x.1) in
-    let few = few_sites code valid in
-    record { site = x.0; is_site = x.1; some = p.0; few = p.1; low = omega arith }
+    site_has code valid (suc k) x.0 x.1
 
 -- ---- the pointer to a new object
 

@@ -43,7 +43,7 @@ pub arena_inside : (slots base n t c : ℕ) → t < slots → c < base + t * n +
 arena_inside slots base n t c lt h = let m = mul-le (suc t) n slots n (omega arith) (omega arith) in let e : suc t * n ≡ t * n + n = omega arith in omega arith
 
 object_either : (code : Code) (s : SetupView) (made : List Object) (new o : Object) → IsObject code s (new ∷ made) o → (new ≡ o) ⊎ IsObject code s made o
-object_either code s made new o (global w a e) = inr (global w a e)
+object_either code s made new o (global base a e) = inr (global base a e)
 object_either code s made new o (made_one zero e) = inl (same_Some new o e)
 object_either code s made new o (made_one (suc i) e) = inr (made_one i e)
 

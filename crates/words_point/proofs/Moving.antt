@@ -99,7 +99,7 @@ module _ (code : Code) (s : SetupView) (made : List Object) where
 
   -- objects that are made stay
   pub object_more : (new o : Object) → IsObject code s made o → IsObject code s (new ∷ made) o
-  object_more new o (global w a e) = global w a e
+  object_more new o (global base a e) = global base a e
   object_more new o (made_one i e) = made_one (suc i) e
 
   pub good_more : (new : Object) (n : Node) (w : ℕ) → IsGood code s made n w → IsGood code s (new ∷ made) n w

@@ -1,21 +1,22 @@
 -- At the start objects lie apart, and all pointers point where the analysis says.
-use Rattle.std.proofs.Common.{◌≡◌, ℕ, zero, suc, ◌+◌, ◌*◌, ◌%◌, ◌<◌, ◌≤◌, ◌||◌, ◌==◌, nat_le, Bool, true, false, if◌then◌else◌, List, [], ◌∷◌, length, drop, map, Some, None, refl, sym, ap, subst, ◌∙◌, arith, eqb-true}
+use Rattle.std.proofs.Common.{◌≡◌, ℕ, zero, suc, ◌+◌, ◌*◌, ◌%◌, ◌<◌, ◌≤◌, ⊎_elim, ◌==◌, Bool, true, false, if◌then◌else◌, List, [], ◌∷◌, length, drop, map, Some, None, refl, sym, ap, subst, ◌∙◌, arith, eqb-true, eq-eqb}
 use Rattle.std.specs.Prelude.{slice_get}
-use Rattle.std.proofs.lemmas.Bool.{leb-true}
+use Rattle.std.proofs.lemmas.Bool.{true≢false}
 use Rattle.std.proofs.lemmas.Option.{same_Some}
 use Rattle.rr_base.proofs.Lists.{slice_get-drop}
-use Rattle.rr_base.specs.Words.{site_of, base_of, length_of, class_of}
+use Rattle.rr_base.specs.Words.{site_of, class_of}
 use Rattle.rr_base.specs.declared.layout.CellKind.{CellKind}
 use Rattle.rr_base.specs.declared.layout.CellKind.TheVariants as kind
 use Rattle.sync_objects.specs.Setup.{SetupView, IsWithinLimits}
 use Rattle.abstract_machine.specs.Cells.{size_in, size_of}
 use Rattle.abstract_machine.specs.Operators.{based}
-use Rattle.abstract_machine.specs.Pointers.{same_kind, kind_in}
-use Rattle.flow_code.specs.Addresses.{address_at, address_of, lie_apart, begin_with}
+use Rattle.abstract_machine.specs.Pointers.{base_at, same_kind, kind_in}
+use Rattle.flow_code.specs.Addresses.{address_at, begin_with}
 use Rattle.flow_code.specs.declared.code.Code.{Code}
 use Rattle.flow_code.specs.Threads.{arena_start}
 use Rattle.flow_code.specs.Valid.{is_valid}
-use Rattle.flow_code.proofs.ValidParts.{left, right, few_globals}
+use Rattle.flow_code.proofs.Objects.{objects_apart}
+use Rattle.flow_code.proofs.ValidParts.{left, right, few_globals, globals_are_fit}
 use Rattle.core_run.specs.Machine.{Told, start_state}
 use Rattle.core_run.specs.Words.{start_global, start_words}
 use Rattle.core_run.proofs.ThreadRanges.{start_thread_is}
@@ -24,8 +25,7 @@ use Rattle.facts.specs.declared.constraint.Node.TheVariants.{Cells}
 use Rattle.words_point.specs.Objects.{Object, IsObject, global, made_one, global_object, HasCell, IsSized, IsLeft, AreLaidOut}
 use Rattle.words_point.specs.Pointing.{IsGood, nowhere, GoodCells}
 use Rattle.words_point.specs.States.{marks_of}
-use Rattle.words_point.proofs.Globals.{IsAddressOf, IsWhole, whole_is, in_globals, listed, site_alone, based_good}
-use Rattle.words_point.proofs.Laying.{HasSite, site_is}
+use Rattle.words_point.proofs.Globals.{IsGlobal, global_is, in_globals, based_good}
 use Rattle.words_point.proofs.Reaching.{same_kinds}
 use Rattle.words_point.proofs.StartCells.{StartsWith, with_zero, with_global, starts_with, cell_given}
 
@@ -46,75 +46,63 @@ map_back f [] k y h = cc
 map_back f (x ∷ xs) zero y h = (x, refl, same_Some (f x) y h)
 map_back f (x ∷ xs) (suc k) y h = map_back f xs k y h
 
-apart_not : (v w : ℕ) (n c : ℕ) → lie_apart v w ≡ true → base_of v + n ≤ c → c < base_of v + n + length_of v → base_of w + n ≤ c → c < base_of w + n + length_of w → ⊥
-apart_not v w n c h a b d e = by (nat_le (base_of v + length_of v) (base_of w)) (nat_le (base_of w + length_of w) (base_of v)) refl refl h
-  where
-    by : (p q : Bool) → nat_le (base_of v + length_of v) (base_of w) ≡ p → nat_le (base_of w + length_of w) (base_of v) ≡ q → (p || q) ≡ true → ⊥
-    by true q f g h = let le = leb-true (base_of v + length_of v) (base_of w) f in absurd (omega arith)
-    by false true f g h = let le = leb-true (base_of w + length_of w) (base_of v) g in absurd (omega arith)
-    by false false f g h = cc
-
 module _ (code : Code) (s : SetupView) (valid : is_valid code ≡ true) (limits : IsWithinLimits s) where
   -- what is known of a global object
   record OfGlobal (o : Object) : Type 0 where
-    word : ℕ
-    first : address_of code o.site ≡ Some word
-    is : o ≡ global_object s word
-    address : IsAddressOf code word
-    site_is_of : site_of word ≡ o.site
-    whole : IsWhole code valid word
-    has : HasSite code o.site
+    base : ℕ
+    is_base : base_at code.global_bases o.site ≡ Some base
+    is : o ≡ global_object code s o.site base
+    known : IsGlobal code valid o.site base
 
   of_global : (o : Object) → IsObject code s [] o → OfGlobal o
   of_global o (made_one i e) = cc
-  of_global o (global w a e) =
-      let l = listed code valid o.site w a in
-      let h = whole_is code valid w l.0.whole in
-      record { word = w; first = a; is = e; address = l.0; site_is_of = l.1; whole = h; has = subst (HasSite code) l.1 (site_is code valid (site_of w) h.site) }
+  of_global o (global base b e) = record { base = base; is_base = b; is = e; known = global_is code valid o.site base b }
 
-  base_is : (o : Object) (g : OfGlobal o) → o.base ≡ base_of g.word + 2 * s.slots
+  base_is : (o : Object) (g : OfGlobal o) → o.base ≡ g.base + 2 * s.slots
   base_is o g = ap (λ (p : Object). p.base) g.is
 
-  cells_is : (o : Object) (g : OfGlobal o) → o.cells ≡ length_of g.word
+  cells_is : (o : Object) (g : OfGlobal o) → o.cells ≡ size_of code.sites o.site
   cells_is o g = ap (λ (p : Object). p.cells) g.is
 
-  size_is : (o : Object) (g : OfGlobal o) → o.cells ≡ g.has.site.layout.size
-  size_is o g = cells_is o g ∙ g.whole.cells ∙ ap (size_of code.sites) g.site_is_of ∙ ap size_in g.has.is_site
+  size_is : (o : Object) (g : OfGlobal o) → o.cells ≡ g.known.has.site.layout.size
+  size_is o g = cells_is o g ∙ ap size_in g.known.has.is_site
 
   sized : (o : Object) → IsObject code s [] o → IsSized code o
   sized o is =
       let g = of_global o is in
       let size = size_is o g in
       let base = base_is o g in
-      let within = g.whole.within in
+      let within = g.known.within in
       let few = few_globals code valid in
       let slots = limits.few_slots in
       record {
-        site = g.has.site;
-        is_site = g.has.is_site;
-        some = subst (λ n. 1 ≤ n) (sym size) g.has.some;
-        few = subst (λ n. n ≤ 65535) (sym size) g.has.few;
-        whole = ap (λ n. n % g.has.site.layout.size) size ∙ whole_mod g.has.site.layout.size g.has.some;
+        site = g.known.has.site;
+        is_site = g.known.has.is_site;
+        some = subst (λ n. 1 ≤ n) (sym size) g.known.has.some;
+        few = subst (λ n. n ≤ 65535) (sym size) g.known.has.few;
+        whole = ap (λ n. n % g.known.has.site.layout.size) size ∙ whole_mod g.known.has.site.layout.size g.known.has.some;
         low = omega arith;
       }
 
   -- a cell of a global object lies among those of globals
   among : (o : Object) (c : ℕ) → IsObject code s [] o → HasCell o c → (2 * s.slots ≤ c) × (c < 2 * s.slots + length code.globals)
-  among o c is h = let g = of_global o is in let b = base_is o g in let n = cells_is o g in let w = g.whole.within in let f = h.from in let t = h.to in (omega arith, omega arith)
+  among o c is h = let g = of_global o is in let b = base_is o g in let n = size_is o g in let w = g.known.within in let f = h.from in let t = h.to in (omega arith, omega arith)
 
   one_global : (o p : Object) (c : ℕ) → IsObject code s [] o → IsObject code s [] p → HasCell o c → HasCell p c → o ≡ p
-  one_global o p c is js h k =
-      let g = of_global o is in
-      let d = of_global p js in
-      let alone = site_alone code valid o.site g.has.site g.word g.has.is_site g.first in
-      g.is ∙ ap (global_object s) (by g d (site_of g.word == site_of d.word) refl (d.address.agree g.word alone.1)) ∙ sym d.is
+  one_global o p c is js h k = by (of_global o is) (of_global p js) (o.site == p.site) refl
     where
-      by : (g : OfGlobal o) (d : OfGlobal p) (b : Bool) → (site_of g.word == site_of d.word) ≡ b → (if b then g.word == d.word else lie_apart g.word d.word) ≡ true → g.word ≡ d.word
-      by g d true e a = eqb-true g.word d.word a
-      by g d false e a =
+      by : (g : OfGlobal o) (d : OfGlobal p) (b : Bool) → (o.site == p.site) ≡ b → o ≡ p
+      by g d true e =
+          let same : o.site ≡ p.site = eqb-true o.site p.site e in
+          let base_same : g.base ≡ d.base = same_Some g.base d.base (sym g.is_base ∙ ap (base_at code.global_bases) same ∙ d.is_base) in
+          g.is ∙ ap (λ n. global_object code s n g.base) same ∙ ap (global_object code s p.site) base_same ∙ sym d.is
+      by g d false e =
           let b1 = base_is o g in let b2 = base_is p d in let c1 = cells_is o g in let c2 = cells_is p d in
           let f = h.from in let t = h.to in let f2 = k.from in let t2 = k.to in
-          absurd (apart_not g.word d.word (2 * s.slots) c a (omega arith) (omega arith) (omega arith) (omega arith))
+          ⊎_elim
+          (λ (le : g.base + size_of code.sites o.site ≤ d.base). absurd (omega arith))
+          (λ (le : d.base + size_of code.sites p.site ≤ g.base). absurd (omega arith))
+          (objects_apart code (globals_are_fit code valid) o.site p.site g.base d.base g.is_base d.is_base (λ same. true≢false (sym (eq-eqb o.site p.site same) ∙ e)))
 
   pub mark_is : (t mark : ℕ) → slice_get (marks_of (start_state code s).threads) t ≡ Some mark → mark ≡ arena_start code s t
   mark_is t mark e =
@@ -140,34 +128,34 @@ module _ (code : Code) (s : SetupView) (valid : is_valid code ≡ true) (limits 
       let a = among o (o.base + offset) is (record { from = omega arith; to = omega arith }) in
       by g (starts_with code s valid (o.base + offset) w (omega (arith, a.1)) e)
     where
-      element_is : (g : OfGlobal o) → element_of code.sites o.site ≡ g.has.site.layout.element
-      element_is g = ap element_in g.has.is_site
+      element_is : (g : OfGlobal o) → element_of code.sites o.site ≡ g.known.has.site.layout.element
+      element_is g = ap element_in g.known.has.is_site
 
-      kind_there : (g : OfGlobal o) → slice_get g.has.site.layout.kinds offset ≡ Some kind.Pointer
-      kind_there g = by_size (g.has.site.layout.size == 0) refl (sym (ap (λ z. kind_in z offset) g.has.is_site) ∙ kinds)
+      kind_there : (g : OfGlobal o) → slice_get g.known.has.site.layout.kinds offset ≡ Some kind.Pointer
+      kind_there g = by_size (g.known.has.site.layout.size == 0) refl (sym (ap (λ z. kind_in z offset) g.known.has.is_site) ∙ kinds)
         where
-          by_size : (b : Bool) → (g.has.site.layout.size == 0) ≡ b → (if b then None else slice_get g.has.site.layout.kinds (offset % g.has.site.layout.size)) ≡ Some kind.Pointer → slice_get g.has.site.layout.kinds offset ≡ Some kind.Pointer
+          by_size : (b : Bool) → (g.known.has.site.layout.size == 0) ≡ b → (if b then None else slice_get g.known.has.site.layout.kinds (offset % g.known.has.site.layout.size)) ≡ Some kind.Pointer → slice_get g.known.has.site.layout.kinds offset ≡ Some kind.Pointer
           by_size true f h = cc
-          by_size false f h = let n = size_is o g in sym (ap (slice_get g.has.site.layout.kinds) (small_mod offset g.has.site.layout.size (omega arith))) ∙ h
+          by_size false f h = let n = size_is o g in sym (ap (slice_get g.known.has.site.layout.kinds) (small_mod offset g.known.has.site.layout.size (omega arith))) ∙ h
 
-      pointer_there : (g : OfGlobal o) → slice_get code.global_kinds (base_of g.word + offset) ≡ Some kind.Pointer
-      pointer_there g = sym (slice_get-drop (base_of g.word) code.global_kinds offset) ∙ begin_at (drop (base_of g.word) code.global_kinds) g.has.site.layout.kinds offset kind.Pointer (site_alone code valid o.site g.has.site g.word g.has.is_site g.first).0 (kind_there g)
+      pointer_there : (g : OfGlobal o) → slice_get code.global_kinds (g.base + offset) ≡ Some kind.Pointer
+      pointer_there g = sym (slice_get-drop g.base code.global_kinds offset) ∙ begin_at (drop g.base code.global_kinds) g.known.has.site.layout.kinds offset kind.Pointer g.known.kinds (kind_there g)
 
-      by_word : (g : OfGlobal o) (v : ℕ) (z : Bool) → slice_get code.globals (base_of g.word + offset) ≡ Some v → (v == 0) ≡ z → (if z then 0 else based s.slots v) ≡ w → IsGood code s [] (Cells (place o.site (class_of (element_of code.sites o.site) offset))) w
+      by_word : (g : OfGlobal o) (v : ℕ) (z : Bool) → slice_get code.globals (g.base + offset) ≡ Some v → (v == 0) ≡ z → (if z then 0 else based s.slots v) ≡ w → IsGood code s [] (Cells (place o.site (class_of (element_of code.sites o.site) offset))) w
       by_word g v true at z is_w = nowhere (ap site_of (sym is_w))
       by_word g v false at z is_w =
           let address : address_at kind.Pointer v ≡ Some v = ap (λ b. if b then None else Some v) z in
-          let x = in_globals code valid (base_of g.word + offset) kind.Pointer v v (pointer_there g) at address in
+          let x = in_globals code valid (g.base + offset) kind.Pointer v v (pointer_there g) at address in
           let n = size_is o g in
-          let c = cell_given code s valid o.site g.has.site g.word offset kind.Pointer v v g.has.is_site g.first (omega arith) (pointer_there g) at address in
+          let c = cell_given code s valid o.site g.known.has.site g.base offset kind.Pointer v v g.known.has.is_site g.is_base (omega arith) (pointer_there g) at address in
           subst (λ k. IsGood code s [] (Cells (place o.site (class_of k offset))) w) (sym (element_is g))
-          (subst (IsGood code s [] (Cells (place o.site (class_of g.has.site.layout.element offset)))) is_w (based_good code valid s limits.few_slots [] (Cells (place o.site (class_of g.has.site.layout.element offset))) v x (given c)))
+          (subst (IsGood code s [] (Cells (place o.site (class_of g.known.has.site.layout.element offset)))) is_w (based_good code valid s limits.few_slots [] (Cells (place o.site (class_of g.known.has.site.layout.element offset))) v x (given c)))
 
       by : (g : OfGlobal o) → StartsWith code s (o.base + offset) w → IsGood code s [] (Cells (place o.site (class_of (element_of code.sites o.site) offset))) w
       by g (with_zero z) = nowhere (ap site_of z)
       by g (with_global i at f) =
           let b = base_is o g in
-          let i_is : i ≡ base_of g.word + offset = omega arith in
+          let i_is : i ≡ g.base + offset = omega arith in
           let here : slice_get code.global_kinds i ≡ Some kind.Pointer = ap (slice_get code.global_kinds) i_is ∙ pointer_there g in
           let kind_is : f.kind ≡ kind.Pointer = same_Some f.kind kind.Pointer (sym f.is_kind ∙ here) in
           by_word g f.word (f.word == 0) (ap (slice_get code.globals) (sym i_is) ∙ f.is_word) refl (ap (λ k. start_global s.slots k f.word) (sym kind_is) ∙ f.is)

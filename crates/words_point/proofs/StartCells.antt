@@ -1,19 +1,20 @@
 -- At the start the cells of global objects hold good words, and all other cells hold 0.
-use Rattle.std.proofs.Common.{◌≡◌, ℕ, zero, suc, ◌+◌, ◌*◌, ◌<◌, ◌⊎◌, inl, inr, ⊎_elim, ◌&&◌, ◌==◌, true, List, [], ◌∷◌, ◌++◌, length, replicate, take, drop, Some, refl, sym, ap, subst, ◌∙◌, arith, eqb-true}
+use Rattle.std.proofs.Common.{◌≡◌, ℕ, zero, suc, ◌+◌, ◌*◌, ◌<◌, ◌⊎◌, inl, inr, ⊎_elim, true, List, [], ◌∷◌, ◌++◌, length, replicate, take, drop, Some, refl, sym, ap, subst, ◌∙◌, arith}
 use Rattle.std.specs.Prelude.{slice_get}
 use Rattle.std.specs.List.{Contains}
 use Rattle.std.proofs.lemmas.Option.{same_Some}
 use Rattle.std.proofs.lemmas.List.Elements.{Contains-append_left, Contains-append_right}
 use Rattle.rr_base.proofs.Lists.{slice_get-drop, slice_get-take}
-use Rattle.rr_base.specs.Words.{site_of, base_of, class_of}
+use Rattle.rr_base.specs.Words.{site_of, class_of}
 use Rattle.rr_base.specs.declared.layout.CellKind.{CellKind}
 use Rattle.rr_base.specs.declared.layout.Site.{Site}
 use Rattle.sync_objects.specs.Setup.{SetupView}
-use Rattle.abstract_machine.specs.Pointers.{site_at}
-use Rattle.flow_code.specs.Addresses.{address_at, address_of, words_fit, sites_stand_alone}
+use Rattle.abstract_machine.specs.Pointers.{site_at, base_at}
+use Rattle.flow_code.specs.Addresses.{address_at}
 use Rattle.flow_code.specs.declared.code.Code.{Code}
 use Rattle.flow_code.specs.Valid.{is_valid}
-use Rattle.flow_code.proofs.ValidParts.{left, globals_are_fit}
+use Rattle.flow_code.proofs.Objects.{kinds_are_all}
+use Rattle.flow_code.proofs.ValidParts.{globals_are_fit}
 use Rattle.core_run.specs.Words.{cells_of, start_global, start_globals, start_cells, start_objects, start_words}
 use Rattle.core_run.proofs.Beginnings.{length-start_cells}
 use Rattle.facts.specs.PointsTo.{place, word_constraints, cells_constraints, object_constraints, sites_constraints, functions_constraints, constraints_of}
@@ -62,7 +63,7 @@ pub data StartsWith (code : Code) (s : SetupView) (c w : ℕ) : Type 0 where
 
 module _ (code : Code) (s : SetupView) (valid : is_valid code ≡ true) where
   kinds_long : length code.global_kinds ≡ length code.globals
-  kinds_long = eqb-true (length code.global_kinds) (length code.globals) (left (length code.global_kinds == length code.globals) (words_fit code code.global_kinds code.globals) (left (length code.global_kinds == length code.globals && words_fit code code.global_kinds code.globals) (sites_stand_alone code 1 code.sites) (globals_are_fit code valid)))
+  kinds_long = kinds_are_all code (globals_are_fit code valid)
 
   abbrev hands : List ℕ
   hands = replicate (2 * s.slots) 0
@@ -92,16 +93,16 @@ module _ (code : Code) (s : SetupView) (valid : is_valid code ≡ true) where
 
   -- ---- the pointers of global cells are given places
 
-  in_sites : (j k : ℕ) (sites : List Site) (site : Site) (c : Constraint) → slice_get sites k ≡ Some site → Contains (object_constraints code (j + k) site (address_of code (j + k))) c → Contains (sites_constraints code j sites) c
+  in_sites : (j k : ℕ) (sites : List Site) (site : Site) (c : Constraint) → slice_get sites k ≡ Some site → Contains (object_constraints code (j + k) site (base_at code.global_bases (j + k))) c → Contains (sites_constraints code j sites) c
   in_sites j k [] site c e h = cc
   in_sites j zero (x ∷ sites) site c e h =
       let at : j + 0 ≡ j = omega arith in
-      Contains-append_left (object_constraints code j x (address_of code j)) (sites_constraints code (j + 1) sites) c
-      (subst (λ n. Contains (object_constraints code n x (address_of code n)) c) at (subst (λ (y : Site). Contains (object_constraints code (j + 0) y (address_of code (j + 0))) c) (sym (same_Some x site e)) h))
+      Contains-append_left (object_constraints code j x (base_at code.global_bases j)) (sites_constraints code (j + 1) sites) c
+      (subst (λ n. Contains (object_constraints code n x (base_at code.global_bases n)) c) at (subst (λ (y : Site). Contains (object_constraints code (j + 0) y (base_at code.global_bases (j + 0))) c) (sym (same_Some x site e)) h))
   in_sites j (suc k) (x ∷ sites) site c e h =
       let at : j + suc k ≡ j + 1 + k = omega arith in
-      Contains-append_right (object_constraints code j x (address_of code j)) (sites_constraints code (j + 1) sites) c
-      (in_sites (j + 1) k sites site c e (subst (λ n. Contains (object_constraints code n site (address_of code n)) c) at h))
+      Contains-append_right (object_constraints code j x (base_at code.global_bases j)) (sites_constraints code (j + 1) sites) c
+      (in_sites (j + 1) k sites site c e (subst (λ n. Contains (object_constraints code n site (base_at code.global_bases n)) c) at h))
 
   in_cells_of : (k element offset i : ℕ) (ks : List CellKind) (ws : List ℕ) (kind : CellKind) (v w : ℕ) → slice_get ks i ≡ Some kind → slice_get ws i ≡ Some v → address_at kind v ≡ Some w → Contains (cells_constraints k element offset ks ws) (Given (Cells (place k (class_of element (offset + i)))) (place (site_of w) 0))
   in_cells_of k element offset i [] ws kind v w a b c = cc
@@ -118,16 +119,16 @@ module _ (code : Code) (s : SetupView) (valid : is_valid code ≡ true) where
       (subst (λ n. Contains (cells_constraints k element (offset + 1) ks ws) (Given (Cells (place k (class_of element n))) (place (site_of w) 0))) at (in_cells_of k element (offset + 1) i ks ws kind v w a b c))
 
   -- the constraint of a pointer that a global's cell holds at the start
-  pub cell_given : (k : ℕ) (site : Site) (a i : ℕ) (kind : CellKind) (v w : ℕ) → site_at code.sites k ≡ Some site → address_of code k ≡ Some a → i < site.layout.size → slice_get code.global_kinds (base_of a + i) ≡ Some kind → slice_get code.globals (base_of a + i) ≡ Some v → address_at kind v ≡ Some w → Contains (constraints_of code) (Given (Cells (place k (class_of site.layout.element i))) (place (site_of w) 0))
-  cell_given zero site a i kind v w e f lt x y c = cc
-  cell_given (suc k) site a i kind v w e f lt x y c =
+  pub cell_given : (k : ℕ) (site : Site) (base i : ℕ) (kind : CellKind) (v w : ℕ) → site_at code.sites k ≡ Some site → base_at code.global_bases k ≡ Some base → i < site.layout.size → slice_get code.global_kinds (base + i) ≡ Some kind → slice_get code.globals (base + i) ≡ Some v → address_at kind v ≡ Some w → Contains (constraints_of code) (Given (Cells (place k (class_of site.layout.element i))) (place (site_of w) 0))
+  cell_given zero site base i kind v w e f lt x y c = cc
+  cell_given (suc k) site base i kind v w e f lt x y c =
       let at : 1 + k ≡ suc k = omega arith in
       let zero_i : 0 + i ≡ i = omega arith in
-      let here = in_cells_of (suc k) site.layout.element 0 i (take site.layout.size (drop (base_of a) code.global_kinds)) (drop (base_of a) code.globals) kind v w
-      (slice_get-take site.layout.size (drop (base_of a) code.global_kinds) i lt ∙ slice_get-drop (base_of a) code.global_kinds i ∙ x) (slice_get-drop (base_of a) code.globals i ∙ y) c in
+      let here = in_cells_of (suc k) site.layout.element 0 i (take site.layout.size (drop base code.global_kinds)) (drop base code.globals) kind v w
+      (slice_get-take site.layout.size (drop base code.global_kinds) i lt ∙ slice_get-drop base code.global_kinds i ∙ x) (slice_get-drop base code.globals i ∙ y) c in
       let g = Given (Cells (place (suc k) (class_of site.layout.element i))) (place (site_of w) 0) in
       Contains-append_right (functions_constraints 0 code.functions) (sites_constraints code 1 code.sites) g
       (in_sites 1 k code.sites site g e
-      (subst (λ n. Contains (object_constraints code n site (address_of code n)) g) (sym at)
+      (subst (λ n. Contains (object_constraints code n site (base_at code.global_bases n)) g) (sym at)
       (subst (λ o. Contains (object_constraints code (suc k) site o) g) (sym f)
-      (subst (λ n. Contains (cells_constraints (suc k) site.layout.element 0 (take site.layout.size (drop (base_of a) code.global_kinds)) (drop (base_of a) code.globals)) (Given (Cells (place (suc k) (class_of site.layout.element n))) (place (site_of w) 0))) zero_i here))))
+      (subst (λ n. Contains (cells_constraints (suc k) site.layout.element 0 (take site.layout.size (drop base code.global_kinds)) (drop base code.globals)) (Given (Cells (place (suc k) (class_of site.layout.element n))) (place (site_of w) 0))) zero_i here))))

@@ -3,9 +3,9 @@ use Rattle.std.specs.Prelude.{◌≡◌, ℕ, ◌+◌, ◌*◌, ◌≤◌, ◌<�
 use Rattle.rr_base.specs.Words.{site_of, base_of, length_of, offset_of}
 use Rattle.rr_base.specs.declared.layout.Site.{Site}
 use Rattle.sync_objects.specs.Setup.{SetupView}
-use Rattle.abstract_machine.specs.Pointers.{site_at}
+use Rattle.abstract_machine.specs.Cells.{size_of}
+use Rattle.abstract_machine.specs.Pointers.{site_at, base_at}
 use Rattle.flow_code.specs.declared.code.Code.{Code}
-use Rattle.flow_code.specs.Addresses.{address_of}
 use Rattle.flow_code.specs.Threads.{arena_start, arena_end}
 use Rattle.core_run.specs.Words.{cells_of}
 
@@ -15,13 +15,13 @@ pub record Object : Type 0 where
   pub base : ℕ
   pub cells : ℕ
 
--- the object of a global, by its address, whose base counts from the first global cell
-abbrev pub global_object : SetupView → ℕ → Object
-global_object s w = record { site = site_of w; base = base_of w + 2 * s.slots; cells = length_of w }
+-- the object of a global site, by its first cell as it counts from the first global one
+abbrev pub global_object : Code → SetupView → (site base : ℕ) → Object
+global_object code s site base = record { site = site; base = base + 2 * s.slots; cells = size_of code.sites site }
 
--- an object that there is: that of a global of which the code has an address, or one of those that threads have made
+-- an object that there is: that of a global site, or one of those that threads have made
 pub data IsObject (code : Code) (s : SetupView) (made : List Object) (o : Object) : Type 0 where
-  global : (w : ℕ) → address_of code o.site ≡ Some w → o ≡ global_object s w → IsObject code s made o
+  global : (base : ℕ) → base_at code.global_bases o.site ≡ Some base → o ≡ global_object code s o.site base → IsObject code s made o
   made_one : (i : ℕ) → slice_get made i ≡ Some o → IsObject code s made o
 
 -- the cell is one of the object's

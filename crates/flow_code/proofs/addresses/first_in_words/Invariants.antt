@@ -1,9 +1,0 @@
-use Rattle.std.proofs.Common.{◌≡◌, length}
-use Rattle.flow_code.specs.Addresses as spec
-use Rattle.flow_code.proofs.addresses.first_in_words.Given as goal
-
-abbrev pub invariant-loop-kinds_left : goal.invariant-loop-kinds_left
-invariant-loop-kinds_left l = spec.first_in_words l.site l.kinds_left l.words_left ≡ spec.first_in_words l.site l.kinds l.words
-
-abbrev pub decreases-loop-kinds_left : goal.decreases-loop-kinds_left
-decreases-loop-kinds_left l = length l.kinds_left
