@@ -10,7 +10,7 @@ use Rattle.c_programs.specs.Declarators.{after_params}
 use Rattle.c_types.specs.Scopes.{Known}
 use Rattle.c_core.specs.Core as core
 use Rattle.c_elaborate.specs.declared.local.Local.{Local}
-use Rattle.c_elaborate.specs.Here.{Source, Frame, here_in}
+use Rattle.c_values.specs.Here.{Source, Frame, here_in}
 use Rattle.c_elaborate.specs.Statements.{block_of, all_elaborated}
 use Rattle.c_elaborate.specs.Functions.{formal_of, local_of, declares_locals, start_locals, statement_locals, parts_locals, marked, frame_of, function_by, definition_by, definition}
 

@@ -6,8 +6,8 @@ use Rattle.c_types.specs.Scopes.{Known, opened}
 use Rattle.c_sites.specs.Addresses.{Numbered, inside}
 use Rattle.c_sites.proofs.Numbering.{behind_none, behind_both}
 use Rattle.c_core.specs.Core as core
-use Rattle.c_elaborate.specs.Held.{position_of}
-use Rattle.c_elaborate.specs.Here.{Source, Frame, here_in}
+use Rattle.c_values.specs.Held.{position_of}
+use Rattle.c_values.specs.Here.{Source, Frame, here_in}
 use Rattle.c_elaborate.specs.Statements.{here_inside, here_after_start, block_of, start_elaborated, maybe_value, elaborated, all_elaborated}
 
 pub block_made : (s : Source) (f : Frame) (before within : Known) (numbered inner : Numbered) (ps : Parts) (made : List core.Statement) →

@@ -15,11 +15,11 @@ use Rattle.c_programs.specs.Statements.{declared_by}
 use Rattle.c_sites.specs.Spots.{is_kept}
 use Rattle.c_sites.specs.Addresses.{is_among, numbered_from}
 use Rattle.c_core.specs.Core as core
-use Rattle.c_elaborate.specs.declared.home.Home.{Home}
-use Rattle.c_elaborate.specs.declared.home.Home.TheVariants as home
+use Rattle.c_values.specs.declared.home.Home.{Home}
+use Rattle.c_values.specs.declared.home.Home.TheVariants as home
 use Rattle.c_elaborate.specs.declared.local.Local.{Local}
-use Rattle.c_elaborate.specs.Here.{Source, Frame, here_in, site_at}
-use Rattle.c_elaborate.specs.Calls.{gives_pointer}
+use Rattle.c_values.specs.Here.{Source, Frame, here_in, site_at}
+use Rattle.c_values.specs.Calls.{gives_pointer}
 use Rattle.c_elaborate.specs.Statements.{block_of, all_elaborated}
 
 -- ---- the formals and locals of a function, in the order of the text

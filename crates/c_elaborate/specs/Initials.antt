@@ -11,10 +11,10 @@ use Rattle.c_types.specs.Standing.{Target, no_target}
 use Rattle.c_programs.specs.Initials.{part_at, part_type, value_target}
 use Rattle.rr_base.specs.declared.position.Position.{Position}
 use Rattle.c_core.specs.Core as core
-use Rattle.c_elaborate.specs.declared.home.Home.{Home}
-use Rattle.c_elaborate.specs.declared.home.Home.TheVariants as home
-use Rattle.c_elaborate.specs.Here.{Source, Here}
-use Rattle.c_elaborate.specs.Expressions.{is_pointer_type, wanted_of}
+use Rattle.c_values.specs.declared.home.Home.{Home}
+use Rattle.c_values.specs.declared.home.Home.TheVariants as home
+use Rattle.c_values.specs.Here.{Source, Here}
+use Rattle.c_values.specs.Expressions.{is_pointer_type, wanted_of}
 
 abbrev pub kinds_of_some : Source → Option ObjectType → List CellKind
 kinds_of_some s None = []

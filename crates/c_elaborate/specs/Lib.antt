@@ -1,15 +1,5 @@
-pub mod Constants
-pub mod Held
-pub mod Here
-pub mod Operators
-pub mod Calls
-pub mod Commas
-pub mod Expressions
 pub mod Initials
 pub mod Statements
-pub mod Tails
 pub mod Functions
 pub mod Globals
-pub mod Turns
 pub mod Whole
-pub mod Views

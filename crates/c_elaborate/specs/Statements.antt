@@ -10,9 +10,9 @@ use Rattle.c_programs.specs.Declarators.{declared_type, declared_name}
 use Rattle.c_programs.specs.Statements.{declared_by, after_declared, after_declares, after_start}
 use Rattle.c_sites.specs.Addresses.{after_name, after_declaration, after_for_start, behind_statement, inside}
 use Rattle.c_core.specs.Core as core
-use Rattle.c_elaborate.specs.Held.{position_of}
-use Rattle.c_elaborate.specs.Here.{Here, home_of}
-use Rattle.c_elaborate.specs.Expressions.{value_of, wanted_of}
+use Rattle.c_values.specs.Held.{position_of}
+use Rattle.c_values.specs.Here.{Here, home_of}
+use Rattle.c_values.specs.Expressions.{value_of, wanted_of}
 use Rattle.c_elaborate.specs.Initials.{begun}
 
 -- ---- places

@@ -9,14 +9,11 @@ ghost use Rattle.c_sites.specs.NumberTables.{numbered_of};
 ghost use Rattle.c_programs.specs.Statements.{after_parts};
 ghost use Rattle.c_programs.specs.Table.{known_of};
 ghost use Rattle.c_core.specs.View.{arrival_of, function_of, stmt_of};
-ghost use Rattle.c_elaborate.specs.Here.{here_in};
+ghost use Rattle.c_values.specs.Here.{here_in};
 ghost use Rattle.c_elaborate.specs.Statements as spec_statements;
 ghost use Rattle.c_elaborate.specs.Functions as spec;
-ghost use Rattle.c_elaborate.specs.Views.{frame_in, source_in};
+ghost use Rattle.c_values.specs.Views.{frame_in, source_in};
 
-use crate::calls::gives_pointer;
-use crate::here::{Frame, Source, site_at};
-use crate::home::Home;
 use crate::initials::sum;
 use crate::local::Local;
 use crate::make;
@@ -27,6 +24,7 @@ use c_rules::name_place;
 use c_sites::{Marks, NumberTable, is_kept};
 use c_tree::{Declaration, Declarator, ForStart, Item, Name, Param, Part, Specifier, Stmt};
 use c_types::StarredType;
+use c_values::{Frame, Home, Source, gives_pointer, site_at};
 use rr_base::{Bytes, List, Position, Site};
 use std::alloc::{AllocError, Global};
 

@@ -6,19 +6,15 @@ ghost use Rattle.c_types.specs.Shown.{shown_maybe, shown_target};
 ghost use Rattle.c_programs.specs.Initials.{value_target};
 ghost use Rattle.c_core.specs.Core as core;
 ghost use Rattle.c_core.specs.View.{exp_of, stmt_of};
-ghost use Rattle.c_elaborate.specs.Expressions.{is_pointer_type};
+ghost use Rattle.c_values.specs.Expressions.{is_pointer_type};
 ghost use Rattle.c_elaborate.specs.Initials as spec;
-ghost use Rattle.c_elaborate.specs.Views.{here_of, source_in};
+ghost use Rattle.c_values.specs.Views.{here_of, source_in};
 
-use crate::expression::wanted;
-use crate::here::{Here, Source};
-use crate::home::Home;
-use crate::make;
-use crate::parts::is_pointer_type;
 use c_core::{Statement, Value};
 use c_programs::{part_at, ref_of, value_target};
 use c_tree::Initial;
 use c_types::{ObjectType, Target, TypeRef, put_layered};
+use c_values::{Here, Home, Source, is_pointer_type, make, wanted};
 use rr_base::{CellKind, List, Position};
 use std::alloc::{AllocError, Global};
 

@@ -10,14 +10,12 @@ ghost use Rattle.c_programs.specs.Table.{known_of};
 ghost use Rattle.c_tree.specs.Tree as trees;
 ghost use Rattle.c_core.specs.Core as core;
 ghost use Rattle.c_core.specs.View.{exp_of, stmt_of};
-ghost use Rattle.c_elaborate.specs.Expressions.{value_of};
-ghost use Rattle.c_elaborate.specs.Held.{position_of};
-ghost use Rattle.c_elaborate.specs.Here.{here_in};
+ghost use Rattle.c_values.specs.Expressions.{value_of};
+ghost use Rattle.c_values.specs.Held.{position_of};
+ghost use Rattle.c_values.specs.Here.{here_in};
 ghost use Rattle.c_elaborate.specs.Statements as spec;
-ghost use Rattle.c_elaborate.specs.Views.{frame_in, here_of, maybe_word, source_in};
+ghost use Rattle.c_values.specs.Views.{frame_in, here_of, maybe_word, source_in};
 
-use crate::expression::{value, wanted};
-use crate::here::{Frame, Here, Source};
 use crate::initials::push_begun;
 use crate::make::{self, ForHead};
 use c_core::{Statement, Value};
@@ -25,6 +23,7 @@ use c_programs::{Table, copy_of, declare_object, declared_type};
 use c_sites::NumberTable;
 use c_tree::{Declaration, Declarator, Expr, ForStart, Initial, Item, Part, Specifier, Stmt};
 use c_types::Target;
+use c_values::{Frame, Here, Source, value, wanted};
 use rr_base::{List, Position};
 use std::alloc::{AllocError, Global};
 

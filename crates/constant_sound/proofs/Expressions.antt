@@ -22,10 +22,10 @@ use Rattle.c_rules.specs.Sizes.{cells_of_standing, size_here, value_here}
 use Rattle.c_core.specs.Core as core
 use Rattle.c_core.specs.Core.{Program}
 use Rattle.c_core.specs.Meaning.{Calls}
-use Rattle.c_elaborate.specs.Held.{position_of, Held, held_zero, held_value, Part, part_by, value_by}
-use Rattle.c_elaborate.specs.Here.{Here}
-use Rattle.c_elaborate.specs.Operators.{binary_in, conditional_in, prefix_in, cast_in}
-use Rattle.c_elaborate.specs.Expressions.{constant_by, folded, named_held, is_pointer_type, held}
+use Rattle.c_values.specs.Held.{position_of, Held, held_zero, held_value, Part, part_by, value_by}
+use Rattle.c_values.specs.Here.{Here}
+use Rattle.c_values.specs.Operators.{binary_in, conditional_in, prefix_in, cast_in}
+use Rattle.c_values.specs.Expressions.{constant_by, folded, named_held, is_pointer_type, held}
 use Rattle.constant_sound.specs.Running.{fit}
 use Rattle.constant_sound.specs.Written.{HidesNoConstant, literals_fit, written}
 use Rattle.constant_sound.proofs.Arithmetic.{Fits, number_fits, trap_fits, computed_fits, prefixed_fits}

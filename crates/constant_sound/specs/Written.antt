@@ -7,10 +7,10 @@ use Rattle.c_types.specs.Constants.{constant_named}
 use Rattle.c_types.specs.Scopes.{Known, Meaning, seen, type_named}
 use Rattle.c_types.specs.Standing.{Target, no_target, cast_target, standing}
 use Rattle.c_core.specs.Core as core
-use Rattle.c_elaborate.specs.Held.{position_of, Held, held_value, part_by, value_by}
-use Rattle.c_elaborate.specs.Here.{Here}
-use Rattle.c_elaborate.specs.Operators.{binary_in, conditional_in, prefix_in, cast_in}
-use Rattle.c_elaborate.specs.Expressions.{is_pointer_type, held}
+use Rattle.c_values.specs.Held.{position_of, Held, held_value, part_by, value_by}
+use Rattle.c_values.specs.Here.{Here}
+use Rattle.c_values.specs.Operators.{binary_in, conditional_in, prefix_in, cast_in}
+use Rattle.c_values.specs.Expressions.{is_pointer_type, held}
 
 -- each operator stays; what has none is a number
 abbrev pub written : Here → Target → Exp → Held

@@ -14,9 +14,9 @@ ghost use Rattle.c_core.specs.Core.{Program};
 ghost use Rattle.c_core.specs.Meaning.{Calls, unary_of, value};
 ghost use Rattle.c_core.specs.Runs.{pure};
 ghost use Rattle.c_core.specs.declared.value.UnaryOp.TheVariants as unary_op;
-ghost use Rattle.c_elaborate.specs.Here.{Here};
-ghost use Rattle.c_elaborate.specs.Operators.{flow_operator};
-ghost use Rattle.c_elaborate.specs.Expressions.{value_of};
+ghost use Rattle.c_values.specs.Here.{Here};
+ghost use Rattle.c_values.specs.Operators.{flow_operator};
+ghost use Rattle.c_values.specs.Expressions.{value_of};
 ghost use Rattle.constant_sound.specs.Running.{worded, fit, is_logical, Computes};
 ghost use Rattle.constant_sound.specs.Written.{HidesNoConstant, literals_fit, written_of};
 

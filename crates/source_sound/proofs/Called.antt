@@ -29,11 +29,11 @@ use Rattle.rr_base.specs.declared.position.Position.{Position}
 use Rattle.c_core.specs.Core as core
 use Rattle.c_core.specs.Core.{Function, Program}
 use Rattle.c_core.specs.Meaning.{is_pointer}
-use Rattle.c_elaborate.specs.Held.{Held, held_value, value_by, pointer_by}
-use Rattle.c_elaborate.specs.Here.{Here, function_counted}
-use Rattle.c_elaborate.specs.Operators.{is_some_address}
-use Rattle.c_elaborate.specs.Calls.{is_pointer_wanted, library_of, first_of, library_called, gives_pointer, called}
-use Rattle.c_elaborate.specs.Expressions.{held, arguments}
+use Rattle.c_values.specs.Held.{Held, held_value, value_by, pointer_by}
+use Rattle.c_values.specs.Here.{Here, function_counted}
+use Rattle.c_values.specs.Operators.{is_some_address}
+use Rattle.c_values.specs.Calls.{is_pointer_wanted, library_of, first_of, library_called, gives_pointer, called}
+use Rattle.c_values.specs.Expressions.{held, arguments}
 use Rattle.c_core.specs.Sound.{HasSite, IsCallable, IsSoundExp, AreSound, value_kinds}
 use Rattle.source_sound.proofs.Environment.{IsFormedGiven, IsFormedResult, IsFormedTarget, AreFitting, wanted_kinds, Suits}
 use Rattle.source_sound.proofs.Apart.{not_nothing, append_nil, append_nil₃, comes_not, keeps, never}

@@ -25,9 +25,9 @@ use Rattle.rr_base.specs.declared.position.Position.{Position}
 use Rattle.c_core.specs.Core as core
 use Rattle.c_core.specs.Core.{Function, Program}
 use Rattle.c_core.specs.Meaning.{is_pointer}
-use Rattle.c_elaborate.specs.Here.{Here, function_counted}
-use Rattle.c_elaborate.specs.Held.{is_pointing}
-use Rattle.c_elaborate.specs.Calls.{is_pointer_wanted, gives_pointer, started_function, library_of, first_of}
+use Rattle.c_values.specs.Here.{Here, function_counted}
+use Rattle.c_values.specs.Held.{is_pointing}
+use Rattle.c_values.specs.Calls.{is_pointer_wanted, gives_pointer, started_function, library_of, first_of}
 use Rattle.c_core.specs.Sound.{IsWhole, IsCallable, Starts, IsSoundExp, AreSound, value_kinds}
 use Rattle.source_sound.proofs.Environment.{wanted_kinds, CallSuits, Suits}
 use Rattle.source_sound.proofs.Apart.{never, both}

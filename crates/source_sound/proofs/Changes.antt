@@ -18,9 +18,9 @@ use Rattle.c_core.specs.declared.value.Change.TheVariants as change
 use Rattle.c_core.specs.Core as core
 use Rattle.c_core.specs.Core.{Function, Program}
 use Rattle.c_core.specs.Meaning.{is_pointer}
-use Rattle.c_elaborate.specs.Held.{Held, held_register, held_cells, held_zero, held_value, Part, part_by, operand_in, is_pointing, value_in, wanted_in}
-use Rattle.c_elaborate.specs.Here.{Source}
-use Rattle.c_elaborate.specs.Operators.{changing_operator, change_of, changed_by, stored_in, assigned_in, stepped_in}
+use Rattle.c_values.specs.Held.{Held, held_register, held_cells, held_zero, held_value, Part, part_by, operand_in, is_pointing, value_in, wanted_in}
+use Rattle.c_values.specs.Here.{Source}
+use Rattle.c_values.specs.Operators.{changing_operator, change_of, changed_by, stored_in, assigned_in, stepped_in}
 use Rattle.c_core.specs.Sound.{IsSoundExp}
 use Rattle.source_sound.proofs.Environment.{IsFormed}
 use Rattle.source_sound.proofs.Apart.{never, both, not_true}

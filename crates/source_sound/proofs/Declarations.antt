@@ -21,12 +21,12 @@ use Rattle.c_sites.specs.Addresses.{Numbered, number_seen, numbered_in, behind, 
 use Rattle.c_sites.specs.Spots.{is_kept}
 use Rattle.rr_base.specs.declared.position.Position.{Position}
 use Rattle.c_core.specs.Core.{Function, Program}
-use Rattle.c_elaborate.specs.declared.home.Home.{Home}
-use Rattle.c_elaborate.specs.declared.home.Home.TheVariants as kept_in
+use Rattle.c_values.specs.declared.home.Home.{Home}
+use Rattle.c_values.specs.declared.home.Home.TheVariants as kept_in
 use Rattle.c_elaborate.specs.declared.local.Local.{Local}
-use Rattle.c_elaborate.specs.Held.{is_pointing}
-use Rattle.c_elaborate.specs.Here.{Source, Frame, Here, home_numbered, home_of}
-use Rattle.c_elaborate.specs.Expressions.{held_in}
+use Rattle.c_values.specs.Held.{is_pointing}
+use Rattle.c_values.specs.Here.{Source, Frame, Here, home_numbered, home_of}
+use Rattle.c_values.specs.Expressions.{held_in}
 use Rattle.c_elaborate.specs.Functions.{formal_of, local_declared, local_of, declares_locals, start_locals}
 use Rattle.c_elaborate.specs.Statements.{here_inside, here_after_object, here_after_declares, here_after_start, here_after}
 use Rattle.c_core.specs.Sound.{HasRegister}

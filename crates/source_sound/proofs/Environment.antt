@@ -21,13 +21,13 @@ use Rattle.c_sites.specs.Spots.{Spot}
 use Rattle.rr_base.specs.declared.position.Position.{Position}
 use Rattle.c_core.specs.Core.{Function, Program}
 use Rattle.c_core.specs.Meaning.{is_pointer}
-use Rattle.c_elaborate.specs.Held.{Held, held_register, held_cells, held_zero, held_value, is_pointing}
-use Rattle.c_elaborate.specs.declared.home.Home.{Home}
-use Rattle.c_elaborate.specs.declared.home.Home.TheVariants as kept
-use Rattle.c_elaborate.specs.Here.{Here, home_of, home_numbered, site_at, function_counted}
-use Rattle.c_elaborate.specs.Operators.{is_some_address}
-use Rattle.c_elaborate.specs.Calls.{is_pointer_wanted, gives_pointer}
-use Rattle.c_elaborate.specs.Expressions.{variable_held}
+use Rattle.c_values.specs.Held.{Held, held_register, held_cells, held_zero, held_value, is_pointing}
+use Rattle.c_values.specs.declared.home.Home.{Home}
+use Rattle.c_values.specs.declared.home.Home.TheVariants as kept
+use Rattle.c_values.specs.Here.{Here, home_of, home_numbered, site_at, function_counted}
+use Rattle.c_values.specs.Operators.{is_some_address}
+use Rattle.c_values.specs.Calls.{is_pointer_wanted, gives_pointer}
+use Rattle.c_values.specs.Expressions.{variable_held}
 use Rattle.c_core.specs.Sound.{IsPointer, IsCallable, HasSite, HasRegister, IsSoundExp}
 
 -- ---- types

@@ -18,11 +18,11 @@ use Rattle.c_sites.specs.Spots.{is_malloc, where_malloc, allocations, all_alloca
 use Rattle.rr_base.specs.declared.position.Position.{Position}
 use Rattle.c_core.specs.Core as core
 use Rattle.c_core.specs.Core.{Function, Program}
-use Rattle.c_elaborate.specs.Held.{Held, held_value, held_zero, value_by, position_of}
-use Rattle.c_elaborate.specs.Here.{Here, site_at, offset_in}
-use Rattle.c_elaborate.specs.Operators.{conditional_in, binary_in, prefix_in, cast_in}
-use Rattle.c_elaborate.specs.Commas.{with_last}
-use Rattle.c_elaborate.specs.Expressions.{with_tail, is_pointer_type, held, tail_of, part}
+use Rattle.c_values.specs.Held.{Held, held_value, held_zero, value_by, position_of}
+use Rattle.c_values.specs.Here.{Here, site_at, offset_in}
+use Rattle.c_values.specs.Operators.{conditional_in, binary_in, prefix_in, cast_in}
+use Rattle.c_values.specs.Commas.{with_last}
+use Rattle.c_values.specs.Expressions.{with_tail, is_pointer_type, held, tail_of, part}
 use Rattle.c_core.specs.Sound.{IsSoundExp}
 use Rattle.source_sound.proofs.Environment.{IsFormedTarget, AreKept, places_of, Suits, HaveSites}
 use Rattle.source_sound.proofs.Apart.{not_nothing, append_nil, append_nil₃, append_nil₄, keeps}

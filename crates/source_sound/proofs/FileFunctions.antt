@@ -28,8 +28,8 @@ use Rattle.c_sites.specs.Spots.{known_behind}
 use Rattle.c_core.specs.Core.{Function}
 use Rattle.c_core.specs.Meaning.{is_main}
 use Rattle.c_elaborate.specs.declared.local.Local.{Local}
-use Rattle.c_elaborate.specs.Here.{Source, global_named}
-use Rattle.c_elaborate.specs.Calls.{gives_pointer}
+use Rattle.c_values.specs.Here.{Source, global_named}
+use Rattle.c_values.specs.Calls.{gives_pointer}
 use Rattle.c_elaborate.specs.Functions.{formal_at, formal_of, marked, local_pointers, definition}
 use Rattle.c_elaborate.specs.Functions.{parts_locals}
 use Rattle.c_elaborate.specs.Whole.{code_functions, outer_functions, outers_functions}

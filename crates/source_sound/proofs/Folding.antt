@@ -21,8 +21,8 @@ use Rattle.c_types.specs.Standing.{Target, no_target, cast_target, made_int, pre
 use Rattle.rr_base.specs.declared.position.Position.{Position}
 use Rattle.c_core.specs.Core as core
 use Rattle.c_core.specs.Core.{Function, Program}
-use Rattle.c_elaborate.specs.Held.{Held, held_value}
-use Rattle.c_elaborate.specs.Expressions.{constant_by}
+use Rattle.c_values.specs.Held.{Held, held_value}
+use Rattle.c_values.specs.Expressions.{constant_by}
 use Rattle.source_sound.proofs.Apart.{never, both}
 use Rattle.source_sound.proofs.Standings.{Stands}
 

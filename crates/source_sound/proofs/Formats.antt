@@ -6,7 +6,7 @@ use Rattle.abstract_machine.specs.Kinds.{format_kinds}
 use Rattle.c_types.specs.declared.format.Inside.{Inside}
 use Rattle.c_types.specs.declared.format.Inside.TheVariants as inside
 use Rattle.c_types.specs.Format.{is_decimal, conversions_from, conversions}
-use Rattle.c_elaborate.specs.Calls.{byte_piece, bytes_pieces, pieces_from, format_pieces}
+use Rattle.c_values.specs.Calls.{byte_piece, bytes_pieces, pieces_from, format_pieces}
 use Rattle.source_sound.proofs.Apart.{some_not_none}
 
 -- so many numbers, and then these

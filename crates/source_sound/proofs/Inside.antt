@@ -12,11 +12,11 @@ use Rattle.c_types.specs.Standing.{type_struct, is_main}
 use Rattle.c_sites.specs.Addresses.{Numbered, number_seen}
 use Rattle.rr_base.specs.declared.position.Position.{Position}
 use Rattle.c_core.specs.Core.{Function, Program}
-use Rattle.c_elaborate.specs.declared.home.Home.{Home}
-use Rattle.c_elaborate.specs.declared.home.Home.TheVariants as kept_in
-use Rattle.c_elaborate.specs.Here.{Source, Frame, Here, home_numbered, global_named, function_counted}
-use Rattle.c_elaborate.specs.Calls.{gives_pointer}
-use Rattle.c_elaborate.specs.Expressions.{held_in, variable_held}
+use Rattle.c_values.specs.declared.home.Home.{Home}
+use Rattle.c_values.specs.declared.home.Home.TheVariants as kept_in
+use Rattle.c_values.specs.Here.{Source, Frame, Here, home_numbered, global_named, function_counted}
+use Rattle.c_values.specs.Calls.{gives_pointer}
+use Rattle.c_values.specs.Expressions.{held_in, variable_held}
 use Rattle.c_core.specs.Sound.{IsCallable, IsAddress}
 use Rattle.std.proofs.lemmas.Option.{same_Some}
 use Rattle.std.proofs.lemmas.Slice.Eq.{bytes_eq-Decides}

@@ -23,12 +23,12 @@ use Rattle.c_sites.specs.Addresses.{number_seen, maybe_listed, number_of_operand
 use Rattle.rr_base.specs.declared.position.Position.{Position}
 use Rattle.c_core.specs.Core as core
 use Rattle.c_core.specs.Core.{Function, Program}
-use Rattle.c_elaborate.specs.declared.home.Home.{Home}
-use Rattle.c_elaborate.specs.declared.home.Home.TheVariants as kept
-use Rattle.c_elaborate.specs.Held.{Held, held_register, held_cells, held_zero, held_value, position_of}
-use Rattle.c_elaborate.specs.Here.{Here, home_of, home_numbered}
-use Rattle.c_elaborate.specs.Operators.{member_in}
-use Rattle.c_elaborate.specs.Expressions.{constant_by, variable_held, named_held, held}
+use Rattle.c_values.specs.declared.home.Home.{Home}
+use Rattle.c_values.specs.declared.home.Home.TheVariants as kept
+use Rattle.c_values.specs.Held.{Held, held_register, held_cells, held_zero, held_value, position_of}
+use Rattle.c_values.specs.Here.{Here, home_of, home_numbered}
+use Rattle.c_values.specs.Operators.{member_in}
+use Rattle.c_values.specs.Expressions.{constant_by, variable_held, named_held, held}
 use Rattle.source_sound.proofs.Environment.{IsFormedPointee, IsFormedLayered, IsFormedOrVoid, IsKept, AreKept}
 use Rattle.source_sound.proofs.Apart.{append_nil, comes_not, never, never', both, not_true, not_false}
 use Rattle.source_sound.proofs.Standings.{Stands}

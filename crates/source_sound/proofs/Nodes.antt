@@ -25,12 +25,12 @@ use Rattle.rr_base.specs.declared.position.Position.{Position}
 use Rattle.c_core.specs.Core as core
 use Rattle.c_core.specs.Core.{Function, Program}
 use Rattle.c_core.specs.Meaning.{is_pointer}
-use Rattle.c_elaborate.specs.declared.home.Home.{Home}
-use Rattle.c_elaborate.specs.declared.home.Home.TheVariants as kept
-use Rattle.c_elaborate.specs.Held.{Held, held_zero, held_value, Part, part_by, operand_in, position_of}
-use Rattle.c_elaborate.specs.Here.{Here, home_of}
-use Rattle.c_elaborate.specs.Operators.{assigned_in, stepped_in, prefix_in, cast_in, is_some_address}
-use Rattle.c_elaborate.specs.Expressions.{constant_by, folded, variable_held, named_held, is_pointer_type, held}
+use Rattle.c_values.specs.declared.home.Home.{Home}
+use Rattle.c_values.specs.declared.home.Home.TheVariants as kept
+use Rattle.c_values.specs.Held.{Held, held_zero, held_value, Part, part_by, operand_in, position_of}
+use Rattle.c_values.specs.Here.{Here, home_of}
+use Rattle.c_values.specs.Operators.{assigned_in, stepped_in, prefix_in, cast_in, is_some_address}
+use Rattle.c_values.specs.Expressions.{constant_by, folded, variable_held, named_held, is_pointer_type, held}
 use Rattle.c_core.specs.Sound.{IsSoundExp}
 use Rattle.source_sound.proofs.Environment.{IsFormed, AreKept, HeldFits, Suits}
 use Rattle.source_sound.proofs.Apart.{not_nothing, append_nil, keeps, never, never'}

@@ -10,9 +10,9 @@ use Rattle.c_sites.specs.Spots.{Spot, allocations}
 use Rattle.c_sites.specs.Addresses.{addressed}
 use Rattle.c_core.specs.Core.{Function, Program}
 use Rattle.c_core.specs.Meaning.{is_pointer}
-use Rattle.c_elaborate.specs.Held.{is_pointing}
-use Rattle.c_elaborate.specs.Here.{Frame, Here, home_numbered, site_at}
-use Rattle.c_elaborate.specs.Expressions.{value_of, wanted_of}
+use Rattle.c_values.specs.Held.{is_pointing}
+use Rattle.c_values.specs.Here.{Frame, Here, home_numbered, site_at}
+use Rattle.c_values.specs.Expressions.{value_of, wanted_of}
 use Rattle.c_core.specs.Sound.{HasSite, IsSoundExp}
 use Rattle.source_sound.proofs.Environment.{IsFormedTarget, IsKept, AreKept, places_of, Suits, HaveSites}
 

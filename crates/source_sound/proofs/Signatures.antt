@@ -20,7 +20,7 @@ use Rattle.c_rules.specs.Faults.{mismatch, specifier_faults}
 use Rattle.c_types.specs.Operands.{same_base}
 use Rattle.c_programs.specs.Declarators.{is_struct_specifier, cannot_pass, wanted_for, wanted_of, param_place, param_name_faults, param_faults, after_param, params_faults}
 use Rattle.c_programs.specs.Programs.{result_by, cannot_give, result_of, same_starred, agree_on_result, agree_on_params, agree}
-use Rattle.c_elaborate.specs.Calls.{is_pointer_wanted, gives_pointer}
+use Rattle.c_values.specs.Calls.{is_pointer_wanted, gives_pointer}
 use Rattle.c_core.specs.Core.{Function, Program}
 use Rattle.source_sound.proofs.Environment.{IsFormedValue, wanted_kinds, AreFitting}
 use Rattle.source_sound.proofs.FileLists.{append_nil, nil4, where_nil}

@@ -12,8 +12,8 @@ use Rattle.rr_base.specs.declared.position.Position.{Position}
 use Rattle.c_core.specs.Core as core
 use Rattle.c_core.specs.Core.{Function, Program}
 use Rattle.c_core.specs.Meaning.{is_pointer}
-use Rattle.c_elaborate.specs.Held.{Held, held_register, held_cells, held_zero, held_value, Part, operand_in, is_pointing, value_by, pointer_by, value_in, wanted_in}
-use Rattle.c_elaborate.specs.Operators.{is_some_address}
+use Rattle.c_values.specs.Held.{Held, held_register, held_cells, held_zero, held_value, Part, operand_in, is_pointing, value_by, pointer_by, value_in, wanted_in}
+use Rattle.c_values.specs.Operators.{is_some_address}
 use Rattle.c_core.specs.Sound.{IsPointer, HasRegister, IsSoundExp}
 use Rattle.source_sound.proofs.Environment.{IsFormedBase, IsFormedPointee, IsFormedLayered, IsFormed, IsFormedOrVoid, IsFormedGiven, IsFormedValue, HeldFits}
 use Rattle.source_sound.proofs.Apart.{never'}

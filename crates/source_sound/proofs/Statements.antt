@@ -15,10 +15,10 @@ use Rattle.c_sites.specs.Addresses.{Numbered, addressed, maybe_addressed, start_
 use Rattle.c_core.specs.Core.{Function, Program}
 use Rattle.c_core.specs.Meaning.{is_pointer}
 use Rattle.c_elaborate.specs.declared.local.Local.{Local}
-use Rattle.c_elaborate.specs.Held.{is_pointing}
-use Rattle.c_elaborate.specs.Here.{Here}
-use Rattle.c_elaborate.specs.Calls.{gives_pointer}
-use Rattle.c_elaborate.specs.Expressions.{value_of, wanted_of}
+use Rattle.c_values.specs.Held.{is_pointing}
+use Rattle.c_values.specs.Here.{Here}
+use Rattle.c_values.specs.Calls.{gives_pointer}
+use Rattle.c_values.specs.Expressions.{value_of, wanted_of}
 use Rattle.c_elaborate.specs.Functions.{declares_locals, start_locals, statement_locals, parts_locals}
 use Rattle.c_elaborate.specs.Statements.{here_inside, here_after_declares, here_after_start, here_after, declares_elaborated, computed, maybe_value, given, start_elaborated, elaborated, all_elaborated}
 use Rattle.c_core.specs.Sound.{IsSoundExp, IsSoundMaybe, IsSoundResult, IsSoundStatement}

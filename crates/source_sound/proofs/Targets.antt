@@ -17,8 +17,8 @@ use Rattle.c_types.specs.Standing.{Target, no_target, target_of, layered_target,
 use Rattle.c_programs.specs.Initials.{value_target}
 use Rattle.c_sites.specs.Spots.{Spot, is_malloc_call, is_malloc, where_malloc}
 use Rattle.c_core.specs.Core.{Function, Program}
-use Rattle.c_elaborate.specs.Held.{Held, held_register, held_cells, held_zero, held_value}
-use Rattle.c_elaborate.specs.Here.{Here, site_at}
+use Rattle.c_values.specs.Held.{Held, held_register, held_cells, held_zero, held_value}
+use Rattle.c_values.specs.Here.{Here, site_at}
 use Rattle.c_core.specs.Sound.{HasSite}
 use Rattle.source_sound.proofs.Environment.{IsFormed, IsFormedLayered, IsFormedOrVoid, IsFormedTarget, AreKept, places_of, HaveSites}
 use Rattle.source_sound.proofs.Apart.{never}

@@ -17,11 +17,11 @@ use Rattle.rr_base.specs.declared.position.Position.{Position}
 use Rattle.c_core.specs.Core as core
 use Rattle.c_core.specs.Core.{Function, Program}
 use Rattle.c_core.specs.Meaning.{is_pointer}
-use Rattle.c_elaborate.specs.Held.{Held, held_register, held_cells, held_zero, held_value, is_pointing, value_by}
-use Rattle.c_elaborate.specs.Here.{Here}
-use Rattle.c_elaborate.specs.Operators.{is_some_address}
-use Rattle.c_elaborate.specs.Calls.{is_pointer_wanted}
-use Rattle.c_elaborate.specs.Expressions.{held, part, value_of, wanted_of}
+use Rattle.c_values.specs.Held.{Held, held_register, held_cells, held_zero, held_value, is_pointing, value_by}
+use Rattle.c_values.specs.Here.{Here}
+use Rattle.c_values.specs.Operators.{is_some_address}
+use Rattle.c_values.specs.Calls.{is_pointer_wanted}
+use Rattle.c_values.specs.Expressions.{held, part, value_of, wanted_of}
 use Rattle.c_core.specs.Sound.{IsPointer, IsWhole, IsSoundExp}
 use Rattle.source_sound.proofs.Environment.{IsFormed, IsFormedValue, IsFormedTarget, AreKept, places_of, HeldFits, HaveSites, Suits}
 use Rattle.source_sound.proofs.Standings.{address_layers, Stands, PartGives, stands_held, stands_gives}

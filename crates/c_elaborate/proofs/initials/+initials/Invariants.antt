@@ -4,7 +4,7 @@ use Rattle.c_tree.specs.View.{init_of}
 use Rattle.c_types.specs.Shown.{shown_maybe}
 use Rattle.c_core.specs.View.{stmt_of}
 use Rattle.c_elaborate.specs.Initials.{parts_started}
-use Rattle.c_elaborate.specs.Views.{here_of}
+use Rattle.c_values.specs.Views.{here_of}
 use Rattle.c_elaborate.proofs.initials.+initials.Given as goal
 
 -- what is pushed and the rest make the whole

@@ -12,9 +12,9 @@ use Rattle.c_programs.specs.Table.{known_of}
 use Rattle.c_sites.proofs.Numbering.{behind_none, block_numbers, for_numbers}
 use Rattle.c_programs.proofs.Within.{closed_parts, closed_start}
 use Rattle.c_core.specs.View as core_view
-use Rattle.c_elaborate.specs.Here.{here_in}
+use Rattle.c_values.specs.Here.{here_in}
 use Rattle.c_elaborate.specs.Statements.{elaborated}
-use Rattle.c_elaborate.specs.Views.{frame_in, source_in}
+use Rattle.c_values.specs.Views.{frame_in, source_in}
 use Rattle.c_elaborate.proofs.Nested.{block_made, for_made, numbers_behind, whenever}
 use Rattle.c_elaborate.proofs.statement.+statement.Goals as goal
 

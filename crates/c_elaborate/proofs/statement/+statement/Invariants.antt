@@ -6,9 +6,9 @@ use Rattle.c_sites.specs.NumberTables.{numbered_of}
 use Rattle.c_programs.specs.Statements.{after_parts}
 use Rattle.c_programs.specs.Table.{known_of}
 use Rattle.c_core.specs.View.{stmt_of}
-use Rattle.c_elaborate.specs.Here.{here_in}
+use Rattle.c_values.specs.Here.{here_in}
 use Rattle.c_elaborate.specs.Statements.{all_elaborated}
-use Rattle.c_elaborate.specs.Views.{frame_in, source_in}
+use Rattle.c_values.specs.Views.{frame_in, source_in}
 use Rattle.c_elaborate.proofs.statement.+statement.Given as goal
 
 -- what is done and the rest make the whole

@@ -5,9 +5,9 @@ use Rattle.c_sites.specs.NumberTables.{numbered_of}
 use Rattle.c_programs.specs.Statements.{after_objects}
 use Rattle.c_programs.specs.Table.{known_of}
 use Rattle.c_core.specs.View.{stmt_of}
-use Rattle.c_elaborate.specs.Here.{here_in}
+use Rattle.c_values.specs.Here.{here_in}
 use Rattle.c_elaborate.specs.Statements.{objects_elaborated}
-use Rattle.c_elaborate.specs.Views.{frame_in, source_in}
+use Rattle.c_values.specs.Views.{frame_in, source_in}
 use Rattle.c_elaborate.proofs.statement.push_declares.Given as goal
 
 -- what is done and the rest make the whole

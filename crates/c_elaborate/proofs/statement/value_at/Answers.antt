@@ -1,8 +1,8 @@
 use Rattle.std.proofs.Common.{◌≡◌, IfOk, subst}
 use Rattle.c_tree.specs.View as tree
 use Rattle.c_core.specs.View.{exp_of}
-use Rattle.c_elaborate.specs.Here.{Here}
-use Rattle.c_elaborate.specs.Expressions.{value_of}
+use Rattle.c_values.specs.Here.{Here}
+use Rattle.c_values.specs.Expressions.{value_of}
 use Rattle.c_elaborate.proofs.statement.value_at.Goals as goal
 
 pub returns : goal.returns

@@ -1,0 +1,4 @@
+pub mod ExpressionLists
+pub mod Offsets
+pub mod Pieces
+pub mod Turns

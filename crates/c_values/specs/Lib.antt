@@ -1,0 +1,10 @@
+pub mod Constants
+pub mod Held
+pub mod Here
+pub mod Operators
+pub mod Calls
+pub mod Commas
+pub mod Expressions
+pub mod Tails
+pub mod Turns
+pub mod Views

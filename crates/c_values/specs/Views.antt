@@ -1,0 +1,49 @@
+-- How what the crate holds shows.
+use Rattle.std.specs.Prelude.{ℕ, List, Option, Some, None, map, reverse}
+use Rattle.std.specs.Borrow.{Bor}
+use Rattle.std.specs.Global.{Box}
+use Rattle.indexmap.specs.IndexMap.{IndexMap}
+use Rattle.c_lexer.specs.Bytes.{Text}
+use Rattle.c_types.specs.Shown.{shown_standing}
+use Rattle.c_programs.specs.Table.{known_of}
+use Rattle.c_sites.specs.NumberTables.{numbered_of}
+use Rattle.c_core.specs.declared.value.Value.{Value}
+use Rattle.c_core.specs.Core.{Exp}
+use Rattle.c_core.specs.View.{exp_of}
+use Rattle.c_values.specs.declared.held.Held.{Held as RustHeld}
+use Rattle.c_values.specs.declared.held.Held.TheVariants as rust
+use Rattle.c_values.specs.declared.held.Part.{Part as RustPart}
+use Rattle.c_values.specs.declared.here.Source.{Source as RustSource}
+use Rattle.c_values.specs.declared.here.Frame.{Frame as RustFrame}
+use Rattle.c_values.specs.declared.here.Here.{Here as RustHere}
+use Rattle.c_values.specs.Held.{Held, held_register, held_cells, held_zero, held_value, Part, part_by}
+use Rattle.c_values.specs.Here.{Source, Frame, Here}
+
+abbrev pub maybe_word : Option (Box Value) → Option Exp
+maybe_word None = None
+maybe_word (Some e) = Some (exp_of e.value)
+
+abbrev pub held_of : RustHeld → Held
+held_of (rust.Register n at) = held_register n at
+held_of (rust.Cells e at) = held_cells (exp_of e.value) at
+held_of (rust.Zero at) = held_zero at
+held_of (rust.Value e) = held_value (exp_of e.value)
+
+abbrev pub part_of : RustPart → Part
+part_of p = part_by (shown_standing p.standing) (held_of p.held)
+
+-- words so far, of which the last place stands last
+abbrev pub places_of : List (Option (Box Value)) → List (Option Exp)
+places_of places = map maybe_word (reverse places)
+
+abbrev pub globals_of : {S : Type 0} → IndexMap (Bor Text) ℕ S → List (Text × ℕ)
+globals_of gs = map (λ e. (e.0.now, e.1)) gs.entries
+
+abbrev pub source_in : RustSource → Source
+source_in s = record { whole = known_of s.whole; kinds = s.kinds; sites = s.sites.now; globals = globals_of s.globals }
+
+abbrev pub frame_in : RustFrame → Frame
+frame_in f = record { first = f.first; homes = f.homes; gives_pointer = f.gives_pointer }
+
+abbrev pub here_of : RustHere → Here
+here_of h = record { source = source_in h.source.now; frame = frame_in h.frame.now; known = known_of h.table.now; numbers = numbered_of h.numbers.now }

@@ -1,0 +1,277 @@
+//! Calls of the library and of functions of the source (C99 6.5.2.2; POSIX.1-2017 threads).
+ghost use Rattle.std.specs.Prelude.{◌≡◌, ℕ, ◌++◌, ◌∷◌, [], List, IfOk, OnOk, map};
+ghost use Rattle.std.specs.Option.{option_map};
+ghost use Rattle.c_tree.specs.Tree.{listed};
+ghost use Rattle.c_tree.specs.View as tree;
+ghost use Rattle.c_types.specs.Shown.{shown_meaning};
+ghost use Rattle.c_programs.specs.Table.{known_of};
+ghost use Rattle.c_types.specs.declared.format.Inside.TheVariants as met;
+ghost use Rattle.c_core.specs.View.{exp_of};
+ghost use Rattle.c_values.specs.Calls as spec;
+ghost use Rattle.c_values.specs.Views.{part_of};
+
+use crate::held::Part;
+use crate::here::function_counted;
+use crate::make;
+use abstract_machine::{LibraryCall, Piece};
+use c_core::Value;
+use c_programs::Table;
+use c_sites::third_name;
+use c_tree::Expr;
+use c_types::{Inside, LibraryName, Meaning, StarredType, Wanted};
+use rr_base::{List, Position};
+use std::alloc::{AllocError, Global};
+
+/// The bytes, each as a piece.
+fn bytes_pieces(alloc: Global, text: &[u8]) -> Result<List<Piece>, AllocError>
+    ensures { IfOk result (λ ps. ps ≡ spec.bytes_pieces text.now) }
+{
+    let mut pieces = List::new(alloc);
+    for byte in text {
+        pieces.push(Piece::Byte(*byte))?;
+    }
+    Ok(pieces)
+}
+
+/// A byte more of a format: the piece that it ends goes to the others, and what the bytes so far end in is returned.
+fn push_met(pieces: &mut List<Piece>, inside: Inside, byte: u8) -> Result<Inside, AllocError>
+    ensures { IfOk result (λ i. (rest : List ℕ) → pieces.new ++ spec.pieces_from i rest ≡ pieces.old ++ spec.pieces_from inside (byte ∷ rest)) }
+{
+    match inside {
+        Inside::Text => {
+            if byte == b'%' {
+                Ok(Inside::Percent)
+            } else {
+                pieces.push(Piece::Byte(byte))?;
+                Ok(Inside::Text)
+            }
+        }
+        Inside::Percent => push_conversion(pieces, byte),
+        Inside::Long => {
+            if byte == b'l' {
+                Ok(Inside::LongLong)
+            } else {
+                pieces.push(Piece::Number)?;
+                Ok(Inside::Text)
+            }
+        }
+        Inside::LongLong => {
+            pieces.push(Piece::Number)?;
+            Ok(Inside::Text)
+        }
+    }
+}
+
+/// A byte behind a percent sign.
+fn push_conversion(pieces: &mut List<Piece>, byte: u8) -> Result<Inside, AllocError>
+    ensures { IfOk result (λ i. (rest : List ℕ) → pieces.new ++ spec.pieces_from i rest ≡ pieces.old ++ spec.pieces_from met.Percent (byte ∷ rest)) }
+{
+    if byte == b'%' {
+        pieces.push(Piece::Byte(b'%'))?;
+        Ok(Inside::Text)
+    } else if byte == b'c' {
+        pieces.push(Piece::Letter)?;
+        Ok(Inside::Text)
+    } else if byte == b'l' {
+        Ok(Inside::Long)
+    } else {
+        pieces.push(Piece::Number)?;
+        Ok(Inside::Text)
+    }
+}
+
+/// The pieces of a format, in which `%%` is a percent sign, `%c` a letter, and each other conversion a number.
+fn format_pieces(alloc: Global, text: &[u8]) -> Result<List<Piece>, AllocError>
+    ensures { IfOk result (λ ps. ps ≡ spec.format_pieces text.now) }
+{
+    let mut pieces = List::new(alloc);
+    let mut inside = Inside::Text;
+    for byte in text {
+        inside = push_met(&mut pieces, inside, *byte)?;
+    }
+    Ok(pieces)
+}
+
+/// The text that stands first.
+fn first_text(es: &[Expr]) -> &[u8]
+    ensures { result.now ≡ spec.first_text (listed (map tree.exp_of es.now)) }
+{
+    match es {
+        [Expr::Text { bytes, .. }, ..] => bytes.as_slice(),
+        _ => &[],
+    }
+}
+
+/// Whether a pointer is wanted.
+pub fn is_pointer_wanted(of: StarredType) -> bool
+    ensures { result ≡ spec.is_pointer_wanted of }
+{
+    of.stars > 0
+}
+
+/// Whether a function with this result gives a pointer.
+pub fn gives_pointer(of: Option<StarredType>) -> bool
+    ensures { result ≡ spec.gives_pointer of }
+{
+    match of {
+        None => false,
+        Some(of) => is_pointer_wanted(of),
+    }
+}
+
+/// An operand more, where the call takes it: attributes, formats and the function with which a thread starts are none.
+pub fn push_argument(
+    alloc: Global,
+    wanted: Wanted,
+    part: Part,
+    out: &mut List<Value>,
+) -> Result<(), AllocError>
+    ensures { OnOk result (map exp_of out.new ≡ map exp_of out.old ++ spec.operand_for wanted (part_of part.entry)) }
+{
+    match wanted {
+        Wanted::Fits(of) => {
+            let value = part.into_wanted(alloc, is_pointer_wanted(of))?;
+            out.push(Box::into_inner(value))
+        }
+        Wanted::Anything => {
+            let value = part.into_value(alloc)?;
+            out.push(Box::into_inner(value))
+        }
+        Wanted::Attribute | Wanted::Root | Wanted::Text => Ok(()),
+    }
+}
+
+/// The number of the function with which a thread starts.
+fn started_function(table: &Table, name: Option<&[u8]>) -> Result<u32, AllocError>
+    ensures { IfOk result (λ n. n ≡ spec.started_function (known_of table.now) (option_map (λ x. x.now) name.entry)) }
+{
+    match name {
+        None => Ok(0),
+        Some(name) => function_counted(table.function_numbered(name)),
+    }
+}
+
+/// What a `puts` prints.
+fn line_pieces(alloc: Global, text: &[u8]) -> Result<List<Piece>, AllocError>
+    ensures { IfOk result (λ ps. ps ≡ spec.bytes_pieces text.now ++ spec.byte_piece 10 ∷ []) }
+{
+    let mut pieces = bytes_pieces(alloc, text)?;
+    pieces.push(Piece::Byte(b'\n'))?;
+    Ok(pieces)
+}
+
+/// The call of the library.
+fn library_of(
+    alloc: Global,
+    table: &Table,
+    call: LibraryName,
+    es: &[Expr],
+) -> Result<LibraryCall, AllocError>
+    ensures { IfOk result (λ c. c ≡ spec.library_of (known_of table.now) call (listed (map tree.exp_of es.now))) }
+{
+    match call {
+        LibraryName::Create => {
+            let function = started_function(table, third_name(es))?;
+            Ok(LibraryCall::Create { function })
+        }
+        LibraryName::PrintFormat => {
+            let format = format_pieces(alloc, first_text(es))?;
+            Ok(LibraryCall::Print { format })
+        }
+        LibraryName::PutText => {
+            let format = line_pieces(alloc, first_text(es))?;
+            Ok(LibraryCall::Print { format })
+        }
+        LibraryName::Join => Ok(LibraryCall::Join),
+        LibraryName::Exit => Ok(LibraryCall::Exit),
+        LibraryName::SelfNumber => Ok(LibraryCall::SelfNumber),
+        LibraryName::SameThread => Ok(LibraryCall::SameThread),
+        LibraryName::MutexInit => Ok(LibraryCall::MutexInit),
+        LibraryName::MutexLock => Ok(LibraryCall::MutexLock),
+        LibraryName::MutexUnlock => Ok(LibraryCall::MutexUnlock),
+        LibraryName::MutexTryLock => Ok(LibraryCall::MutexTryLock),
+        LibraryName::MutexDestroy => Ok(LibraryCall::MutexDestroy),
+        LibraryName::CondInit => Ok(LibraryCall::CondInit),
+        LibraryName::CondWait => Ok(LibraryCall::CondWait),
+        LibraryName::CondSignal | LibraryName::CondBroadcast => Ok(LibraryCall::CondSignal),
+        LibraryName::CondDestroy => Ok(LibraryCall::CondDestroy),
+        LibraryName::BarrierInit => Ok(LibraryCall::BarrierInit),
+        LibraryName::BarrierWait => Ok(LibraryCall::BarrierWait),
+        LibraryName::BarrierDestroy => Ok(LibraryCall::BarrierDestroy),
+        LibraryName::Malloc | LibraryName::Free => Ok(LibraryCall::Free),
+        LibraryName::GetChar => Ok(LibraryCall::GetChar),
+        LibraryName::PutChar => Ok(LibraryCall::PutChar),
+    }
+}
+
+#[tactic(auto, using(crate::proofs::Pieces::first_met, crate::proofs::Pieces::first_there))]
+/// The first operand; 0 where there is none.
+fn first_of(
+    alloc: Global,
+    mut arguments: List<Value>,
+    at: Position,
+) -> Result<Box<Value>, AllocError>
+    ensures { IfOk result (λ v. exp_of v.value ≡ spec.first_of (map exp_of arguments) at) }
+{
+    if arguments.is_empty() {
+        make::number(alloc, 0, at)
+    } else {
+        make::boxed(alloc, arguments.remove(0))
+    }
+}
+
+#[tactic(auto, using(crate::proofs::Pieces::library_other))]
+/// A call of the library. The site is that of a `malloc`.
+fn library_called(
+    alloc: Global,
+    table: &Table,
+    site: u16,
+    call: Option<LibraryName>,
+    es: &[Expr],
+    arguments: List<Value>,
+    at: Position,
+) -> Result<Box<Value>, AllocError>
+    ensures { IfOk result (λ v. exp_of v.value ≡ spec.library_called (known_of table.now) site call (listed (map tree.exp_of es.now)) (map exp_of arguments) at) }
+{
+    match call {
+        None => make::number(alloc, 0, at),
+        Some(LibraryName::Malloc) => {
+            let size = first_of(alloc, arguments, at)?;
+            make::allocate(alloc, site, size, at)
+        }
+        Some(call) => {
+            let call = library_of(alloc, table, call, es)?;
+            make::library(alloc, call, arguments, at)
+        }
+    }
+}
+
+/// A call, by what its name means.
+pub fn called(
+    alloc: Global,
+    table: &Table,
+    site: u16,
+    name: &[u8],
+    call: Option<LibraryName>,
+    seen: Option<Meaning>,
+    es: &[Expr],
+    arguments: List<Value>,
+    at: Position,
+) -> Result<Box<Value>, AllocError>
+    ensures { IfOk result (λ v. exp_of v.value ≡ spec.called (known_of table.now) site name.now call (shown_meaning seen.entry) (listed (map tree.exp_of es.now)) (map exp_of arguments) at) }
+{
+    match seen {
+        Some(Meaning::Function(signature)) => {
+            let function = function_counted(table.function_numbered(name))?;
+            make::call(
+                alloc,
+                function,
+                arguments,
+                gives_pointer(signature.result),
+                at,
+            )
+        }
+        Some(Meaning::Variable(_)) => make::number(alloc, 0, at),
+        None => library_called(alloc, table, site, call, es, arguments, at),
+    }
+}

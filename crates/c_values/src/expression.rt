@@ -1,0 +1,396 @@
+//! The core tree of an expression (C99 6.5). Its calls stay out of line, so that a level of nesting takes little of the stack.
+ghost use Rattle.std.specs.Prelude.{◌≡◌, [], true, IfOk, None, map};
+ghost use Rattle.std.specs.Option.{option_map};
+ghost use Rattle.c_tree.specs.Tree.{listed};
+ghost use Rattle.rr_base.specs.Positions.{position_at};
+ghost use Rattle.c_tree.specs.Tree as trees;
+ghost use Rattle.c_tree.specs.View as tree;
+ghost use Rattle.c_types.specs.Shown.{shown_standing, shown_target, shown_wants};
+ghost use Rattle.c_types.specs.Scopes as scopes;
+ghost use Rattle.c_types.specs.Standing as standings;
+ghost use Rattle.c_types.specs.Operands.{as_value, binary_standing};
+ghost use Rattle.c_types.specs.Standing.{no_target};
+ghost use Rattle.c_rules.specs.Faults as faults;
+ghost use Rattle.c_core.specs.View.{exp_of};
+ghost use Rattle.c_values.specs.Held.{held_value, operand_in, part_by, position_of, value_in};
+ghost use Rattle.c_values.specs.Constants.{constant_of, no_constant, choice_constant, operation_constant, prefix_constant, cast_constant};
+ghost use Rattle.c_values.specs.Here.{offset_in};
+ghost use Rattle.c_values.specs.Operators.{arrow_in, assigned_in, binary_in, cast_in, conditional_in, index_in, member_in, prefix_in, stepped_in};
+ghost use Rattle.c_values.specs.Expressions as spec;
+ghost use Rattle.c_values.specs.Tails as tails;
+ghost use Rattle.c_values.specs.Views.{here_of, maybe_word, part_of};
+
+use crate::calls::push_argument;
+use crate::commas::{joined, push_last};
+use crate::held::Part;
+use crate::here::Here;
+use crate::leaves::{letter_part, name_part, null_part, number_part, size_part, text_part};
+use crate::parts::{
+    assignment, call_held, casting, changing, choice, element, member_in_part, member_through,
+    one_more, operation, prefixing, sequence, stepping,
+};
+use abstract_machine::BinaryOp as FlowOp;
+use c_core::Value;
+use c_rules::{call_standing, fits_wanted, format_of, given_by_call, let_go, own_place, wants_of};
+use c_tree::{AssignOp, BinaryOp, CType, Expr, Name, PrefixOp};
+use c_types::{Names, Standing, Target, Wants, assigned_target, cast_target, type_named};
+use rr_base::{List, Position};
+use std::alloc::{AllocError, Global};
+
+/// The place of an expression.
+fn place_of(e: &Expr) -> Position
+    ensures { result ≡ position_of (faults.own_place (tree.exp_of e.now)) }
+{
+    own_place(e)
+}
+
+/// An expression with what it is, where `target` is what a `malloc` in its place makes an object of.
+#[cycle(expression)]
+fn part<'h>(
+    alloc: Global,
+    here: Here<'h, '_>,
+    target: Target<'h>,
+    e: &Expr,
+) -> Result<Part<'h>, AllocError>
+    ensures part { IfOk result (λ p. part_of p ≡ spec.part (here_of here.entry) (shown_target target.entry) (tree.exp_of e.now)) }
+    ensures constant { IfOk result (λ p. p.constant ≡ constant_of (here_of here.entry).known (tree.exp_of e.now)) }
+{
+    let at = place_of(e);
+    match e {
+        Expr::Comma { first, rest, .. } => {
+            let (tail, last) = tail_of(alloc, here, rest.as_slice(), at)?;
+            before_tail(alloc, here, first, tail, last, at)
+        }
+        Expr::Assign {
+            left,
+            op,
+            right,
+            ..
+        } => {
+            let left = part(alloc, here, Target::No, left)?;
+            assigned_to(alloc, here, right, *op, left, at)
+        }
+        Expr::Conditional { test, yes, no, .. } => {
+            let test = part(alloc, here, Target::No, test)?;
+            let yes = part(alloc, here, Target::No, yes)?;
+            chosen(alloc, here, no, test, yes, at)
+        }
+        Expr::Binary {
+            left,
+            op,
+            right,
+            ..
+        } => {
+            let left = part(alloc, here, Target::No, left)?;
+            operated(alloc, here, right, *op, left, at)
+        }
+        Expr::Index {
+            base,
+            index: by,
+            ..
+        } => {
+            let base = part(alloc, here, Target::No, base)?;
+            indexed(alloc, here, by, base, at)
+        }
+        Expr::Prefix { op, operand, .. } => prefixed(alloc, here, operand, *op, at),
+        Expr::Cast { to, operand, .. } => cast_to(alloc, here, operand, to, at),
+        Expr::Member { base, name, .. } => member_of(alloc, here, base, name, at),
+        Expr::Arrow { base, name, .. } => pointed_member(alloc, here, base, name, at),
+        Expr::PostIncrement { operand, .. } => post(alloc, here, operand, FlowOp::Add, at),
+        Expr::PostDecrement { operand, .. } => post(alloc, here, operand, FlowOp::Subtract, at),
+        Expr::Paren { inner, .. } => part(alloc, here, target, inner),
+        Expr::Call {
+            name,
+            arguments,
+            ..
+        } => call_of(
+            alloc,
+            here,
+            target,
+            name.as_slice(),
+            arguments.as_slice(),
+            at,
+        ),
+        Expr::Name { name, .. } => name_part(alloc, here, e, name.as_slice(), at),
+        Expr::SizeofExpr { .. } => size_part(alloc, here, e, at),
+        Expr::SizeofType { .. } => size_part(alloc, here, e, at),
+        Expr::Number { value, .. } => number_part(alloc, here, e, *value, at),
+        Expr::Letter { value, .. } => letter_part(alloc, here, e, *value, at),
+        Expr::Text { .. } => Ok(text_part(here, e, at)),
+        Expr::Null { .. } => null_part(alloc, here, e, at),
+    }
+}
+
+/// An expression before others, which are made.
+#[cycle(expression)]
+#[inline(never)]
+fn before_tail<'h>(
+    alloc: Global,
+    here: Here<'h, '_>,
+    first: &Expr,
+    tail: Option<Box<Value>>,
+    last: Option<Standing<'h>>,
+    at: Position,
+) -> Result<Part<'h>, AllocError>
+    ensures part { let h = here_of here.entry in let p = spec.part h no_target (tree.exp_of first.now) in IfOk result (λ r. part_of r ≡ part_by (as_value (tails.behind_first (standings.let_go p.standing) (option_map shown_standing last.entry))) (held_value (spec.with_tail (value_in p) (maybe_word tail) at))) }
+    ensures constant { IfOk result (λ r. r.constant ≡ no_constant) }
+{
+    let first = part(alloc, here, Target::No, first)?;
+    sequence(alloc, first, tail, last, at)
+}
+
+/// An assignment to a place that is made.
+#[cycle(expression)]
+#[inline(never)]
+fn assigned_to<'h>(
+    alloc: Global,
+    here: Here<'h, '_>,
+    right: &Expr,
+    op: AssignOp,
+    left: Part<'h>,
+    at: Position,
+) -> Result<Part<'h>, AllocError>
+    ensures part { let h = here_of here.entry in let l = part_of left.entry in let p = spec.part h (standings.assigned_target op l.standing) (tree.exp_of right.now) in IfOk result (λ r. part_of r ≡ part_by (standings.assign_standing op l.standing (operand_in p)) (held_value (assigned_in h.source op l p at))) }
+    ensures constant { IfOk result (λ r. r.constant ≡ no_constant) }
+{
+    let right = part(alloc, here, assigned_target(op, left.standing), right)?;
+    assignment(alloc, here, op, left, right, at)
+}
+
+/// `?:`, of which the last operand is left.
+#[cycle(expression)]
+#[inline(never)]
+fn chosen<'h>(
+    alloc: Global,
+    here: Here<'h, '_>,
+    no: &Expr,
+    test: Part<'h>,
+    yes: Part<'h>,
+    at: Position,
+) -> Result<Part<'h>, AllocError>
+    ensures part { let h = here_of here.entry in let p = spec.part h no_target (tree.exp_of no.now) in let k = choice_constant test.entry.constant yes.entry.constant (constant_of h.known (tree.exp_of no.now)) in IfOk result (λ r. part_of r ≡ part_by (standings.conditional_standing (operand_in (part_of test.entry)) (operand_in (part_of yes.entry)) (operand_in p)) (spec.constant_by k.is_formed k.value at (held_value (conditional_in (part_of test.entry) (part_of yes.entry) p at)))) }
+    ensures constant { IfOk result (λ r. r.constant ≡ choice_constant test.entry.constant yes.entry.constant (constant_of (here_of here.entry).known (tree.exp_of no.now))) }
+{
+    let no = part(alloc, here, Target::No, no)?;
+    choice(alloc, test, yes, no, at)
+}
+
+/// An operator of which the second operand is left.
+#[cycle(expression)]
+#[inline(never)]
+fn operated<'h>(
+    alloc: Global,
+    here: Here<'h, '_>,
+    right: &Expr,
+    op: BinaryOp,
+    left: Part<'h>,
+    at: Position,
+) -> Result<Part<'h>, AllocError>
+    ensures part { let h = here_of here.entry in let p = spec.part h no_target (tree.exp_of right.now) in let k = operation_constant op left.entry.constant (constant_of h.known (tree.exp_of right.now)) in IfOk result (λ r. part_of r ≡ part_by (binary_standing op (operand_in (part_of left.entry)) (operand_in p)) (spec.constant_by k.is_formed k.value at (held_value (binary_in h.source op (part_of left.entry) p at)))) }
+    ensures constant { IfOk result (λ r. r.constant ≡ operation_constant op left.entry.constant (constant_of (here_of here.entry).known (tree.exp_of right.now))) }
+{
+    let right = part(alloc, here, Target::No, right)?;
+    operation(alloc, here, op, left, right, at)
+}
+
+/// An element of what is made.
+#[cycle(expression)]
+#[inline(never)]
+fn indexed<'h>(
+    alloc: Global,
+    here: Here<'h, '_>,
+    by: &Expr,
+    base: Part<'h>,
+    at: Position,
+) -> Result<Part<'h>, AllocError>
+    ensures part { let h = here_of here.entry in let p = spec.part h no_target (tree.exp_of by.now) in IfOk result (λ r. part_of r ≡ part_by (standings.index_standing (operand_in (part_of base.entry)) (operand_in p)) (index_in h.source (part_of base.entry) p at)) }
+    ensures constant { IfOk result (λ r. r.constant ≡ no_constant) }
+{
+    let by = part(alloc, here, Target::No, by)?;
+    element(alloc, here, base, by, at)
+}
+
+/// An operator before its operand.
+#[cycle(expression)]
+#[inline(never)]
+fn prefixed<'h>(
+    alloc: Global,
+    here: Here<'h, '_>,
+    operand: &Expr,
+    op: PrefixOp,
+    at: Position,
+) -> Result<Part<'h>, AllocError>
+    ensures part { let h = here_of here.entry in let p = spec.part h no_target (tree.exp_of operand.now) in let k = prefix_constant op (constant_of h.known (tree.exp_of operand.now)) in IfOk result (λ r. part_of r ≡ part_by (standings.prefix_standing op p.standing) (spec.constant_by k.is_formed k.value at (prefix_in h.source op p at))) }
+    ensures constant { IfOk result (λ r. r.constant ≡ prefix_constant op (constant_of (here_of here.entry).known (tree.exp_of operand.now))) }
+{
+    let operand = part(alloc, here, Target::No, operand)?;
+    prefixing(alloc, here, op, operand, at)
+}
+
+/// A cast.
+#[cycle(expression)]
+#[inline(never)]
+fn cast_to<'h>(
+    alloc: Global,
+    here: Here<'h, '_>,
+    operand: &Expr,
+    to: &CType,
+    at: Position,
+) -> Result<Part<'h>, AllocError>
+    ensures part { let h = here_of here.entry in let named = scopes.type_named h.known to.now in let p = spec.part h (standings.cast_target named to.now.stars) (tree.exp_of operand.now) in let k = cast_constant to.now (constant_of h.known (tree.exp_of operand.now)) in IfOk result (λ r. part_of r ≡ part_by (standings.cast_standing named to.now.stars (operand_in p)) (spec.constant_by k.is_formed k.value at (held_value (cast_in (spec.is_pointer_type named) p at)))) }
+    ensures constant { IfOk result (λ r. r.constant ≡ cast_constant to.now (constant_of (here_of here.entry).known (tree.exp_of operand.now))) }
+{
+    let target = cast_target(type_named(here.table, to), to.stars);
+    let operand = part(alloc, here, target, operand)?;
+    casting(alloc, here, to, operand, at)
+}
+
+/// A member of a struct.
+#[cycle(expression)]
+#[inline(never)]
+fn member_of<'h>(
+    alloc: Global,
+    here: Here<'h, '_>,
+    base: &Expr,
+    name: &Name,
+    at: Position,
+) -> Result<Part<'h>, AllocError>
+    ensures part { let h = here_of here.entry in let p = spec.part h no_target (tree.exp_of base.now) in let number = standings.struct_of p.standing in IfOk result (λ r. part_of r ≡ part_by (standings.member_standing h.known number name.now.text) (member_in p.held (offset_in h.source number name.now.text) at)) }
+    ensures constant { IfOk result (λ r. r.constant ≡ no_constant) }
+{
+    let base = part(alloc, here, Target::No, base)?;
+    member_in_part(alloc, here, name, base, at)
+}
+
+/// A member of a struct to which a pointer is given.
+#[cycle(expression)]
+#[inline(never)]
+fn pointed_member<'h>(
+    alloc: Global,
+    here: Here<'h, '_>,
+    base: &Expr,
+    name: &Name,
+    at: Position,
+) -> Result<Part<'h>, AllocError>
+    ensures part { let h = here_of here.entry in let p = spec.part h no_target (tree.exp_of base.now) in let number = standings.pointed_struct (operand_in p) in IfOk result (λ r. part_of r ≡ part_by (standings.member_standing h.known number name.now.text) (arrow_in p (offset_in h.source number name.now.text) at)) }
+    ensures constant { IfOk result (λ r. r.constant ≡ no_constant) }
+{
+    let base = part(alloc, here, Target::No, base)?;
+    member_through(alloc, here, name, base, at)
+}
+
+/// `++` and `--` behind their operand.
+#[cycle(expression)]
+#[inline(never)]
+fn post<'h>(
+    alloc: Global,
+    here: Here<'h, '_>,
+    operand: &Expr,
+    op: FlowOp,
+    at: Position,
+) -> Result<Part<'h>, AllocError>
+    ensures part { let h = here_of here.entry in let p = spec.part h no_target (tree.exp_of operand.now) in IfOk result (λ r. part_of r ≡ part_by (standings.stepped p.standing) (held_value (stepped_in h.source op p true at))) }
+    ensures constant { IfOk result (λ r. r.constant ≡ no_constant) }
+{
+    let place = part(alloc, here, Target::No, operand)?;
+    stepping(alloc, here, op, place, at)
+}
+
+/// Expressions with commas between them, behind a first one: each is computed. Nothing where there is none. With what the
+/// last is.
+#[cycle(expression)]
+#[inline(never)]
+fn tail_of<'h>(
+    alloc: Global,
+    here: Here<'h, '_>,
+    es: &[Expr],
+    at: Position,
+) -> Result<(Option<Box<Value>>, Option<Standing<'h>>), AllocError>
+    ensures value { IfOk result (λ r. maybe_word r.0 ≡ spec.tail_of (here_of here.entry) (listed (map tree.exp_of es.now)) [] at) }
+    ensures last { IfOk result (λ r. option_map shown_standing r.1 ≡ tails.all_behind (here_of here.entry).known None (listed (map tree.exp_of es.now))) }
+{
+    let mut so_far = List::new(alloc);
+    let mut last = None;
+    for e in es {
+        let next = part(alloc, here, Target::No, e)?;
+        let met = one_more(last, let_go(next.standing));
+        last = Some(met);
+        let next = next.into_value(alloc)?;
+        push_last(alloc, &mut so_far, next, at)?;
+    }
+    let tail = joined(alloc, so_far, at)?;
+    Ok((tail, last))
+}
+
+/// The operands of a call, each as it is wanted, and whether they fit.
+#[cycle(expression)]
+#[inline(never)]
+fn arguments(
+    alloc: Global,
+    here: Here,
+    wanted: Wants,
+    es: &[Expr],
+) -> Result<(List<Value>, bool), AllocError>
+    ensures values { IfOk result (λ r. map exp_of r.0 ≡ spec.arguments (here_of here.entry) (shown_wants wanted.entry) (listed (map tree.exp_of es.now))) }
+    ensures fit { IfOk result (λ r. r.1 ≡ standings.fit_wanted (here_of here.entry).known (shown_wants wanted.entry) (listed (map tree.exp_of es.now))) }
+{
+    let mut wants = wanted;
+    let mut fit = true;
+    let mut out = List::new(alloc);
+    for e in es {
+        match wants.next() {
+            None => return Ok((out, false)),
+            Some((next, others)) => {
+                let operand = part(alloc, here, Target::No, e)?;
+                fit &= fits_wanted(here.table, next, e, operand.standing);
+                push_argument(alloc, next, operand, &mut out)?;
+                wants = others;
+            }
+        }
+    }
+    Ok((out, fit && wants.next().is_none()))
+}
+
+/// A call.
+#[cycle(expression)]
+#[inline(never)]
+fn call_of<'h>(
+    alloc: Global,
+    here: Here<'h, '_>,
+    target: Target<'h>,
+    name: &[u8],
+    es: &[Expr],
+    at: Position,
+) -> Result<Part<'h>, AllocError>
+    ensures part { IfOk result (λ p. part_of p ≡ spec.part (here_of here.entry) (shown_target target.entry) (trees.call name.now (listed (map tree.exp_of es.now)) (position_at at.line at.column))) }
+    ensures constant { IfOk result (λ p. p.constant ≡ no_constant) }
+{
+    let format = format_of(es);
+    let wants = wants_of(here.table, name, format);
+    let (operands, fit) = arguments(alloc, here, wants, es)?;
+    let held = call_held(alloc, here, name, es, operands, at)?;
+    let gives = given_by_call(here.table, target, name, format);
+    Ok(changing(call_standing(gives, fit), held))
+}
+
+/// The word of an expression.
+pub fn value(alloc: Global, here: Here, e: &Expr) -> Result<Box<Value>, AllocError>
+    ensures { IfOk result (λ v. exp_of v.value ≡ spec.value_of (here_of here.entry) (tree.exp_of e.now)) }
+{
+    let part = part(alloc, here, Target::No, e)?;
+    part.into_value(alloc)
+}
+
+/// The word of an expression where a pointer is wanted or not.
+pub fn wanted<'h>(
+    alloc: Global,
+    here: Here<'h, '_>,
+    pointer: bool,
+    target: Target<'h>,
+    e: &Expr,
+) -> Result<Box<Value>, AllocError>
+    ensures { IfOk result (λ v. exp_of v.value ≡ spec.wanted_of (here_of here.entry) pointer (shown_target target.entry) (tree.exp_of e.now)) }
+{
+    let part = part(alloc, here, target, e)?;
+    part.into_wanted(alloc, pointer)
+}

@@ -1,0 +1,23 @@
+//! What an expression of a C source does, as a core tree, and what is known where it stands. It stands on `c_sites` and
+//! `c_core`.
+#![tactic(auto)]
+
+mod calls;
+mod commas;
+mod constant;
+mod expression;
+mod held;
+mod here;
+mod home;
+mod laws;
+mod leaves;
+pub mod make;
+mod operators;
+mod parts;
+
+pub use calls::gives_pointer;
+pub use expression::{value, wanted};
+pub use here::{Frame, Here, Source, site_at};
+pub use home::Home;
+pub use laws::law_commas;
+pub use parts::is_pointer_type;

@@ -1,0 +1,323 @@
+//! What stands for an expression whose operands are made, with what it is and the value that it has where it is constant (C99
+//! 6.5, 6.6).
+ghost use Rattle.std.specs.Prelude.{◌≡◌, true, IfOk, map};
+ghost use Rattle.std.specs.Option.{option_map};
+ghost use Rattle.c_tree.specs.Tree.{listed};
+ghost use Rattle.c_tree.specs.View as tree;
+ghost use Rattle.c_types.specs.Shown.{shown_maybe, shown_standing};
+ghost use Rattle.c_types.specs.Library as names;
+ghost use Rattle.c_types.specs.Scopes as scopes;
+ghost use Rattle.c_types.specs.Standing as standings;
+ghost use Rattle.c_types.specs.Operands.{as_value, binary_standing};
+ghost use Rattle.c_core.specs.View.{exp_of};
+ghost use Rattle.c_values.specs.Held.{held_value, operand_in, part_by, position_of, value_in};
+ghost use Rattle.c_values.specs.Calls as calls;
+ghost use Rattle.c_values.specs.Constants.{no_constant, choice_constant, operation_constant, prefix_constant, cast_constant};
+ghost use Rattle.c_values.specs.Here as heres;
+ghost use Rattle.c_values.specs.Here.{offset_in};
+ghost use Rattle.c_values.specs.Operators.{arrow_in, assigned_in, binary_in, cast_in, conditional_in, index_in, member_in, prefix_in, stepped_in};
+ghost use Rattle.c_values.specs.Expressions as spec;
+ghost use Rattle.c_values.specs.Tails as tails;
+ghost use Rattle.c_values.specs.Views.{held_of, here_of, maybe_word, part_of};
+
+use crate::calls::called;
+use crate::constant::Constant;
+use crate::held::{Held, Part, is_pointing};
+use crate::here::{Here, site_at};
+use crate::make;
+use crate::operators::{
+    arrow, assigned, binary, cast, conditional, index, member, prefix, stepped,
+};
+use abstract_machine::BinaryOp as FlowOp;
+use c_core::Value;
+use c_rules::{behind, let_go};
+use c_tree::{AssignOp, BinaryOp, CType, Expr, Name, PrefixOp};
+use c_types::{
+    Names, Operand, Standing, TypeRef, assign_standing, binary_standing, cast_standing,
+    conditional_standing, index_standing, library_named, member_standing, pointed_struct,
+    prefix_standing, struct_of, type_named,
+};
+use rr_base::{List, Position};
+use std::alloc::{AllocError, Global};
+
+/// What is constant is its value.
+fn folded(alloc: Global, constant: Constant, at: Position, held: Held) -> Result<Held, AllocError>
+    ensures { IfOk result (λ h. held_of h ≡ spec.constant_by constant.is_formed constant.value at (held_of held)) }
+{
+    if !constant.is_formed {
+        return Ok(held);
+    }
+    match constant.value {
+        Ok(number) => {
+            let value = make::number(alloc, number, at)?;
+            Ok(Held::Value(value))
+        }
+        Err(_) => Ok(held),
+    }
+}
+
+/// An expression that is its value where it is constant.
+pub fn computed<'h>(
+    alloc: Global,
+    standing: Standing<'h>,
+    constant: Constant,
+    at: Position,
+    held: Held,
+) -> Result<Part<'h>, AllocError>
+    ensures part { IfOk result (λ p. part_of p ≡ part_by (shown_standing standing.entry) (spec.constant_by constant.is_formed constant.value at (held_of held))) }
+    ensures constant { IfOk result (λ p. p.constant ≡ constant) }
+{
+    let held = folded(alloc, constant, at, held)?;
+    Ok(Part {
+        standing,
+        held,
+        constant,
+    })
+}
+
+/// An expression that is no constant.
+pub fn changing<'h>(standing: Standing<'h>, held: Held) -> Part<'h>
+    ensures part { part_of result ≡ part_by (shown_standing standing.entry) (held_of held) }
+    ensures constant { result.constant ≡ no_constant }
+{
+    Part {
+        standing,
+        held,
+        constant: Constant::none(),
+    }
+}
+
+/// Whether a type is a pointer.
+pub fn is_pointer_type(of: Option<TypeRef>) -> bool
+    ensures { result ≡ spec.is_pointer_type (shown_maybe of.entry) }
+{
+    match of {
+        None => false,
+        Some(of) => is_pointing(Operand::of_type(of)),
+    }
+}
+
+/// What the last of several expressions is, with one more.
+pub fn one_more<'h>(before: Option<Standing<'h>>, next: Standing<'h>) -> Standing<'h>
+    ensures { shown_standing result ≡ tails.one_more (option_map shown_standing before.entry) (shown_standing next.entry) }
+{
+    match before {
+        None => next,
+        Some(before) => behind(before, next),
+    }
+}
+
+/// What the last of those behind an expression is, if any.
+fn behind_first<'h>(first: Standing<'h>, last: Option<Standing<'h>>) -> Standing<'h>
+    ensures { shown_standing result ≡ tails.behind_first (shown_standing first.entry) (option_map shown_standing last.entry) }
+{
+    match last {
+        None => first,
+        Some(last) => behind(first, last),
+    }
+}
+
+/// An expression with others behind it, the last of which is `last`.
+pub fn sequence<'h>(
+    alloc: Global,
+    first: Part<'h>,
+    tail: Option<Box<Value>>,
+    last: Option<Standing<'h>>,
+    at: Position,
+) -> Result<Part<'h>, AllocError>
+    ensures part { IfOk result (λ p. part_of p ≡ part_by (as_value (tails.behind_first (standings.let_go (part_of first.entry).standing) (option_map shown_standing last.entry))) (held_value (spec.with_tail (value_in (part_of first.entry)) (maybe_word tail) at))) }
+    ensures constant { IfOk result (λ p. p.constant ≡ no_constant) }
+{
+    let last = behind_first(let_go(first.standing), last);
+    let first = first.into_value(alloc)?;
+    let value = match tail {
+        None => first,
+        Some(tail) => make::comma(alloc, first, tail, at)?,
+    };
+    Ok(changing(last.as_value(), Held::Value(value)))
+}
+
+/// An assignment of which the sides are made.
+pub fn assignment<'h>(
+    alloc: Global,
+    here: Here,
+    op: AssignOp,
+    left: Part<'h>,
+    right: Part<'h>,
+    at: Position,
+) -> Result<Part<'h>, AllocError>
+    ensures part { IfOk result (λ p. part_of p ≡ part_by (standings.assign_standing op (part_of left.entry).standing (operand_in (part_of right.entry))) (held_value (assigned_in (here_of here.entry).source op (part_of left.entry) (part_of right.entry) at))) }
+    ensures constant { IfOk result (λ p. p.constant ≡ no_constant) }
+{
+    let standing = assign_standing(op, left.standing, right.operand());
+    let value = assigned(alloc, here.source, op, left, right, at)?;
+    Ok(changing(standing, Held::Value(value)))
+}
+
+/// `?:`, whose operands are made.
+pub fn choice<'h>(
+    alloc: Global,
+    test: Part<'h>,
+    yes: Part<'h>,
+    no: Part<'h>,
+    at: Position,
+) -> Result<Part<'h>, AllocError>
+    ensures part { let k = choice_constant test.entry.constant yes.entry.constant no.entry.constant in IfOk result (λ p. part_of p ≡ part_by (standings.conditional_standing (operand_in (part_of test.entry)) (operand_in (part_of yes.entry)) (operand_in (part_of no.entry))) (spec.constant_by k.is_formed k.value at (held_value (conditional_in (part_of test.entry) (part_of yes.entry) (part_of no.entry) at)))) }
+    ensures constant { IfOk result (λ p. p.constant ≡ choice_constant test.entry.constant yes.entry.constant no.entry.constant) }
+{
+    let standing = conditional_standing(test.operand(), yes.operand(), no.operand());
+    let constant = Constant::of_choice(test.constant, yes.constant, no.constant);
+    let value = conditional(alloc, test, yes, no, at)?;
+    computed(alloc, standing, constant, at, Held::Value(value))
+}
+
+/// An operator with two operands, which are made.
+pub fn operation<'h>(
+    alloc: Global,
+    here: Here,
+    op: BinaryOp,
+    left: Part<'h>,
+    right: Part<'h>,
+    at: Position,
+) -> Result<Part<'h>, AllocError>
+    ensures part { let k = operation_constant op left.entry.constant right.entry.constant in IfOk result (λ p. part_of p ≡ part_by (binary_standing op (operand_in (part_of left.entry)) (operand_in (part_of right.entry))) (spec.constant_by k.is_formed k.value at (held_value (binary_in (here_of here.entry).source op (part_of left.entry) (part_of right.entry) at)))) }
+    ensures constant { IfOk result (λ p. p.constant ≡ operation_constant op left.entry.constant right.entry.constant) }
+{
+    let standing = binary_standing(op, left.operand(), right.operand());
+    let constant = Constant::of_operation(op, left.constant, right.constant);
+    let value = binary(alloc, here.source, op, left, right, at)?;
+    computed(alloc, standing, constant, at, Held::Value(value))
+}
+
+/// An operator before its operand, which is made.
+pub fn prefixing<'h>(
+    alloc: Global,
+    here: Here,
+    op: PrefixOp,
+    operand: Part<'h>,
+    at: Position,
+) -> Result<Part<'h>, AllocError>
+    ensures part { let p = part_of operand.entry in let k = prefix_constant op operand.entry.constant in IfOk result (λ r. part_of r ≡ part_by (standings.prefix_standing op p.standing) (spec.constant_by k.is_formed k.value at (prefix_in (here_of here.entry).source op p at))) }
+    ensures constant { IfOk result (λ r. r.constant ≡ prefix_constant op operand.entry.constant) }
+{
+    let standing = prefix_standing(op, operand.standing);
+    let constant = Constant::of_prefix(op, operand.constant);
+    let held = prefix(alloc, here.source, op, operand, at)?;
+    computed(alloc, standing, constant, at, held)
+}
+
+/// A cast of what is made.
+pub fn casting<'h>(
+    alloc: Global,
+    here: Here<'h, '_>,
+    to: &CType,
+    operand: Part<'h>,
+    at: Position,
+) -> Result<Part<'h>, AllocError>
+    ensures part { let named = scopes.type_named (here_of here.entry).known to.now in let p = part_of operand.entry in let k = cast_constant to.now operand.entry.constant in IfOk result (λ r. part_of r ≡ part_by (standings.cast_standing named to.now.stars (operand_in p)) (spec.constant_by k.is_formed k.value at (held_value (cast_in (spec.is_pointer_type named) p at)))) }
+    ensures constant { IfOk result (λ r. r.constant ≡ cast_constant to.now operand.entry.constant) }
+{
+    let named = type_named(here.table, to);
+    let standing = cast_standing(named, to.stars, operand.operand());
+    let constant = Constant::of_cast(to, operand.constant);
+    let value = cast(alloc, is_pointer_type(named), operand, at)?;
+    computed(alloc, standing, constant, at, Held::Value(value))
+}
+
+/// An element of an array, of which the base and the index are made.
+pub fn element<'h>(
+    alloc: Global,
+    here: Here,
+    base: Part<'h>,
+    by: Part<'h>,
+    at: Position,
+) -> Result<Part<'h>, AllocError>
+    ensures part { IfOk result (λ p. part_of p ≡ part_by (standings.index_standing (operand_in (part_of base.entry)) (operand_in (part_of by.entry))) (index_in (here_of here.entry).source (part_of base.entry) (part_of by.entry) at)) }
+    ensures constant { IfOk result (λ p. p.constant ≡ no_constant) }
+{
+    let standing = index_standing(base.operand(), by.operand());
+    let held = index(alloc, here.source, base, by, at)?;
+    Ok(changing(standing, held))
+}
+
+/// A member of a struct that is made.
+pub fn member_in_part<'h>(
+    alloc: Global,
+    here: Here<'h, '_>,
+    name: &Name,
+    base: Part<'h>,
+    at: Position,
+) -> Result<Part<'h>, AllocError>
+    ensures part { let h = here_of here.entry in let p = part_of base.entry in let number = standings.struct_of p.standing in IfOk result (λ r. part_of r ≡ part_by (standings.member_standing h.known number name.now.text) (member_in p.held (offset_in h.source number name.now.text) at)) }
+    ensures constant { IfOk result (λ r. r.constant ≡ no_constant) }
+{
+    let number = struct_of(base.standing);
+    let by = here.source.offset_in(number, name.text.as_slice())?;
+    let held = member(alloc, base.held, by, at)?;
+    Ok(changing(
+        member_standing(here.table, number, name.text.as_slice()),
+        held,
+    ))
+}
+
+/// A member of a struct to which a pointer is made.
+pub fn member_through<'h>(
+    alloc: Global,
+    here: Here<'h, '_>,
+    name: &Name,
+    base: Part<'h>,
+    at: Position,
+) -> Result<Part<'h>, AllocError>
+    ensures part { let h = here_of here.entry in let p = part_of base.entry in let number = standings.pointed_struct (operand_in p) in IfOk result (λ r. part_of r ≡ part_by (standings.member_standing h.known number name.now.text) (arrow_in p (offset_in h.source number name.now.text) at)) }
+    ensures constant { IfOk result (λ r. r.constant ≡ no_constant) }
+{
+    let number = pointed_struct(base.operand());
+    let by = here.source.offset_in(number, name.text.as_slice())?;
+    let held = arrow(alloc, base, by, at)?;
+    Ok(changing(
+        member_standing(here.table, number, name.text.as_slice()),
+        held,
+    ))
+}
+
+/// `++` and `--` behind what is made.
+pub fn stepping<'h>(
+    alloc: Global,
+    here: Here,
+    op: FlowOp,
+    place: Part<'h>,
+    at: Position,
+) -> Result<Part<'h>, AllocError>
+    ensures part { let p = part_of place.entry in IfOk result (λ r. part_of r ≡ part_by (standings.stepped p.standing) (held_value (stepped_in (here_of here.entry).source op p true at))) }
+    ensures constant { IfOk result (λ r. r.constant ≡ no_constant) }
+{
+    let standing = c_types::stepped(place.standing);
+    let value = stepped(alloc, here.source, op, place, true, at)?;
+    Ok(changing(standing, Held::Value(value)))
+}
+
+/// A call of which the operands are made.
+pub fn call_held(
+    alloc: Global,
+    here: Here,
+    name: &[u8],
+    es: &[Expr],
+    operands: List<Value>,
+    at: Position,
+) -> Result<Held, AllocError>
+    ensures { let h = here_of here.entry in IfOk result (λ r. held_of r ≡ held_value (calls.called h.known (heres.site_at h.source.sites at) name.now (names.library_named name.now) (scopes.seen h.known name.now) (listed (map tree.exp_of es.now)) (map exp_of operands) (position_of at))) }
+{
+    let site = site_at(here.source.sites, at)?;
+    let value = called(
+        alloc,
+        here.table,
+        site,
+        name,
+        library_named(name),
+        here.table.seen(name),
+        es,
+        operands,
+        at,
+    )?;
+    Ok(Held::Value(value))
+}
