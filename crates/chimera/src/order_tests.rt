@@ -2,7 +2,7 @@ use crate::race_tests::{COUNTER, HELD_BY_CALLER};
 use crate::record_tests::{same_log, with_source};
 use crate::tests::{
     BANK, BEGIN, FIRST, GOES_ON, LAST, LOCK, Outside, SLOTS_8, SOUND, STARTS, UNLOCK, check_in,
-    joined, shelf_of,
+    files_of, log_files,
 };
 use std::test::Fail;
 
@@ -157,9 +157,7 @@ pub static CHANGES: [(&[&str], &str, u8); 13] = [
 fn names_the_first_wrong_entry_by_any_order(rt: HostRuntime) -> Result<(), Fail> {
     let alloc = rt.alloc();
     for (entries, text, wanted) in CHANGES {
-        let mut log = joined(alloc, &[FIRST, SLOTS_8])?;
-        log.append(joined(alloc, entries)?)?;
-        let mut shelf = shelf_of(alloc, joined(alloc, &[BANK])?, log)?;
+        let mut shelf = log_files(alloc, &[BANK], &[FIRST, SLOTS_8], entries)?;
         for order in TWENTY {
             let outside = Outside { order, ..SOUND };
             let words = ["replay", "a", "b"];
@@ -174,7 +172,7 @@ fn names_the_first_wrong_entry_by_any_order(rt: HostRuntime) -> Result<(), Fail>
 fn tells_when_the_turns_end(rt: HostRuntime) -> Result<(), Fail> {
     let alloc = rt.alloc();
     let log = [FIRST, SLOTS_8, STARTS, BEGIN, LOCK, UNLOCK, GOES_ON, LAST];
-    let mut shelf = shelf_of(alloc, joined(alloc, &[BANK])?, joined(alloc, &log)?)?;
+    let mut shelf = files_of(alloc, &[BANK], &log)?;
     for (turns, want) in [(24, ("crew fault\n", 10)), (1000, ("20\n", 0))] {
         assert!(rt; shelf.content("l").is_none());
         for words in [["replay", "a", "b"], ["record", "a", "l"]] {

@@ -1,7 +1,7 @@
 use crate::race_tests::HELD_BY_CALLER;
 use crate::tests::{
     BANK, BEGIN, FIRST, GOES_ON, LAST, LOCK, Outside, SLOTS_8, SOUND, STARTS, UNLOCK, check_in,
-    joined,
+    push_file,
 };
 use rr_base::{Bytes, List, MemShelf};
 use std::alloc::{AllocError, Global};
@@ -66,7 +66,7 @@ fn shelf_with(alloc: Global, fails: &[u64]) -> Result<MemShelf, AllocError> {
     ];
     let mut held: List<(Bytes, Bytes)> = List::new(alloc);
     for (name, parts) in files {
-        held.push((joined(alloc, &[name])?, joined(alloc, parts)?))?;
+        push_file(alloc, &mut held, name, parts)?;
     }
     Ok(MemShelf::new(held, List::from_slice(alloc, fails)?))
 }

@@ -1,7 +1,7 @@
 use crate::race_tests::{COUNTER, HELD_BY_CALLER};
 use crate::tests::{
     BANK, FIRST, HELD, IDLE, MISUSE, Outside, SLOTS_1, SLOTS_2, SLOTS_3, SLOTS_8, SOUND, call,
-    joined, shelf_of,
+    files_of, joined, push_file,
 };
 use crate::{tests, weak_tests};
 use rr_base::{List, MemShelf};
@@ -161,7 +161,7 @@ fn holds(rt: &impl Abort, shelf: &MemShelf, name: &str, want: Option<&str>) {
 fn writes_profiles(rt: HostRuntime) -> Result<(), Fail> {
     let alloc = rt.alloc();
     for (source, log, text, status, profile) in PROFILES {
-        let mut shelf = shelf_of(alloc, joined(alloc, &[source])?, joined(alloc, log)?)?;
+        let mut shelf = files_of(alloc, &[source], log)?;
         let (told, found) = call(&rt, alloc, &PROFILE, &SOUND, &mut shelf)?;
         assert_eq!(rt; told.as_slice(), text.as_bytes());
         assert_eq!(rt; found, status, "{text}");
@@ -177,11 +177,8 @@ fn writes_profiles(rt: HostRuntime) -> Result<(), Fail> {
 // A shelf of a trapping source and its log, whose calls of these numbers fail.
 fn failing(alloc: Global, fails: &[u64]) -> Result<MemShelf, AllocError> {
     let mut files = List::new(alloc);
-    files.push((joined(alloc, &["a"])?, joined(alloc, &[HELD])?))?;
-    files.push((
-        joined(alloc, &["b"])?,
-        joined(alloc, &[FIRST, SLOTS_2, HELD_LOG])?,
-    ))?;
+    push_file(alloc, &mut files, "a", &[HELD])?;
+    push_file(alloc, &mut files, "b", &[FIRST, SLOTS_2, HELD_LOG])?;
     Ok(MemShelf::new(files, List::from_slice(alloc, fails)?))
 }
 

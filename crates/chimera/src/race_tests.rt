@@ -1,5 +1,4 @@
-use crate::tests::{BANK, check, joined, shelf_of};
-use rr_base::List;
+use crate::tests::{BANK, check, check_files, check_large, files_of};
 use std::alloc::Global;
 use std::process::Abort;
 use std::sync::Wait;
@@ -161,32 +160,20 @@ static RACES: [&str; 2] = ["races", "a"];
 
 fn check_rows(rt: &(impl Abort + Threads + Wait + Sync), alloc: Global) -> Result<(), Fail> {
     for (source, text, status) in ROWS {
-        let mut shelf = shelf_of(alloc, joined(alloc, &[source])?, List::new(alloc))?;
-        check(rt, alloc, &RACES, &[], &mut shelf, (text, status))?;
+        check_files(rt, alloc, &RACES, &[source], &[], (text, status))?;
     }
     Ok(())
 }
 
-// No file of that name, a source of one byte more than it may have, and a sink that fails after four bytes.
+// A sink that fails after four bytes.
 fn check_outside(rt: &(impl Abort + Threads + Wait + Sync), alloc: Global) -> Result<(), Fail> {
-    let large = List::from_vec(vec![in alloc; b' '; 1_048_577]?);
-    let mut shelf = shelf_of(alloc, large, List::new(alloc))?;
-    let missing = ["races", "c"];
-    check(rt, alloc, &missing, &[], &mut shelf, ("shelf fault\n", 9))?;
-    check(
-        rt,
-        alloc,
-        &RACES,
-        &[],
-        &mut shelf,
-        ("too large source\n", 11),
-    )?;
-    let mut shelf = shelf_of(alloc, joined(alloc, &[BANK])?, List::new(alloc))?;
+    let mut shelf = files_of(alloc, &[BANK], &[])?;
     check(rt, alloc, &RACES, &[4], &mut shelf, ("race", 8))
 }
 
 #[test]
 fn lists_the_races(rt: HostRuntime) -> Result<(), Fail> {
     check_rows(&rt, rt.alloc())?;
+    check_large(&rt, rt.alloc(), &RACES, &["races", "c"])?;
     check_outside(&rt, rt.alloc())
 }

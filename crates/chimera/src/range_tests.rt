@@ -1,6 +1,5 @@
-use crate::tests::{FIRST, SLOTS_3, SOUND, check_in, joined, shelf_of};
+use crate::tests::{FIRST, SLOTS_3, SOUND, check_in, files_of, log_files};
 use crate::weak_tests::{BEGIN, STARTS};
-use rr_base::List;
 use std::test::Fail;
 
 const HEAD: &str = "#include <pthread.h>\nint v[8]; int u[8];\n";
@@ -139,15 +138,13 @@ static RANGES: [(&str, &str, &[&str], &str, u8); 7] = [
 fn takes_the_ranges_of_loops(rt: HostRuntime) -> Result<(), Fail> {
     let alloc = rt.alloc();
     for (body, listing) in WITHOUT_RANGE {
-        let source = joined(alloc, &[HEAD, body, MAIN])?;
-        let mut shelf = shelf_of(alloc, source, List::new(alloc))?;
+        let mut shelf = files_of(alloc, &[HEAD, body, MAIN], &[])?;
         let words = ["weaken", "a"];
         check_in(&rt, alloc, &words, &SOUND, &mut shelf, (listing, 0))?;
     }
     for (body, listing, entries, text, status) in RANGES {
-        let mut log = joined(alloc, &[FIRST, SLOTS_3, STARTS])?;
-        log.append(joined(alloc, entries)?)?;
-        let mut shelf = shelf_of(alloc, joined(alloc, &[HEAD, body, MAIN])?, log)?;
+        let head = [FIRST, SLOTS_3, STARTS];
+        let mut shelf = log_files(alloc, &[HEAD, body, MAIN], &head, entries)?;
         for (words, want) in [
             (&["weaken", "a"][..], (listing, 0)),
             (&["replay", "a", "b"], (text, status)),

@@ -1,7 +1,7 @@
 use crate::race_tests::{COUNTER, HELD_BY_CALLER};
 use crate::tests::{
     BANK, DIVIDES, ECHOES, FIRST, IDLE, INPUT_HI, MISUSE, NO_POINTER, NONE_LEFT, Outside, PASSES,
-    SLOTS_1, SLOTS_3, SLOTS_8, SOUND, WAITS, call, check_in, joined, shelf_of,
+    SLOTS_1, SLOTS_3, SLOTS_8, SOUND, WAITS, call, check_in, files_of, joined,
 };
 use rr_base::{Bytes, MemShelf};
 use std::alloc::Global;
@@ -81,11 +81,7 @@ static RECORDS: [(&[&str], &str, &str, &str, u8, &[&str]); 10] = [
 
 // The shelf with the profile of no pairs beside the source.
 pub fn with_source(alloc: Global, source: &[&str]) -> Result<MemShelf, Fail> {
-    Ok(shelf_of(
-        alloc,
-        joined(alloc, source)?,
-        joined(alloc, &["{\"pairs\":[]}"])?,
-    )?)
+    Ok(files_of(alloc, source, &["{\"pairs\":[]}"])?)
 }
 
 pub fn same_log(
@@ -179,8 +175,7 @@ static PROFILES: [(&[&str], &str, &str, u8); 5] = [
 fn takes_a_profile(rt: HostRuntime) -> Result<(), Fail> {
     let alloc = rt.alloc();
     for (words, profile, text, status) in PROFILES {
-        let source = joined(alloc, &[HELD_BY_CALLER])?;
-        let mut shelf = shelf_of(alloc, source, joined(alloc, &[profile])?)?;
+        let mut shelf = files_of(alloc, &[HELD_BY_CALLER], &[profile])?;
         let (told, found) = call(&rt, alloc, words, &SOUND, &mut shelf)?;
         assert_eq!(rt; told.as_slice(), text.as_bytes());
         assert_eq!(rt; found, status, "{text}");
@@ -197,8 +192,7 @@ const LOADS: &str = "0 9 7 1\n0 11 8 2\n0 13 6 1\n1 1 2 0\n1 3 6 0\n2 1 4 0\n2 3
 #[test]
 fn writes_the_loads(rt: HostRuntime) -> Result<(), Fail> {
     let alloc = rt.alloc();
-    let log = joined(alloc, &[FIRST, SLOTS_3, LOST_UPDATE])?;
-    let mut shelf = shelf_of(alloc, joined(alloc, &[COUNTER])?, log)?;
+    let mut shelf = files_of(alloc, &[COUNTER], &[FIRST, SLOTS_3, LOST_UPDATE])?;
     let words = ["replay", "a", "--reads", "r", "b"];
     let (told, found) = call(&rt, alloc, &words, &SOUND, &mut shelf)?;
     assert_eq!(rt; told.as_slice(), "1\n".as_bytes());

@@ -458,12 +458,42 @@ pub fn joined(alloc: Global, parts: &[&str]) -> Result<Bytes, AllocError> {
     Ok(text)
 }
 
+/// Puts a file of these parts behind the others.
+pub fn push_file(
+    alloc: Global,
+    files: &mut List<(Bytes, Bytes)>,
+    name: &str,
+    parts: &[&str],
+) -> Result<(), AllocError> {
+    let content = joined(alloc, parts)?;
+    files.push((joined(alloc, &[name])?, content))
+}
+
 /// A shelf of a source `a` and another file `b`.
 pub fn shelf_of(alloc: Global, source: Bytes, log: Bytes) -> Result<MemShelf, AllocError> {
     let mut files = List::new(alloc);
     files.push((List::from_slice(alloc, b"a")?, source))?;
     files.push((List::from_slice(alloc, b"b")?, log))?;
     Ok(MemShelf::new(files, List::new(alloc)))
+}
+
+/// The same, where each file has these parts.
+pub fn files_of(alloc: Global, source: &[&str], other: &[&str]) -> Result<MemShelf, AllocError> {
+    let source = joined(alloc, source)?;
+    shelf_of(alloc, source, joined(alloc, other)?)
+}
+
+/// The same of a source and a log of this head and these entries.
+pub fn log_files(
+    alloc: Global,
+    source: &[&str],
+    head: &[&str],
+    entries: &[&str],
+) -> Result<MemShelf, AllocError> {
+    let source = joined(alloc, source)?;
+    let mut log = joined(alloc, head)?;
+    log.append(joined(alloc, entries)?)?;
+    shelf_of(alloc, source, log)
 }
 
 /// The outside of a call but for its shelf: the input with the numbers of its reads that fail, the numbers of the sink's calls
@@ -496,6 +526,25 @@ fn order_of(alloc: Global, runs: &[(u8, usize)]) -> Result<List<u8>, AllocError>
     Ok(order)
 }
 
+fn owned(alloc: Global, words: &[&str]) -> Result<Vec<String>, AllocError> {
+    let mut owned = Vec::new(alloc);
+    for word in words {
+        owned.push(String::from_str(alloc, word)?)?;
+    }
+    Ok(owned)
+}
+
+fn input_of(alloc: Global, outside: &Outside) -> Result<MemSource, AllocError> {
+    let bytes = List::from_slice(alloc, outside.input)?;
+    let fails = List::from_slice(alloc, outside.read_fails)?;
+    Ok(MemSource::new(bytes, fails))
+}
+
+fn sink_of(alloc: Global, outside: &Outside) -> Result<MemSink, AllocError> {
+    let fails = List::from_slice(alloc, outside.write_fails)?;
+    Ok(MemSink::new(List::new(alloc), fails, 1))
+}
+
 /// Calls with these words on this crew, and answers what the sink holds then, and the status.
 pub fn call_on<C: Crew>(
     rt: &(impl Abort + Threads + Wait + Sync),
@@ -505,23 +554,11 @@ pub fn call_on<C: Crew>(
     shelf: &mut MemShelf,
     crew: &mut C,
 ) -> Result<(Bytes, u8), Fail> {
-    let mut owned = Vec::new(alloc);
-    for word in words {
-        owned.push(String::from_str(alloc, word)?)?;
-    }
-    let bytes = List::from_slice(alloc, outside.input)?;
-    let mut input = MemSource::new(bytes, List::from_slice(alloc, outside.read_fails)?);
-    let fails = List::from_slice(alloc, outside.write_fails)?;
-    let mut out = MemSink::new(List::new(alloc), fails, 1);
-    let status = chimera(
-        rt,
-        alloc,
-        owned.as_slice(),
-        &mut input,
-        &mut out,
-        shelf,
-        crew,
-    );
+    let words = owned(alloc, words)?;
+    let mut input = input_of(alloc, outside)?;
+    let mut out = sink_of(alloc, outside)?;
+    let words = words.as_slice();
+    let status = chimera(rt, alloc, words, &mut input, &mut out, shelf, crew);
     Ok((out.bytes().copied(alloc)?, status))
 }
 
@@ -569,39 +606,52 @@ pub fn check(
     check_in(rt, alloc, words, &outside, shelf, want)
 }
 
+/// The same over a sound sink and these two files.
+pub fn check_files(
+    rt: &(impl Abort + Threads + Wait + Sync),
+    alloc: Global,
+    words: &[&str],
+    source: &[&str],
+    other: &[&str],
+    want: (&str, u8),
+) -> Result<(), Fail> {
+    let mut shelf = files_of(alloc, source, other)?;
+    check_in(rt, alloc, words, &SOUND, &mut shelf, want)
+}
+
+/// A source of one byte more than it may have, and no file of the name in `missing`.
+pub fn check_large(
+    rt: &(impl Abort + Threads + Wait + Sync),
+    alloc: Global,
+    words: &[&str],
+    missing: &[&str],
+) -> Result<(), Fail> {
+    let large = List::from_vec(vec![in alloc; b' '; 1_048_577]?);
+    let mut shelf = shelf_of(alloc, large, List::new(alloc))?;
+    let want = ("too large source\n", 11);
+    check(rt, alloc, words, &[], &mut shelf, want)?;
+    check(rt, alloc, missing, &[], &mut shelf, ("shelf fault\n", 9))
+}
+
 static REPLAY: [&str; 3] = ["replay", "a", "b"];
 
 fn check_no_jobs(rt: &(impl Abort + Threads + Wait + Sync), alloc: Global) -> Result<(), Fail> {
     for words in NO_JOBS {
-        let mut shelf = shelf_of(alloc, List::new(alloc), List::new(alloc))?;
-        check(rt, alloc, words, &[], &mut shelf, ("usage\n", 1))?;
+        check_files(rt, alloc, words, &[], &[], ("usage\n", 1))?;
     }
     Ok(())
 }
 
-// No file of that name, a source of one byte more than it may have, and a sink that fails at once and after one byte.
+// A sink that fails at once and after one byte.
 fn check_outside(rt: &(impl Abort + Threads + Wait + Sync), alloc: Global) -> Result<(), Fail> {
-    let large = List::from_vec(vec![in alloc; b' '; 1_048_577]?);
-    let mut shelf = shelf_of(alloc, large, List::new(alloc))?;
-    let missing = ["replay", "c", "b"];
-    check(rt, alloc, &missing, &[], &mut shelf, ("shelf fault\n", 9))?;
-    check(
-        rt,
-        alloc,
-        &REPLAY,
-        &[],
-        &mut shelf,
-        ("too large source\n", 11),
-    )?;
-    let mut shelf = shelf_of(alloc, joined(alloc, &[BANK])?, joined(alloc, RUNS[0].1)?)?;
+    let mut shelf = files_of(alloc, &[BANK], RUNS[0].1)?;
     check(rt, alloc, &REPLAY, &[0], &mut shelf, ("", 8))?;
     check(rt, alloc, &REPLAY, &[1], &mut shelf, ("2", 8))
 }
 
 fn check_runs(rt: &(impl Abort + Threads + Wait + Sync), alloc: Global) -> Result<(), Fail> {
     for (source, log, text, status) in RUNS {
-        let mut shelf = shelf_of(alloc, joined(alloc, &[source])?, joined(alloc, log)?)?;
-        check(rt, alloc, &REPLAY, &[], &mut shelf, (text, status))?;
+        check_files(rt, alloc, &REPLAY, &[source], log, (text, status))?;
     }
     Ok(())
 }
@@ -616,27 +666,30 @@ fn cut_answer(alloc: Global, front: &[u8]) -> Result<(String, u8), AllocError> {
     }
 }
 
+fn check_front_part(
+    rt: &(impl Abort + Threads + Wait + Sync),
+    alloc: Global,
+    front: &[u8],
+) -> Result<(), Fail> {
+    let source = joined(alloc, &[BANK])?;
+    let mut shelf = shelf_of(alloc, source, List::from_slice(alloc, front)?)?;
+    let (text, status) = cut_answer(alloc, front)?;
+    check(rt, alloc, &REPLAY, &[], &mut shelf, (&text, status))
+}
+
 // Each front part of the bank's log, byte by byte: none but the whole runs to the end.
 fn check_front_parts(rt: &(impl Abort + Threads + Wait + Sync), alloc: Global) -> Result<(), Fail> {
     let whole = joined(alloc, RUNS[0].1)?;
     for end in 0..whole.len() {
-        let front = &whole.as_slice()[..end];
-        let (text, status) = cut_answer(alloc, front)?;
-        let mut shelf = shelf_of(
-            alloc,
-            joined(alloc, &[BANK])?,
-            List::from_slice(alloc, front)?,
-        )?;
-        check(rt, alloc, &REPLAY, &[], &mut shelf, (&text, status))?;
+        check_front_part(rt, alloc, &whole.as_slice()[..end])?;
     }
     Ok(())
 }
 
 fn check_sources(rt: &(impl Abort + Threads + Wait + Sync), alloc: Global) -> Result<(), Fail> {
     for (source, text, status) in SOURCES {
-        let log = joined(alloc, &[FIRST, SLOTS_8, IDLE])?;
-        let mut shelf = shelf_of(alloc, joined(alloc, &[source])?, log)?;
-        check(rt, alloc, &REPLAY, &[], &mut shelf, (text, status))?;
+        let log = [FIRST, SLOTS_8, IDLE];
+        check_files(rt, alloc, &REPLAY, &[source], &log, (text, status))?;
     }
     Ok(())
 }
@@ -651,13 +704,23 @@ fn nested(alloc: Global, depth: usize) -> Result<Bytes, AllocError> {
     Ok(text)
 }
 
+fn check_nested(
+    rt: &(impl Abort + Threads + Wait + Sync),
+    alloc: Global,
+    depth: usize,
+    want: (&str, u8),
+) -> Result<(), Fail> {
+    let source = nested(alloc, depth)?;
+    let log = joined(alloc, &[FIRST, SLOTS_8, IDLE])?;
+    let mut shelf = shelf_of(alloc, source, log)?;
+    check(rt, alloc, &REPLAY, &[], &mut shelf, want)
+}
+
 // One level more than 256, and the last that the grammar takes.
 fn check_levels(rt: &(impl Abort + Threads + Wait + Sync), alloc: Global) -> Result<(), Fail> {
     let rows = [(255, "source refused 8 1 278\n", 2), (254, "", 0)];
     for (depth, text, status) in rows {
-        let log = joined(alloc, &[FIRST, SLOTS_8, IDLE])?;
-        let mut shelf = shelf_of(alloc, nested(alloc, depth)?, log)?;
-        check(rt, alloc, &REPLAY, &[], &mut shelf, (text, status))?;
+        check_nested(rt, alloc, depth, (text, status))?;
     }
     Ok(())
 }
@@ -665,6 +728,7 @@ fn check_levels(rt: &(impl Abort + Threads + Wait + Sync), alloc: Global) -> Res
 #[test]
 fn tells_the_rows(rt: HostRuntime) -> Result<(), Fail> {
     check_no_jobs(&rt, rt.alloc())?;
+    check_large(&rt, rt.alloc(), &REPLAY, &["replay", "c", "b"])?;
     check_outside(&rt, rt.alloc())?;
     check_runs(&rt, rt.alloc())?;
     check_sources(&rt, rt.alloc())?;

@@ -1,7 +1,7 @@
 use crate::order_tests::CHANGES;
 use crate::record_tests::with_source;
 use crate::tests::{
-    BANK, FIRST, NONE_LEFT, PASSES, RUNS, SLOTS_8, SOUND, WAITS, call_on, joined, shelf_of,
+    BANK, FIRST, NONE_LEFT, PASSES, RUNS, SLOTS_8, SOUND, WAITS, call_on, files_of, log_files,
 };
 use crate::weak_tests::RUNS as WEAK_RUNS;
 use crew::ScopeCrew;
@@ -51,9 +51,7 @@ fn records_on_threads(rt: HostRuntime) -> Result<(), Fail> {
 // The bank's log with one thing changed.
 fn check_changes(rt: &(impl Abort + Threads + Wait + Sync), alloc: Global) -> Result<(), Fail> {
     for (entries, text, status) in CHANGES {
-        let mut log = joined(alloc, &[FIRST, SLOTS_8])?;
-        log.append(joined(alloc, entries)?)?;
-        let mut shelf = shelf_of(alloc, joined(alloc, &[BANK])?, log)?;
+        let mut shelf = log_files(alloc, &[BANK], &[FIRST, SLOTS_8], entries)?;
         let words = ["replay", "a", "b"];
         check_on_threads(rt, alloc, &words, &mut shelf, (text, status))?;
     }
@@ -67,7 +65,7 @@ fn replays_on_threads(rt: HostRuntime) -> Result<(), Fail> {
     let words = ["replay", "a", "b"];
     for runs in [&RUNS[..], &WEAK_RUNS] {
         for (source, log, text, status) in runs {
-            let mut shelf = shelf_of(alloc, joined(alloc, &[source])?, joined(alloc, log)?)?;
+            let mut shelf = files_of(alloc, &[source], log)?;
             check_on_threads(&rt, alloc, &words, &mut shelf, (text, *status))?;
         }
     }

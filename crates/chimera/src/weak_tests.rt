@@ -1,6 +1,5 @@
 use crate::race_tests::{COUNTER, HELD_BY_CALLER, ONE_LINE, READERS};
-use crate::tests::{BANK, FIRST, SLOTS_3, check, joined, shelf_of};
-use rr_base::List;
+use crate::tests::{BANK, FIRST, SLOTS_3, check, check_files, check_large, files_of};
 use std::alloc::Global;
 use std::process::Abort;
 use std::sync::Wait;
@@ -207,8 +206,7 @@ static WEAKEN: [&str; 2] = ["weaken", "a"];
 
 fn check_listings(rt: &(impl Abort + Threads + Wait + Sync), alloc: Global) -> Result<(), Fail> {
     for (source, text, status) in LISTINGS {
-        let mut shelf = shelf_of(alloc, joined(alloc, &[source])?, List::new(alloc))?;
-        check(rt, alloc, &WEAKEN, &[], &mut shelf, (text, status))?;
+        check_files(rt, alloc, &WEAKEN, &[source], &[], (text, status))?;
     }
     Ok(())
 }
@@ -217,21 +215,14 @@ static REPLAY: [&str; 3] = ["replay", "a", "b"];
 
 fn check_runs(rt: &(impl Abort + Threads + Wait + Sync), alloc: Global) -> Result<(), Fail> {
     for (source, log, text, status) in RUNS {
-        let mut shelf = shelf_of(alloc, joined(alloc, &[source])?, joined(alloc, log)?)?;
-        check(rt, alloc, &REPLAY, &[], &mut shelf, (text, status))?;
+        check_files(rt, alloc, &REPLAY, &[source], log, (text, status))?;
     }
     Ok(())
 }
 
-// No file of that name, a source of one byte more than it may have, and a sink that fails after four bytes.
+// A sink that fails after four bytes.
 fn check_outside(rt: &(impl Abort + Threads + Wait + Sync), alloc: Global) -> Result<(), Fail> {
-    let large = List::from_vec(vec![in alloc; b' '; 1_048_577]?);
-    let mut shelf = shelf_of(alloc, large, List::new(alloc))?;
-    let missing = ["weaken", "c"];
-    let large = ("too large source\n", 11);
-    check(rt, alloc, &missing, &[], &mut shelf, ("shelf fault\n", 9))?;
-    check(rt, alloc, &WEAKEN, &[], &mut shelf, large)?;
-    let mut shelf = shelf_of(alloc, joined(alloc, &[COUNTER])?, List::new(alloc))?;
+    let mut shelf = files_of(alloc, &[COUNTER], &[])?;
     check(rt, alloc, &WEAKEN, &[4], &mut shelf, ("lock", 8))
 }
 
@@ -243,5 +234,6 @@ fn walks_the_weak_locks(rt: HostRuntime) -> Result<(), Fail> {
 #[test]
 fn lists_the_weak_locks(rt: HostRuntime) -> Result<(), Fail> {
     check_listings(&rt, rt.alloc())?;
+    check_large(&rt, rt.alloc(), &WEAKEN, &["weaken", "c"])?;
     check_outside(&rt, rt.alloc())
 }

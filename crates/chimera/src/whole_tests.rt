@@ -1,6 +1,6 @@
 // Two sources that hold nearly every construct of the language and every call of the library, their logs, and what they print.
 
-use crate::tests::{check, joined, shelf_of};
+use crate::tests::check_files;
 use std::alloc::Global;
 use std::process::Abort;
 use std::sync::Wait;
@@ -440,15 +440,8 @@ static ROWS: [(&str, &str, &str); 2] = [
 
 fn check_rows(rt: &(impl Abort + Threads + Wait + Sync), alloc: Global) -> Result<(), Fail> {
     for (source, log, prints) in ROWS {
-        let mut shelf = shelf_of(alloc, joined(alloc, &[source])?, joined(alloc, &[log])?)?;
-        check(
-            rt,
-            alloc,
-            &["replay", "a", "b"],
-            &[],
-            &mut shelf,
-            (prints, 0),
-        )?;
+        let words = ["replay", "a", "b"];
+        check_files(rt, alloc, &words, &[source], &[log], (prints, 0))?;
     }
     Ok(())
 }
