@@ -14,7 +14,6 @@ ghost use Rattle.c_elaborate.specs.Statements as spec_statements;
 ghost use Rattle.c_elaborate.specs.Functions as spec;
 ghost use Rattle.c_values.specs.Views.{frame_in, source_in};
 
-use crate::initials::sum;
 use crate::local::Local;
 use crate::make;
 use crate::statement::push_parts;
@@ -25,7 +24,7 @@ use c_sites::{Marks, NumberTable, is_kept};
 use c_tree::{Declaration, Declarator, ForStart, Item, Name, Param, Part, Specifier, Stmt};
 use c_types::StarredType;
 use c_values::{Frame, Home, Source, gives_pointer, site_at};
-use rr_base::{Bytes, List, Position, Site};
+use rr_base::{Bytes, List, Position, Site, length_sum, sum};
 use std::alloc::{AllocError, Global};
 
 fn formal_of(param: &Param) -> Local
@@ -126,16 +125,6 @@ fn push_parts_locals(parts: &[Part], out: &mut List<Local>) -> Result<(), AllocE
     Ok(())
 }
 
-/// A number more. More than the machine can count don't fit its memory.
-fn following(number: usize) -> Result<usize, AllocError>
-    ensures { IfOk result (λ n. n ≡ number + 1) }
-{
-    match number.checked_add(1) {
-        Some(next) => Ok(next),
-        None => Err(AllocError),
-    }
-}
-
 /// Those to which `&` is applied, by their numbers from `first` on, are kept in cells too.
 fn marked(
     alloc: Global,
@@ -153,7 +142,7 @@ fn marked(
             is_pointer: local.is_pointer,
             at: local.at,
         })?;
-        number = following(number)?;
+        number = length_sum(number, 1)?;
     }
     Ok(out)
 }
@@ -398,16 +387,6 @@ fn function_by(
     })
 }
 
-/// So many numbers more.
-fn behind(number: usize, many: usize) -> Result<usize, AllocError>
-    ensures { IfOk result (λ n. n ≡ number + many) }
-{
-    match number.checked_add(many) {
-        Some(next) => Ok(next),
-        None => Err(AllocError),
-    }
-}
-
 /// The formals and locals of a definition, and the number behind theirs.
 #[derive(Drop)]
 struct Kept {
@@ -428,10 +407,10 @@ fn kept_in(
     ensures locals { IfOk result (λ k. k.locals ≡ spec.marked marks.now.numbers (first + length params.now) (spec.parts_locals (listed_parts (map tree.part_of parts.now)))) }
     ensures last { IfOk result (λ k. k.last ≡ first + (length params.now + count_of_parts (listed_parts (map tree.part_of parts.now)))) }
 {
-    let middle = behind(first, params.len())?;
+    let middle = length_sum(first, params.len())?;
     let formals = formals_of(alloc, marks, first, params)?;
     let locals = locals_of(alloc, marks, middle, parts)?;
-    let last = behind(middle, locals.len())?;
+    let last = length_sum(middle, locals.len())?;
     Ok(Kept {
         formals,
         locals,

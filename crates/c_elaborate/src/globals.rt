@@ -13,7 +13,7 @@ ghost use Rattle.c_programs.specs.Table.{known_of};
 ghost use Rattle.c_elaborate.specs.Globals as spec;
 ghost use Rattle.c_values.specs.Views.{globals_of, source_in};
 
-use crate::initials::{kinds_of_some, sum};
+use crate::initials::kinds_of_some;
 use c_programs::{Table, copy_of, declare_object, declared_type, part_at, ref_of};
 use c_rules::{is_constant, value_of};
 use c_sites::{Holder, Spot};
@@ -21,7 +21,7 @@ use c_tree::{Declarator, Expr, Initial, Item, Specifier};
 use c_types::{Names, TypeRef};
 use c_values::Source;
 use indexmap::IndexMap;
-use rr_base::{CellKind, List, PtrWord, Site};
+use rr_base::{CellKind, List, PtrWord, Site, sum};
 use std::alloc::{AllocError, Global};
 
 /// The pointer to the first cell of an object. One whose parts don't fit into a word is no object of a machine.

@@ -15,18 +15,8 @@ use c_programs::{part_at, ref_of, value_target};
 use c_tree::Initial;
 use c_types::{ObjectType, Target, TypeRef, put_layered};
 use c_values::{Here, Home, Source, is_pointer_type, make, wanted};
-use rr_base::{CellKind, List, Position};
+use rr_base::{CellKind, List, Position, sum};
 use std::alloc::{AllocError, Global};
-
-/// The sum of two numbers of cells. More cells than 32 bits can count don't fit the memory of a machine.
-pub fn sum(a: u32, b: u32) -> Result<u32, AllocError>
-    ensures { IfOk result (λ n. n ≡ a + b) }
-{
-    match a.checked_add(b) {
-        Some(sum) => Ok(sum),
-        None => Err(AllocError),
-    }
-}
 
 /// The kinds of the cells of an object of the type.
 pub fn kinds_of_some(

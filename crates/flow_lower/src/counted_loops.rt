@@ -6,11 +6,11 @@ ghost use Rattle.flow_lower.specs.Kept.{kept, maybe_kept, statement_kept, statem
 ghost use Rattle.flow_lower.specs.Sizes as size;
 ghost use Rattle.flow_lower.specs.Loops as spec;
 
-use crate::sizes::{maybe_size, statement_size, sum, test_size, value_size};
+use crate::sizes::{maybe_size, statement_size, test_size, value_size};
 use abstract_machine::BinaryOp;
 use c_core::{Assignment, Change, Operation, Simple, Statement, Value};
 use flow_code::{Bound, LoopInfo};
-use rr_base::List;
+use rr_base::{List, sum};
 use std::alloc::AllocError;
 
 fn number_of(e: &Value) -> Option<i64>

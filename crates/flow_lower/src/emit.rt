@@ -2,10 +2,9 @@
 ghost use Rattle.std.specs.Prelude.{◌≡◌, ◌+◌, ◌++◌, ◌∷◌, IfOk, OnOk};
 ghost use Rattle.flow_lower.specs.Lowered as spec;
 
-use crate::sizes::sum;
 use c_core::{Change, UnaryOp};
 use flow_code::{Act, Instr, Work};
-use rr_base::{List, Position};
+use rr_base::{List, Position, sum};
 use std::alloc::AllocError;
 
 /// The next free register, and the place of the next instruction.

@@ -9,11 +9,11 @@ ghost use Rattle.flow_lower.specs.Lowered as spec;
 use crate::counted_loops::push_statement_loops;
 use crate::emit::{Next, push};
 use crate::kinds::push_statement_kinds;
-use crate::sizes::{statement_size, sum};
+use crate::sizes::statement_size;
 use crate::statement::{Around, push_statement};
 use c_core::{Arrival, Core, CoreFunction};
 use flow_code::{Act, Code, Function, Instr, LoopInfo};
-use rr_base::{Bytes, List, Position};
+use rr_base::{Bytes, List, Position, sum};
 use std::alloc::{AllocError, Global};
 
 /// A count that doesn't fit 32 bits is one of what the machine's memory can't hold.

@@ -8,11 +8,11 @@ ghost use Rattle.flow_lower.specs.Lowered as spec;
 
 use crate::emit::{Next, change_work, push, push_truth, push_work};
 use crate::library::gives_nothing;
-use crate::sizes::{sum, value_size};
+use crate::sizes::value_size;
 use abstract_machine::{BinaryOp, LibraryCall};
 use c_core::{Change, Simple, Value};
 use flow_code::{Act, Instr, Work};
-use rr_base::{List, Position};
+use rr_base::{List, Position, sum};
 use std::alloc::AllocError;
 
 /// The register that has the value of an expression, and what is free behind its code.

@@ -9,17 +9,8 @@ ghost use Rattle.flow_lower.specs.Lowered as spec;
 use crate::copies::{loses, loses_to};
 use crate::library::library_size;
 use c_core::{Assignment, Call, Choice, Operation, Simple, Statement, Value};
+use rr_base::sum;
 use std::alloc::AllocError;
-
-/// The sum, if it fits. Code with more instructions or registers doesn't fit the machine's memory either.
-pub fn sum(a: u32, b: u32) -> Result<u32, AllocError>
-    ensures { IfOk result (λ n. n ≡ a + b) }
-{
-    match a.checked_add(b) {
-        Some(sum) => Ok(sum),
-        None => Err(AllocError),
-    }
-}
 
 /// The sum of three.
 fn sum_of(a: u32, b: u32, c: u32) -> Result<u32, AllocError>

@@ -9,10 +9,10 @@ ghost use Rattle.flow_lower.specs.Lowered as spec;
 use crate::emit::Next;
 use crate::expression::push_value;
 use crate::pieces::push_last;
-use crate::sizes::{maybe_size, statement_size, sum, test_size, value_size};
+use crate::sizes::{maybe_size, statement_size, test_size, value_size};
 use c_core::{Statement, Value};
 use flow_code::{Act, Instr};
-use rr_base::{List, Position};
+use rr_base::{List, Position, sum};
 use std::alloc::{AllocError, Global};
 
 /// Where the loop round a statement is left and continued.

@@ -11,7 +11,7 @@ ghost use Rattle.weak_facts.specs.Ranges as spec;
 
 use crate::acts::pointer_of;
 use crate::heads::{Heads, heads_of};
-use crate::loops::{counted_of, following};
+use crate::loops::counted_of;
 use crate::makers::{Makers, makers_of, only_maker};
 use crate::operands::operand_makers;
 use crate::rounds::rounds_of;
@@ -21,7 +21,7 @@ use crate::ways::{Ways, ways_of};
 use abstract_machine::site_at;
 use facts::{PointsTo, amounts, block_starts};
 use flow_code::{Act, Code, Function, Instr, LoopInfo};
-use rr_base::{List, Place};
+use rr_base::{List, Place, sum};
 use std::alloc::{AllocError, Global};
 use weak_facts::Range;
 
@@ -295,7 +295,7 @@ pub fn ranges(alloc: Global, code: &Code, points: &PointsTo) -> Result<List<Rang
     let mut number = 0;
     for function in code.functions.as_slice() {
         push_function(alloc, code, points, number, function, &mut out)?;
-        number = following(number)?;
+        number = sum(number, 1)?;
     }
     Ok(out)
 }

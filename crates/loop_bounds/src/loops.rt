@@ -6,7 +6,7 @@ ghost use Rattle.weak_facts.specs.Loops as spec;
 use crate::counted::is_counted;
 use crate::ways::{Ways, ways_of};
 use flow_code::{Code, Function, LoopInfo};
-use rr_base::List;
+use rr_base::{List, sum};
 use std::alloc::{AllocError, Global};
 use weak_facts::LoopAt;
 
@@ -53,13 +53,6 @@ fn push_function(
     push_loops(number, loops.as_slice(), out)
 }
 
-/// The number of the next function. More than there are numbers don't fit the machine's memory either.
-pub fn following(number: u32) -> Result<u32, AllocError>
-    ensures { IfOk result (λ n. n ≡ number + 1) }
-{
-    number.checked_add(1).ok_or(AllocError)
-}
-
 /// The counted loops of a code, each with its function's number, by function and then as the function lists them: each
 /// listed loop whose form the instructions have, whose counter only the last part assigns, and whose bound nothing in it
 /// assigns.
@@ -70,7 +63,7 @@ pub fn counted_loops(alloc: Global, code: &Code) -> Result<List<LoopAt>, AllocEr
     let mut number = 0;
     for function in code.functions.as_slice() {
         push_function(alloc, number, function, &mut out)?;
-        number = following(number)?;
+        number = sum(number, 1)?;
     }
     Ok(out)
 }

@@ -11,7 +11,7 @@ use crate::globals::push_sites;
 use abstract_machine::LibraryCall;
 use facts::{Constraint, Node, amounts, block_starts};
 use flow_code::{Act, Code, Function, Instr, Work};
-use rr_base::{List, Place};
+use rr_base::{List, Place, sum};
 use std::alloc::{AllocError, Global};
 
 fn register_of(function: u32, register: u32) -> Node
@@ -104,19 +104,9 @@ fn push_arguments(
                 register: formal,
             },
         })?;
-        formal = following(formal)?;
+        formal = sum(formal, 1)?;
     }
     Ok(())
-}
-
-/// The next number. A call with more arguments doesn't fit the machine's memory either.
-pub fn following(number: u32) -> Result<u32, AllocError>
-    ensures { IfOk result (λ n. n ≡ number + 1) }
-{
-    match number.checked_add(1) {
-        Some(next) => Ok(next),
-        None => Err(AllocError),
-    }
 }
 
 /// What a function gives goes into a register of its caller.
@@ -303,7 +293,7 @@ fn push_functions(
     let mut number = 0;
     for function in functions {
         push_function(alloc, number, function, out)?;
-        number = following(number)?;
+        number = sum(number, 1)?;
     }
     Ok(())
 }

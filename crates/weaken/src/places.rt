@@ -7,7 +7,7 @@ ghost use Rattle.weaken.specs.Tables.{returns as returns_of, IsPlan};
 use crate::grouping::{empty_groups, put};
 use crate::plan::Plan;
 use flow_code::{Act, Instr};
-use rr_base::List;
+use rr_base::{List, length_sum};
 use std::alloc::{AllocError, Global};
 use weak_code::Stretch;
 
@@ -38,7 +38,7 @@ fn beginning(
 fn behind(stretch: &Stretch) -> Result<usize, AllocError>
     ensures { IfOk result (λ n. n ≡ stretch.now.last + 1) }
 {
-    stretch.last.checked_add(1).ok_or(AllocError)
+    length_sum(stretch.last, 1)
 }
 
 /// The regions that end before it.
@@ -131,10 +131,10 @@ fn left(
 fn behind_block(place: usize, ends: usize, begins: usize, left: usize) -> Result<usize, AllocError>
     ensures { IfOk result (λ n. n ≡ place + (ends + begins + left + 1)) }
 {
-    let ended = place.checked_add(ends).ok_or(AllocError)?;
-    let turned = ended.checked_add(begins).ok_or(AllocError)?;
-    let before = turned.checked_add(left).ok_or(AllocError)?;
-    before.checked_add(1).ok_or(AllocError)
+    let ended = length_sum(place, ends)?;
+    let turned = length_sum(ended, begins)?;
+    let before = length_sum(turned, left)?;
+    length_sum(before, 1)
 }
 
 /// The places that follow from so many weak instructions before each instruction.

@@ -9,7 +9,7 @@ ghost use Rattle.weaken.specs.Jumps.{jumps_within, all_jumps_within};
 use crate::copies::copied_act;
 use crate::plan::Plan;
 use flow_code::{Act, Instr};
-use rr_base::List;
+use rr_base::{List, length_sum};
 use std::alloc::{AllocError, Global};
 use weak_code::Stretch;
 
@@ -17,14 +17,8 @@ use weak_code::Stretch;
 fn instr_number(place: usize, more: usize) -> Result<u32, AllocError>
     ensures { IfOk result (λ n. n ≡ place + more) }
 {
-    let sum = place.checked_add(more).ok_or(AllocError)?;
+    let sum = length_sum(place, more)?;
     u32::try_from(sum).map_err(|_| AllocError)
-}
-
-fn sum(a: usize, b: usize) -> Result<usize, AllocError>
-    ensures { IfOk result (λ n. n ≡ a + b) }
-{
-    a.checked_add(b).ok_or(AllocError)
 }
 
 /// How many Gives and Takes stand before an instruction, but for those of a return.
@@ -33,10 +27,7 @@ fn turned_len(plan: &Plan, at: usize) -> Result<usize, AllocError>
     requires ends { at < length plan.now.ends.items }
     ensures { IfOk result (λ n. n ≡ length (slice_index_or plan.now.ends.items at []) + length (slice_index_or plan.now.begins.items at [])) }
 {
-    plan.ends[at]
-        .len()
-        .checked_add(plan.begins[at].len())
-        .ok_or(AllocError)
+    length_sum(plan.ends[at].len(), plan.begins[at].len())
 }
 
 /// Where an instruction itself comes to stand.
@@ -51,7 +42,7 @@ pub(crate) fn seat(
     ensures { IfOk result (λ n. n ≡ places.seat_of _stretches.now instrs.now at) }
 {
     let turned = turned_len(plan, at)?;
-    let before = sum(turned, plan.left[at].len())?;
+    let before = length_sum(turned, plan.left[at].len())?;
     instr_number(plan.places[at], before)
 }
 
