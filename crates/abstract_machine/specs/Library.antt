@@ -128,7 +128,7 @@ exit_due w value zero = due.Store (result_cell w.thread) value
 exit_due w value (suc zero) = due.Operate op.End (object.Slot w.thread)
 exit_due w value (suc (suc n)) = due.Operate op.Leave object.Threads
 
--- what is due behind the only event of a call, which may have answered that it was a misuse
+-- what is due after the only event of a call, which may have answered that it was a misuse
 abbrev pub checked_due : Trap → ℤ → Due
 checked_due misuse kept = if is_misuse kept then due.Trap misuse else due.Quiet
 

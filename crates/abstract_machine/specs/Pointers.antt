@@ -55,7 +55,7 @@ of_kind (Err t) fits = Err t
 abbrev pub resolved : List Site → ℕ → CellKind → Result ℕ Trap
 resolved sites w want = of_kind (pointer.cell_of (known sites w)) (is_kind (kind_in (site_at sites (site_of w)) (offset_of w)) want)
 
--- the pointer so many cells further on, within its object or right behind it
+-- the pointer so many cells further on, within its object or right after it
 abbrev pub moved : List Site → ℕ → ℤ → Result ℕ Trap
 moved sites w cells = pointer.moved (known sites w) cells
 

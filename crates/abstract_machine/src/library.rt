@@ -208,7 +208,7 @@ fn exit_due(caller: &Caller, value: u64, made: u8) -> Due
     }
 }
 
-// What is due behind the only event of a call, which may have answered that it was a misuse.
+// What is due after the only event of a call, which may have answered that it was a misuse.
 fn checked_due(misuse: Trap, kept: i64) -> Due
     ensures { result ≡ spec.checked_due misuse kept }
 {

@@ -80,7 +80,7 @@ pub fn resolved(sites: &[Site], word: u64, want: CellKind) -> Result<u32, Trap>
     }
 }
 
-/// The pointer so many cells further on, within its object or right behind it (C99 6.5.6). It is BadDereference
+/// The pointer so many cells further on, within its object or right after it (C99 6.5.6). It is BadDereference
 /// where the word points nowhere, else OutOfObject where the pointer would leave its object.
 pub fn moved(sites: &[Site], word: u64, cells: i64) -> Result<u64, Trap>
     ensures { result ≡ spec.moved sites.now word cells }

@@ -20,7 +20,7 @@ fn word_at(registers: &[u64], arguments: &[u32], k: usize) -> Option<u64>
     Some(register(registers, *r))
 }
 
-// Which argument is next behind a piece, where `k` is next before it.
+// Which argument is next after a piece, where `k` is next before it.
 fn next_argument(piece: Piece, k: usize) -> usize
     requires { k + 1 < 2 ^ 64 }
     ensures { result ≡ (if spec.takes_argument piece then k + 1 else k) }

@@ -21,7 +21,7 @@ use Rattle.abstract_machine.specs.declared.event.Action.TheVariants as action
 use Rattle.abstract_machine.specs.declared.event.Due.{Due}
 use Rattle.abstract_machine.specs.declared.event.Due.TheVariants as due
 use Rattle.flow_code.specs.declared.code.Code.{Code}
-use Rattle.flow_code.specs.Next.{due_of, action_of, stopped, shut}
+use Rattle.flow_code.specs.Next.{due_of, action_of, stopped, slot_closed}
 use Rattle.flow_code.specs.Settle.{settled, IsRunnable}
 use Rattle.flow_code.specs.Threads.{Thread}
 use Rattle.flow_code.proofs.Counts.{IsAccessAction}
@@ -124,7 +124,7 @@ module _ (code : Code) (s : SetupView) (run : IsRunnable code) (limits : IsWithi
           by_row x same.0 same.1 d.1
       by_makes x (by_revoke lock stripe m a b c) = absurd (was (sym (ap (joining code) c) ∙ now))
       by_makes x (by_stop m a b c) = let n : joining code (stopped h.before.thread) ≡ None = refl in no_join (sym n ∙ sym (ap (joining code) c) ∙ now)
-      by_makes x (by_close m a b c) = let n : joining code (shut h.before.thread) ≡ None = refl in no_join (sym n ∙ sym (ap (joining code) c) ∙ now)
+      by_makes x (by_close m a b c) = let n : joining code (slot_closed h.before.thread) ≡ None = refl in no_join (sym n ∙ sym (ap (joining code) c) ∙ now)
 
       by_access : IsAccessStep code s st.words st1.words (event_of (machine code s) st l) l h.before.thread h.after.thread → JoinsHere st l t k
       by_access x =

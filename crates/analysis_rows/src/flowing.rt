@@ -10,7 +10,7 @@ use rr_base::{Bytes, List};
 use std::alloc::{AllocError, Global};
 use std::test::Fail;
 
-// The mutex to which the first formal points, and the one two cells behind it.
+// The mutex to which the first formal points, and the one two cells after it.
 const FIRST: LockPath = LockPath::Formal {
     index: 0,
     offset: 0,
@@ -38,7 +38,7 @@ enum Body {
     Calls,
 }
 
-// The instructions behind the first one, which takes the mutex or tries to.
+// The instructions after the first one, which takes the mutex or tries to.
 fn rest(alloc: Global, body: Body) -> Result<Vec<Act>, AllocError> {
     let mut acts = Vec::new(alloc);
     match body {

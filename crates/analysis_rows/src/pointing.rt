@@ -150,7 +150,7 @@ fn kinds_of(alloc: Global, rows: &[(CellKind, u32, u32)]) -> Result<List<CellKin
     Ok(kinds)
 }
 
-// The objects lie one behind another.
+// The objects lie one after another.
 fn bases_of(alloc: Global, rows: &[(CellKind, u32, u32)]) -> Result<List<Option<u32>>, AllocError> {
     let mut bases = List::new(alloc);
     let mut next: u32 = 0;

@@ -38,7 +38,7 @@ enum Program {
     /// `main` starts 1 and 2 and joins both.
     Threads,
     /// Function 0 takes the mutex of its formal, 1 gives one back that it doesn't know, 2 calls both with the mutex, and
-    /// stores behind each call.
+    /// stores after each call.
     Formals,
 }
 
@@ -272,11 +272,11 @@ fn functions_are_summarised(rt: HostRuntime) -> Result<(), Fail> {
         plus: HELD,
         ..free(0, 1, true)
     };
-    let behind_take = Want {
+    let after_take = Want {
         plus: HELD,
         ..free(2, 3, true)
     };
-    let behind_any = Want {
+    let after_any = Want {
         minus: None,
         ..free(2, 7, true)
     };
@@ -295,7 +295,7 @@ fn functions_are_summarised(rt: HostRuntime) -> Result<(), Fail> {
         (Program::Threads, 3, &[], Some(none), &main),
         (Program::Formals, 0, HANDED, Some(none), &[]),
         (Program::Formals, 1, &[], None, &[]),
-        (Program::Formals, 2, &[], None, &[behind_take, behind_any]),
+        (Program::Formals, 2, &[], None, &[after_take, after_any]),
         (Program::Formals, 3, &[], Some(none), &[]),
     ];
     for (program, function, held, gone, wants) in rows {

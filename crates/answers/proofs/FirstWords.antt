@@ -59,7 +59,7 @@ pub wrong_first : (word : List ℕ) (words : List (List ℕ)) → is_name word �
 wrong_first word [] h k = let e = not_option word k in rw (h, e) refl
 wrong_first word (next ∷ words) h k = let e = not_option word k in rw (e, h) refl
 
--- a slice is its first item and what is behind that
+-- a slice is its first item and what is after that
 pub split_front : {X : Type 0} (xs : List X) (x : X) → 1 ≤ length xs → x ≡ get_or xs 0 x → xs ≡ x ∷ take (length xs - 1) (drop 1 xs)
 split_front [] x h e = absurd (omega arith)
 split_front (y ∷ ys) x h e =

@@ -47,7 +47,7 @@ record Ready (c : Command) : Type 0 where
   passing : list_all default_passes (shape_of c).rules ≡ true
   none : list_all (λ (a : Rule). is_empty a.defaults) (shape_of c).rules ≡ true
   valid : (rows : List Row) → is_valid (shape_of c) rows false ≡ true
-  behind : (words : List Text) → argument_words (reader_of c) words ≡ words
+  following : (words : List Text) → argument_words (reader_of c) words ≡ words
 
 -- each of the names
 abbrev Each : (Text → Type 0) → List Text → Type 0
@@ -86,7 +86,7 @@ races_ready = record {
   passing = refl;
   none = refl;
   valid = λ rows. refl;
-  behind = λ words. refl;
+  following = λ words. refl;
 }
 
 weaken_ready : Ready command.Weaken
@@ -99,7 +99,7 @@ weaken_ready = record {
   passing = refl;
   none = refl;
   valid = λ rows. refl;
-  behind = λ words. refl;
+  following = λ words. refl;
 }
 
 record_ready : Ready command.Record
@@ -113,7 +113,7 @@ record_ready = record {
   passing = refl;
   none = refl;
   valid = λ rows. refl;
-  behind = λ words. refl;
+  following = λ words. refl;
 }
 
 replay_ready : Ready command.Replay
@@ -126,7 +126,7 @@ replay_ready = record {
   passing = refl;
   none = refl;
   valid = λ rows. refl;
-  behind = λ words. refl;
+  following = λ words. refl;
 }
 
 profile_ready : Ready command.Profile
@@ -139,7 +139,7 @@ profile_ready = record {
   passing = refl;
   none = refl;
   valid = λ rows. refl;
-  behind = λ words. refl;
+  following = λ words. refl;
 }
 
 make_ready : Ready command.Make
@@ -152,7 +152,7 @@ make_ready = record {
   passing = refl;
   none = refl;
   valid = λ rows. refl;
-  behind = λ words. refl;
+  following = λ words. refl;
 }
 
 ready : (c : Command) → Ready c
@@ -183,7 +183,7 @@ reads c words fit number =
     let takes_all = leaf_takes (built (reader_of c)) nothing_held words r.leaf level in
     let end = ap (finished s.rules) held ∙ ap (λ h. fold with_default h.rows s.rules) (settled_is s.rules w.done w.last w.settles) ∙ no_default (map row_of (so_far w.done w.last)) s.rules r.none in
     record {
-      taken = and_from _ _ r.simple (ap (built_takes (built (reader_of c)) nothing_held) (r.behind words) ∙ takes_all);
+      taken = and_from _ _ r.simple (ap (built_takes (built (reader_of c)) nothing_held) (r.following words) ∙ takes_all);
       simple = r.simple;
-      rows = ap (λ ws. rows_after s.rules (names_of (built (reader_of c))) ws) (r.behind words) ∙ ap (λ subs. rows_after s.rules (map label_of subs) words) r.leaf ∙ end ∙ ap (map row_of) w.holds;
+      rows = ap (λ ws. rows_after s.rules (names_of (built (reader_of c))) ws) (r.following words) ∙ ap (λ subs. rows_after s.rules (map label_of subs) words) r.leaf ∙ end ∙ ap (map row_of) w.holds;
     }

@@ -1,4 +1,4 @@
--- A line that is written part by part: a word with a number behind it, up to three times, and the newline.
+-- A line that is written part by part: a word with a number after it, up to three times, and the newline.
 use Rattle.std.proofs.Common.{◌≡◌, ℕ, List, ◌++◌, ap, ◌∙◌, append_assoc}
 
 pub one_number : (o a b w x e : List ℕ) → a ≡ o ++ (w ++ x) → b ≡ a ++ e → b ≡ o ++ (w ++ x ++ e)

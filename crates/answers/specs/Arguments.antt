@@ -1,4 +1,4 @@
--- How the words behind a command are read: as positional words, and as options with their values.
+-- How the words after a command are read: as positional words, and as options with their values.
 use Rattle.std.specs.Prelude.{◌≡◌, refl, ℕ, Bool, true, false, not, ◌==◌, ◌&&◌, nat_eq, nat_le, if◌then◌else◌, List, [], ◌∷◌, drop, Option, Some, None, is_none, codes, decimal}
 use Rattle.std.specs.Fmt.{digits}
 use Rattle.std.specs.List.{starts_with, list_any, before_first, after_first}

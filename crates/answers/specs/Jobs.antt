@@ -75,7 +75,7 @@ asked_of _ _ _ = None
 abbrev pub job_by : (given : List Argument) → Command → Option Asked
 job_by given command = if are_fit (takes command) given then asked_of command (positional given) given else None
 
--- what the words behind the program's name ask for: a command, and its arguments. Other words ask for nothing
+-- what the words after the program's name ask for: a command, and its arguments. Other words ask for nothing
 abbrev pub job_of : List (List ℕ) → Option Asked
 job_of [] = None
 job_of (word ∷ words) = option_and_then (job_by (arguments words)) (command_of word)

@@ -1,4 +1,4 @@
--- The commands of `clap` that read the words behind a command, and what they match there.
+-- The commands of `clap` that read the words after a command, and what they match there.
 use Rattle.std.specs.Prelude.{true, List, [], ◌∷◌, ◌++◌, map, Option, Some, None, option_and_then, codes}
 use Rattle.answers.specs.Arguments.{Argument, Positional, Setting, Wrong, number_within, number_or}
 use Rattle.answers.specs.Jobs.{Asked}
@@ -32,7 +32,7 @@ options_of _ = []
 abbrev pub option_rule : (name : Text) → Rule
 option_rule name = record (new_rule name) { long = Some name }
 
--- a command that reads the words behind its own, with no argument yet
+-- a command that reads the words after its own, with no argument yet
 abbrev pub bare : (name : Text) → App
 bare name = record { top = record (new_shape name) { no_binary_name = true }; subs = [] }
 
@@ -40,7 +40,7 @@ bare name = record { top = record (new_shape name) { no_binary_name = true }; su
 abbrev pub reading : (name : Text) → (words options : List Text) → App
 reading name words options = record { top = record (bare name).top { rules = map new_rule words ++ map option_rule options }; subs = [] }
 
--- the command that reads the words behind a command
+-- the command that reads the words after a command
 abbrev pub reader_of : Command → App
 reader_of command.Races = reading (codes "races") (words_of command.Races) (options_of command.Races)
 reader_of command.Weaken = reading (codes "weaken") (words_of command.Weaken) (options_of command.Weaken)

@@ -72,7 +72,7 @@ impl Answer {
     }
 }
 
-/// A word, and a number behind it.
+/// A word, and a number after it.
 pub(crate) fn push_numbered(out: &mut Bytes, word: &[u8], n: u32) -> Result<(), AllocError>
     ensures { OnOk result (out.new ≡ out.old ++ (word.now ++ decimal n)) }
 {

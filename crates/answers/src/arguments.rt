@@ -1,4 +1,4 @@
-// The words behind a command, read as positional words and as options with their values.
+// The words after a command, read as positional words and as options with their values.
 
 ghost use Rattle.std.specs.Prelude.{◌≡◌, ◌≤◌, ◌∷◌, ◌+◌, ◌==◌, length, map, string_bytes, option_map, MatchOption};
 ghost use Rattle.answers.specs.Arguments as spec;
@@ -34,7 +34,7 @@ fn setting<'a>(name: &'a str, value: &'a str) -> Argument<'a>
     }
 }
 
-// The argument that a word begins, and the words behind that.
+// The argument that a word begins, and the words after that.
 fn first_argument<'a>(word: &'a str, rest: &'a [String]) -> (Argument<'a>, &'a [String])
     ensures first { spec.arguments (word.now ∷ map string_bytes rest.now) ≡ read result.0 ∷ spec.arguments (map string_bytes result.1.now) }
     ensures shorter { length result.1.now ≤ length rest.now }
@@ -48,7 +48,7 @@ fn first_argument<'a>(word: &'a str, rest: &'a [String]) -> (Argument<'a>, &'a [
     }
 }
 
-// The same of what stands behind the dashes of an option.
+// The same of what stands after the dashes of an option.
 fn option_argument<'a>(text: &'a str, rest: &'a [String]) -> (Argument<'a>, &'a [String])
     ensures first { spec.arguments ((45 ∷ 45 ∷ text.now) ∷ map string_bytes rest.now) ≡ read result.0 ∷ spec.arguments (map string_bytes result.1.now) }
     ensures shorter { length result.1.now ≤ length rest.now }
@@ -92,8 +92,8 @@ pub fn are_fit(command: Command, mut words: &[String]) -> bool
     true
 }
 
-// The words behind the first positional one.
-fn behind_positional(mut words: &[String]) -> Option<&[String]>
+// The words after the first positional one.
+fn after_positional(mut words: &[String]) -> Option<&[String]>
     ensures { MatchOption result (length (spec.positional (spec.arguments (map string_bytes words.now))) ≡ 0) (λ rest. length (spec.positional (spec.arguments (map string_bytes words.now))) ≡ 1 + length (spec.positional (spec.arguments (map string_bytes rest.now)))) }
 {
     while let [word, rest @ ..] = words {
@@ -110,7 +110,7 @@ fn behind_positional(mut words: &[String]) -> Option<&[String]>
 pub fn has_positional(mut words: &[String], mut number: u8) -> bool
     ensures { result ≡ (length (spec.positional (spec.arguments (map string_bytes words.now))) == number) }
 {
-    while let Some(rest) = behind_positional(words) {
+    while let Some(rest) = after_positional(words) {
         if number == 0 {
             return false;
         }

@@ -70,7 +70,7 @@ fn asked<'a>(command: Command, matches: &ArgMatches<'a>) -> Option<Job<'a>>
     }
 }
 
-// The job that the words behind a command are, where they are one.
+// The job that the words after a command are, where they are one.
 fn read<'a>(
     alloc: Global,
     command: Command,
@@ -89,7 +89,7 @@ fn read<'a>(
     Ok(asked(command, &matches))
 }
 
-/// The job that the words behind the program's name are, where they are one.
+/// The job that the words after the program's name are, where they are one.
 pub fn job_of(alloc: Global, words: &[String]) -> Result<Option<Job<'_>>, AllocError>
     ensures job { IfOk result (λ found. option_map spec.told found ≡ spec.job_of (map string_bytes words.now)) }
     ensures limits { IfOk result (λ found. IfSome found (λ job. spec.HasLimits (spec.told job))) }

@@ -1,4 +1,4 @@
-// The words behind a command, read with `clap`: a simple command for each job.
+// The words after a command, read with `clap`: a simple command for each job.
 
 ghost use Rattle.std.specs.Prelude.{◌≡◌, length, map, string_bytes, true, IfOk};
 ghost use Rattle.answers.specs.Arguments.{are_fit, arguments, positional};

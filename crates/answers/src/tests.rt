@@ -195,7 +195,7 @@ fn words_are_no_job(rt: HostRuntime) -> Result<(), Fail> {
     Ok(())
 }
 
-// Eight of these are names: two of a file and a log 64 times each, one beside the profile 16 times, and one behind the
+// Eight of these are names: two of a file and a log 64 times each, one beside the profile 16 times, and one after the
 // number 8 times.
 #[test]
 fn lists_of_three_words(rt: HostRuntime) -> Result<(), Fail> {

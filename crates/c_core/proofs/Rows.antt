@@ -40,7 +40,7 @@ program_of body = record { functions = main_of body ∷ []; sites = site_g ∷ [
 abbrev first_program : Program
 first_program = program_of (block (and_statement (compute (store g (binary binary_op.Add (number (pos 1) (at 3)) (number (pos 2) (at 3)) (at 3)) (at 3))) (and_statement (gives (Some (load g false (at 4))) (at 4)) no_statement)))
 
--- `main` is entered, the sum is stored behind the two hand-off cells of the one slot, and the program ends
+-- `main` is entered, the sum is stored after the two hand-off cells of the one slot, and the program ends
 pub first_events_are : events (run_of first_program (setup 10) 0) (pos 0 ∷ pos 0 ∷ pos 3 ∷ pos 0 ∷ pos 0 ∷ []) ≡
     done action.Mark [] (pos 0) ∷ done (action.Store 2 3) [] (pos 0) ∷ done (action.Load 2) [] (pos 3) ∷ done (action.Operate op.HaltAll object_id.Halt) [] (pos 0) ∷ []
 first_events_are = refl
@@ -148,7 +148,7 @@ pub call_events_are : events (run_of call_program (setup 10) 0) (pos 0 ∷ pos 0
     done action.Mark [] (pos 0) ∷ done action.Mark [] (pos 0) ∷ done (action.Store 3 6) [] (pos 0) ∷ done (action.Load 3) [] (pos 6) ∷ done (action.Store 2 7) [] (pos 0) ∷ done (action.Operate op.HaltAll object_id.Halt) [] (pos 0) ∷ []
 call_events_are = refl
 
--- a thread that is started with `f`, and its argument 6: the value is handed over behind its end
+-- a thread that is started with `f`, and its argument 6: the value is handed over after its end
 pub started_events_are : events (run_of call_program (record { slots = 2; cells = 1024; limit = 10; input = [] }) 1) (pos 0 ∷ pos 6 ∷ pos 0 ∷ pos 0 ∷ pos 6 ∷ answers 3) ≡
     done (action.Operate op.Begin (object_id.Slot 1)) [] (pos 0) ∷ done (action.Load 2) [] (pos 6) ∷ done action.Mark [] (pos 0) ∷ done (action.Store 1029 6) [] (pos 0) ∷ done (action.Load 1029) [] (pos 6)
     ∷ done (action.Store 3 7) [] (pos 0) ∷ done (action.Operate op.End (object_id.Slot 1)) [] (pos 0) ∷ done (action.Operate op.Leave object_id.Threads) [] (pos 0) ∷ []

@@ -77,7 +77,7 @@ if_goes breaks m = pure breaks
 if_goes continues m = pure continues
 if_goes (returns w line) m = pure (returns w line)
 
--- behind the body of a loop
+-- after the body of a loop
 abbrev pub if_turns : Completion → M Completion → M Completion
 if_turns goes m = m
 if_turns breaks m = pure goes
@@ -296,11 +296,11 @@ module _ (p : Program) (s : SetupView) (t : ℕ) where
       (test >>= λ w. choose w (body >>= λ f. if_turns f (step >> turns n line test body step)) (pure goes))
 
   -- The body comes before the condition.
-  abbrev pub turns_behind : ℕ → ℕ → M Completion → M ℕ → M Completion
-  turns_behind zero line body test = trap_at line trap.Limit
-  turns_behind (suc n) line body test =
+  abbrev pub turns_after : ℕ → ℕ → M Completion → M ℕ → M Completion
+  turns_after zero line body test = trap_at line trap.Limit
+  turns_after (suc n) line body test =
       event s.limit line action.Mark >>
-      (body >>= λ f. if_turns f (test >>= λ w. choose w (turns_behind n line body test) (pure goes)))
+      (body >>= λ f. if_turns f (test >>= λ w. choose w (turns_after n line body test) (pure goes)))
 
   abbrev mutual
     pub meaning : Calls → Statement → M Completion
@@ -309,7 +309,7 @@ module _ (p : Program) (s : SetupView) (t : ℕ) where
     meaning calls (branch e a at) = value calls e >>= λ w. choose w (meaning calls a) (pure goes)
     meaning calls (branch_else e a b at) = value calls e >>= λ w. choose w (meaning calls a) (meaning calls b)
     meaning calls (while_loop e a at) = turns s.limit at.line (value calls e) (meaning calls a) (pure 0)
-    meaning calls (do_loop a e at) = turns_behind s.limit at.line (meaning calls a) (value calls e)
+    meaning calls (do_loop a e at) = turns_after s.limit at.line (meaning calls a) (value calls e)
     meaning calls (for_loop start test step a at) =
         meaning calls start >>= λ f. if_goes f (turns s.limit at.line (test_value calls test) (meaning calls a) (step_value calls step))
     meaning calls (break_at at) = pure breaks

@@ -10,7 +10,7 @@ pub struct Arrival {
     pub at: Position,
 }
 
-/// A function that the source defines. Its registers are its formals, from 0 on, and behind them its other locals that
+/// A function that the source defines. Its registers are its formals, from 0 on, and after them its other locals that
 /// aren't kept in cells.
 #[derive(Drop)]
 pub struct CoreFunction {

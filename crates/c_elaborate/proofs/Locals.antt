@@ -10,7 +10,7 @@ use Rattle.c_programs.specs.Declarators.{after_params}
 use Rattle.c_types.specs.Scopes.{Known}
 use Rattle.c_core.specs.Core as core
 use Rattle.c_elaborate.specs.declared.local.Local.{Local}
-use Rattle.c_values.specs.Here.{Source, Frame, here_in}
+use Rattle.c_values.specs.Context.{Source, Frame, context_in}
 use Rattle.c_elaborate.specs.Statements.{block_of, all_elaborated}
 use Rattle.c_elaborate.specs.Functions.{formal_of, local_of, declares_locals, start_locals, statement_locals, parts_locals, marked, frame_of, function_by, definition_by, definition}
 
@@ -49,11 +49,11 @@ formals_length ns n ps = marked_length ns n (map formal_of ps) ∙ length-map ps
 pub locals_length : (ns : List ℕ) (n : ℕ) (ps : Parts) → length (marked ns n (parts_locals ps)) ≡ count_of_parts ps
 locals_length ns n ps = marked_length ns n (parts_locals ps) ∙ parts_length ps
 
--- behind a definition the numbers of its formals and locals are used
-pub definition_behind : (ns : List ℕ) (n m last : ℕ) (ps : List Param) (parts : Parts) (locals : List Local) →
+-- after a definition the numbers of its formals and locals are used
+pub definition_after : (ns : List ℕ) (n m last : ℕ) (ps : List Param) (parts : Parts) (locals : List Local) →
     m ≡ n + length ps → locals ≡ marked ns m (parts_locals parts) → last ≡ m + length locals →
     last ≡ n + (length ps + count_of_parts parts)
-definition_behind ns n m last ps parts locals e l b =
+definition_after ns n m last ps parts locals e l b =
     let many : length locals ≡ count_of_parts parts = ap length l ∙ locals_length ns m parts in
     omega arith
 
@@ -61,11 +61,11 @@ definition_behind ns n m last ps parts locals e l b =
 pub defined_made : (s : Source) (inside : Known) (n : ℕ) (name : Name) (result : Option StarredType) (ps : List Param) (parts : Parts)
     (formals locals : List Local) (frame : Frame) (body : core.Statement) →
     frame ≡ frame_of n formals locals result →
-    body ≡ block_of (all_elaborated (here_in s frame inside (numbered_from frame.first ps)) parts) →
+    body ≡ block_of (all_elaborated (context_in s frame inside (numbered_from frame.first ps)) parts) →
     function_by s.sites name result formals locals body ≡ definition_by s inside n name result ps parts formals locals
 defined_made s inside n name result ps parts formals locals frame body fr b =
     ap (λ (z : core.Statement). function_by s.sites name result formals locals z)
-    (b ∙ ap (λ (z : Frame). block_of (all_elaborated (here_in s z inside (numbered_from z.first ps)) parts)) fr)
+    (b ∙ ap (λ (z : Frame). block_of (all_elaborated (context_in s z inside (numbered_from z.first ps)) parts)) fr)
 
 -- a definition, by its formals and locals
 pub definition_of : (s : Source) (ns : List ℕ) (inside : Known) (n : ℕ) (name : Name) (result : Option StarredType) (ps : List Param) (parts : Parts)

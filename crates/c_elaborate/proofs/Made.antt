@@ -12,7 +12,7 @@ use Rattle.c_core.specs.declared.statement.Statement.{Statement as RustStatement
 use Rattle.c_core.specs.Core as core
 use Rattle.c_core.specs.View.{function_of, stmt_of}
 use Rattle.c_elaborate.specs.declared.local.Local.{Local}
-use Rattle.c_values.specs.Here.{Source, Frame, here_in, site_at}
+use Rattle.c_values.specs.Context.{Source, Frame, context_in, site_at}
 use Rattle.c_elaborate.specs.Statements.{block_of, all_elaborated}
 use Rattle.c_elaborate.specs.Functions.{sites_of}
 
@@ -35,14 +35,14 @@ objects_made sites fs ls start middle end s m e =
 
 pub body_made : (s : Source) (f : Frame) (outside inside : Known) (begun numbers : Numbered) (ps : List Param) (parts : Parts) (before made : List RustStatement) →
     before ≡ [] → inside ≡ after_params outside ps → begun ≡ record { next = f.first; scopes = [] ∷ [] } → numbers ≡ after_formals begun ps →
-    map stmt_of made ≡ map stmt_of before ++ all_elaborated (here_in s f inside numbers) parts →
-    block_of (map stmt_of made) ≡ block_of (all_elaborated (here_in s f (after_params outside ps) (numbered_from f.first ps)) parts)
+    map stmt_of made ≡ map stmt_of before ++ all_elaborated (context_in s f inside numbers) parts →
+    block_of (map stmt_of made) ≡ block_of (all_elaborated (context_in s f (after_params outside ps) (numbered_from f.first ps)) parts)
 body_made s f outside inside begun numbers ps parts before made none known start named filled =
     ap block_of
     (filled
-    ∙ ap (λ (z : List RustStatement). map stmt_of z ++ all_elaborated (here_in s f inside numbers) parts) none
-    ∙ ap (λ (z : Known). all_elaborated (here_in s f z numbers) parts) known
-    ∙ ap (λ (z : Numbered). all_elaborated (here_in s f (after_params outside ps) z) parts) (named ∙ ap (λ (z : Numbered). after_formals z ps) start))
+    ∙ ap (λ (z : List RustStatement). map stmt_of z ++ all_elaborated (context_in s f inside numbers) parts) none
+    ∙ ap (λ (z : Known). all_elaborated (context_in s f z numbers) parts) known
+    ∙ ap (λ (z : Numbered). all_elaborated (context_in s f (after_params outside ps) z) parts) (named ∙ ap (λ (z : Numbered). after_formals z ps) start))
 
 -- ---- functions
 

@@ -10,7 +10,7 @@ use Rattle.c_tree.specs.declared.program.Params.TheVariants as params
 use Rattle.c_tree.specs.Tree.{assign, binary, number, declares, compute, gives, no_part, and_declares, and_does, defined, Outer, function, objects}
 use Rattle.c_types.specs.Constants.{constant_named}
 use Rattle.c_types.specs.Library.{library_named}
-use Rattle.c_sites.specs.Addresses.{behind}
+use Rattle.c_sites.specs.Addresses.{following}
 use Rattle.c_sites.proofs.SiteRows.{at, name_at, plain_at, int, n, first_source}
 use Rattle.rr_base.specs.declared.position.Position.{Position}
 use Rattle.c_core.specs.Core as core
@@ -46,15 +46,15 @@ pub sum_functions_are : (core_of_source sum_source).functions ≡ record {
       ∷ core.gives (Some (core.register 0 false (place 46))) (place 39)
       ∷ []);
 } ∷ []
-unfolding core_of_source behind constant_named library_named
+unfolding core_of_source following constant_named library_named
 sum_functions_are = refl
 
 pub sum_globals_are : (core_of_source sum_source).globals ≡ 0 ∷ []
-unfolding core_of_source behind constant_named library_named
+unfolding core_of_source following constant_named library_named
 sum_globals_are = refl
 
 pub sum_kinds_are : (core_of_source sum_source).global_kinds ≡ cell.Whole ∷ []
-unfolding core_of_source behind constant_named library_named
+unfolding core_of_source following constant_named library_named
 sum_kinds_are = refl
 
 -- Of `f` the formal, `a`, `p` and the inner `b` are registers; the outer `b` and `v` are objects at the sites 2 and 3. `p`
@@ -73,10 +73,10 @@ pub first_functions_are : (core_of_source first_source).functions ≡ record {
       ∷ core.compute (core.set_register 2 (core.allocate 4 (core.number (pos 1) (place 85)) (place 78)) (place 76))
       ∷ []);
 } ∷ []
-unfolding core_of_source behind constant_named library_named
+unfolding core_of_source following constant_named library_named
 first_functions_are = refl
 
 -- `g` begins at the first global cell, and the sites of `b`, `v` and the `malloc` are no globals
 pub first_bases_are : (core_of_source first_source).global_bases ≡ Some 0 ∷ None ∷ None ∷ None ∷ []
-unfolding core_of_source behind constant_named library_named
+unfolding core_of_source following constant_named library_named
 first_bases_are = refl

@@ -18,7 +18,7 @@ use Rattle.c_core.specs.Core as core
 use Rattle.c_values.specs.declared.home.Home.{Home}
 use Rattle.c_values.specs.declared.home.Home.TheVariants as home
 use Rattle.c_elaborate.specs.declared.local.Local.{Local}
-use Rattle.c_values.specs.Here.{Source, Frame, here_in, site_at}
+use Rattle.c_values.specs.Context.{Source, Frame, context_in, site_at}
 use Rattle.c_values.specs.Calls.{gives_pointer}
 use Rattle.c_elaborate.specs.Statements.{block_of, all_elaborated}
 
@@ -133,7 +133,7 @@ function_by sites name result formals locals body = record {
 -- whose numbers begin with n; `inside` is known behind its formals
 abbrev pub definition_by : Source → Known → ℕ → Name → Option StarredType → List Param → Parts → List Local → List Local → core.Function
 definition_by s inside n name result ps parts formals locals =
-    function_by s.sites name result formals locals (block_of (all_elaborated (here_in s (frame_of n formals locals result) inside (numbered_from n ps)) parts))
+    function_by s.sites name result formals locals (block_of (all_elaborated (context_in s (frame_of n formals locals result) inside (numbered_from n ps)) parts))
 
 -- where `&` is applied to those with the numbers ns
 abbrev pub definition : Source → List ℕ → Known → ℕ → Name → Option StarredType → List Param → Parts → core.Function

@@ -16,7 +16,7 @@ use Rattle.c_programs.specs.Declarators.{declared_type}
 use Rattle.c_programs.specs.Initials.{part_at, part_type}
 use Rattle.c_programs.specs.Statements.{declared_by, after_declared}
 use Rattle.c_sites.specs.Spots.{Holder, a_global, a_local, an_allocation, Spot}
-use Rattle.c_values.specs.Here.{Source, global_named}
+use Rattle.c_values.specs.Context.{Source, global_named}
 use Rattle.c_elaborate.specs.Initials.{kinds_of_some}
 
 -- ---- addresses
@@ -32,7 +32,7 @@ holder_cells (a_global name) cells = cells
 holder_cells (a_local f name) cells = 0
 holder_cells an_allocation cells = 0
 
--- the globals so far and those among these spots, the first of which has the number `site` and lies behind so many global cells
+-- the globals so far and those among these spots, the first of which has the number `site` and lies after so many global cells
 abbrev pub globals_after : ℕ → ℕ → List (Text × ℕ) → List Spot → List Site → List (Text × ℕ)
 globals_after site base gs [] sites = gs
 globals_after site base gs (spot ∷ spots) [] = gs
@@ -77,7 +77,7 @@ computed_word (Err t) = 0
 abbrev pub constant_word : Source → Known → Exp → ℕ
 constant_word s known e = if is_constant e then computed_word (value_here known e) else address_word s e
 
--- so many words at least, behind these
+-- so many words at least, after these
 abbrev pub padded : ℕ → List ℕ → List ℕ
 padded n ws = ws ++ replicate (n - length ws) 0
 

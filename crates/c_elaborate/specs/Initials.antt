@@ -13,7 +13,7 @@ use Rattle.rr_base.specs.declared.position.Position.{Position}
 use Rattle.c_core.specs.Core as core
 use Rattle.c_values.specs.declared.home.Home.{Home}
 use Rattle.c_values.specs.declared.home.Home.TheVariants as home
-use Rattle.c_values.specs.Here.{Source, Here}
+use Rattle.c_values.specs.Context.{Source, Context}
 use Rattle.c_values.specs.Expressions.{is_pointer_type, wanted_of}
 
 abbrev pub kinds_of_some : Source → Option ObjectType → List CellKind
@@ -45,14 +45,14 @@ type_of_part known t i = part_type (part_at known t i)
 
 abbrev mutual
   -- a part of the type that begins at the offset
-  pub started : Here → ℕ → Position → Option ObjectType → ℕ → Init → List core.Statement
+  pub started : Context → ℕ → Position → Option ObjectType → ℕ → Init → List core.Statement
   started h k at t offset (value e) = cell_stored k at offset (wanted_of h (is_pointer_type t) no_target e) ∷ []
-  started h k at t offset (braces is trailing here) = parts_started h k at t offset 0 offset is
-  started h k at t offset (mutex_start here) = []
-  started h k at t offset (cond_start here) = []
+  started h k at t offset (braces is trailing context) = parts_started h k at t offset 0 offset is
+  started h k at t offset (mutex_start context) = []
+  started h k at t offset (cond_start context) = []
 
   -- its parts from the one with the number i on, the first of which lies at the second offset
-  pub parts_started : Here → ℕ → Position → Option ObjectType → ℕ → ℕ → ℕ → Inits → List core.Statement
+  pub parts_started : Context → ℕ → Position → Option ObjectType → ℕ → ℕ → ℕ → Inits → List core.Statement
   parts_started h k at t begin i offset no_init = rest_cleared h.source k at t begin offset
   parts_started h k at t begin i offset (and_init x is) =
       started h k at (type_of_part h.known t i) offset x
@@ -65,26 +65,26 @@ zero_word true at = core.null at
 zero_word false at = core.number (pos 0) at
 
 abbrev mutual
-  pub first_word : Here → Bool → Target → Position → Init → core.Exp
+  pub first_word : Context → Bool → Target → Position → Init → core.Exp
   first_word h pointer w at (value e) = wanted_of h pointer w e
-  first_word h pointer w at (braces is trailing here) = first_of_braces h pointer at is
-  first_word h pointer w at (mutex_start here) = zero_word pointer at
-  first_word h pointer w at (cond_start here) = zero_word pointer at
+  first_word h pointer w at (braces is trailing context) = first_of_braces h pointer at is
+  first_word h pointer w at (mutex_start context) = zero_word pointer at
+  first_word h pointer w at (cond_start context) = zero_word pointer at
 
-  pub first_of_braces : Here → Bool → Position → Inits → core.Exp
+  pub first_of_braces : Context → Bool → Position → Inits → core.Exp
   first_of_braces h pointer at no_init = zero_word pointer at
   first_of_braces h pointer at (and_init i is) = first_word h pointer no_target at i
 
 -- ---- either
 
-abbrev pub object_begun : Here → ℕ → Option ObjectType → Init → Position → List core.Statement
+abbrev pub object_begun : Context → ℕ → Option ObjectType → Init → Position → List core.Statement
 object_begun h k t (value e) at = core.compute (core.store (core.object k at) (wanted_of h (is_pointer_type t) (value_target t) e) at) ∷ []
-object_begun h k t (braces is trailing here) at = parts_started h k at t 0 0 0 is
-object_begun h k t (mutex_start here) at = []
-object_begun h k t (cond_start here) at = []
+object_begun h k t (braces is trailing context) at = parts_started h k at t 0 0 0 is
+object_begun h k t (mutex_start context) at = []
+object_begun h k t (cond_start context) at = []
 
 -- the local of the type that is kept there starts as something
-abbrev pub begun : Here → Option Home → Option ObjectType → Init → Position → List core.Statement
+abbrev pub begun : Context → Option Home → Option ObjectType → Init → Position → List core.Statement
 begun h None t i at = []
 begun h (Some (home.Register n)) t i at = core.compute (core.set_register n (first_word h (is_pointer_type t) (value_target t) at i) at) ∷ []
 begun h (Some (home.Object k)) t i at = object_begun h k t i at

@@ -8,44 +8,44 @@ use Rattle.c_types.specs.Scopes.{opened}
 use Rattle.c_types.specs.Standing.{no_target}
 use Rattle.c_programs.specs.Declarators.{declared_type, declared_name}
 use Rattle.c_programs.specs.Statements.{declared_by, after_declared, after_declares, after_start}
-use Rattle.c_sites.specs.Addresses.{after_name, after_declaration, after_for_start, behind_statement, inside}
+use Rattle.c_sites.specs.Addresses.{after_name, after_declaration, after_for_start, past_statement, inside}
 use Rattle.c_core.specs.Core as core
-use Rattle.c_values.specs.Held.{position_of}
-use Rattle.c_values.specs.Here.{Here, home_of}
+use Rattle.c_values.specs.Denoted.{position_of}
+use Rattle.c_values.specs.Context.{Context, home_of}
 use Rattle.c_values.specs.Expressions.{value_of, wanted_of}
 use Rattle.c_elaborate.specs.Initials.{begun}
 
 -- ---- places
 
-abbrev pub here_inside : Here → Here
-here_inside h = record h { known = opened h.known; numbers = inside h.numbers }
+abbrev pub context_inside : Context → Context
+context_inside h = record h { known = opened h.known; numbers = inside h.numbers }
 
-abbrev pub here_after_object : Here → Specifier → Declared → Here
+abbrev pub here_after_object : Context → Specifier → Declared → Context
 here_after_object h s d = record h { known = after_declared h.known false s d; numbers = after_name h.numbers d }
 
-abbrev pub here_after_declares : Here → Declares → Here
+abbrev pub here_after_declares : Context → Declares → Context
 here_after_declares h d = record h { known = after_declares h.known d; numbers = after_declaration h.numbers d }
 
-abbrev pub here_after_start : Here → Start → Here
+abbrev pub here_after_start : Context → Start → Context
 here_after_start h s = record h { known = after_start h.known s; numbers = after_for_start h.numbers s }
 
--- behind a statement the numbers of its locals are used
-abbrev pub here_after : Here → Statement → Here
-here_after h s = record h { numbers = behind_statement h.numbers s }
+-- after a statement the numbers of its locals are used
+abbrev pub context_after : Context → Statement → Context
+context_after h s = record h { numbers = past_statement h.numbers s }
 
 -- ---- declarations
 
--- the scope of a name begins behind its declarator, so before its first value
-abbrev pub object_elaborated : Here → Specifier → Object → List core.Statement
+-- the scope of a name begins after its declarator, so before its first value
+abbrev pub object_elaborated : Context → Specifier → Object → List core.Statement
 object_elaborated h s (plain d) = []
 object_elaborated h s (initialised d i at) =
     begun (here_after_object h s d) (home_of (here_after_object h s d) (declared_name d).text) (declared_type h.known s d) i (position_of at)
 
-abbrev pub objects_elaborated : Here → Specifier → List Object → List core.Statement
+abbrev pub objects_elaborated : Context → Specifier → List Object → List core.Statement
 objects_elaborated h s [] = []
 objects_elaborated h s (o ∷ os) = object_elaborated h s o ++ objects_elaborated (here_after_object h s (declared_by o)) s os
 
-abbrev pub declares_elaborated : Here → Declares → List core.Statement
+abbrev pub declares_elaborated : Context → Declares → List core.Statement
 declares_elaborated h (declares s os at) = objects_elaborated h s os
 
 -- ---- statements
@@ -66,38 +66,38 @@ own_place (for_loop start test next a at) = at
 abbrev pub block_of : List core.Statement → core.Statement
 block_of ss = core.block (core.listed_statements ss)
 
-abbrev pub computed : Here → Option Exp → core.Statement
+abbrev pub computed : Context → Option Exp → core.Statement
 computed h None = block_of []
 computed h (Some e) = core.compute (value_of h e)
 
-abbrev pub maybe_value : Here → Option Exp → Option core.Exp
+abbrev pub maybe_value : Context → Option Exp → Option core.Exp
 maybe_value h None = None
 maybe_value h (Some e) = Some (value_of h e)
 
-abbrev pub given : Here → Option Exp → Option core.Exp
+abbrev pub given : Context → Option Exp → Option core.Exp
 given h None = None
 given h (Some e) = Some (wanted_of h h.frame.gives_pointer no_target e)
 
-abbrev pub start_elaborated : Here → Start → core.Statement
+abbrev pub start_elaborated : Context → Start → core.Statement
 start_elaborated h (start_declares d) = block_of (declares_elaborated h d)
 start_elaborated h (start_computes e) = computed h e
 
 abbrev mutual
-  pub elaborated : Here → Statement → core.Statement
-  elaborated h (block ps at) = block_of (all_elaborated (here_inside h) ps)
+  pub elaborated : Context → Statement → core.Statement
+  elaborated h (block ps at) = block_of (all_elaborated (context_inside h) ps)
   elaborated h (compute e at) = computed h e
   elaborated h (break_at at) = core.break_at (position_of at)
   elaborated h (continue_at at) = core.continue_at (position_of at)
   elaborated h (gives e at) = core.gives (given h e) (position_of at)
   elaborated h (branch e a at) = core.branch (value_of h e) (elaborated h a) (position_of at)
-  elaborated h (branch_else e a b at) = core.branch_else (value_of h e) (elaborated h a) (elaborated (here_after h a) b) (position_of at)
+  elaborated h (branch_else e a b at) = core.branch_else (value_of h e) (elaborated h a) (elaborated (context_after h a) b) (position_of at)
   elaborated h (while_loop e a at) = core.while_loop (value_of h e) (elaborated h a) (position_of at)
-  elaborated h (do_loop a e at) = core.do_loop (elaborated h a) (value_of (here_after h a) e) (position_of at)
+  elaborated h (do_loop a e at) = core.do_loop (elaborated h a) (value_of (context_after h a) e) (position_of at)
   elaborated h (for_loop start test next a at) =
-      core.for_loop (start_elaborated (here_inside h) start) (maybe_value (here_after_start (here_inside h) start) test) (maybe_value (here_after_start (here_inside h) start) next) (elaborated (here_after_start (here_inside h) start) a) (position_of at)
+      core.for_loop (start_elaborated (context_inside h) start) (maybe_value (here_after_start (context_inside h) start) test) (maybe_value (here_after_start (context_inside h) start) next) (elaborated (here_after_start (context_inside h) start) a) (position_of at)
 
   -- what stands in a block, one after another
-  pub all_elaborated : Here → Parts → List core.Statement
+  pub all_elaborated : Context → Parts → List core.Statement
   all_elaborated h no_part = []
   all_elaborated h (and_declares d ps) = declares_elaborated h d ++ all_elaborated (here_after_declares h d) ps
-  all_elaborated h (and_does s ps) = elaborated h s ∷ all_elaborated (here_after h s) ps
+  all_elaborated h (and_does s ps) = elaborated h s ∷ all_elaborated (context_after h s) ps

@@ -8,9 +8,9 @@ use Rattle.c_types.specs.Scopes.{Known, opened}
 use Rattle.c_programs.specs.Declarators.{listed_params}
 use Rattle.c_programs.specs.Programs.{known_at_start, signature_of, after_function, after_outer}
 use Rattle.c_sites.specs.Addresses.{count_of_outer, program_addressed}
-use Rattle.c_sites.specs.Spots.{known_behind, kinds_of_structs, program_spots, program_sites}
+use Rattle.c_sites.specs.Spots.{known_after, kinds_of_structs, program_spots, program_sites}
 use Rattle.c_core.specs.Core as core
-use Rattle.c_values.specs.Here.{Source}
+use Rattle.c_values.specs.Context.{Source}
 use Rattle.c_elaborate.specs.Functions.{definition}
 use Rattle.c_elaborate.specs.Globals.{globals_after, global_kinds, global_bases, objects_words}
 
@@ -41,7 +41,7 @@ outers_words s known (o ∷ os) = outer_words s known o ++ outers_words s (after
 
 abbrev pub source_of : List Outer → Source
 source_of os = record {
-  whole = known_behind (known_at_start os) os;
+  whole = known_after (known_at_start os) os;
   kinds = kinds_of_structs os;
   sites = program_sites os;
   globals = globals_after 1 0 [] (program_spots os) (program_sites os);

@@ -9,7 +9,7 @@ ghost use Rattle.c_sites.specs.NumberTables.{numbered_of};
 ghost use Rattle.c_programs.specs.Statements.{after_parts};
 ghost use Rattle.c_programs.specs.Table.{known_of};
 ghost use Rattle.c_core.specs.View.{arrival_of, function_of, stmt_of};
-ghost use Rattle.c_values.specs.Here.{here_in};
+ghost use Rattle.c_values.specs.Context.{context_in};
 ghost use Rattle.c_elaborate.specs.Statements as spec_statements;
 ghost use Rattle.c_elaborate.specs.Functions as spec;
 ghost use Rattle.c_values.specs.Views.{frame_in, source_in};
@@ -337,7 +337,7 @@ fn body_of<'a>(
     parts: &'a [Part],
 ) -> Result<Box<Statement>, AllocError>
     ensures known { OnOk result (known_of table.new ≡ after_parts (after_params (known_of table.old) params.now) (listed_parts (map tree.part_of parts.now))) }
-    ensures body { IfOk result (λ s. stmt_of s.value ≡ spec_statements.block_of (spec_statements.all_elaborated (here_in (source_in source.now) (frame_in frame.now) (after_params (known_of table.old) params.now) (numbering.numbered_from frame.now.first params.now)) (listed_parts (map tree.part_of parts.now)))) }
+    ensures body { IfOk result (λ s. stmt_of s.value ≡ spec_statements.block_of (spec_statements.all_elaborated (context_in (source_in source.now) (frame_in frame.now) (after_params (known_of table.old) params.now) (numbering.numbered_from frame.now.first params.now)) (listed_parts (map tree.part_of parts.now)))) }
 {
     let mut numbers = NumberTable::new(alloc, frame.first)?;
     pass_formals(alloc, table, &mut numbers, params)?;
@@ -387,7 +387,7 @@ fn function_by(
     })
 }
 
-/// The formals and locals of a definition, and the number behind theirs.
+/// The formals and locals of a definition, and the number after theirs.
 #[derive(Drop)]
 struct Kept {
     formals: List<Local>,

@@ -215,7 +215,7 @@ fn push_zeros(many: usize, out: &mut List<u64>) -> Result<(), AllocError>
     Ok(())
 }
 
-/// Words of 0 behind these, until there are so many.
+/// Words of 0 after these, until there are so many.
 fn pad(many: usize, words: &mut List<u64>) -> Result<(), AllocError>
     ensures { OnOk result (words.new ≡ spec.padded many words.old) }
 {

@@ -8,13 +8,13 @@ ghost use Rattle.c_core.specs.Core as core;
 ghost use Rattle.c_core.specs.View.{exp_of, stmt_of};
 ghost use Rattle.c_values.specs.Expressions.{is_pointer_type};
 ghost use Rattle.c_elaborate.specs.Initials as spec;
-ghost use Rattle.c_values.specs.Views.{here_of, source_in};
+ghost use Rattle.c_values.specs.Views.{context_of, source_in};
 
 use c_core::{Statement, Value};
 use c_programs::{part_at, ref_of, value_target};
 use c_tree::Initial;
 use c_types::{ObjectType, Target, TypeRef, put_layered};
-use c_values::{Here, Home, Source, is_pointer_type, make, wanted};
+use c_values::{Context, Home, Source, is_pointer_type, make, wanted};
 use rr_base::{CellKind, List, Position, sum};
 use std::alloc::{AllocError, Global};
 
@@ -103,8 +103,8 @@ fn push_cleared(
     Ok(())
 }
 
-/// The kinds behind so many of the first.
-fn kinds_behind(kinds: &[CellKind], many: usize) -> &[CellKind]
+/// The kinds after so many of the first.
+fn kinds_past(kinds: &[CellKind], many: usize) -> &[CellKind]
     ensures { result.now ≡ drop many kinds.now }
 {
     if many <= kinds.len() {
@@ -134,26 +134,26 @@ fn push_rest(
         object,
         at,
         offset,
-        kinds_behind(kinds.as_slice(), done),
+        kinds_past(kinds.as_slice(), done),
         out,
     )
 }
 
 fn type_of_part<'h>(
-    here: Here<'h, '_>,
+    context: Context<'h, '_>,
     of: Option<TypeRef<'h>>,
     index: usize,
 ) -> Option<TypeRef<'h>>
-    ensures { shown_maybe result ≡ spec.type_of_part (here_of here.entry).known (shown_maybe of.entry) index }
+    ensures { shown_maybe result ≡ spec.type_of_part (context_of context.entry).known (shown_maybe of.entry) index }
 {
-    part_at(here.table, of, index)?
+    part_at(context.table, of, index)?
 }
 
 /// The part of the type that begins at the offset starts as this.
 #[cycle(initials)]
 fn push_started<'h>(
     alloc: Global,
-    here: Here<'h, '_>,
+    context: Context<'h, '_>,
     object: u32,
     at: Position,
     of: Option<TypeRef<'h>>,
@@ -161,15 +161,24 @@ fn push_started<'h>(
     initial: &Initial,
     out: &mut List<Statement>,
 ) -> Result<(), AllocError>
-    ensures { OnOk result (map stmt_of out.new ≡ map stmt_of out.old ++ spec.started (here_of here.entry) object at (shown_maybe of.entry) offset (init_of initial.now)) }
+    ensures { OnOk result (map stmt_of out.new ≡ map stmt_of out.old ++ spec.started (context_of context.entry) object at (shown_maybe of.entry) offset (init_of initial.now)) }
 {
     match initial {
         Initial::Value(e) => {
-            let value = wanted(alloc, here, is_pointer_type(of), Target::No, e)?;
+            let value = wanted(alloc, context, is_pointer_type(of), Target::No, e)?;
             push_stored(alloc, object, at, offset, value, out)
         }
         Initial::Braces { parts, .. } => {
-            push_parts(alloc, here, object, at, of, offset, parts.as_slice(), out)
+            push_parts(
+                alloc,
+                context,
+                object,
+                at,
+                of,
+                offset,
+                parts.as_slice(),
+                out,
+            )
         }
         Initial::Mutex { .. } | Initial::Cond { .. } => Ok(()),
     }
@@ -179,7 +188,7 @@ fn push_started<'h>(
 #[cycle(initials)]
 fn push_parts<'h>(
     alloc: Global,
-    here: Here<'h, '_>,
+    context: Context<'h, '_>,
     object: u32,
     at: Position,
     of: Option<TypeRef<'h>>,
@@ -187,15 +196,15 @@ fn push_parts<'h>(
     parts: &[Initial],
     out: &mut List<Statement>,
 ) -> Result<(), AllocError>
-    ensures { OnOk result (map stmt_of out.new ≡ map stmt_of out.old ++ spec.parts_started (here_of here.entry) object at (shown_maybe of.entry) begin 0 begin (listed_inits (map init_of parts.now))) }
+    ensures { OnOk result (map stmt_of out.new ≡ map stmt_of out.old ++ spec.parts_started (context_of context.entry) object at (shown_maybe of.entry) begin 0 begin (listed_inits (map init_of parts.now))) }
 {
     let mut offset = begin;
     for (index, part) in parts.iter().enumerate() {
-        let of_part = type_of_part(here, of, index);
-        push_started(alloc, here, object, at, of_part, offset, part, out)?;
-        offset = sum(offset, here.source.cells_of_some(of_part))?;
+        let of_part = type_of_part(context, of, index);
+        push_started(alloc, context, object, at, of_part, offset, part, out)?;
+        offset = sum(offset, context.source.cells_of_some(of_part))?;
     }
-    push_rest(alloc, here.source, object, at, of, begin, offset, out)
+    push_rest(alloc, context.source, object, at, of, begin, offset, out)
 }
 
 fn zero_word(alloc: Global, pointer: bool, at: Position) -> Result<Box<Value>, AllocError>
@@ -211,19 +220,19 @@ fn zero_word(alloc: Global, pointer: bool, at: Position) -> Result<Box<Value>, A
 /// The word as which a register starts. Braces may stand round it.
 fn first_word<'h>(
     alloc: Global,
-    here: Here<'h, '_>,
+    context: Context<'h, '_>,
     pointer: bool,
     target: Target<'h>,
     at: Position,
     initial: &Initial,
 ) -> Result<Box<Value>, AllocError>
-    ensures { IfOk result (λ v. exp_of v.value ≡ spec.first_word (here_of here.entry) pointer (shown_target target.entry) at (init_of initial.now)) }
+    ensures { IfOk result (λ v. exp_of v.value ≡ spec.first_word (context_of context.entry) pointer (shown_target target.entry) at (init_of initial.now)) }
 {
     match initial {
-        Initial::Value(e) => wanted(alloc, here, pointer, target, e),
+        Initial::Value(e) => wanted(alloc, context, pointer, target, e),
         Initial::Braces { parts, .. } => match parts.as_slice() {
             [] => zero_word(alloc, pointer, at),
-            [first, ..] => first_word(alloc, here, pointer, Target::No, at, first),
+            [first, ..] => first_word(alloc, context, pointer, Target::No, at, first),
         },
         Initial::Mutex { .. } | Initial::Cond { .. } => zero_word(alloc, pointer, at),
     }
@@ -232,24 +241,24 @@ fn first_word<'h>(
 /// An object in cells starts as this.
 fn push_object<'h>(
     alloc: Global,
-    here: Here<'h, '_>,
+    context: Context<'h, '_>,
     object: u32,
     of: Option<TypeRef<'h>>,
     initial: &Initial,
     at: Position,
     out: &mut List<Statement>,
 ) -> Result<(), AllocError>
-    ensures { OnOk result (map stmt_of out.new ≡ map stmt_of out.old ++ spec.object_begun (here_of here.entry) object (shown_maybe of.entry) (init_of initial.now) at) }
+    ensures { OnOk result (map stmt_of out.new ≡ map stmt_of out.old ++ spec.object_begun (context_of context.entry) object (shown_maybe of.entry) (init_of initial.now) at) }
 {
     match initial {
         Initial::Value(e) => {
-            let value = wanted(alloc, here, is_pointer_type(of), value_target(of), e)?;
+            let value = wanted(alloc, context, is_pointer_type(of), value_target(of), e)?;
             let begin = make::object(alloc, object, at)?;
             let store = make::store(alloc, begin, value, at)?;
             out.push(Statement::Compute(Box::into_inner(store)))
         }
         Initial::Braces { parts, .. } => {
-            push_parts(alloc, here, object, at, of, 0, parts.as_slice(), out)
+            push_parts(alloc, context, object, at, of, 0, parts.as_slice(), out)
         }
         Initial::Mutex { .. } | Initial::Cond { .. } => Ok(()),
     }
@@ -258,18 +267,18 @@ fn push_object<'h>(
 /// A register starts as this.
 fn push_register<'h>(
     alloc: Global,
-    here: Here<'h, '_>,
+    context: Context<'h, '_>,
     register: u32,
     of: Option<TypeRef<'h>>,
     initial: &Initial,
     at: Position,
     out: &mut List<Statement>,
 ) -> Result<(), AllocError>
-    ensures { OnOk result (map stmt_of out.new ≡ map stmt_of out.old ++ core.compute (core.set_register register (spec.first_word (here_of here.entry) (is_pointer_type (shown_maybe of.entry)) (value_target (shown_maybe of.entry)) at (init_of initial.now)) at) ∷ []) }
+    ensures { OnOk result (map stmt_of out.new ≡ map stmt_of out.old ++ core.compute (core.set_register register (spec.first_word (context_of context.entry) (is_pointer_type (shown_maybe of.entry)) (value_target (shown_maybe of.entry)) at (init_of initial.now)) at) ∷ []) }
 {
     let word = first_word(
         alloc,
-        here,
+        context,
         is_pointer_type(of),
         value_target(of),
         at,
@@ -282,22 +291,22 @@ fn push_register<'h>(
 /// The local of the type that is kept there starts as this.
 pub fn push_begun<'h>(
     alloc: Global,
-    here: Here<'h, '_>,
+    context: Context<'h, '_>,
     home: Option<Home>,
     of: &'h Option<ObjectType>,
     initial: &Initial,
     at: Position,
     out: &mut List<Statement>,
 ) -> Result<(), AllocError>
-    ensures { OnOk result (map stmt_of out.new ≡ map stmt_of out.old ++ spec.begun (here_of here.entry) home of.now (init_of initial.now) at) }
+    ensures { OnOk result (map stmt_of out.new ≡ map stmt_of out.old ++ spec.begun (context_of context.entry) home of.now (init_of initial.now) at) }
 {
     match home {
         None => Ok(()),
         Some(Home::Register(number)) => {
-            push_register(alloc, here, number, ref_of(of), initial, at, out)
+            push_register(alloc, context, number, ref_of(of), initial, at, out)
         }
         Some(Home::Object(number)) => {
-            push_object(alloc, here, number, ref_of(of), initial, at, out)
+            push_object(alloc, context, number, ref_of(of), initial, at, out)
         }
     }
 }

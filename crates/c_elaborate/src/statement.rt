@@ -11,10 +11,10 @@ ghost use Rattle.c_tree.specs.Tree as trees;
 ghost use Rattle.c_core.specs.Core as core;
 ghost use Rattle.c_core.specs.View.{exp_of, stmt_of};
 ghost use Rattle.c_values.specs.Expressions.{value_of};
-ghost use Rattle.c_values.specs.Held.{position_of};
-ghost use Rattle.c_values.specs.Here.{here_in};
+ghost use Rattle.c_values.specs.Denoted.{position_of};
+ghost use Rattle.c_values.specs.Context.{context_in};
 ghost use Rattle.c_elaborate.specs.Statements as spec;
-ghost use Rattle.c_values.specs.Views.{frame_in, here_of, maybe_word, source_in};
+ghost use Rattle.c_values.specs.Views.{frame_in, context_of, maybe_word, source_in};
 
 use crate::initials::push_begun;
 use crate::make::{self, ForHead};
@@ -23,20 +23,20 @@ use c_programs::{Table, copy_of, declare_object, declared_type};
 use c_sites::NumberTable;
 use c_tree::{Declaration, Declarator, Expr, ForStart, Initial, Item, Part, Specifier, Stmt};
 use c_types::Target;
-use c_values::{Frame, Here, Source, value, wanted};
+use c_values::{Context, Frame, Source, value, wanted};
 use rr_base::{List, Position};
 use std::alloc::{AllocError, Global};
 
 /// The place at which so much is known.
-fn here<'h, 'a>(
+fn context<'h, 'a>(
     source: &'h Source<'a>,
     frame: &'h Frame,
     table: &'h Table<'a>,
     numbers: &'h NumberTable<'a>,
-) -> Here<'h, 'a>
-    ensures { here_of result ≡ here_in (source_in source.now) (frame_in frame.now) (known_of table.now) (numbered_of numbers.now) }
+) -> Context<'h, 'a>
+    ensures { context_of result ≡ context_in (source_in source.now) (frame_in frame.now) (known_of table.now) (numbered_of numbers.now) }
 {
-    Here {
+    Context {
         source,
         frame,
         table,
@@ -44,7 +44,7 @@ fn here<'h, 'a>(
     }
 }
 
-/// A local that starts as something. The scope of its name begins behind its declarator.
+/// A local that starts as something. The scope of its name begins after its declarator.
 fn push_initialised<'a>(
     alloc: Global,
     source: &Source<'a>,
@@ -59,15 +59,15 @@ fn push_initialised<'a>(
 ) -> Result<(), AllocError>
     ensures known { OnOk result (known_of table.new ≡ statements.after_declared (known_of table.old) false specifier.now (tree.declared_of declarator.now)) }
     ensures numbers { OnOk result (numbered_of numbers.new ≡ numbering.after_name (numbered_of numbers.old) (tree.declared_of declarator.now)) }
-    ensures out { OnOk result (map stmt_of out.new ≡ map stmt_of out.old ++ spec.object_elaborated (here_in (source_in source.now) (frame_in frame.now) (known_of table.old) (numbered_of numbers.old)) specifier.now (initialised (tree.declared_of declarator.now) (tree.init_of initial.now) at)) }
+    ensures out { OnOk result (map stmt_of out.new ≡ map stmt_of out.old ++ spec.object_elaborated (context_in (source_in source.now) (frame_in frame.now) (known_of table.old) (numbered_of numbers.old)) specifier.now (initialised (tree.declared_of declarator.now) (tree.init_of initial.now) at)) }
 {
     let of = declared_type(alloc, &*table, specifier, declarator)?;
     let kept = copy_of(alloc, &of)?;
     declare_object(table, false, &declarator.name, of)?;
     numbers.number(&declarator.name)?;
-    let here = here(source, frame, &*table, &*numbers);
-    let home = here.home_of(declarator.name.text.as_slice());
-    push_begun(alloc, here, home, &kept, initial, at, out)
+    let context = context(source, frame, &*table, &*numbers);
+    let home = context.home_of(declarator.name.text.as_slice());
+    push_begun(alloc, context, home, &kept, initial, at, out)
 }
 
 /// A local that starts as nothing.
@@ -98,7 +98,7 @@ fn push_object<'a>(
 ) -> Result<(), AllocError>
     ensures known { OnOk result (known_of table.new ≡ statements.after_declared (known_of table.old) false specifier.now (statements.declared_by (tree.object_of item.now))) }
     ensures numbers { OnOk result (numbered_of numbers.new ≡ numbering.after_name (numbered_of numbers.old) (statements.declared_by (tree.object_of item.now))) }
-    ensures out { OnOk result (map stmt_of out.new ≡ map stmt_of out.old ++ spec.object_elaborated (here_in (source_in source.now) (frame_in frame.now) (known_of table.old) (numbered_of numbers.old)) specifier.now (tree.object_of item.now)) }
+    ensures out { OnOk result (map stmt_of out.new ≡ map stmt_of out.old ++ spec.object_elaborated (context_in (source_in source.now) (frame_in frame.now) (known_of table.old) (numbered_of numbers.old)) specifier.now (tree.object_of item.now)) }
 {
     match item {
         Item::Plain(declarator) => pass_plain(alloc, table, numbers, specifier, declarator),
@@ -131,7 +131,7 @@ fn push_declares<'a>(
 ) -> Result<(), AllocError>
     ensures known { OnOk result (known_of table.new ≡ statements.after_declares (known_of table.old) (tree.declares_of declaration.now)) }
     ensures numbers { OnOk result (numbered_of numbers.new ≡ numbering.after_declaration (numbered_of numbers.old) (tree.declares_of declaration.now)) }
-    ensures out { OnOk result (map stmt_of out.new ≡ map stmt_of out.old ++ spec.declares_elaborated (here_in (source_in source.now) (frame_in frame.now) (known_of table.old) (numbered_of numbers.old)) (tree.declares_of declaration.now)) }
+    ensures out { OnOk result (map stmt_of out.new ≡ map stmt_of out.old ++ spec.declares_elaborated (context_in (source_in source.now) (frame_in frame.now) (known_of table.old) (numbered_of numbers.old)) (tree.declares_of declaration.now)) }
 {
     let specifier = &declaration.specifier;
     for item in declaration.items.as_slice() {
@@ -156,9 +156,9 @@ fn value_at<'a>(
     numbers: &NumberTable<'a>,
     e: &Expr,
 ) -> Result<Box<Value>, AllocError>
-    ensures { IfOk result (λ v. exp_of v.value ≡ value_of (here_in (source_in source.now) (frame_in frame.now) (known_of table.now) (numbered_of numbers.now)) (tree.exp_of e.now)) }
+    ensures { IfOk result (λ v. exp_of v.value ≡ value_of (context_in (source_in source.now) (frame_in frame.now) (known_of table.now) (numbered_of numbers.now)) (tree.exp_of e.now)) }
 {
-    value(alloc, here(source, frame, table, numbers), e)
+    value(alloc, context(source, frame, table, numbers), e)
 }
 
 /// An expression for what it does.
@@ -170,7 +170,7 @@ fn computed<'a>(
     numbers: &NumberTable<'a>,
     e: &Option<Expr>,
 ) -> Result<Box<Statement>, AllocError>
-    ensures { IfOk result (λ s. stmt_of s.value ≡ spec.computed (here_in (source_in source.now) (frame_in frame.now) (known_of table.now) (numbered_of numbers.now)) (tree.maybe_of e.now)) }
+    ensures { IfOk result (λ s. stmt_of s.value ≡ spec.computed (context_in (source_in source.now) (frame_in frame.now) (known_of table.now) (numbered_of numbers.now)) (tree.maybe_of e.now)) }
 {
     match e {
         None => nothing(alloc),
@@ -183,15 +183,15 @@ fn computed<'a>(
 
 fn maybe_value(
     alloc: Global,
-    here: Here,
+    context: Context,
     e: &Option<Expr>,
 ) -> Result<Option<Box<Value>>, AllocError>
-    ensures { IfOk result (λ v. maybe_word v ≡ spec.maybe_value (here_of here.entry) (tree.maybe_of e.now)) }
+    ensures { IfOk result (λ v. maybe_word v ≡ spec.maybe_value (context_of context.entry) (tree.maybe_of e.now)) }
 {
     match e {
         None => Ok(None),
         Some(e) => {
-            let value = value(alloc, here, e)?;
+            let value = value(alloc, context, e)?;
             Ok(Some(value))
         }
     }
@@ -206,13 +206,13 @@ fn given<'a>(
     numbers: &NumberTable<'a>,
     e: &Option<Expr>,
 ) -> Result<Option<Box<Value>>, AllocError>
-    ensures { IfOk result (λ v. maybe_word v ≡ spec.given (here_in (source_in source.now) (frame_in frame.now) (known_of table.now) (numbered_of numbers.now)) (tree.maybe_of e.now)) }
+    ensures { IfOk result (λ v. maybe_word v ≡ spec.given (context_in (source_in source.now) (frame_in frame.now) (known_of table.now) (numbered_of numbers.now)) (tree.maybe_of e.now)) }
 {
     match e {
         None => Ok(None),
         Some(e) => {
-            let here = here(source, frame, table, numbers);
-            let value = wanted(alloc, here, frame.gives_pointer, Target::No, e)?;
+            let context = context(source, frame, table, numbers);
+            let value = wanted(alloc, context, frame.gives_pointer, Target::No, e)?;
             Ok(Some(value))
         }
     }
@@ -228,7 +228,7 @@ fn returned<'a>(
     e: &Option<Expr>,
     at: Position,
 ) -> Result<Box<Statement>, AllocError>
-    ensures { IfOk result (λ s. stmt_of s.value ≡ core.gives (spec.given (here_in (source_in source.now) (frame_in frame.now) (known_of table.now) (numbered_of numbers.now)) (tree.maybe_of e.now)) (position_of at)) }
+    ensures { IfOk result (λ s. stmt_of s.value ≡ core.gives (spec.given (context_in (source_in source.now) (frame_in frame.now) (known_of table.now) (numbered_of numbers.now)) (tree.maybe_of e.now)) (position_of at)) }
 {
     let value = given(alloc, source, frame, table, numbers, e)?;
     make::gives(alloc, value, at)
@@ -245,7 +245,7 @@ fn start<'a>(
 ) -> Result<Box<Statement>, AllocError>
     ensures known { OnOk result (known_of table.new ≡ statements.after_start (known_of table.old) (tree.start_of start.now)) }
     ensures numbers { OnOk result (numbered_of numbers.new ≡ numbering.after_for_start (numbered_of numbers.old) (tree.start_of start.now)) }
-    ensures statement { IfOk result (λ s. stmt_of s.value ≡ spec.start_elaborated (here_in (source_in source.now) (frame_in frame.now) (known_of table.old) (numbered_of numbers.old)) (tree.start_of start.now)) }
+    ensures statement { IfOk result (λ s. stmt_of s.value ≡ spec.start_elaborated (context_in (source_in source.now) (frame_in frame.now) (known_of table.old) (numbered_of numbers.old)) (tree.start_of start.now)) }
 {
     match start {
         ForStart::Declares(declaration) => {
@@ -277,8 +277,8 @@ fn block<'a>(
     parts: &'a [Part],
 ) -> Result<Box<Statement>, AllocError>
     ensures known { OnOk result (known_of table.new ≡ known_of table.old) }
-    ensures numbers { OnOk result (numbered_of numbers.new ≡ numbering.behind (numbered_of numbers.old) (numbering.count_of_parts (listed_parts (map tree.part_of parts.now)))) }
-    ensures statement { IfOk result (λ s. stmt_of s.value ≡ spec.block_of (spec.all_elaborated (spec.here_inside (here_in (source_in source.now) (frame_in frame.now) (known_of table.old) (numbered_of numbers.old))) (listed_parts (map tree.part_of parts.now)))) }
+    ensures numbers { OnOk result (numbered_of numbers.new ≡ numbering.following (numbered_of numbers.old) (numbering.count_of_parts (listed_parts (map tree.part_of parts.now)))) }
+    ensures statement { IfOk result (λ s. stmt_of s.value ≡ spec.block_of (spec.all_elaborated (spec.context_inside (context_in (source_in source.now) (frame_in frame.now) (known_of table.old) (numbered_of numbers.old))) (listed_parts (map tree.part_of parts.now)))) }
 {
     table.open(alloc)?;
     numbers.open(alloc)?;
@@ -302,8 +302,8 @@ fn while_loop<'a>(
     at: Position,
 ) -> Result<Box<Statement>, AllocError>
     ensures known { OnOk result (known_of table.new ≡ known_of table.old) }
-    ensures numbers { OnOk result (numbered_of numbers.new ≡ numbering.behind_statement (numbered_of numbers.old) (tree.stmt_of body.now)) }
-    ensures statement { IfOk result (λ s. stmt_of s.value ≡ spec.elaborated (here_in (source_in source.now) (frame_in frame.now) (known_of table.old) (numbered_of numbers.old)) (trees.while_loop (tree.exp_of test.now) (tree.stmt_of body.now) at)) }
+    ensures numbers { OnOk result (numbered_of numbers.new ≡ numbering.past_statement (numbered_of numbers.old) (tree.stmt_of body.now)) }
+    ensures statement { IfOk result (λ s. stmt_of s.value ≡ spec.elaborated (context_in (source_in source.now) (frame_in frame.now) (known_of table.old) (numbered_of numbers.old)) (trees.while_loop (tree.exp_of test.now) (tree.stmt_of body.now) at)) }
 {
     let test = value_at(alloc, source, frame, &*table, &*numbers, test)?;
     let body = statement(alloc, source, frame, table, numbers, body)?;
@@ -322,8 +322,8 @@ fn do_loop<'a>(
     at: Position,
 ) -> Result<Box<Statement>, AllocError>
     ensures known { OnOk result (known_of table.new ≡ known_of table.old) }
-    ensures numbers { OnOk result (numbered_of numbers.new ≡ numbering.behind_statement (numbered_of numbers.old) (tree.stmt_of body.now)) }
-    ensures statement { IfOk result (λ s. stmt_of s.value ≡ spec.elaborated (here_in (source_in source.now) (frame_in frame.now) (known_of table.old) (numbered_of numbers.old)) (trees.do_loop (tree.stmt_of body.now) (tree.exp_of test.now) at)) }
+    ensures numbers { OnOk result (numbered_of numbers.new ≡ numbering.past_statement (numbered_of numbers.old) (tree.stmt_of body.now)) }
+    ensures statement { IfOk result (λ s. stmt_of s.value ≡ spec.elaborated (context_in (source_in source.now) (frame_in frame.now) (known_of table.old) (numbered_of numbers.old)) (trees.do_loop (tree.stmt_of body.now) (tree.exp_of test.now) at)) }
 {
     let body = statement(alloc, source, frame, table, numbers, body)?;
     let test = value_at(alloc, source, frame, &*table, &*numbers, test)?;
@@ -340,12 +340,12 @@ fn for_parts<'a>(
     test: &Option<Expr>,
     step: &Option<Expr>,
 ) -> Result<(Option<Box<Value>>, Option<Box<Value>>), AllocError>
-    ensures test { IfOk result (λ r. maybe_word r.0 ≡ spec.maybe_value (here_in (source_in source.now) (frame_in frame.now) (known_of table.now) (numbered_of numbers.now)) (tree.maybe_of test.now)) }
-    ensures step { IfOk result (λ r. maybe_word r.1 ≡ spec.maybe_value (here_in (source_in source.now) (frame_in frame.now) (known_of table.now) (numbered_of numbers.now)) (tree.maybe_of step.now)) }
+    ensures test { IfOk result (λ r. maybe_word r.0 ≡ spec.maybe_value (context_in (source_in source.now) (frame_in frame.now) (known_of table.now) (numbered_of numbers.now)) (tree.maybe_of test.now)) }
+    ensures step { IfOk result (λ r. maybe_word r.1 ≡ spec.maybe_value (context_in (source_in source.now) (frame_in frame.now) (known_of table.now) (numbered_of numbers.now)) (tree.maybe_of step.now)) }
 {
-    let here = here(source, frame, table, numbers);
-    let test = maybe_value(alloc, here, test)?;
-    let step = maybe_value(alloc, here, step)?;
+    let context = context(source, frame, table, numbers);
+    let test = maybe_value(alloc, context, test)?;
+    let step = maybe_value(alloc, context, step)?;
     Ok((test, step))
 }
 
@@ -362,9 +362,9 @@ fn for_head<'a>(
 ) -> Result<ForHead, AllocError>
     ensures known { OnOk result (known_of table.new ≡ statements.after_start (known_of table.old) (tree.start_of begin.now)) }
     ensures numbers { OnOk result (numbered_of numbers.new ≡ numbering.after_for_start (numbered_of numbers.old) (tree.start_of begin.now)) }
-    ensures start { IfOk result (λ h. stmt_of h.start.value ≡ spec.start_elaborated (here_in (source_in source.now) (frame_in frame.now) (known_of table.old) (numbered_of numbers.old)) (tree.start_of begin.now)) }
-    ensures test { IfOk result (λ h. maybe_word h.test ≡ spec.maybe_value (spec.here_after_start (here_in (source_in source.now) (frame_in frame.now) (known_of table.old) (numbered_of numbers.old)) (tree.start_of begin.now)) (tree.maybe_of test.now)) }
-    ensures step { IfOk result (λ h. maybe_word h.step ≡ spec.maybe_value (spec.here_after_start (here_in (source_in source.now) (frame_in frame.now) (known_of table.old) (numbered_of numbers.old)) (tree.start_of begin.now)) (tree.maybe_of step.now)) }
+    ensures start { IfOk result (λ h. stmt_of h.start.value ≡ spec.start_elaborated (context_in (source_in source.now) (frame_in frame.now) (known_of table.old) (numbered_of numbers.old)) (tree.start_of begin.now)) }
+    ensures test { IfOk result (λ h. maybe_word h.test ≡ spec.maybe_value (spec.here_after_start (context_in (source_in source.now) (frame_in frame.now) (known_of table.old) (numbered_of numbers.old)) (tree.start_of begin.now)) (tree.maybe_of test.now)) }
+    ensures step { IfOk result (λ h. maybe_word h.step ≡ spec.maybe_value (spec.here_after_start (context_in (source_in source.now) (frame_in frame.now) (known_of table.old) (numbered_of numbers.old)) (tree.start_of begin.now)) (tree.maybe_of step.now)) }
 {
     let start = start(alloc, source, frame, table, numbers, begin)?;
     let parts = for_parts(alloc, source, frame, &*table, &*numbers, test, step)?;
@@ -390,15 +390,15 @@ fn for_loop<'a>(
     at: Position,
 ) -> Result<Box<Statement>, AllocError>
     ensures known { OnOk result (known_of table.new ≡ statements.after_start (known_of table.old) (tree.start_of begin.now)) }
-    ensures numbers { OnOk result (numbered_of numbers.new ≡ numbering.behind_statement (numbering.after_for_start (numbered_of numbers.old) (tree.start_of begin.now)) (tree.stmt_of body.now)) }
-    ensures statement { let h = (here_in (source_in source.now) (frame_in frame.now) (known_of table.old) (numbered_of numbers.old)) in let after = spec.here_after_start h (tree.start_of begin.now) in IfOk result (λ s. stmt_of s.value ≡ core.for_loop (spec.start_elaborated h (tree.start_of begin.now)) (spec.maybe_value after (tree.maybe_of test.now)) (spec.maybe_value after (tree.maybe_of step.now)) (spec.elaborated after (tree.stmt_of body.now)) (position_of at)) }
+    ensures numbers { OnOk result (numbered_of numbers.new ≡ numbering.past_statement (numbering.after_for_start (numbered_of numbers.old) (tree.start_of begin.now)) (tree.stmt_of body.now)) }
+    ensures statement { let h = (context_in (source_in source.now) (frame_in frame.now) (known_of table.old) (numbered_of numbers.old)) in let after = spec.here_after_start h (tree.start_of begin.now) in IfOk result (λ s. stmt_of s.value ≡ core.for_loop (spec.start_elaborated h (tree.start_of begin.now)) (spec.maybe_value after (tree.maybe_of test.now)) (spec.maybe_value after (tree.maybe_of step.now)) (spec.elaborated after (tree.stmt_of body.now)) (position_of at)) }
 {
     let head = for_head(alloc, source, frame, table, numbers, begin, test, step)?;
     let body = statement(alloc, source, frame, table, numbers, body)?;
     make::for_loop(alloc, head, body, at)
 }
 
-/// A `for`, whose names aren't seen behind it.
+/// A `for`, whose names aren't seen after it.
 #[cycle(statement)]
 fn for_statement<'a>(
     alloc: Global,
@@ -413,8 +413,8 @@ fn for_statement<'a>(
     at: Position,
 ) -> Result<Box<Statement>, AllocError>
     ensures known { OnOk result (known_of table.new ≡ known_of table.old) }
-    ensures numbers { OnOk result (numbered_of numbers.new ≡ numbering.behind_statement (numbered_of numbers.old) (trees.for_loop (tree.start_of begin.now) (tree.maybe_of test.now) (tree.maybe_of step.now) (tree.stmt_of body.now) at)) }
-    ensures statement { IfOk result (λ s. stmt_of s.value ≡ spec.elaborated (here_in (source_in source.now) (frame_in frame.now) (known_of table.old) (numbered_of numbers.old)) (trees.for_loop (tree.start_of begin.now) (tree.maybe_of test.now) (tree.maybe_of step.now) (tree.stmt_of body.now) at)) }
+    ensures numbers { OnOk result (numbered_of numbers.new ≡ numbering.past_statement (numbered_of numbers.old) (trees.for_loop (tree.start_of begin.now) (tree.maybe_of test.now) (tree.maybe_of step.now) (tree.stmt_of body.now) at)) }
+    ensures statement { IfOk result (λ s. stmt_of s.value ≡ spec.elaborated (context_in (source_in source.now) (frame_in frame.now) (known_of table.old) (numbered_of numbers.old)) (trees.for_loop (tree.start_of begin.now) (tree.maybe_of test.now) (tree.maybe_of step.now) (tree.stmt_of body.now) at)) }
 {
     table.open(alloc)?;
     numbers.open(alloc)?;
@@ -446,7 +446,7 @@ fn place_of(stmt: &Stmt) -> Position
     }
 }
 
-/// A statement. Its locals aren't seen behind it.
+/// A statement. Its locals aren't seen after it.
 #[cycle(statement)]
 fn statement<'a>(
     alloc: Global,
@@ -457,8 +457,8 @@ fn statement<'a>(
     stmt: &'a Stmt,
 ) -> Result<Box<Statement>, AllocError>
     ensures known { OnOk result (known_of table.new ≡ known_of table.old) }
-    ensures numbers { OnOk result (numbered_of numbers.new ≡ numbering.behind_statement (numbered_of numbers.old) (tree.stmt_of stmt.now)) }
-    ensures statement { IfOk result (λ s. stmt_of s.value ≡ spec.elaborated (here_in (source_in source.now) (frame_in frame.now) (known_of table.old) (numbered_of numbers.old)) (tree.stmt_of stmt.now)) }
+    ensures numbers { OnOk result (numbered_of numbers.new ≡ numbering.past_statement (numbered_of numbers.old) (tree.stmt_of stmt.now)) }
+    ensures statement { IfOk result (λ s. stmt_of s.value ≡ spec.elaborated (context_in (source_in source.now) (frame_in frame.now) (known_of table.old) (numbered_of numbers.old)) (tree.stmt_of stmt.now)) }
 {
     let at = place_of(stmt);
     match stmt {
@@ -514,8 +514,8 @@ pub fn push_parts<'a>(
     out: &mut List<Statement>,
 ) -> Result<(), AllocError>
     ensures known { OnOk result (known_of table.new ≡ statements.after_parts (known_of table.old) (listed_parts (map tree.part_of parts.now))) }
-    ensures numbers { OnOk result (numbered_of numbers.new ≡ numbering.behind_parts (numbered_of numbers.old) (listed_parts (map tree.part_of parts.now))) }
-    ensures out { OnOk result (map stmt_of out.new ≡ map stmt_of out.old ++ spec.all_elaborated (here_in (source_in source.now) (frame_in frame.now) (known_of table.old) (numbered_of numbers.old)) (listed_parts (map tree.part_of parts.now))) }
+    ensures numbers { OnOk result (numbered_of numbers.new ≡ numbering.past_parts (numbered_of numbers.old) (listed_parts (map tree.part_of parts.now))) }
+    ensures out { OnOk result (map stmt_of out.new ≡ map stmt_of out.old ++ spec.all_elaborated (context_in (source_in source.now) (frame_in frame.now) (known_of table.old) (numbered_of numbers.old)) (listed_parts (map tree.part_of parts.now))) }
 {
     for part in parts {
         match part {

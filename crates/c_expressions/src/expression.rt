@@ -1,5 +1,5 @@
 //! Reads expressions (C99 6.5). Each reader is named after its phrase. It takes the level of nesting at which the phrase
-//! stands, and gives the tree and the tokens behind it.
+//! stands, and gives the tree and the tokens after it.
 
 ghost use Rattle.std.specs.Prelude.{◌≡◌, ◌≤◌, map};
 ghost use Rattle.c_tree.specs.View.{exp_of, maybe_of};
@@ -72,7 +72,7 @@ pub fn expression(alloc: Global, level: u32, tokens: &[Token]) -> Result<(Expr, 
     Ok((make::comma(first, others, place), rest))
 }
 
-// The assignments with a comma before each, behind those that were found.
+// The assignments with a comma before each, after those that were found.
 #[cycle(read)]
 #[tactic(auto, using(c_parse_rules::proofs::Steps::more_rules))]
 fn more(
@@ -85,8 +85,8 @@ fn more(
     ensures { Reads (phrase.more level (map exp_of found)) (λ es. map exp_of es) tokens.now result }
 {
     let mut rest = tokens;
-    while let Some((_, behind)) = next_punct(rest, Punct::Comma, level)? {
-        let (e, next) = assignment(alloc, level, behind)?;
+    while let Some((_, following)) = next_punct(rest, Punct::Comma, level)? {
+        let (e, next) = assignment(alloc, level, following)?;
         found.push(e)?;
         rest = next;
     }
@@ -101,11 +101,11 @@ pub fn assignment(alloc: Global, level: u32, tokens: &[Token]) -> Result<(Expr, 
     ensures { Reads (phrase.assignment level) (λ e. exp_of e) tokens.now result }
 {
     let (left, rest) = conditional(alloc, level, tokens)?;
-    let Some(((op, place), behind)) = next_assign(rest, level + 2)? else {
+    let Some(((op, place), following)) = next_assign(rest, level + 2)? else {
         return Ok((left, rest));
     };
     let left = Box::new(alloc, left)?;
-    let (right, rest) = assignment(alloc, level + 2, behind)?;
+    let (right, rest) = assignment(alloc, level + 2, following)?;
     let right = Box::new(alloc, right)?;
     let Position { line, column } = place;
     Ok((
@@ -164,7 +164,7 @@ fn operands(alloc: Global, level: u32, tokens: &[Token]) -> Result<(Expr, &[Toke
     chain(alloc, level, first, rest)
 }
 
-// The operators and operands behind a left operand.
+// The operators and operands after a left operand.
 #[cycle(read)]
 #[tactic(auto, using(c_parse_rules::proofs::Steps::chain_rules))]
 fn chain(
@@ -176,10 +176,10 @@ fn chain(
     requires { level ≤ 257 }
     ensures { Reads (phrase.chain level (exp_of left)) (λ e. exp_of e) tokens.now result }
 {
-    let Some(((op, place), behind)) = next_binary(tokens, level + 2)? else {
+    let Some(((op, place), following)) = next_binary(tokens, level + 2)? else {
         return Ok((left, tokens));
     };
-    let (operand, rest) = unary(alloc, level + 1, behind)?;
+    let (operand, rest) = unary(alloc, level + 1, following)?;
     let left = push(alloc, left, op, operand, place)?;
     chain(alloc, level + 1, left, rest)
 }
@@ -214,7 +214,7 @@ fn unary_plain(alloc: Global, level: u32, tokens: &[Token]) -> Result<(Expr, &[T
     postfix(alloc, level, base, rest)
 }
 
-// Behind the word, which stands at that place and one level above.
+// After the word, which stands at that place and one level above.
 #[cycle(read)]
 fn sizeof(
     alloc: Global,
@@ -239,7 +239,7 @@ fn sizeof(
     Ok((make::sizeof_expr(alloc, operand, place)?, rest))
 }
 
-// Behind a parenthesis at that place: a cast, or an expression and what follows it.
+// After a parenthesis at that place: a cast, or an expression and what follows it.
 #[cycle(read)]
 #[tactic(auto, using(c_parse_rules::proofs::Steps::opened_rules))]
 fn opened(
@@ -290,11 +290,11 @@ fn atom(alloc: Global, level: u32, tokens: &[Token]) -> Result<(Expr, &[Token]),
     ensures { Reads (phrase.atom level) (λ e. exp_of e) tokens.now result }
 {
     if let Some((Name { text, line, column }, rest)) = next_name(alloc, tokens, level + 1)? {
-        let Some((_, behind)) = next_punct(rest, Punct::OpenParen, level + 1)? else {
+        let Some((_, following)) = next_punct(rest, Punct::OpenParen, level + 1)? else {
             let name = text;
             return Ok((Expr::Name { name, line, column }, rest));
         };
-        let (arguments, rest) = arguments(alloc, level + 1, behind)?;
+        let (arguments, rest) = arguments(alloc, level + 1, following)?;
         return Ok((make::call(text, arguments, Position { line, column }), rest));
     }
     if let Some(((value, Position { line, column }), rest)) = next_number(tokens, level + 1)? {
@@ -331,7 +331,7 @@ fn atom(alloc: Global, level: u32, tokens: &[Token]) -> Result<(Expr, &[Token]),
     Ok((Expr::Null { line, column }, rest))
 }
 
-// The postfix operators behind a base.
+// The postfix operators after a base.
 #[cycle(read)]
 #[tactic(auto, using(c_parse_rules::proofs::Steps::postfix_rules))]
 fn postfix(
@@ -412,7 +412,7 @@ fn postfix(
     Ok((base, tokens))
 }
 
-// Behind a parenthesis, with that which closes them.
+// After a parenthesis, with that which closes them.
 #[cycle(read)]
 #[tactic(auto, using(c_parse_rules::proofs::Steps::arguments_rules))]
 fn arguments(

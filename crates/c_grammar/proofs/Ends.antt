@@ -90,7 +90,7 @@ AfterType ms = (reads_word word.Long ms ≡ false) × (reads_word word.Int ms �
 abbrev pub AfterParam : List Mark → Type 0
 AfterParam ms = (sees punct.Comma ms ≡ true) ⊎ (sees punct.CloseParen ms ≡ true)
 
--- what follows the phrase, where the parser is to stop behind it
+-- what follows the phrase, where the parser is to stop after it
 abbrev pub EndsAt : (n : Phrase) → TreeOf n → List Mark → Type 0
 EndsAt (phrase.specifier l) s ms = AfterType ms
 EndsAt (phrase.stars l n) k ms = sees punct.Star ms ≡ false
@@ -115,14 +115,14 @@ EndsAt (phrase.lengths l es) all ms = joins_next ms ≤ 2
 EndsAt (phrase.initial l) i ms = joins_next ms ≤ 1
 EndsAt (phrase.more_initials l is) r ms = sees punct.CloseBrace ms ≡ true
 EndsAt (phrase.object l) o ms = joins_next ms ≤ 1
-EndsAt (phrase.object_behind l d) o ms = joins_next ms ≤ 1
+EndsAt (phrase.object_past l d) o ms = joins_next ms ≤ 1
 EndsAt (phrase.more_objects l os) all ms = joins_next ms ≤ 0
 EndsAt (phrase.declaration l) d ms = Unit {0}
 EndsAt (phrase.start l) s ms = Unit {0}
 EndsAt (phrase.statement l) s ms = ends_open s ≡ true → reads_word word.Else ms ≡ false
 EndsAt (phrase.parts l ps) all ms = sees punct.CloseBrace ms ≡ true
 EndsAt phrase.param x ms = AfterParam ms
-EndsAt (phrase.param_behind s) x ms = AfterParam ms
+EndsAt (phrase.param_after s) x ms = AfterParam ms
 EndsAt (phrase.more_params xs) all ms = sees punct.CloseParen ms ≡ true
 EndsAt phrase.params xs ms = sees punct.CloseParen ms ≡ true
 EndsAt phrase.code c ms = Unit {0}
@@ -130,7 +130,7 @@ EndsAt (phrase.more_declared ds) all ms = sees punct.Semicolon ms ≡ true
 EndsAt phrase.member f ms = Unit {0}
 EndsAt (phrase.more_members fs) all ms = sees punct.CloseBrace ms ≡ true
 EndsAt phrase.outer o ms = Unit {0}
-EndsAt (phrase.outer_behind is_static s at) o ms = Unit {0}
+EndsAt (phrase.outer_after is_static s at) o ms = Unit {0}
 EndsAt (phrase.program os) all ms = ms ≡ []
 
 abbrev pub HeadEndsAt : Head → List Mark → Type 0
@@ -291,8 +291,8 @@ prefix_begins _ = refl
 -- its first token, which stands one level above the context
 pub record First (l : ℕ) (ms : List Mark) : Type 0 where
   pub token : Mark
-  pub behind : List Mark
-  pub whole : ms ≡ token ∷ behind
+  pub following : List Mark
+  pub whole : ms ≡ token ∷ following
   pub level : token.level ≡ suc l
   pub begins : begins_exp token.lexeme.kind ≡ true
 
@@ -301,22 +301,22 @@ first_of_exp l (comma a es at) ms rest h = first_of_exp l a ms h.1.0 h.1.1
 first_of_exp l (assign a op b at) ms rest h = first_of_exp l a ms h.1.0 h.1.1
 first_of_exp l (conditional a b c at) ms rest h = first_of_exp l a ms h.1.0 h.1.1
 first_of_exp l (binary a op b at) ms rest h = first_of_exp l a ms h.1.0 h.1.1
-first_of_exp l (prefix op a at) ms rest h = record { token = mark (kind_of a_prefix op) at (suc l); behind = h.1.0; whole = h.1.1; level = refl; begins = prefix_begins op }
-first_of_exp l (sizeof_exp a at) ms rest h = record { token = mark (w word.Sizeof) at (suc l); behind = h.1.0; whole = h.1.1; level = refl; begins = refl }
-first_of_exp l (sizeof_type t at) ms rest h = record { token = mark (w word.Sizeof) at (suc l); behind = h.0; whole = h.1; level = refl; begins = refl }
-first_of_exp l (cast t a at) ms rest h = record { token = mark (p punct.OpenParen) at (suc l); behind = h.1.0; whole = h.1.1; level = refl; begins = refl }
+first_of_exp l (prefix op a at) ms rest h = record { token = mark (kind_of a_prefix op) at (suc l); following = h.1.0; whole = h.1.1; level = refl; begins = prefix_begins op }
+first_of_exp l (sizeof_exp a at) ms rest h = record { token = mark (w word.Sizeof) at (suc l); following = h.1.0; whole = h.1.1; level = refl; begins = refl }
+first_of_exp l (sizeof_type t at) ms rest h = record { token = mark (w word.Sizeof) at (suc l); following = h.0; whole = h.1; level = refl; begins = refl }
+first_of_exp l (cast t a at) ms rest h = record { token = mark (p punct.OpenParen) at (suc l); following = h.1.0; whole = h.1.1; level = refl; begins = refl }
 first_of_exp l (index a b at) ms rest h = first_of_exp l a ms h.1.0 h.1.1
 first_of_exp l (member a x at) ms rest h = first_of_exp l a ms h.1.0 h.1.1
 first_of_exp l (arrow a x at) ms rest h = first_of_exp l a ms h.1.0 h.1.1
 first_of_exp l (post_increment a at) ms rest h = first_of_exp l a ms h.1.0 h.1.1
 first_of_exp l (post_decrement a at) ms rest h = first_of_exp l a ms h.1.0 h.1.1
-first_of_exp l (named x at) ms rest h = record { token = mark (kind.Name x) at (suc l); behind = rest; whole = h; level = refl; begins = refl }
-first_of_exp l (call x es at) ms rest h = record { token = mark (kind.Name x) at (suc l); behind = h.0; whole = h.1; level = refl; begins = refl }
-first_of_exp l (number n at) ms rest h = record { token = mark (kind.Number n) at (suc l); behind = rest; whole = h; level = refl; begins = refl }
-first_of_exp l (letter n at) ms rest h = record { token = mark (kind.Letter n) at (suc l); behind = rest; whole = h; level = refl; begins = refl }
-first_of_exp l (text x at) ms rest h = record { token = mark (kind.Text x) at (suc l); behind = rest; whole = h; level = refl; begins = refl }
-first_of_exp l (null at) ms rest h = record { token = mark (w word.Null) at (suc l); behind = rest; whole = h; level = refl; begins = refl }
-first_of_exp l (paren a at) ms rest h = record { token = mark (p punct.OpenParen) at (suc l); behind = h.0; whole = h.1; level = refl; begins = refl }
+first_of_exp l (named x at) ms rest h = record { token = mark (kind.Name x) at (suc l); following = rest; whole = h; level = refl; begins = refl }
+first_of_exp l (call x es at) ms rest h = record { token = mark (kind.Name x) at (suc l); following = h.0; whole = h.1; level = refl; begins = refl }
+first_of_exp l (number n at) ms rest h = record { token = mark (kind.Number n) at (suc l); following = rest; whole = h; level = refl; begins = refl }
+first_of_exp l (letter n at) ms rest h = record { token = mark (kind.Letter n) at (suc l); following = rest; whole = h; level = refl; begins = refl }
+first_of_exp l (text x at) ms rest h = record { token = mark (kind.Text x) at (suc l); following = rest; whole = h; level = refl; begins = refl }
+first_of_exp l (null at) ms rest h = record { token = mark (w word.Null) at (suc l); following = rest; whole = h; level = refl; begins = refl }
+first_of_exp l (paren a at) ms rest h = record { token = mark (p punct.OpenParen) at (suc l); following = h.0; whole = h.1; level = refl; begins = refl }
 
 pub exp_begins : (l : ℕ) (e : Exp) (ms rest : List Mark) → OfExp l e ms rest → next_is begins_exp ms ≡ true
 exp_begins l e ms rest h = let f = first_of_exp l e ms rest h in ap (next_is begins_exp) f.whole ∙ f.begins

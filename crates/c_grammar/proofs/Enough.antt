@@ -152,14 +152,14 @@ guarded (phrase.lengths l es) = (tt, tt)
 guarded (phrase.initial l) = (tt, (tt, (tt, (omega arith, inr (λ e. tt)))))
 guarded (phrase.more_initials l is) = (tt, tt)
 guarded (phrase.object l) = (omega arith, inr (λ d. (omega arith, inr (λ o. tt))))
-guarded (phrase.object_behind l d) = (tt, tt)
+guarded (phrase.object_past l d) = (tt, tt)
 guarded (phrase.more_objects l os) = (tt, tt)
 guarded (phrase.declaration l) = (omega arith, inl refl)
 guarded (phrase.start l) = ((omega arith, inr (λ d. tt)), (omega arith, inr (λ e. tt)))
 guarded (phrase.statement l) = (tt, (tt, (tt, (tt, (tt, (tt, (tt, (tt, (tt, (omega arith, inr (λ e. tt)))))))))))
 guarded (phrase.parts l ps) = (tt, ((omega arith, inl refl), (omega arith, inl refl)))
 guarded phrase.param = (omega arith, inr (λ s. (omega arith, inr (λ x. tt))))
-guarded (phrase.param_behind s) = (omega arith, inr (λ n. (tt, tt)))
+guarded (phrase.param_after s) = (omega arith, inr (λ n. (tt, tt)))
 guarded (phrase.more_params xs) = (tt, tt)
 guarded phrase.params = (tt, (omega arith, inr (λ x. (omega arith, inr (λ xs. tt)))))
 guarded phrase.code = (tt, tt)
@@ -167,7 +167,7 @@ guarded (phrase.more_declared ds) = (tt, tt)
 guarded phrase.member = (omega arith, inl refl)
 guarded (phrase.more_members fs) = (tt, (omega arith, inl refl))
 guarded phrase.outer = (tt, (tt, (omega arith, inr (λ s. (omega arith, inr (λ o. tt))))))
-guarded (phrase.outer_behind is_static s at) = tt
+guarded (phrase.outer_after is_static s at) = tt
 guarded (phrase.program os) = ((omega arith, inl refl), tt)
 
 rank_small : (n : Phrase) → rank n < 9
@@ -211,23 +211,23 @@ module _ (limit b : ℕ) (env : (n : Phrase) → Parser (TreeOf n)) (s : Shrinks
   after_unspent (Stuck g mid) f h k e = cc
   after_unspent Spent f h k e = h refl
 
-  -- behind a token
-  run_behind : {A : Type 0} (g : Rule A) (us : List Lexeme) → 9 * length us + 9 ≤ b → run limit env g us ≢ Spent
-  run_behind (ret x) us le = λ e. cc
-  run_behind (one c l f) us le = after_unspent (token limit c l us) (λ x. run limit env (f x.0 x.1)) (token_unspent limit c l us) (λ x mid d. run_behind (f x.0 x.1) mid (omega (arith, le, token_fewer limit c l us x mid d)))
-  run_behind (rule.call n f) us le = after_unspent (env n us) (λ x. run limit env (f x)) (enough n us (omega (arith, le, rank_small n))) (λ x mid d. run_behind (f x) mid (omega (arith, le, s.no_more n us x mid d)))
-  run_behind (heads f) us le = after_unspent (outer_head limit us) (λ x. run limit env (f x)) (head_unspent limit us) (λ x mid d. run_behind (f x) mid (omega (arith, le, head_fewer limit us x mid d)))
-  run_behind (choose test g h) us le = either (λ o. o ≢ Spent) (passes test us) (run limit env g us) (run limit env h us) (run_behind g us le) (run_behind h us le)
+  -- after a token
+  run_after : {A : Type 0} (g : Rule A) (us : List Lexeme) → 9 * length us + 9 ≤ b → run limit env g us ≢ Spent
+  run_after (ret x) us le = λ e. cc
+  run_after (one c l f) us le = after_unspent (token limit c l us) (λ x. run limit env (f x.0 x.1)) (token_unspent limit c l us) (λ x mid d. run_after (f x.0 x.1) mid (omega (arith, le, token_fewer limit c l us x mid d)))
+  run_after (rule.call n f) us le = after_unspent (env n us) (λ x. run limit env (f x)) (enough n us (omega (arith, le, rank_small n))) (λ x mid d. run_after (f x) mid (omega (arith, le, s.no_more n us x mid d)))
+  run_after (heads f) us le = after_unspent (outer_head limit us) (λ x. run limit env (f x)) (head_unspent limit us) (λ x mid d. run_after (f x) mid (omega (arith, le, head_fewer limit us x mid d)))
+  run_after (choose test g h) us le = either (λ o. o ≢ Spent) (passes test us) (run limit env g us) (run limit env h us) (run_after g us le) (run_after h us le)
 
   run_unspent : {A : Type 0} (r : ℕ) (g : Rule A) → Guarded r g → (us : List Lexeme) → 9 * length us + r ≤ b → run limit env g us ≢ Spent
   run_unspent r (ret x) h us le = λ e. cc
-  run_unspent r (one c l f) h us le = after_unspent (token limit c l us) (λ x. run limit env (f x.0 x.1)) (token_unspent limit c l us) (λ x mid d. run_behind (f x.0 x.1) mid (omega (arith, le, token_fewer limit c l us x mid d)))
+  run_unspent r (one c l f) h us le = after_unspent (token limit c l us) (λ x. run limit env (f x.0 x.1)) (token_unspent limit c l us) (λ x mid d. run_after (f x.0 x.1) mid (omega (arith, le, token_fewer limit c l us x mid d)))
   run_unspent {A} r (rule.call n f) h us le = after_unspent (env n us) (λ x. run limit env (f x)) (enough n us (omega (arith, le, h.0))) (λ x mid d. by x mid d h.1 (λ k le. run_unspent r (f x) k mid le))
     where
       by : (x : TreeOf n) (mid : List Lexeme) → env n us ≡ Got x mid → (eats n ≡ true) ⊎ ((x : TreeOf n) → Guarded r (f x)) → (Guarded r (f x) → 9 * length mid + r ≤ b → run limit env (f x) mid ≢ Spent) → run limit env (f x) mid ≢ Spent
-      by x mid d (inl e) go = run_behind (f x) mid (omega (arith, le, s.fewer n us x mid d e))
+      by x mid d (inl e) go = run_after (f x) mid (omega (arith, le, s.fewer n us x mid d e))
       by x mid d (inr k) go = go (k x) (omega (arith, le, s.no_more n us x mid d))
-  run_unspent r (heads f) h us le = after_unspent (outer_head limit us) (λ x. run limit env (f x)) (head_unspent limit us) (λ x mid d. run_behind (f x) mid (omega (arith, le, head_fewer limit us x mid d)))
+  run_unspent r (heads f) h us le = after_unspent (outer_head limit us) (λ x. run limit env (f x)) (head_unspent limit us) (λ x mid d. run_after (f x) mid (omega (arith, le, head_fewer limit us x mid d)))
   run_unspent r (choose test g k) h us le = either (λ o. o ≢ Spent) (passes test us) (run limit env g us) (run limit env k us) (run_unspent r g h.0 us le) (run_unspent r k h.1 us le)
 
 suffices : (limit m : ℕ) → Suffices m (read_within limit m)

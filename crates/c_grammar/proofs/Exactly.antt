@@ -91,13 +91,13 @@ ended_by n zero os ts a rest e = cc
 ended_by n (suc k) os [] a rest e = cc
 ended_by n (suc k) os (t ∷ ts) a rest e = by (read_within n k phrase.outer (t ∷ ts)) e (λ o mid d. ended_by n k (os ++ o ∷ []) mid a rest d)
   where
-    behind : (o : Outer) (mid : List Lexeme) (x : Outcome (List Outer)) → read_within n k (phrase.program (os ++ o ∷ [])) mid ≡ x → and_then x (λ all ts. Got all ts) ≡ Got a rest → (read_within n k (phrase.program (os ++ o ∷ [])) mid ≡ Got a rest → rest ≡ []) → rest ≡ []
-    behind o mid (Got all us) d e go = go (d ∙ e)
-    behind o mid (Stuck f us) d e go = cc
-    behind o mid Spent d e go = cc
+    following : (o : Outer) (mid : List Lexeme) (x : Outcome (List Outer)) → read_within n k (phrase.program (os ++ o ∷ [])) mid ≡ x → and_then x (λ all ts. Got all ts) ≡ Got a rest → (read_within n k (phrase.program (os ++ o ∷ [])) mid ≡ Got a rest → rest ≡ []) → rest ≡ []
+    following o mid (Got all us) d e go = go (d ∙ e)
+    following o mid (Stuck f us) d e go = cc
+    following o mid Spent d e go = cc
 
     by : (x : Outcome Outer) → and_then x (λ o. run n (read_within n k) (rule.call (phrase.program (os ++ o ∷ [])) (λ all. rule.ret all))) ≡ Got a rest → ((o : Outer) (mid : List Lexeme) → read_within n k (phrase.program (os ++ o ∷ [])) mid ≡ Got a rest → rest ≡ []) → rest ≡ []
-    by (Got o mid) e go = behind o mid (read_within n k (phrase.program (os ++ o ∷ [])) mid) refl e (go o mid)
+    by (Got o mid) e go = following o mid (read_within n k (phrase.program (os ++ o ∷ [])) mid) refl e (go o mid)
     by (Stuck f mid) e go = cc
     by Spent e go = cc
 

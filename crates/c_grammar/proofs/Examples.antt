@@ -79,7 +79,7 @@ some_of (phrase.lengths l es) = (es, [], λ k. ([], sym (append-nil es), refl))
 some_of (phrase.initial l) = (mutex_start at, mark (w word.PthreadMutexInitializer) at (suc l) ∷ [], λ k. refl)
 some_of (phrase.more_initials l is) = (initials (is ++ []) false, [], λ k. ([], false, refl, (k, refl, refl)))
 some_of (phrase.object l) = (plain an_object, name_mark (l + 0) ∷ [], some_declared l)
-some_of (phrase.object_behind l d) = (plain d, [], λ k. inl (refl, refl))
+some_of (phrase.object_past l d) = (plain d, [], λ k. inl (refl, refl))
 some_of (phrase.more_objects l os) = (os, [], λ k. ([], sym (append-nil os), refl))
 some_of (phrase.declaration l) = (
   declares int (plain an_object ∷ []) at,
@@ -90,7 +90,7 @@ some_of (phrase.start l) = (start_computes None, sign punct.Semicolon l ∷ [], 
 some_of (phrase.statement l) = (compute None at, sign punct.Semicolon (suc l) ∷ [], λ k. refl)
 some_of (phrase.parts l ps) = (ps, [], λ k. ([], sym (append-nil ps), refl))
 some_of phrase.param = (record { specifier = int; stars = 0; name = None; line = 1; column = 1 }, int_mark 0 ∷ [], λ k. (refl, (k, refl, (k, refl, refl))))
-some_of (phrase.param_behind s) = (record { specifier = s; stars = 0; name = None; line = (specifier_place s).line; column = (specifier_place s).column }, [], λ k. (refl, refl, (k, refl, refl)))
+some_of (phrase.param_after s) = (record { specifier = s; stars = 0; name = None; line = (specifier_place s).line; column = (specifier_place s).column }, [], λ k. (refl, refl, (k, refl, refl)))
 some_of (phrase.more_params xs) = (xs, [], λ k. ([], sym (append-nil xs), refl))
 some_of phrase.params = (params.Nothing, [], λ k. refl)
 some_of phrase.code = (prototype, sign punct.Semicolon 0 ∷ [], λ k. (at, refl))
@@ -106,7 +106,7 @@ some_of phrase.outer = (
   int_mark 0 ∷ name_mark 0 ∷ sign punct.Semicolon 0 ∷ [],
   λ k. (int_mark 0 ∷ name_mark 0 ∷ sign punct.Semicolon 0 ∷ k, (refl, refl), (name_mark 0 ∷ sign punct.Semicolon 0 ∷ k, refl, (sign punct.Semicolon 0 ∷ k, (sign punct.Semicolon 0 ∷ k, some_declared 0 (sign punct.Semicolon 0 ∷ k), refl), (at, refl)))),
 )
-some_of (phrase.outer_behind is_static s there) = (
+some_of (phrase.outer_after is_static s there) = (
   objects is_static s (plain an_object ∷ []) there,
   name_mark 0 ∷ sign punct.Semicolon 0 ∷ [],
   λ k. inr (plain an_object ∷ [], refl, (sign punct.Semicolon 0 ∷ k, (sign punct.Semicolon 0 ∷ k, some_declared 0 (sign punct.Semicolon 0 ∷ k), refl), (at, refl))),

@@ -30,11 +30,11 @@ abbrev pub Chooses : Phrase → Type 0
 Chooses n = (x : TreeOf n) (ms rest : List Mark) → Of n x ms rest → EndsAt n x rest → Chosen (rules n) x ms rest
 
 -- by the token that comes
-pub looks : (test : Kind → Bool) (b : Bool) (m : Mark) (ms behind : List Mark) → ms ≡ m ∷ behind → test m.lexeme.kind ≡ b → next_is test ms ≡ b
-looks test b m ms behind e h = ap (next_is test) e ∙ h
+pub looks : (test : Kind → Bool) (b : Bool) (m : Mark) (ms following : List Mark) → ms ≡ m ∷ following → test m.lexeme.kind ≡ b → next_is test ms ≡ b
+looks test b m ms following e h = ap (next_is test) e ∙ h
 
-pub joins_at : (n : ℕ) (m : Mark) (ms behind : List Mark) → ms ≡ m ∷ behind → joins m.lexeme.kind ≤ n → joins_next ms ≤ n
-joins_at n m ms behind e h = subst (λ z. joins_next z ≤ n) (sym e) h
+pub joins_at : (n : ℕ) (m : Mark) (ms following : List Mark) → ms ≡ m ∷ following → joins m.lexeme.kind ≤ n → joins_next ms ≤ n
+joins_at n m ms following e h = subst (λ z. joins_next z ≤ n) (sym e) h
 
 pub one_of_more : {A : Type 0} (xs : List A) (x : A) (more all : List A) → all ≡ xs ++ x ∷ more → all ≡ (xs ++ x ∷ []) ++ more
 one_of_more xs x more all e = e ∙ sym (append_assoc xs (x ∷ []) more)
@@ -133,7 +133,7 @@ pub chooses_stars : (l n : ℕ) → Chooses (phrase.stars l n)
 chooses_stars l n k ms rest (zero, e, h) ends = inr (ap (sees punct.Star) h ∙ ends, (omega (arith, e), h))
 chooses_stars l n k ms rest (suc m, e, h) ends = inl (ap (sees punct.Star) h.1.1, (tt, h.1.0, h.0, h.1.1, (k, rest, (m, omega (arith, e), h.2), ends, (refl, refl))))
 
--- what comes before stars or behind them
+-- what comes before stars or after them
 pub before_stars : (test : Kind → Bool) → test (p punct.Star) ≡ false → (l n : ℕ) (ms rest : List Mark) → OfStars l n ms rest → next_is test rest ≡ false → next_is test ms ≡ false
 before_stars test isnt l zero ms rest h e = ap (next_is test) h ∙ e
 before_stars test isnt l (suc n) ms rest h e = looks test false (mark (p punct.Star) h.1.0 l) ms h.0 h.1.1 isnt
@@ -184,7 +184,7 @@ type_begins l (specifiers.PthreadBarrierT line column) ms rest h = ap (next_is i
 
 -- ---- expressions
 
--- behind an assignment a comma comes, or what ends all
+-- after an assignment a comma comes, or what ends all
 pub before_more : (l : ℕ) (es : Exps) (ms rest : List Mark) → OfMore l es ms rest → joins_next rest ≤ 0 → joins_next ms ≤ 1
 before_more l no_exp ms rest h e = subst (λ z. joins_next z ≤ 1) (sym h) (omega (arith, e))
 before_more l (and_exp x xs) ms rest h e = joins_at 1 (mark (p punct.Comma) h.1.1.0 l) ms h.1.0 h.1.1.1 (omega arith)
@@ -285,8 +285,8 @@ uncast l (cast t a at) ms rest h isnt = let is = ap starts_open h.1.1 in cc
 uncast l (comma a es at) ms rest h isnt = refl
 uncast l _ ms rest h isnt = refl
 
-opened_by : (l : ℕ) (ms : List Mark) → First l ms → starts_open ms ≡ true → (at : Position) × (behind : List Mark) × (ms ≡ open_mark l at ∷ behind)
-opened_by l ms f does = (f.token.lexeme.place, f.behind, f.whole ∙ ap (λ z. z ∷ f.behind) same)
+opened_by : (l : ℕ) (ms : List Mark) → First l ms → starts_open ms ≡ true → (at : Position) × (following : List Mark) × (ms ≡ open_mark l at ∷ following)
+opened_by l ms f does = (f.token.lexeme.place, f.following, f.whole ∙ ap (λ z. z ∷ f.following) same)
   where
     is : (k : Kind) → is_of (sign punct.OpenParen) k ≡ true → k ≡ p punct.OpenParen
     is (kind.Punct punct.OpenParen) h = refl
@@ -306,8 +306,8 @@ chooses_unary l e ms rest h ends = by (starts_open ms) refl
 
 -- ---- operands
 
-open_is : (ms behind : List Mark) (l : ℕ) (at there : Position) (n : ℕ) → open_mark l at ∷ ms ≡ mark (p punct.OpenParen) there n ∷ behind → (at ≡ there) × (ms ≡ behind)
-open_is ms behind l at there n e = (ap place_of e, ap rest_of e)
+open_is : (ms following : List Mark) (l : ℕ) (at there : Position) (n : ℕ) → open_mark l at ∷ ms ≡ mark (p punct.OpenParen) there n ∷ following → (at ≡ there) × (ms ≡ following)
+open_is ms following l at there n e = (ap place_of e, ap rest_of e)
   where
     place_of : List Mark → Position
     place_of [] = at
@@ -317,21 +317,21 @@ open_is ms behind l at there n e = (ap place_of e, ap rest_of e)
     rest_of [] = ms
     rest_of (m ∷ ms) = ms
 
--- behind the parenthesis of an expression that is no cast comes no type
+-- after the parenthesis of an expression that is no cast comes no type
 record Enclosed (l : ℕ) (at : Position) (e : Exp) (ms rest : List Mark) : Type 0 where
   inner : Exp
   mid : List Mark
-  behind : List Mark
+  following : List Mark
   there : Position
   has : OfExp (suc l) inner ms mid
-  closes : mid ≡ mark (p punct.CloseParen) there (suc l) ∷ behind
+  closes : mid ≡ mark (p punct.CloseParen) there (suc l) ∷ following
   links : List Postfix
-  chain : Postfixed l (paren inner at) links e behind rest
+  chain : Postfixed l (paren inner at) links e following rest
 
 enclosed_by : (l : ℕ) (at : Position) (e u : Exp) (ms mid rest : List Mark) (ops : List Postfix) → is_paren u ≡ true → OfExp l u (open_mark l at ∷ ms) mid → Postfixed l u ops e mid rest → Enclosed l at e ms rest
 enclosed_by l at e (paren b there) ms mid rest ops h d c =
     let same = open_is ms d.0 l at there (suc l) d.1 in
-    record { inner = b; mid = d.2.0; behind = mid; there = d.2.2.0; has = subst (λ z. OfExp (suc l) b z d.2.0) (sym same.1) d.2.1; closes = d.2.2.1; links = ops; chain = subst (λ z. Postfixed l (paren b z) ops e mid rest) (sym same.0) c }
+    record { inner = b; mid = d.2.0; following = mid; there = d.2.2.0; has = subst (λ z. OfExp (suc l) b z d.2.0) (sym same.1) d.2.1; closes = d.2.2.1; links = ops; chain = subst (λ z. Postfixed l (paren b z) ops e mid rest) (sym same.0) c }
 enclosed_by l at e (comma a es there) ms mid rest ops h d c = cc
 enclosed_by l at e _ ms mid rest ops h d c = cc
 
@@ -363,13 +363,13 @@ enclosed l at e ms rest tight isnt h = peeled_enclosed l at e ms rest (peeled l 
 pub chooses_enclosed : (l : ℕ) (at : Position) → Chooses (phrase.enclosed l at)
 chooses_enclosed l at e ms rest h ends =
     let x = enclosed l at e ms rest h.0 h.1 h.2 in
-    (x.inner, x.mid, x.has, joins_at 0 (mark (p punct.CloseParen) x.there (suc l)) x.mid x.behind x.closes (omega arith), (tt, x.there, x.behind, x.closes, (e, rest, (x.links, x.chain), ends, (refl, refl))))
+    (x.inner, x.mid, x.has, joins_at 0 (mark (p punct.CloseParen) x.there (suc l)) x.mid x.following x.closes (omega arith), (tt, x.there, x.following, x.closes, (e, rest, (x.links, x.chain), ends, (refl, refl))))
 
 no_type_inside : (l : ℕ) (at : Position) (e : Exp) (ms rest : List Mark) → 13 ≤ binds e → is_cast e ≡ false → OfExp l e (open_mark l at ∷ ms) rest → next_is is_type ms ≡ false
 no_type_inside l at e ms rest tight isnt h = let x = enclosed l at e ms rest tight isnt h in not_begun is_type not_type (suc l) x.inner ms x.mid x.has
 
-closed_by : (l : ℕ) (at : Position) (ms behind : List Mark) → ms ≡ mark (p punct.CloseParen) at l ∷ behind → sees punct.CloseParen ms ≡ true
-closed_by l at ms behind e = ap (sees punct.CloseParen) e
+closed_by : (l : ℕ) (at : Position) (ms following : List Mark) → ms ≡ mark (p punct.CloseParen) at l ∷ following → sees punct.CloseParen ms ≡ true
+closed_by l at ms following e = ap (sees punct.CloseParen) e
 
 opened_uncast : (l : ℕ) (at : Position) (e : Exp) (ms rest : List Mark) → is_cast e ≡ false → Of (phrase.opened l at) e ms rest → joins_next rest ≤ 4 → Chosen (rules (phrase.opened l at)) e ms rest
 opened_uncast l at e ms rest isnt h ends = inr (no_type_inside l at e ms rest h.0 isnt h.1, (e, rest, (h.0, isnt, h.1), ends, (refl, refl)))

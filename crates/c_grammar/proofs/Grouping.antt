@@ -47,7 +47,7 @@ operators-push (binary a last b there) op e at h =
 operators-push (comma a es there) op e at h = omega (arith, h)
 operators-push _ op e at h = omega (arith, h)
 
--- the operator and the operand behind a left operand, with their levels
+-- the operator and the operand after a left operand, with their levels
 module _ (op : BinaryOp) (u : Exp) (at : Position) (tight : 13 ≤ binds u) where
   -- all of what was read is the left operand
   whole : (l k : ℕ) (left : Exp) (ms m1 m2 rest : List Mark) → k ≡ l + operators_in left → tightness op ≤ binds left → OfExp l left ms m1 → own (p (binary_punct op)) at (suc (suc k)) m1 m2 → OfExp (suc k) u m2 rest → OfExp l (binary left op u at) ms rest
@@ -90,7 +90,7 @@ module _ (op : BinaryOp) (u : Exp) (at : Position) (tight : 13 ≤ binds u) wher
   of_push (null there) l k ms m1 m2 rest e low h o d = whole l k (null there) ms m1 m2 rest e (omega (arith, tightness_small op)) h o d
   of_push (paren a there) l k ms m1 m2 rest e low h o d = whole l k (paren a there) ms m1 m2 rest e (omega (arith, tightness_small op)) h o d
 
--- a left operand and a chain behind it are an expression
+-- a left operand and a chain after it are an expression
 pub of_chained : (ops : List Link) (l k : ℕ) (left e : Exp) (ms mid rest : List Mark) → k ≡ l + operators_in left → 3 ≤ binds left → OfExp l left ms mid → Chained k left ops e mid rest → (3 ≤ binds e) × OfExp l e ms rest
 of_chained [] l k left e ms mid rest is low h c =
     (subst (λ x. 3 ≤ binds x) (sym c.0) low, subst (λ x. OfExp l x ms rest) (sym c.0) (subst (λ z. OfExp l left ms z) c.1 h))

@@ -25,21 +25,21 @@ abbrev pub AllStars : List Lexeme → Type 0
 AllStars [] = Unit {0}
 AllStars (t ∷ ts) = (is_star t.kind ≡ true) × AllStars ts
 
--- stars, and what stands behind them
+-- stars, and what stands after them
 record Split (ts : List Lexeme) : Type 0 where
   stars : List Lexeme
-  behind : List Lexeme
-  whole : ts ≡ stars ++ behind
+  following : List Lexeme
+  whole : ts ≡ stars ++ following
   all : AllStars stars
-  ends : passes is_star behind ≡ false
+  ends : passes is_star following ≡ false
 
 split : (ts : List Lexeme) → Split ts
-split [] = record { stars = []; behind = []; whole = refl; all = tt; ends = refl }
+split [] = record { stars = []; following = []; whole = refl; all = tt; ends = refl }
 split (t ∷ ts) = by (is_star t.kind) refl (split ts)
   where
     by : (b : Bool) → is_star t.kind ≡ b → Split ts → Split (t ∷ ts)
-    by true h s = record { stars = t ∷ s.stars; behind = s.behind; whole = ap (λ z. t ∷ z) s.whole; all = (h, s.all); ends = s.ends }
-    by false h s = record { stars = []; behind = t ∷ ts; whole = refl; all = tt; ends = h }
+    by true h s = record { stars = t ∷ s.stars; following = s.following; whole = ap (λ z. t ∷ z) s.whole; all = (h, s.all); ends = s.ends }
+    by false h s = record { stars = []; following = t ∷ ts; whole = refl; all = tt; ends = h }
 
 -- all at level 0
 flat : List Lexeme → List Mark
@@ -150,18 +150,18 @@ object_spells ss t x h e k =
     subst (λ z. OfHead (object_head (length ss) x t.place) z k) (sym (append_assoc (rising 0 ss) (high t (length ss) ∷ []) k))
     (high t (length ss) ∷ k, rising_stars 0 ss h (high t (length ss) ∷ k), ap (λ z. z ∷ k) (name_mark t x (length ss) e))
 
--- the stars up to one, that one, and those behind it
+-- the stars up to one, that one, and those after it
 record Cut (n : ℕ) (ss : List Lexeme) : Type 0 where
   front : List Lexeme
   one : Lexeme
-  behind : List Lexeme
-  whole : ss ≡ front ++ one ∷ behind
+  following : List Lexeme
+  whole : ss ≡ front ++ one ∷ following
   long : length front ≡ n
 
 cut : (n : ℕ) (ss : List Lexeme) → n < length ss → Cut n ss
 cut n [] h = absurd (omega (arith, h))
-cut zero (s ∷ ss) h = record { front = []; one = s; behind = ss; whole = refl; long = refl }
-cut (suc n) (s ∷ ss) h = let c = cut n ss (omega (arith, h)) in record { front = s ∷ c.front; one = c.one; behind = c.behind; whole = ap (λ z. s ∷ z) c.whole; long = ap suc c.long }
+cut zero (s ∷ ss) h = record { front = []; one = s; following = ss; whole = refl; long = refl }
+cut (suc n) (s ∷ ss) h = let c = cut n ss (omega (arith, h)) in record { front = s ∷ c.front; one = c.one; following = c.following; whole = ap (λ z. s ∷ z) c.whole; long = ap suc c.long }
 
 rising-cut : (l : ℕ) (xs : List Lexeme) (t : Lexeme) (ys : List Lexeme) → rising l (xs ++ t ∷ ys) ≡ rising l xs ++ high t (suc (l + length xs)) ∷ rising (suc (l + length xs)) ys
 unfolding rising
@@ -184,7 +184,7 @@ decided_is m ts n x at vs b c d h i j =
     ∙ ap (λ c. cond b (Got (function_head n x at) (drop 1 vs)) (cond c (cond (nat_le n m) (Got (object_head n x at) vs) (Stuck Nesting (drop m ts))) (Stuck Syntax vs))) i
     ∙ ap (λ d. cond b (Got (function_head n x at) (drop 1 vs)) (cond c (cond d (Got (object_head n x at) vs) (Stuck Nesting (drop m ts))) (Stuck Syntax vs))) j
 
--- behind the stars and a name
+-- after the stars and a name
 pub head_named : (m : ℕ) (ss : List Lexeme) (t : Lexeme) (vs : List Lexeme) (x : List ℕ) → AllStars ss → grab a_name t.kind ≡ Some x → outer_head m (ss ++ t ∷ vs) ≡ decided m (ss ++ t ∷ vs) (length ss) x t.place vs
 head_named m ss t vs x h e = head_on m ss (t ∷ vs) h (name_no_star t x e) ∙ ap (decided_by m (ss ++ t ∷ vs) (length ss)) (named_at m t x vs e)
 
@@ -232,8 +232,8 @@ module _ (limit m : ℕ) (more : limit ≤ m) where
   }
 
   -- neither
-  lost_behind : (ss : List Lexeme) (t : Lexeme) (vs : List Lexeme) (x : List ℕ) → AllStars ss → grab a_name t.kind ≡ Some x → passes is_open vs ≡ false → passes follows_declarator vs ≡ false → Lost limit (outer_head m) OfHead (ss ++ t ∷ vs) Syntax vs
-  lost_behind ss t vs x h e d f = record {
+  lost_after : (ss : List Lexeme) (t : Lexeme) (vs : List Lexeme) (x : List ℕ) → AllStars ss → grab a_name t.kind ≡ Some x → passes is_open vs ≡ false → passes follows_declarator vs ≡ false → Lost limit (outer_head m) OfHead (ss ++ t ∷ vs) Syntax vs
+  lost_after ss t vs x h e d f = record {
     front = flat ss ++ high t 0 ∷ [];
     splits = named_splits (flat ss) ss vs t 0 (erase-flat ss);
     low = low-append limit (flat ss) (high t 0 ∷ []) (low-flat limit ss) (omega arith, tt);
@@ -250,24 +250,24 @@ module _ (limit m : ℕ) (more : limit ≤ m) where
     where
       by : Cut limit ss → Lost limit (outer_head m) OfHead (ss ++ t ∷ vs) Nesting (drop limit (ss ++ t ∷ vs))
       by c =
-          let behind = c.one ∷ (c.behind ++ t ∷ vs) in
-          let whole : ss ++ t ∷ vs ≡ c.front ++ behind = ap (λ z. z ++ t ∷ vs) c.whole ∙ append_assoc c.front (c.one ∷ c.behind) (t ∷ vs) in
-          let dropped : drop limit (ss ++ t ∷ vs) ≡ behind = ap (λ z. drop limit z) whole ∙ ap (λ n. drop n (c.front ++ behind)) (sym c.long) ∙ drops c.front behind in
+          let following = c.one ∷ (c.following ++ t ∷ vs) in
+          let whole : ss ++ t ∷ vs ≡ c.front ++ following = ap (λ z. z ++ t ∷ vs) c.whole ∙ append_assoc c.front (c.one ∷ c.following) (t ∷ vs) in
+          let dropped : drop limit (ss ++ t ∷ vs) ≡ following = ap (λ z. drop limit z) whole ∙ ap (λ n. drop n (c.front ++ following)) (sym c.long) ∙ drops c.front following in
           let last : suc (0 + length c.front) ≡ suc limit = omega (arith, c.long) in
-          let marks : rising 0 ss ≡ rising 0 c.front ++ high c.one (suc limit) ∷ rising (suc limit) c.behind = ap (rising 0) c.whole ∙ rising-cut 0 c.front c.one c.behind ∙ ap (λ z. rising 0 c.front ++ high c.one z ∷ rising z c.behind) last in
+          let marks : rising 0 ss ≡ rising 0 c.front ++ high c.one (suc limit) ∷ rising (suc limit) c.following = ap (rising 0) c.whole ∙ rising-cut 0 c.front c.one c.following ∙ ap (λ z. rising 0 c.front ++ high c.one z ∷ rising z c.following) last in
           record {
             front = rising 0 c.front;
-            splits = whole ∙ ap (λ z. z ++ behind) (sym (erase-rising 0 c.front)) ∙ ap (λ z. erase (rising 0 c.front) ++ z) (sym dropped);
+            splits = whole ∙ ap (λ z. z ++ following) (sym (erase-rising 0 c.front)) ∙ ap (λ z. erase (rising 0 c.front) ++ z) (sym dropped);
             low = low-rising limit 0 c.front (omega (arith, c.long));
             stops = (
               c.one,
-              c.behind ++ t ∷ vs,
+              c.following ++ t ∷ vs,
               suc limit,
               omega arith,
               dropped,
               object_head (length ss) x t.place,
-              rising (suc limit) c.behind ++ high t (length ss) ∷ [],
-              subst (Spells OfHead (object_head (length ss) x t.place)) (ap (λ z. z ++ high t (length ss) ∷ []) marks ∙ append_assoc (rising 0 c.front) (high c.one (suc limit) ∷ rising (suc limit) c.behind) (high t (length ss) ∷ [])) (object_spells ss t x h e),
+              rising (suc limit) c.following ++ high t (length ss) ∷ [],
+              subst (Spells OfHead (object_head (length ss) x t.place)) (ap (λ z. z ++ high t (length ss) ∷ []) marks ∙ append_assoc (rising 0 c.front) (high c.one (suc limit) ∷ rising (suc limit) c.following) (high t (length ss) ∷ [])) (object_spells ss t x h e),
             );
           }
 
@@ -289,7 +289,7 @@ module _ (limit m : ℕ) (more : limit ≤ m) where
   fits_decided ss t (o ∷ ws) x true c d h e i j k = found_function ss t o ws x h e i
   fits_decided ss t vs x false true true h e i j k = found_object ss t vs x h e i j (true_le (length ss) limit k)
   fits_decided ss t vs x false true false h e i j k = lost_stars ss t vs x h e (false_lt (length ss) limit k)
-  fits_decided ss t vs x false false d h e i j k = lost_behind ss t vs x h e i j
+  fits_decided ss t vs x false false d h e i j k = lost_after ss t vs x h e i j
 
   fits_named : (ss : List Lexeme) (t : Lexeme) (vs : List Lexeme) (o : Option (List ℕ)) → AllStars ss → passes is_star (t ∷ vs) ≡ false → grab a_name t.kind ≡ o → Fits (ss ++ t ∷ vs) (outer_head limit (ss ++ t ∷ vs))
   fits_named ss t vs (Some x) h e d =
@@ -310,7 +310,7 @@ module _ (limit m : ℕ) (more : limit ≤ m) where
   fits_split ss (t ∷ vs) h e = fits_named ss t vs (grab a_name t.kind) h e refl
 
   fits_all : (ts : List Lexeme) → Fits ts (outer_head limit ts)
-  fits_all ts = let s = split ts in subst (λ z. Fits z (outer_head limit z)) (sym s.whole) (fits_split s.stars s.behind s.all s.ends)
+  fits_all ts = let s = split ts in subst (λ z. Fits z (outer_head limit z)) (sym s.whole) (fits_split s.stars s.following s.all s.ends)
 
   pub head_works : Works limit (outer_head limit) (outer_head m) OfHead
   head_works = record { found = λ ts a rest e. subst (Fits ts) e (fits_all ts); lost = λ ts f rest e. subst (Fits ts) e (fits_all ts) }

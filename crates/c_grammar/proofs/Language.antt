@@ -20,7 +20,7 @@ use Rattle.c_grammar.specs.Rules.{push}
 
 -- ---- chains
 
--- an operator behind a left operand, and its right operand
+-- an operator after a left operand, and its right operand
 pub data Link : Type 0 where
   link : BinaryOp → Position → Exp → Link
 
@@ -102,14 +102,14 @@ Of (phrase.lengths l es) all = λ ms rest. (more : List Exp) × (all ≡ es ++ m
 Of (phrase.initial l) i = OfInit l i
 Of (phrase.more_initials l is) r = λ ms rest. (more : List Init) × (trailing : Bool) × (r ≡ initials (is ++ more) trailing) × (OfMoreInits l (listed_inits more) >> maybe trailing (other (p punct.Comma) l)) ms rest
 Of (phrase.object l) o = OfObject l o
-Of (phrase.object_behind l d) o = λ ms rest. ((o ≡ plain d) × (ms ≡ rest)) ⊎ ((i : Init) × (at : Position) × (o ≡ initialised d i at) × (own (p punct.Assign) at l >> OfInit l i) ms rest)
+Of (phrase.object_past l d) o = λ ms rest. ((o ≡ plain d) × (ms ≡ rest)) ⊎ ((i : Init) × (at : Position) × (o ≡ initialised d i at) × (own (p punct.Assign) at l >> OfInit l i) ms rest)
 Of (phrase.more_objects l os) all = λ ms rest. (more : List Object) × (all ≡ os ++ more) × OfMoreObjects l more ms rest
 Of (phrase.declaration l) d = OfDeclares l d
 Of (phrase.start l) s = OfStart l s
 Of (phrase.statement l) s = OfStatement l s
 Of (phrase.parts l ps) all = λ ms rest. (more : List Part) × (all ≡ ps ++ more) × OfParts l (listed_parts more) ms rest
 Of phrase.param x = OfParam x
-Of (phrase.param_behind s) x = λ ms rest. (x.specifier ≡ s) × (position_at x.line x.column ≡ specifier_place s) × (OfStars 0 x.stars >> OfMaybeName x.name) ms rest
+Of (phrase.param_after s) x = λ ms rest. (x.specifier ≡ s) × (position_at x.line x.column ≡ specifier_place s) × (OfStars 0 x.stars >> OfMaybeName x.name) ms rest
 Of (phrase.more_params xs) all = λ ms rest. (more : List Param) × (all ≡ xs ++ more) × OfMoreParams more ms rest
 Of phrase.params xs = OfParams xs
 Of phrase.code c = OfCode c
@@ -117,7 +117,7 @@ Of (phrase.more_declared ds) all = λ ms rest. (more : List Declared) × (all �
 Of phrase.member f = OfFields f
 Of (phrase.more_members fs) all = λ ms rest. (more : List Fields) × (all ≡ fs ++ more) × OfMoreFields more ms rest
 Of phrase.outer o = OfOuter o
-Of (phrase.outer_behind is_static s at) o = λ ms rest.
+Of (phrase.outer_after is_static s at) o = λ ms rest.
     ((n : ℕ) × (name : Name) × (xs : Params) × (c : Code) × (o ≡ function is_static s n name xs c) × (OfStars 0 n >> OfName 0 name >> other (p punct.OpenParen) 0 >> OfParams xs >> other (p punct.CloseParen) 0 >> OfCode c) ms rest)
     ⊎ ((os : List Object) × (o ≡ objects is_static s os at) × (OfObjects 0 os >> other (p punct.Semicolon) 0) ms rest)
 Of (phrase.program os) all = λ ms rest. (more : List Outer) × (all ≡ os ++ more) × OfProgram more ms rest

@@ -23,7 +23,7 @@ use Rattle.c_grammar.specs.Rules.{rules}
 use Rattle.c_grammar.proofs.Language.{Of}
 use Rattle.c_grammar.proofs.Ends.{joins, joins_next, next_is, sees, reads_word, AfterParam, Chosen, by_test, joins_test, not_begun, not_open_brace, not_break, not_continue, not_return, not_if, not_while, not_do, not_for, not_semicolon}
 use Rattle.c_grammar.proofs.Expressions.{Chooses, joins_at, one_of_more, none_of_more, chooses_specifier, chooses_stars, before_stars, zero_plus, type_begins, chooses_type, chooses_expression, chooses_more, chooses_assignment, chooses_conditional, chooses_operands, chooses_chain, chooses_unary, chooses_unary_plain, chooses_enclosed, chooses_opened, chooses_atom, chooses_postfix, chooses_arguments, chooses_maybe}
-use Rattle.c_grammar.proofs.Statements.{chooses_raising, chooses_declarator, chooses_lengths, chooses_initial, chooses_more_initials, chooses_object, chooses_object_behind, before_objects, chooses_more_objects, begins_object, declared_begins, objects_begin, after_type, chooses_declaration, chooses_start, chooses_parts, as_parts, parts_as, type_no_close}
+use Rattle.c_grammar.proofs.Statements.{chooses_raising, chooses_declarator, chooses_lengths, chooses_initial, chooses_more_initials, chooses_object, chooses_object_after, before_objects, chooses_more_objects, begins_object, declared_begins, objects_begin, after_type, chooses_declaration, chooses_start, chooses_parts, as_parts, parts_as, type_no_close}
 
 -- ---- statements
 
@@ -278,7 +278,7 @@ chooses_param x ms rest (e, (m1, hs, (m2, hk, hn))) ends = (
 param_is : (s t : Specifier) (k : ℕ) (n : Option Name) (line column : ℕ) → t ≡ s → position_at line column ≡ specifier_place s → Path Param (record { specifier = t; stars = k; name = n; line = line; column = column }) (record { specifier = s; stars = k; name = n; line = (specifier_place s).line; column = (specifier_place s).column })
 param_is s t k n line column e d = ap (λ (z : Specifier). record { specifier = z; stars = k; name = n; line = line; column = column }) e ∙ ap (λ (q : Position). record { specifier = s; stars = k; name = n; line = q.line; column = q.column }) d
 
-param_chosen : (s t : Specifier) (k : ℕ) (n : Option Name) (line column : ℕ) (ms rest : List Mark) → Of (phrase.param_behind s) (record { specifier = t; stars = k; name = n; line = line; column = column }) ms rest → AfterParam rest → Chosen (rules (phrase.param_behind s)) (record { specifier = t; stars = k; name = n; line = line; column = column }) ms rest
+param_chosen : (s t : Specifier) (k : ℕ) (n : Option Name) (line column : ℕ) (ms rest : List Mark) → Of (phrase.param_after s) (record { specifier = t; stars = k; name = n; line = line; column = column }) ms rest → AfterParam rest → Chosen (rules (phrase.param_after s)) (record { specifier = t; stars = k; name = n; line = line; column = column }) ms rest
 param_chosen s t k None line column ms rest (e, d, (m1, hk, hn)) ends =
     (k, m1, (k, zero_plus k, hk), before_name (is_of (sign punct.Star)) refl refl (λ _. refl) None m1 rest hn ends, inr (ap (next_is (is_of a_name)) hn ∙ after_param (is_of a_name) refl refl rest ends, (param_is s t k None line column e d, hn)))
 param_chosen s t k (Some n) line column ms rest (e, d, (m1, hk, hn)) ends =
@@ -363,11 +363,11 @@ stars_begin : (n : ℕ) (name : Name) (ms mid rest : List Mark) → OfStars 0 n 
 stars_begin zero name ms mid rest h e = ap (next_is begins_object) (h ∙ e)
 stars_begin (suc n) name ms mid rest h e = ap (next_is begins_object) h.1.1
 
-behind_begins : (is_static : Bool) (s : Specifier) (at : Position) (o : Outer) (ms rest : List Mark) → Of (phrase.outer_behind is_static s at) o ms rest → next_is begins_object ms ≡ true
-behind_begins is_static s at o ms rest (inl h) = stars_begin h.0 h.1 ms h.5.0 h.5.2.0 h.5.1 h.5.2.1
-behind_begins is_static s at o ms rest (inr h) = objects_begin 0 h.0 ms h.2.0 h.2.1
+after_begins : (is_static : Bool) (s : Specifier) (at : Position) (o : Outer) (ms rest : List Mark) → Of (phrase.outer_after is_static s at) o ms rest → next_is begins_object ms ≡ true
+after_begins is_static s at o ms rest (inl h) = stars_begin h.0 h.1 ms h.5.0 h.5.2.0 h.5.1 h.5.2.1
+after_begins is_static s at o ms rest (inr h) = objects_begin 0 h.0 ms h.2.0 h.2.1
 
--- what stands behind the declarator of an object
+-- what stands after the declarator of an object
 follows_objects : (os : List Object) (ms mid rest : List Mark) (q : Position) → OfMoreObjects 0 os ms mid → mid ≡ mark (p punct.Semicolon) q 0 ∷ rest → (sees punct.OpenParen ms ≡ false) × (next_is follows_declarator ms ≡ true)
 follows_objects [] ms mid rest q h e = (ap (sees punct.OpenParen) (h ∙ e), ap (next_is follows_declarator) (h ∙ e))
 follows_objects (o ∷ os) ms mid rest q h e = (ap (sees punct.OpenParen) h.1.1, ap (next_is follows_declarator) h.1.1)
@@ -376,10 +376,10 @@ follows_lengths : (n : ℕ) (es : List Exp) (ms mid : List Mark) → OfLengths n
 follows_lengths n [] ms mid h e = (ap (sees punct.OpenParen) h ∙ e.0, ap (next_is follows_declarator) h ∙ e.1)
 follows_lengths n (x ∷ xs) ms mid h e = (ap (sees punct.OpenParen) h.1.1.1, ap (next_is follows_declarator) h.1.1.1)
 
--- the first object, and those behind it
+-- the first object, and those after it
 first_object : (is_static : Bool) (s : Specifier) (at : Position) (o : Outer) (n : ℕ) (name : Name) (es : List Exp) (x : Object) (os : List Object) (ms ma mb mc md me rest : List Mark) (q : Position)
-    → o ≡ objects is_static s (x ∷ os) at → OfRaisingStars 0 n ms ma → OfName (0 + n) name ma mb → OfLengths (0 + n) es mb mc → Of (phrase.object_behind 0 (declared n name es)) x mc md → OfMoreObjects 0 os md me → me ≡ mark (p punct.Semicolon) q 0 ∷ rest
-    → (sees punct.OpenParen mc ≡ false) × (next_is follows_declarator mc ≡ true) → joins_next mc ≤ 2 → Chosen (rules (phrase.outer_behind is_static s at)) o ms rest
+    → o ≡ objects is_static s (x ∷ os) at → OfRaisingStars 0 n ms ma → OfName (0 + n) name ma mb → OfLengths (0 + n) es mb mc → Of (phrase.object_past 0 (declared n name es)) x mc md → OfMoreObjects 0 os md me → me ≡ mark (p punct.Semicolon) q 0 ∷ rest
+    → (sees punct.OpenParen mc ≡ false) × (next_is follows_declarator mc ≡ true) → joins_next mc ≤ 2 → Chosen (rules (phrase.outer_after is_static s at)) o ms rest
 first_object is_static s at o n name es x os ms ma mb mc md me rest q is hk en hl hx hm ec follows low =
     let same : 0 + n ≡ n = sym (zero_plus n) in
     let stop = joins_at 0 (mark (p punct.Semicolon) q 0) me rest ec (omega arith) in
@@ -391,14 +391,14 @@ first_object is_static s at o n name es x os ms ma mb mc md me rest q is hk en h
       (es, mc, (es, refl, lengths), low, (x, md, hx, before_objects 0 os md me hm stop, (x ∷ os, me, (os, refl, hm), stop, (tt, q, rest, ec, (is, refl))))),
     )
 
-chooses_outer_behind : (is_static : Bool) (s : Specifier) (at : Position) → Chooses (phrase.outer_behind is_static s at)
-chooses_outer_behind is_static s at o ms rest (inl (n, name, xs, c, is, (m1, hk, (m2, en, (m3, (p3, e3), (m4, hx, (m5, (p5, e5), hc))))))) ends =
+chooses_outer_after : (is_static : Bool) (s : Specifier) (at : Position) → Chooses (phrase.outer_after is_static s at)
+chooses_outer_after is_static s at o ms rest (inl (n, name, xs, c, is, (m1, hk, (m2, en, (m3, (p3, e3), (m4, hx, (m5, (p5, e5), hc))))))) ends =
     (function_head n name.text (position_at name.line name.column), m3, (m1, hk, (m2, en, (p3, e3))), tt, (xs, m4, hx, ap (sees punct.CloseParen) e5, (tt, p5, m5, e5, (c, rest, hc, tt, (is, refl)))))
-chooses_outer_behind is_static s at o ms rest (inr ([], is, (m1, hos, (q, ec)))) ends = absurd hos
-chooses_outer_behind is_static s at o ms rest (inr (plain (declared n name es) ∷ os, is, (m1, (m2, (ma, hk, (mb, en, hl)), hm), (q, ec)))) ends =
+chooses_outer_after is_static s at o ms rest (inr ([], is, (m1, hos, (q, ec)))) ends = absurd hos
+chooses_outer_after is_static s at o ms rest (inr (plain (declared n name es) ∷ os, is, (m1, (m2, (ma, hk, (mb, en, hl)), hm), (q, ec)))) ends =
     let stop = joins_at 0 (mark (p punct.Semicolon) q 0) m1 rest ec (omega arith) in
     first_object is_static s at o n name es (plain (declared n name es)) os ms ma mb m2 m2 m1 rest q is hk en hl (inl (refl, refl)) hm ec (follows_objects os m2 m1 rest q hm ec) (omega (arith, before_objects 0 os m2 m1 hm stop))
-chooses_outer_behind is_static s at o ms rest (inr (initialised (declared n name es) i there ∷ os, is, (m1, (m2, (mc, (ma, hk, (mb, en, hl)), (md, ei, hi)), hm), (q, ec)))) ends =
+chooses_outer_after is_static s at o ms rest (inr (initialised (declared n name es) i there ∷ os, is, (m1, (m2, (mc, (ma, hk, (mb, en, hl)), (md, ei, hi)), hm), (q, ec)))) ends =
     first_object is_static s at o n name es (initialised (declared n name es) i there) os ms ma mb mc m2 m1 rest q is hk en hl (inr (i, there, refl, (md, ei, hi))) hm ec (ap (sees punct.OpenParen) ei, ap (next_is follows_declarator) ei) (joins_at 2 (mark (p punct.Assign) there 0) mc md ei (omega arith))
 
 object_no_brace : (k : Kind) → begins_object k ≡ true → is_of (sign punct.OpenBrace) k ≡ false
@@ -406,7 +406,7 @@ object_no_brace (kind.Punct punct.OpenBrace) h = cc
 object_no_brace _ h = refl
 
 -- without `static`
-plainly : (s : Specifier) (o : Outer) (ms m2 rest : List Mark) → OfSpecifier 0 s ms m2 → Of (phrase.outer_behind false s (specifier_place s)) o m2 rest → Chosen (rules phrase.outer) o ms rest
+plainly : (s : Specifier) (o : Outer) (ms m2 rest : List Mark) → OfSpecifier 0 s ms m2 → Of (phrase.outer_after false s (specifier_place s)) o m2 rest → Chosen (rules phrase.outer) o ms rest
 plainly (specifiers.Struct name line column) o ms m2 rest (m1, e, en) h =
     inr (
       ap (reads_word word.Static) e,
@@ -422,26 +422,26 @@ plainly (specifiers.Struct name line column) o ms m2 rest (m1, e, en) h =
             position_at name.line name.column,
             m2,
             en,
-            inr (by_test begins_object (is_of (sign punct.OpenBrace)) false object_no_brace m2 (behind_begins false (specifiers.Struct name line column) (position_at line column) o m2 rest h), (o, rest, h, tt, (refl, refl))),
+            inr (by_test begins_object (is_of (sign punct.OpenBrace)) false object_no_brace m2 (after_begins false (specifiers.Struct name line column) (position_at line column) o m2 rest h), (o, rest, h, tt, (refl, refl))),
           ),
         ),
       ),
     )
-plainly (specifiers.Int line column) o ms m2 rest e h = inr (ap (reads_word word.Static) e, inr (ap (reads_word word.Struct) e, (specifiers.Int line column, m2, e, after_type m2 (behind_begins false (specifiers.Int line column) (position_at line column) o m2 rest h), (o, rest, h, tt, (refl, refl)))))
+plainly (specifiers.Int line column) o ms m2 rest e h = inr (ap (reads_word word.Static) e, inr (ap (reads_word word.Struct) e, (specifiers.Int line column, m2, e, after_type m2 (after_begins false (specifiers.Int line column) (position_at line column) o m2 rest h), (o, rest, h, tt, (refl, refl)))))
 plainly (specifiers.Long second int line column) o ms m2 rest e h =
-    inr (ap (reads_word word.Static) e.1, inr (ap (reads_word word.Struct) e.1, (specifiers.Long second int line column, m2, e, after_type m2 (behind_begins false (specifiers.Long second int line column) (position_at line column) o m2 rest h), (o, rest, h, tt, (refl, refl)))))
-plainly (specifiers.Void line column) o ms m2 rest e h = inr (ap (reads_word word.Static) e, inr (ap (reads_word word.Struct) e, (specifiers.Void line column, m2, e, after_type m2 (behind_begins false (specifiers.Void line column) (position_at line column) o m2 rest h), (o, rest, h, tt, (refl, refl)))))
+    inr (ap (reads_word word.Static) e.1, inr (ap (reads_word word.Struct) e.1, (specifiers.Long second int line column, m2, e, after_type m2 (after_begins false (specifiers.Long second int line column) (position_at line column) o m2 rest h), (o, rest, h, tt, (refl, refl)))))
+plainly (specifiers.Void line column) o ms m2 rest e h = inr (ap (reads_word word.Static) e, inr (ap (reads_word word.Struct) e, (specifiers.Void line column, m2, e, after_type m2 (after_begins false (specifiers.Void line column) (position_at line column) o m2 rest h), (o, rest, h, tt, (refl, refl)))))
 plainly (specifiers.PthreadT line column) o ms m2 rest e h =
-    inr (ap (reads_word word.Static) e, inr (ap (reads_word word.Struct) e, (specifiers.PthreadT line column, m2, e, after_type m2 (behind_begins false (specifiers.PthreadT line column) (position_at line column) o m2 rest h), (o, rest, h, tt, (refl, refl)))))
+    inr (ap (reads_word word.Static) e, inr (ap (reads_word word.Struct) e, (specifiers.PthreadT line column, m2, e, after_type m2 (after_begins false (specifiers.PthreadT line column) (position_at line column) o m2 rest h), (o, rest, h, tt, (refl, refl)))))
 plainly (specifiers.PthreadMutexT line column) o ms m2 rest e h =
-    inr (ap (reads_word word.Static) e, inr (ap (reads_word word.Struct) e, (specifiers.PthreadMutexT line column, m2, e, after_type m2 (behind_begins false (specifiers.PthreadMutexT line column) (position_at line column) o m2 rest h), (o, rest, h, tt, (refl, refl)))))
+    inr (ap (reads_word word.Static) e, inr (ap (reads_word word.Struct) e, (specifiers.PthreadMutexT line column, m2, e, after_type m2 (after_begins false (specifiers.PthreadMutexT line column) (position_at line column) o m2 rest h), (o, rest, h, tt, (refl, refl)))))
 plainly (specifiers.PthreadCondT line column) o ms m2 rest e h =
-    inr (ap (reads_word word.Static) e, inr (ap (reads_word word.Struct) e, (specifiers.PthreadCondT line column, m2, e, after_type m2 (behind_begins false (specifiers.PthreadCondT line column) (position_at line column) o m2 rest h), (o, rest, h, tt, (refl, refl)))))
+    inr (ap (reads_word word.Static) e, inr (ap (reads_word word.Struct) e, (specifiers.PthreadCondT line column, m2, e, after_type m2 (after_begins false (specifiers.PthreadCondT line column) (position_at line column) o m2 rest h), (o, rest, h, tt, (refl, refl)))))
 plainly (specifiers.PthreadBarrierT line column) o ms m2 rest e h =
-    inr (ap (reads_word word.Static) e, inr (ap (reads_word word.Struct) e, (specifiers.PthreadBarrierT line column, m2, e, after_type m2 (behind_begins false (specifiers.PthreadBarrierT line column) (position_at line column) o m2 rest h), (o, rest, h, tt, (refl, refl)))))
+    inr (ap (reads_word word.Static) e, inr (ap (reads_word word.Struct) e, (specifiers.PthreadBarrierT line column, m2, e, after_type m2 (after_begins false (specifiers.PthreadBarrierT line column) (position_at line column) o m2 rest h), (o, rest, h, tt, (refl, refl)))))
 
-statically : (s : Specifier) (at : Position) (o : Outer) (ms m1 m2 rest : List Mark) → ms ≡ mark (w word.Static) at 0 ∷ m1 → OfSpecifier 0 s m1 m2 → Of (phrase.outer_behind true s at) o m2 rest → Chosen (rules phrase.outer) o ms rest
-statically s at o ms m1 m2 rest e hs h = inl (ap (reads_word word.Static) e, (tt, at, m1, e, (s, m2, hs, after_type m2 (behind_begins true s at o m2 rest h), (o, rest, h, tt, (refl, refl)))))
+statically : (s : Specifier) (at : Position) (o : Outer) (ms m1 m2 rest : List Mark) → ms ≡ mark (w word.Static) at 0 ∷ m1 → OfSpecifier 0 s m1 m2 → Of (phrase.outer_after true s at) o m2 rest → Chosen (rules phrase.outer) o ms rest
+statically s at o ms m1 m2 rest e hs h = inl (ap (reads_word word.Static) e, (tt, at, m1, e, (s, m2, hs, after_type m2 (after_begins true s at o m2 rest h), (o, rest, h, tt, (refl, refl)))))
 
 chooses_outer : Chooses phrase.outer
 chooses_outer (structure name []) ms rest (m1, (at, es), (m2, en, (m3, (p3, e3), (m5, hf, (m6, (p4, e4), (p5, e5)))))) ends = absurd hf
@@ -522,14 +522,14 @@ chooses (phrase.lengths l es) = chooses_lengths l es
 chooses (phrase.initial l) = chooses_initial l
 chooses (phrase.more_initials l is) = chooses_more_initials l is
 chooses (phrase.object l) = chooses_object l
-chooses (phrase.object_behind l d) = chooses_object_behind l d
+chooses (phrase.object_past l d) = chooses_object_after l d
 chooses (phrase.more_objects l os) = chooses_more_objects l os
 chooses (phrase.declaration l) = chooses_declaration l
 chooses (phrase.start l) = chooses_start l
 chooses (phrase.statement l) = chooses_statement l
 chooses (phrase.parts l ps) = chooses_parts l ps
 chooses phrase.param = chooses_param
-chooses (phrase.param_behind s) = λ x. param_chosen s x.specifier x.stars x.name x.line x.column
+chooses (phrase.param_after s) = λ x. param_chosen s x.specifier x.stars x.name x.line x.column
 chooses (phrase.more_params xs) = chooses_more_params xs
 chooses phrase.params = chooses_params
 chooses phrase.code = chooses_code
@@ -537,5 +537,5 @@ chooses (phrase.more_declared ds) = chooses_more_declared ds
 chooses phrase.member = chooses_member
 chooses (phrase.more_members fs) = chooses_more_members fs
 chooses phrase.outer = chooses_outer
-chooses (phrase.outer_behind is_static s at) = chooses_outer_behind is_static s at
+chooses (phrase.outer_after is_static s at) = chooses_outer_after is_static s at
 chooses (phrase.program os) = chooses_program os

@@ -20,7 +20,7 @@ use Rattle.c_grammar.specs.Phrase as phrase
 use Rattle.c_grammar.specs.Phrase.{Phrase, TreeOf, Head, function_head, object_head, Initials, initials}
 use Rattle.c_grammar.specs.Parse.{sign, key, a_prefix, kind_of, is_of, Rule, ret, one, heads, choose}
 use Rattle.c_grammar.specs.Parse as rule
-use Rattle.c_grammar.specs.Rules.{name_of, rules, braces_behind, behind_head, params_from}
+use Rattle.c_grammar.specs.Rules.{name_of, rules, braces_after, after_head, params_from}
 use Rattle.c_grammar.proofs.Language.{link, by_index, by_member, by_arrow, by_increment, by_decrement, is_atom, open_mark, starts_open, OfHead, Of, Lang, Holds}
 use Rattle.c_grammar.proofs.Grouping.{no_operators, no_cast, of_chained, of_postfixed}
 
@@ -33,11 +33,11 @@ holds (choose test g k) ms Q h x rest (inl e) = holds g ms Q h.0 x rest e
 holds (choose test g k) ms Q h x rest (inr e) = holds k ms Q h.1 x rest e
 
 -- one more at the end
-more_behind : {A : Type 0} (xs : List A) (x : A) (more all : List A) → all ≡ (xs ++ x ∷ []) ++ more → all ≡ xs ++ x ∷ more
-more_behind xs x more all e = e ∙ append_assoc xs (x ∷ []) more
+more_after : {A : Type 0} (xs : List A) (x : A) (more all : List A) → all ≡ (xs ++ x ∷ []) ++ more → all ≡ xs ++ x ∷ more
+more_after xs x more all e = e ∙ append_assoc xs (x ∷ []) more
 
-pub none_behind : {A : Type 0} (xs : List A) → xs ≡ xs ++ []
-none_behind xs = sym (append-nil xs)
+pub none_after : {A : Type 0} (xs : List A) → xs ≡ xs ++ []
+none_after xs = sym (append-nil xs)
 
 same_level : (l : ℕ) → l ≡ l + 0
 same_level l = omega arith
@@ -85,7 +85,7 @@ atom_postfixes _ h l = cc
 
 -- ---- where a rule goes by what was read
 
-braces_hold : (l : ℕ) (i : Init) (at : Position) (ms m1 m2 m3 : List Mark) → ms ≡ mark (p punct.OpenBrace) at (suc l) ∷ m1 → OfInit (suc l) i m1 m2 → (r : Initials) → Of (phrase.more_initials (suc l) (i ∷ [])) r m2 m3 → Holds (braces_behind (suc l) r at) m3 (λ x rest. OfInit l x ms rest)
+braces_hold : (l : ℕ) (i : Init) (at : Position) (ms m1 m2 m3 : List Mark) → ms ≡ mark (p punct.OpenBrace) at (suc l) ∷ m1 → OfInit (suc l) i m1 m2 → (r : Initials) → Of (phrase.more_initials (suc l) (i ∷ [])) r m2 m3 → Holds (braces_after (suc l) r at) m3 (λ x rest. OfInit l x ms rest)
 braces_hold l i at ms m1 m2 m3 e h (initials is trailing) k =
     λ v p2 m4 e2. let these : i ∷ k.0 ≡ is = cc in let comma : k.1 ≡ trailing = cc in
     (m1, e, (k.3.0, subst (λ z. OfInits (suc l) (listed_inits z) m1 k.3.0) these (m2, h, k.3.1), (m3, subst (λ z. maybe z (other (p punct.Comma) (suc l)) k.3.0 m3) comma k.3.2, (p2, e2))))
@@ -96,14 +96,14 @@ else_holds : (l : ℕ) (x : Exp) (a : Statement) (at : Position) (ms m5 : List M
 else_holds l x a at ms m5 without both true e = without
 else_holds l x a at ms m5 without both false e = ((λ v place m6 d b m7 h. both b place m6 m7 e d h), without)
 
-join_object : (l : ℕ) (d : Declared) (o : Object) (ms m1 m2 : List Mark) → OfDeclared l d ms m1 → Of (phrase.object_behind l d) o m1 m2 → OfObject l o ms m2
+join_object : (l : ℕ) (d : Declared) (o : Object) (ms m1 m2 : List Mark) → OfDeclared l d ms m1 → Of (phrase.object_past l d) o m1 m2 → OfObject l o ms m2
 join_object l d o ms m1 m2 h (inl k) = subst (λ z. OfObject l z ms m2) (sym k.0) (subst (λ z. OfDeclared l d ms z) k.1 h)
 join_object l d o ms m1 m2 h (inr k) = subst (λ z. OfObject l z ms m2) (sym k.2) (m1, h, k.3)
 
 zero_plus : (n : ℕ) → n ≡ 0 + n
 zero_plus n = omega arith
 
-head_holds : (is_static : Bool) (s : Specifier) (at : Position) (ms m1 : List Mark) (h : Head) → OfHead h ms m1 → Holds (behind_head is_static s at h) m1 (λ o rest. Of (phrase.outer_behind is_static s at) o ms rest)
+head_holds : (is_static : Bool) (s : Specifier) (at : Position) (ms m1 : List Mark) (h : Head) → OfHead h ms m1 → Holds (after_head is_static s at h) m1 (λ o rest. Of (phrase.outer_after is_static s at) o ms rest)
 head_holds is_static s at ms m1 (function_head n x there) k =
     λ xs m2 j v p2 m3 e2 c m4 g. inl (n, name_of x there, xs, c, refl, (k.0, k.1, (k.2.0, k.2.1, (m1, k.2.2, (m2, j, (m3, (p2, e2), g))))))
 head_holds is_static s at ms m1 (object_head n x there) k =
@@ -112,11 +112,11 @@ head_holds is_static s at ms m1 (object_head n x there) k =
     (k.0, k.1, (m1, subst (λ z. own (kind.Name x) there z k.0 m1) (zero_plus n) k.2, subst (λ z. OfLengths z es m1 m2) (zero_plus n) (subst (λ z. OfLengths n z m1 m2) (sym j.1) j.2))) in
     inr (os, refl, (m4, subst (λ z. OfObjects 0 z ms m4) (sym i.1) (m3, join_object 0 (declared n (name_of x there) es) o ms m2 m3 d g, i.2), (p2, e2)))
 
-outer_static : (s : Specifier) (at : Position) (o : Outer) (ms m1 m2 m3 : List Mark) → ms ≡ mark (w word.Static) at 0 ∷ m1 → OfSpecifier 0 s m1 m2 → Of (phrase.outer_behind true s at) o m2 m3 → OfOuter o ms m3
+outer_static : (s : Specifier) (at : Position) (o : Outer) (ms m1 m2 m3 : List Mark) → ms ≡ mark (w word.Static) at 0 ∷ m1 → OfSpecifier 0 s m1 m2 → Of (phrase.outer_after true s at) o m2 m3 → OfOuter o ms m3
 outer_static s at o ms m1 m2 m3 e h (inl k) = subst (λ z. OfOuter z ms m3) (sym k.4) (m1, (at, e), (m2, h, k.5))
 outer_static s at o ms m1 m2 m3 e h (inr k) = subst (λ z. OfOuter z ms m3) (sym k.1) (m1, e, (m2, h, k.2))
 
-outer_plain : (s : Specifier) (o : Outer) (ms m2 m3 : List Mark) → OfSpecifier 0 s ms m2 → Of (phrase.outer_behind false s (specifier_place s)) o m2 m3 → OfOuter o ms m3
+outer_plain : (s : Specifier) (o : Outer) (ms m2 m3 : List Mark) → OfSpecifier 0 s ms m2 → Of (phrase.outer_after false s (specifier_place s)) o m2 m3 → OfOuter o ms m3
 outer_plain s o ms m2 m3 h (inl k) = subst (λ z. OfOuter z ms m3) (sym k.4) (ms, refl, (m2, h, k.5))
 outer_plain s o ms m2 m3 h (inr k) = subst (λ z. OfOuter z ms m3) (sym k.1) (ms, (refl, refl), (m2, h, k.2))
 
@@ -149,7 +149,7 @@ sound (phrase.expression l) ms = λ e m1 h. (
   λ v at m2 d x m3 k es m4 j. subst (λ z. OfExp l (comma e (listed z) (first_place e)) ms m4) (sym j.1) ((refl, h.0, tt), (m1, h.1, (k.0, (m2, (at, d), (m3, k.1, j.2))))),
   h.1,
 )
-sound (phrase.more l es) ms = (λ v at m1 e x m2 h all m3 k. (x ∷ k.0, more_behind es x k.0 all k.1, (h.0, (m1, (at, e), (m2, h.1, k.2)))), ([], none_behind es, refl))
+sound (phrase.more l es) ms = (λ v at m1 e x m2 h all m3 k. (x ∷ k.0, more_after es x k.0 all k.1, (h.0, (m1, (at, e), (m2, h.1, k.2)))), ([], none_after es, refl))
 sound (phrase.assignment l) ms = λ a m1 h. (λ op at m2 e b m3 k. (omega arith, ((h.0, k.0), (m1, h.1, (m2, e, k.1)))), (omega (arith, h.0), h.1))
 sound (phrase.conditional_part l) ms = λ a m1 h. (λ v at m2 e b m3 k v2 p2 m4 e2 c m5 j. (omega arith, ((h.0, j.0), (m1, h.1, (m2, e, (m3, k, (m4, (p2, e2), j.1)))))), (omega (arith, h.0), h.1))
 sound (phrase.operands l) ms = λ u m1 h all m2 k. of_chained k.0 l l u all ms m1 m2 (omega (arith, no_operators u h.0)) (omega (arith, h.0)) h.1 k.1
@@ -196,20 +196,20 @@ sound (phrase.raising_stars l n) ms = (
     next l n = omega arith
 sound (phrase.declarator l) ms = λ n m1 h x at m2 e es m3 k. (m1, raising_of l n ms m1 h, (m2, e, subst (λ z. OfLengths (l + n) z m2 m3) (sym k.1) k.2))
 sound (phrase.lengths l es) ms = (
-  λ v at m1 e x m2 h v2 p2 m3 d all m4 k. (x ∷ k.0, more_behind es x k.0 all k.1, (h.0, (m1, (at, e), (m2, h.1, (m3, (p2, d), k.2))))),
-  ([], none_behind es, refl),
+  λ v at m1 e x m2 h v2 p2 m3 d all m4 k. (x ∷ k.0, more_after es x k.0 all k.1, (h.0, (m1, (at, e), (m2, h.1, (m3, (p2, d), k.2))))),
+  ([], none_after es, refl),
 )
 sound (phrase.initial l) ms = (λ v at m1 e i m2 h r m3 k. braces_hold l i at ms m1 m2 m3 e h r k, (λ v at m1 e. e, (λ v at m1 e. e, λ e m1 h. h)))
 sound (phrase.more_initials l is) ms = (
   λ v at m1 e. (
-    ([], true, ap (λ z. initials z true) (none_behind is), (ms, refl, (at, e))),
+    ([], true, ap (λ z. initials z true) (none_after is), (ms, refl, (at, e))),
     λ i m2 h r m3 k. (i ∷ k.0, k.1, k.2 ∙ ap (λ z. initials z k.1) (append_assoc is (i ∷ []) k.0), (k.3.0, (m1, (at, e), (m2, h, k.3.1)), k.3.2)),
   ),
-  ([], false, ap (λ z. initials z false) (none_behind is), (ms, refl, refl)),
+  ([], false, ap (λ z. initials z false) (none_after is), (ms, refl, refl)),
 )
 sound (phrase.object l) ms = λ d m1 h o m2 k. join_object l d o ms m1 m2 h k
-sound (phrase.object_behind l d) ms = (λ v at m1 e i m2 h. inr (i, at, refl, (m1, e, h)), inl (refl, refl))
-sound (phrase.more_objects l os) ms = (λ v at m1 e x m2 h all m3 k. (x ∷ k.0, more_behind os x k.0 all k.1, (m1, (at, e), (m2, h, k.2))), ([], none_behind os, refl))
+sound (phrase.object_past l d) ms = (λ v at m1 e i m2 h. inr (i, at, refl, (m1, e, h)), inl (refl, refl))
+sound (phrase.more_objects l os) ms = (λ v at m1 e x m2 h all m3 k. (x ∷ k.0, more_after os x k.0 all k.1, (m1, (at, e), (m2, h, k.2))), ([], none_after os, refl))
 sound (phrase.declaration l) ms = λ s m1 h o m2 k os m3 j v at m4 e. (refl, (m1, h, (m3, subst (λ z. OfObjects l z m1 m3) (sym j.1) (m2, k, j.2), (at, e))))
 sound (phrase.start l) ms = (λ d m1 h. h, λ e m1 h v at m2 d. (m1, h, (at, d)))
 sound (phrase.statement l) ms = (
@@ -242,20 +242,20 @@ sound (phrase.statement l) ms = (
   ),
 )
 sound (phrase.parts l ps) ms = (
-  ([], none_behind ps, refl),
+  ([], none_after ps, refl),
   (
-    λ d m1 h all m2 k. (part_declares d ∷ k.0, more_behind ps (part_declares d) k.0 all k.1, (m1, h, k.2)),
-    λ s m1 h all m2 k. (part_does s ∷ k.0, more_behind ps (part_does s) k.0 all k.1, (m1, h, k.2)),
+    λ d m1 h all m2 k. (part_declares d ∷ k.0, more_after ps (part_declares d) k.0 all k.1, (m1, h, k.2)),
+    λ s m1 h all m2 k. (part_does s ∷ k.0, more_after ps (part_does s) k.0 all k.1, (m1, h, k.2)),
   ),
 )
 sound phrase.param ms = λ s m1 h x m2 k. (k.1 ∙ ap specifier_place (sym k.0), (m1, subst (λ z. OfSpecifier 0 z ms m1) (sym k.0) h, k.2))
-sound (phrase.param_behind s) ms = λ n m1 h. (λ x at m2 e. (refl, refl, (m1, stars_of 0 n ms m1 h, e)), (refl, refl, (m1, stars_of 0 n ms m1 h, refl)))
-sound (phrase.more_params xs) ms = (λ v at m1 e x m2 h all m3 k. (x ∷ k.0, more_behind xs x k.0 all k.1, (m1, (at, e), (m2, h, k.2))), ([], none_behind xs, refl))
+sound (phrase.param_after s) ms = λ n m1 h. (λ x at m2 e. (refl, refl, (m1, stars_of 0 n ms m1 h, e)), (refl, refl, (m1, stars_of 0 n ms m1 h, refl)))
+sound (phrase.more_params xs) ms = (λ v at m1 e x m2 h all m3 k. (x ∷ k.0, more_after xs x k.0 all k.1, (m1, (at, e), (m2, h, k.2))), ([], none_after xs, refl))
 sound phrase.params ms = (refl, λ x m1 h xs m2 k. subst (λ z. OfParams (params_from z) ms m2) (sym k.1) (params_hold x k.0 ms m1 m2 h k.2 (is_void_alone (x ∷ k.0)) refl))
 sound phrase.code ms = (λ v at m1 e ps m2 h v2 p2 m3 d. (m1, e, (m2, subst (λ z. OfParts 0 (listed_parts z) m1 m2) (sym h.1) h.2, (p2, d))), λ v at m1 e. (at, e))
-sound (phrase.more_declared ds) ms = (λ v at m1 e x m2 h all m3 k. (x ∷ k.0, more_behind ds x k.0 all k.1, (m1, (at, e), (m2, h, k.2))), ([], none_behind ds, refl))
+sound (phrase.more_declared ds) ms = (λ v at m1 e x m2 h all m3 k. (x ∷ k.0, more_after ds x k.0 all k.1, (m1, (at, e), (m2, h, k.2))), ([], none_after ds, refl))
 sound phrase.member ms = λ s m1 h d m2 k ds m3 j v at m4 e. (refl, (m1, h, (m3, subst (λ z. OfAllDeclared z m1 m3) (sym j.1) (m2, k, j.2), (at, e))))
-sound (phrase.more_members fs) ms = (([], none_behind fs, refl), λ f m1 h all m2 k. (f ∷ k.0, more_behind fs f k.0 all k.1, (m1, h, k.2)))
+sound (phrase.more_members fs) ms = (([], none_after fs, refl), λ f m1 h all m2 k. (f ∷ k.0, more_after fs f k.0 all k.1, (m1, h, k.2)))
 sound phrase.outer ms = (
   λ v at m1 e s m2 h o m3 k. outer_static s at o ms m1 m2 m3 e h k,
   (
@@ -266,5 +266,5 @@ sound phrase.outer ms = (
     λ s m1 h o m2 k. outer_plain s o ms m1 m2 h k,
   ),
 )
-sound (phrase.outer_behind is_static s at) ms = λ h m1 k. head_holds is_static s at ms m1 h k
-sound (phrase.program os) ms = (λ o m1 h all m2 k. (o ∷ k.0, more_behind os o k.0 all k.1, (m1, h, k.2)), ([], none_behind os, refl))
+sound (phrase.outer_after is_static s at) ms = λ h m1 k. head_holds is_static s at ms m1 h k
+sound (phrase.program os) ms = (λ o m1 h all m2 k. (o ∷ k.0, more_after os o k.0 all k.1, (m1, h, k.2)), ([], none_after os, refl))

@@ -47,7 +47,7 @@ listed_as : (is : Inits) → listed_inits (as_inits is) ≡ is
 listed_as no_init = refl
 listed_as (and_init i is) = ap (and_init i) (listed_as is)
 
--- behind an initial a comma comes, or the brace that closes all
+-- after an initial a comma comes, or the brace that closes all
 before_inits : (l : ℕ) (is : Inits) (trailing : Bool) (ms mid rest : List Mark) → OfMoreInits l is ms mid → maybe trailing (other (p punct.Comma) l) mid rest → sees punct.CloseBrace rest ≡ true → joins_next ms ≤ 1
 before_inits l no_init true ms mid rest h k e = joins_at 1 (mark (p punct.Comma) k.0 l) ms rest (h ∙ k.1) (omega arith)
 before_inits l no_init false ms mid rest h k e = subst (λ z. joins_next z ≤ 1) (sym (h ∙ k)) (joins_test (is_of (sign punct.CloseBrace)) 1 is rest e)
@@ -139,9 +139,9 @@ chooses_object l (plain d) ms rest h ends = (d, rest, h, omega (arith, ends), (p
 chooses_object l (initialised d i at) ms rest (m1, h, (m2, e, hi)) ends =
     (d, m1, h, joins_at 2 (mark (p punct.Assign) at l) m1 m2 e (omega arith), (initialised d i at, rest, inr (i, at, refl, (m2, e, hi)), ends, (refl, refl)))
 
-pub chooses_object_behind : (l : ℕ) (d : Declared) → Chooses (phrase.object_behind l d)
-chooses_object_behind l d o ms rest (inl h) ends = inr (ap (sees punct.Assign) h.1 ∙ by_joins 1 (is_of (sign punct.Assign)) no_equals rest ends, h)
-chooses_object_behind l d o ms rest (inr (i, at, is, (m1, e, h))) ends = inl (ap (sees punct.Assign) e, (tt, at, m1, e, (i, rest, h, ends, (is, refl))))
+pub chooses_object_after : (l : ℕ) (d : Declared) → Chooses (phrase.object_past l d)
+chooses_object_after l d o ms rest (inl h) ends = inr (ap (sees punct.Assign) h.1 ∙ by_joins 1 (is_of (sign punct.Assign)) no_equals rest ends, h)
+chooses_object_after l d o ms rest (inr (i, at, is, (m1, e, h))) ends = inl (ap (sees punct.Assign) e, (tt, at, m1, e, (i, rest, h, ends, (is, refl))))
 
 pub before_objects : (l : ℕ) (os : List Object) (ms rest : List Mark) → OfMoreObjects l os ms rest → joins_next rest ≤ 0 → joins_next ms ≤ 1
 before_objects l [] ms rest h e = subst (λ z. joins_next z ≤ 1) (sym h) (omega (arith, e))

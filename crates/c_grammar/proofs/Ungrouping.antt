@@ -89,13 +89,13 @@ record Flat (l : ℕ) (e : Exp) (ms rest : List Mark) : Type 0 where
   mid : List Mark
   tight : 13 ≤ binds operand
   first : OfExp l operand ms mid
-  behind : Links l links mid rest
+  following : Links l links mid rest
   whole : pushed operand links ≡ e
   tighter : AtLeast (binds e) links
   count : length links ≡ operators_in e
 
 alone : (l : ℕ) (e : Exp) (ms rest : List Mark) → 13 ≤ binds e → operators_in e ≡ 0 → OfExp l e ms rest → Flat l e ms rest
-alone l e ms rest tight none h = record { operand = e; links = []; mid = rest; tight = tight; first = h; behind = refl; whole = refl; tighter = tt; count = omega (arith, none) }
+alone l e ms rest tight none h = record { operand = e; links = []; mid = rest; tight = tight; first = h; following = refl; whole = refl; tighter = tt; count = omega (arith, none) }
 
 together : (l : ℕ) (a : Exp) (op : BinaryOp) (b : Exp) (at : Position) (ms m1 m2 rest : List Mark) → tightness op ≤ binds a → tightness op < binds b → own (p (binary_punct op)) at (suc (suc (l + operators_in a))) m1 m2 → Flat l a ms m1 → Flat (suc (l + operators_in a)) b m2 rest → Flat l (binary a op b at) ms rest
 together l a op b at ms m1 m2 rest le lt o x y =
@@ -106,7 +106,7 @@ together l a op b at ms m1 m2 rest le lt o x y =
       mid = x.mid;
       tight = x.tight;
       first = x.first;
-      behind = links-append l (l + operators_in a) x.links (link op at y.operand ∷ y.links) x.mid m1 rest same x.behind (m2, o, (y.mid, (y.tight, y.first), y.behind));
+      following = links-append l (l + operators_in a) x.links (link op at y.operand ∷ y.links) x.mid m1 rest same x.following (m2, o, (y.mid, (y.tight, y.first), y.following));
       whole = pushed-append x.operand x.links (link op at y.operand ∷ y.links)
           ∙ ap (λ z. pushed (push z op y.operand at) y.links) x.whole
           ∙ pushed-inside y.links a op y.operand at (binds b) y.tighter lt
@@ -126,7 +126,7 @@ flat l (assign a op b at) ms rest low h = absurd (omega (arith, low))
 flat l (conditional a b c at) ms rest low h = absurd (omega (arith, low))
 flat l e ms rest low h = alone l e ms rest (omega arith) refl h
 
--- the first operand, and the chain behind it
+-- the first operand, and the chain after it
 pub record Opened (l : ℕ) (e : Exp) (ms rest : List Mark) : Type 0 where
   pub operand : Exp
   pub mid : List Mark
@@ -137,7 +137,7 @@ pub record Opened (l : ℕ) (e : Exp) (ms rest : List Mark) : Type 0 where
 
 pub opened_chain : (l : ℕ) (e : Exp) (ms rest : List Mark) → 3 ≤ binds e → OfExp l e ms rest → Opened l e ms rest
 opened_chain l e ms rest low h = let f = flat l e ms rest low h in
-    record { operand = f.operand; mid = f.mid; tight = f.tight; first = f.first; links = f.links; chain = chained_of l f.operand e f.links f.mid rest f.behind (sym f.whole) }
+    record { operand = f.operand; mid = f.mid; tight = f.tight; first = f.first; links = f.links; chain = chained_of l f.operand e f.links f.mid rest f.following (sym f.whole) }
 
 -- ---- postfix operators
 

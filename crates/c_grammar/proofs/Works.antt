@@ -34,7 +34,7 @@ pub low-append : (limit : ℕ) (xs ys : List Mark) → AllLow limit xs → AllLo
 low-append limit [] ys h k = k
 low-append limit (x ∷ xs) ys h k = (h.0, low-append limit xs ys h.1 k)
 
--- a phrase is just this front, whatever comes behind it
+-- a phrase is just this front, whatever comes after it
 abbrev pub Spells : {A : Type 0} → Language A → A → List Mark → Type 0
 Spells L a front = (k : List Mark) → L a (front ++ k) k
 
@@ -44,18 +44,18 @@ HasPhrase {A} L = (a : A) × (ms : List Mark) × Spells L a ms
 abbrev pub high : Lexeme → ℕ → Mark
 high t v = record { lexeme = t; level = v }
 
--- q reads a, as far as here, whatever comes behind the next token
+-- q reads a, as far as here, whatever comes after the next token
 abbrev pub Reads : {A : Type 0} → Parser A → A → List Mark → List Lexeme → Type 0
 Reads q a front rest = (rest' : List Lexeme) → SameHead rest rest' → q (erase front ++ rest') ≡ Got a rest'
 
 abbrev pub Refuses : {A : Type 0} → Parser A → List Mark → List Lexeme → Type 0
 Refuses q front rest = (rest' : List Lexeme) → SameHead rest rest' → q (erase front ++ rest') ≡ Stuck Syntax rest'
 
--- What was read begins a phrase. A fault of syntax comes at the same place whatever comes behind the next token. At one of
+-- What was read begins a phrase. A fault of syntax comes at the same place whatever comes after the next token. At one of
 -- nesting the next token still begins a phrase, in which its level is above the limit.
 abbrev pub Stops : {A : Type 0} → ℕ → Language A → Parser A → Fault → List Mark → List Lexeme → Type 0
 Stops {A} limit L q Syntax front rest = ((a : A) × (more : List Mark) × Spells L a (front ++ more)) × Refuses q front rest
-Stops {A} limit L q Nesting front rest = (t : Lexeme) × (behind : List Lexeme) × (v : ℕ) × (limit < v) × (rest ≡ t ∷ behind) × (a : A) × (more : List Mark) × Spells L a (front ++ high t v ∷ more)
+Stops {A} limit L q Nesting front rest = (t : Lexeme) × (following : List Lexeme) × (v : ℕ) × (limit < v) × (rest ≡ t ∷ following) × (a : A) × (more : List Mark) × Spells L a (front ++ high t v ∷ more)
 
 pub record Found {A : Type 0} (limit : ℕ) (q : Parser A) (L : Language A) (ts : List Lexeme) (a : A) (rest : List Lexeme) : Type 0 where
   pub front : List Mark
@@ -108,7 +108,7 @@ module _ (limit : ℕ) where
       stops Syntax front rest s = (s.0, λ rest' same. is (erase front ++ rest') ∙ s.1 rest' same)
       stops Nesting front rest s = s
 
-  -- one behind the other
+  -- one after the other
   abbrev pub Seq : {A B : Type 0} → Language A → (A → Language B) → Language B
   Seq {A} L M b ms rest = (a : A) × (mid : List Mark) × L a ms mid × M a b mid rest
 

@@ -133,7 +133,7 @@ abbrev pub operators_in : Exp → ℕ
 operators_in (binary a op b place) = operators_in a + suc (operators_in b)
 operators_in _ = 0
 
--- the postfix operators behind its innermost operand
+-- the postfix operators after its innermost operand
 abbrev pub postfixes_in : Exp → ℕ
 postfixes_in (index a b place) = suc (postfixes_in a)
 postfixes_in (member a name place) = suc (postfixes_in a)
@@ -242,7 +242,7 @@ OfDeclares l (declares s os place) = provided (place ≡ specifier_place s) (OfS
 
 -- ---- statements
 
--- an `else` behind it would belong to it
+-- an `else` after it would belong to it
 abbrev pub ends_open : Statement → Bool
 ends_open (block ps place) = false
 ends_open (compute e place) = false

@@ -45,7 +45,7 @@ own k p l ms rest = ms ≡ mark k p l ∷ rest
 abbrev pub other : Kind → ℕ → Beginning
 other k l ms rest = (p : Position) × (ms ≡ mark k p l ∷ rest)
 
--- one behind the other
+-- one after the other
 infixr 10 ◌>>◌
 abbrev pub ◌>>◌ : Beginning → Beginning → Beginning
 r >> s = λ ms rest. (mid : List Mark) × r ms mid × s mid rest

@@ -230,7 +230,7 @@ pub data Fault : Type 0 where
   Syntax : Fault
   Nesting : Fault
 
--- a tree and the tokens behind it, a fault and the tokens from it on, or more phrases in one another than were allowed for
+-- a tree and the tokens after it, a fault and the tokens from it on, or more phrases in one another than were allowed for
 pub data Outcome (A : Type 0) : Type 0 where
   Got : A → List Lexeme → Outcome A
   Stuck : Fault → List Lexeme → Outcome A
@@ -265,7 +265,7 @@ abbrev pub star_count : List Lexeme → ℕ
 star_count [] = 0
 star_count (t ∷ ts) = if is_of (sign punct.Star) t.kind then suc (star_count ts) else 0
 
--- Behind n stars and a name: a parenthesis makes it a function, and what may follow a declarator an object. The stars of a
+-- After n stars and a name: a parenthesis makes it a function, and what may follow a declarator an object. The stars of a
 -- function raise no level, but those of an object do, so where there are too many of them they are only now known to be.
 abbrev pub decided : ℕ → List Lexeme → ℕ → List ℕ → Position → Parser Head
 decided limit stars n x place ts =

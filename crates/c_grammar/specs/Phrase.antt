@@ -8,17 +8,17 @@ use Rattle.c_tree.specs.declared.program.Param.{Param}
 use Rattle.c_tree.specs.Tree.{Exp, Declared, Init, Object, Declares, Start, Statement, Part, Code, Fields, Outer}
 use Rattle.rr_base.specs.declared.position.Position.{Position}
 
--- Stars, a name and its place: of a function, with the parenthesis behind it, or of an object.
+-- Stars, a name and its place: of a function, with the parenthesis after it, or of an object.
 pub data Head : Type 0 where
   function_head : ℕ → List ℕ → Position → Head
   object_head : ℕ → List ℕ → Position → Head
 
--- initials, and whether a comma stands behind the last
+-- initials, and whether a comma stands after the last
 pub data Initials : Type 0 where
   initials : List Init → Bool → Initials
 
 -- The first number is a level: that of the context, or for types that at which the tokens stand. What is a list, a tree or a number
--- behind it was read before.
+-- after it was read before.
 pub data Phrase : Type 0 where
   specifier : ℕ → Phrase
   stars : ℕ → ℕ → Phrase
@@ -29,12 +29,12 @@ pub data Phrase : Type 0 where
   assignment : ℕ → Phrase
   conditional_part : ℕ → Phrase
   operands : ℕ → Phrase
-  -- operators and operands behind a left operand
+  -- operators and operands after a left operand
   chain : ℕ → Exp → Phrase
   unary : ℕ → Phrase
   -- one that begins with no parenthesis
   unary_plain : ℕ → Phrase
-  -- behind a parenthesis at that place: a cast, or an expression and what follows it
+  -- after a parenthesis at that place: a cast, or an expression and what follows it
   opened : ℕ → Position → Phrase
   enclosed : ℕ → Position → Phrase
   atom : ℕ → Phrase
@@ -49,14 +49,14 @@ pub data Phrase : Type 0 where
   initial : ℕ → Phrase
   more_initials : ℕ → List Init → Phrase
   object : ℕ → Phrase
-  object_behind : ℕ → Declared → Phrase
+  object_past : ℕ → Declared → Phrase
   more_objects : ℕ → List Object → Phrase
   declaration : ℕ → Phrase
   start : ℕ → Phrase
   statement : ℕ → Phrase
   parts : ℕ → List Part → Phrase
   param : Phrase
-  param_behind : Specifier → Phrase
+  param_after : Specifier → Phrase
   more_params : List Param → Phrase
   params : Phrase
   code : Phrase
@@ -64,7 +64,7 @@ pub data Phrase : Type 0 where
   member : Phrase
   more_members : List Fields → Phrase
   outer : Phrase
-  outer_behind : Bool → Specifier → Position → Phrase
+  outer_after : Bool → Specifier → Position → Phrase
   program : List Outer → Phrase
 
 abbrev pub TreeOf : Phrase → Type 0
@@ -91,14 +91,14 @@ TreeOf (lengths l es) = List Exp
 TreeOf (initial l) = Init
 TreeOf (more_initials l is) = Initials
 TreeOf (object l) = Object
-TreeOf (object_behind l d) = Object
+TreeOf (object_past l d) = Object
 TreeOf (more_objects l os) = List Object
 TreeOf (declaration l) = Declares
 TreeOf (start l) = Start
 TreeOf (statement l) = Statement
 TreeOf (parts l ps) = List Part
 TreeOf param = Param
-TreeOf (param_behind s) = Param
+TreeOf (param_after s) = Param
 TreeOf (more_params xs) = List Param
 TreeOf params = Params
 TreeOf code = Code
@@ -106,5 +106,5 @@ TreeOf (more_declared ds) = List Declared
 TreeOf member = Fields
 TreeOf (more_members fs) = List Fields
 TreeOf outer = Outer
-TreeOf (outer_behind is_static s place) = Outer
+TreeOf (outer_after is_static s place) = Outer
 TreeOf (program os) = List Outer

@@ -44,7 +44,7 @@ push left op e at = binary left op e at
 
 -- ---- types
 
--- behind the first `long`
+-- after the first `long`
 abbrev pub long_rule : ℕ → Position → Rule Specifier
 long_rule l at =
     on_word word.Long
@@ -99,7 +99,7 @@ chain_rule l left =
 abbrev pub unary_rule : ℕ → Rule Exp
 unary_rule l = on_punct punct.OpenParen (punct_rule punct.OpenParen (suc l) (λ at. rule.call (phrase.opened l at) (λ e. ret e))) (rule.call (phrase.unary_plain l) (λ e. ret e))
 
--- behind the word, which stands one level above l
+-- after the word, which stands one level above l
 abbrev pub sizeof_rule : ℕ → Position → Rule Exp
 sizeof_rule l at =
     on_punct punct.OpenParen
@@ -167,12 +167,12 @@ lengths_rule l es =
     (punct_rule punct.OpenBracket (suc l) (λ _. rule.call (phrase.conditional_part l) (λ e. punct_rule punct.CloseBracket (suc l) (λ _. rule.call (phrase.lengths (suc l) (es ++ e ∷ [])) (λ all. ret all)))))
     (ret es)
 
-abbrev pub braces_behind : ℕ → Initials → Position → Rule Init
-braces_behind l (initials is trailing) at = punct_rule punct.CloseBrace l (λ _. ret (braces (listed_inits is) trailing at))
+abbrev pub braces_after : ℕ → Initials → Position → Rule Init
+braces_after l (initials is trailing) at = punct_rule punct.CloseBrace l (λ _. ret (braces (listed_inits is) trailing at))
 
--- behind the opening brace, at its level
+-- after the opening brace, at its level
 abbrev pub braces_rule : ℕ → Position → Rule Init
-braces_rule l at = rule.call (phrase.initial l) (λ i. rule.call (phrase.more_initials l (i ∷ [])) (λ is. braces_behind l is at))
+braces_rule l at = rule.call (phrase.initial l) (λ i. rule.call (phrase.more_initials l (i ∷ [])) (λ is. braces_after l is at))
 
 abbrev pub initial_rule : ℕ → Rule Init
 initial_rule l =
@@ -182,7 +182,7 @@ initial_rule l =
     (on_word word.PthreadCondInitializer (word_rule word.PthreadCondInitializer (suc l) (λ at. ret (cond_start at)))
     (rule.call (phrase.assignment (suc l)) (λ e. ret (value e)))))
 
--- behind a comma in braces a brace may come too
+-- after a comma in braces a brace may come too
 abbrev pub more_initials_rule : ℕ → List Init → Rule Initials
 more_initials_rule l is =
     on_punct punct.Comma
@@ -191,10 +191,10 @@ more_initials_rule l is =
     (ret (initials is false))
 
 abbrev pub object_rule : ℕ → Rule Object
-object_rule l = rule.call (phrase.declarator l) (λ d. rule.call (phrase.object_behind l d) (λ o. ret o))
+object_rule l = rule.call (phrase.declarator l) (λ d. rule.call (phrase.object_past l d) (λ o. ret o))
 
-abbrev pub object_behind_rule : ℕ → Declared → Rule Object
-object_behind_rule l d = on_punct punct.Assign (punct_rule punct.Assign l (λ at. rule.call (phrase.initial l) (λ i. ret (initialised d i at)))) (ret (plain d))
+abbrev pub object_after_rule : ℕ → Declared → Rule Object
+object_after_rule l d = on_punct punct.Assign (punct_rule punct.Assign l (λ at. rule.call (phrase.initial l) (λ i. ret (initialised d i at)))) (ret (plain d))
 
 abbrev pub more_objects_rule : ℕ → List Object → Rule (List Object)
 more_objects_rule l os = on_punct punct.Comma (punct_rule punct.Comma l (λ _. rule.call (phrase.object l) (λ o. rule.call (phrase.more_objects l (os ++ o ∷ [])) (λ all. ret all)))) (ret os)
@@ -214,7 +214,7 @@ start_rule l =
 abbrev pub tested : {A : Type 0} → ℕ → (Exp → Rule A) → Rule A
 tested l f = punct_rule punct.OpenParen l (λ _. rule.call (phrase.expression l) (λ e. punct_rule punct.CloseParen l (λ _. f e)))
 
--- An `else` behind a statement with an open end has been read with it.
+-- An `else` after a statement with an open end has been read with it.
 abbrev pub else_rule : ℕ → Exp → Statement → Position → Rule Statement
 else_rule l e a at =
     if ends_open a then ret (branch e a at)
@@ -245,7 +245,7 @@ for_rule l at =
     rule.call (phrase.maybe_expression l punct.CloseParen) (λ next. punct_rule punct.CloseParen l (λ _.
     rule.call (phrase.statement l) (λ a. ret (for_loop s test next a at))))))))
 
--- behind the statement of a `do`
+-- after the statement of a `do`
 abbrev pub do_end_rule : ℕ → Rule Exp
 do_end_rule l = word_rule word.While l (λ _. tested l (λ e. punct_rule punct.Semicolon l (λ _. ret e)))
 
@@ -302,8 +302,8 @@ part_rule l = choose is_type (rule.call (phrase.declaration l) (λ d. ret (part_
 
 -- ---- the outermost level
 
-abbrev pub param_behind_rule : Specifier → Rule Param
-param_behind_rule s =
+abbrev pub param_after_rule : Specifier → Rule Param
+param_after_rule s =
     rule.call (phrase.stars 0 0) (λ n.
     choose (is_of a_name) (one a_name 0 (λ x at. ret (record { specifier = s; stars = n; name = Some (name_of x at); line = (specifier_place s).line; column = (specifier_place s).column })))
     (ret (record { specifier = s; stars = n; name = None; line = (specifier_place s).line; column = (specifier_place s).column })))
@@ -336,42 +336,42 @@ member_rule =
 abbrev pub more_members_rule : List Fields → Rule (List Fields)
 more_members_rule fs = on_punct punct.CloseBrace (ret fs) (rule.call phrase.member (λ f. rule.call (phrase.more_members (fs ++ f ∷ [])) (λ all. ret all)))
 
--- behind the parenthesis of its parameters: whether `static` stands before it, the specifier, stars, the name
+-- after the parenthesis of its parameters: whether `static` stands before it, the specifier, stars, the name
 abbrev pub function_rule : Bool → Specifier → ℕ → List ℕ → Position → Rule Outer
 function_rule is_static s n x there = rule.call phrase.params (λ xs. punct_rule punct.CloseParen 0 (λ _. rule.call phrase.code (λ c. ret (function is_static s n (name_of x there) xs c))))
 
--- behind the name of the first, with the place of the first token before the stars
+-- after the name of the first, with the place of the first token before the stars
 abbrev pub objects_rule : Bool → Specifier → Position → ℕ → List ℕ → Position → Rule Outer
 objects_rule is_static s at n x there =
     rule.call (phrase.lengths n []) (λ es.
-    rule.call (phrase.object_behind 0 (declared n (name_of x there) es)) (λ o.
+    rule.call (phrase.object_past 0 (declared n (name_of x there) es)) (λ o.
     rule.call (phrase.more_objects 0 (o ∷ [])) (λ os. punct_rule punct.Semicolon 0 (λ _. ret (objects is_static s os at)))))
 
--- Behind the specifier: whether `static` stands before it, the specifier, and the place of the first token.
-abbrev pub behind_head : Bool → Specifier → Position → Head → Rule Outer
-behind_head is_static s at (function_head n x there) = function_rule is_static s n x there
-behind_head is_static s at (object_head n x there) = objects_rule is_static s at n x there
+-- After the specifier: whether `static` stands before it, the specifier, and the place of the first token.
+abbrev pub after_head : Bool → Specifier → Position → Head → Rule Outer
+after_head is_static s at (function_head n x there) = function_rule is_static s n x there
+after_head is_static s at (object_head n x there) = objects_rule is_static s at n x there
 
-abbrev pub outer_behind_rule : Bool → Specifier → Position → Rule Outer
-outer_behind_rule is_static s at = heads (λ h. behind_head is_static s at h)
+abbrev pub outer_after_rule : Bool → Specifier → Position → Rule Outer
+outer_after_rule is_static s at = heads (λ h. after_head is_static s at h)
 
 abbrev pub structure_rule : List ℕ → Position → Rule Outer
 structure_rule x there =
     punct_rule punct.OpenBrace 0 (λ _. rule.call phrase.member (λ f.
     rule.call (phrase.more_members (f ∷ [])) (λ fs. punct_rule punct.CloseBrace 0 (λ _. punct_rule punct.Semicolon 0 (λ _. ret (structure (name_of x there) fs))))))
 
--- behind the word `struct` at that place: the members of a struct, or a struct's name as a specifier
-abbrev pub behind_struct_rule : Position → Rule Outer
-behind_struct_rule at =
+-- after the word `struct` at that place: the members of a struct, or a struct's name as a specifier
+abbrev pub after_struct_rule : Position → Rule Outer
+after_struct_rule at =
     one a_name 0 (λ x there.
     on_punct punct.OpenBrace (structure_rule x there)
-    (rule.call (phrase.outer_behind false (specifiers.Struct (name_of x there) at.line at.column) at) (λ o. ret o)))
+    (rule.call (phrase.outer_after false (specifiers.Struct (name_of x there) at.line at.column) at) (λ o. ret o)))
 
 abbrev pub outer_rule : Rule Outer
 outer_rule =
-    on_word word.Static (word_rule word.Static 0 (λ at. rule.call (phrase.specifier 0) (λ s. rule.call (phrase.outer_behind true s at) (λ o. ret o))))
-    (on_word word.Struct (word_rule word.Struct 0 (λ at. behind_struct_rule at))
-    (rule.call (phrase.specifier 0) (λ s. rule.call (phrase.outer_behind false s (specifier_place s)) (λ o. ret o))))
+    on_word word.Static (word_rule word.Static 0 (λ at. rule.call (phrase.specifier 0) (λ s. rule.call (phrase.outer_after true s at) (λ o. ret o))))
+    (on_word word.Struct (word_rule word.Struct 0 (λ at. after_struct_rule at))
+    (rule.call (phrase.specifier 0) (λ s. rule.call (phrase.outer_after false s (specifier_place s)) (λ o. ret o))))
 
 -- to the end of the tokens
 abbrev pub program_rule : List Outer → Rule (List Outer)
@@ -403,14 +403,14 @@ rules (phrase.lengths l es) = lengths_rule l es
 rules (phrase.initial l) = initial_rule l
 rules (phrase.more_initials l is) = more_initials_rule l is
 rules (phrase.object l) = object_rule l
-rules (phrase.object_behind l d) = object_behind_rule l d
+rules (phrase.object_past l d) = object_after_rule l d
 rules (phrase.more_objects l os) = more_objects_rule l os
 rules (phrase.declaration l) = declaration_rule l
 rules (phrase.start l) = start_rule l
 rules (phrase.statement l) = statement_rule l
 rules (phrase.parts l ps) = parts_rule l ps
-rules phrase.param = rule.call (phrase.specifier 0) (λ s. rule.call (phrase.param_behind s) (λ x. ret x))
-rules (phrase.param_behind s) = param_behind_rule s
+rules phrase.param = rule.call (phrase.specifier 0) (λ s. rule.call (phrase.param_after s) (λ x. ret x))
+rules (phrase.param_after s) = param_after_rule s
 rules (phrase.more_params xs) = more_params_rule xs
 rules phrase.params = params_rule
 rules phrase.code = code_rule
@@ -418,7 +418,7 @@ rules (phrase.more_declared ds) = more_declared_rule ds
 rules phrase.member = member_rule
 rules (phrase.more_members fs) = more_members_rule fs
 rules phrase.outer = outer_rule
-rules (phrase.outer_behind is_static s at) = outer_behind_rule is_static s at
+rules (phrase.outer_after is_static s at) = outer_after_rule is_static s at
 rules (phrase.program os) = program_rule os
 
 -- ---- the parser
@@ -447,7 +447,7 @@ rank (phrase.lengths l es) = 0
 rank (phrase.declarator l) = 1
 rank (phrase.initial l) = 6
 rank (phrase.more_initials l is) = 0
-rank (phrase.object_behind l d) = 0
+rank (phrase.object_past l d) = 0
 rank (phrase.object l) = 2
 rank (phrase.more_objects l os) = 0
 rank (phrase.declaration l) = 3
@@ -455,7 +455,7 @@ rank (phrase.start l) = 8
 rank (phrase.statement l) = 7
 rank (phrase.parts l ps) = 8
 rank phrase.param = 2
-rank (phrase.param_behind s) = 1
+rank (phrase.param_after s) = 1
 rank (phrase.more_params xs) = 0
 rank phrase.params = 3
 rank phrase.code = 0
@@ -463,7 +463,7 @@ rank (phrase.more_declared ds) = 0
 rank phrase.member = 2
 rank (phrase.more_members fs) = 3
 rank phrase.outer = 1
-rank (phrase.outer_behind is_static s at) = 0
+rank (phrase.outer_after is_static s at) = 0
 rank (phrase.program os) = 2
 
 -- with so many phrases in one another

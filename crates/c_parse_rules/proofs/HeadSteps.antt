@@ -70,12 +70,12 @@ module _ (us mid : List Lexeme) (n : ℕ) (stars : read 256 (phrase.stars 0 0) u
       let both = sym stars ∙ stars_read 0 us in
       let same : n ≡ 0 + star_count us = cc in omega arith
 
-  behind_stars : drop (star_count us) us ≡ mid
-  behind_stars = let both = sym stars ∙ stars_read 0 us in cc
+  after_stars : drop (star_count us) us ≡ mid
+  after_stars = let both = sym stars ∙ stars_read 0 us in cc
 
-  -- the name comes behind the stars
+  -- the name comes after the stars
   head_by_name : outer_head 256 us ≡ decided_by 256 us n (token 256 a_name 0 mid)
-  head_by_name = ap (λ k. decided_by 256 us k (token 256 a_name 0 (drop (star_count us) us))) counted ∙ ap (λ z. decided_by 256 us n (token 256 a_name 0 z)) behind_stars
+  head_by_name = ap (λ k. decided_by 256 us k (token 256 a_name 0 (drop (star_count us) us))) counted ∙ ap (λ z. decided_by 256 us n (token 256 a_name 0 z)) after_stars
 
   pub nameless : (f : Fault) (rest : List Lexeme) → token 256 a_name 0 mid ≡ Stuck f rest → outer_head 256 us ≡ Stuck f rest
   nameless f rest e = head_by_name ∙ ap (λ o. decided_by 256 us n o) e
@@ -84,16 +84,16 @@ module _ (us mid : List Lexeme) (n : ℕ) (stars : read 256 (phrase.stars 0 0) u
     decides : outer_head 256 us ≡ decided 256 us n x at rest
     decides = head_by_name ∙ ap (λ o. decided_by 256 us n o) name
 
-    dropped : (ts behind : List Lexeme) (v : Unit {0} × Position) → passes (is_of (sign punct.OpenParen)) ts ≡ true → token 256 (sign punct.OpenParen) 0 ts ≡ Got v behind → drop 1 ts ≡ behind
-    dropped [] behind v e k = cc
-    dropped (t ∷ ts) behind v e k = by (grab (sign punct.OpenParen) t.kind) k
+    dropped : (ts following : List Lexeme) (v : Unit {0} × Position) → passes (is_of (sign punct.OpenParen)) ts ≡ true → token 256 (sign punct.OpenParen) 0 ts ≡ Got v following → drop 1 ts ≡ following
+    dropped [] following v e k = cc
+    dropped (t ∷ ts) following v e k = by (grab (sign punct.OpenParen) t.kind) k
       where
-        by : (o : Option (Unit {0})) → taken 256 0 o t ts ≡ Got v behind → ts ≡ behind
+        by : (o : Option (Unit {0})) → taken 256 0 o t ts ≡ Got v following → ts ≡ following
         by None k = cc
         by (Some w) k = cc
 
-    pub a_function : (behind : List Lexeme) (v : Unit {0} × Position) → passes (is_of (sign punct.OpenParen)) rest ≡ true → token 256 (sign punct.OpenParen) 0 rest ≡ Got v behind → outer_head 256 us ≡ Got (function_head n x at) behind
-    a_function behind v e k = decides ∙ rw e (ap (λ z. Got (function_head n x at) z) (dropped rest behind v e k))
+    pub a_function : (following : List Lexeme) (v : Unit {0} × Position) → passes (is_of (sign punct.OpenParen)) rest ≡ true → token 256 (sign punct.OpenParen) 0 rest ≡ Got v following → outer_head 256 us ≡ Got (function_head n x at) following
+    a_function following v e k = decides ∙ rw e (ap (λ z. Got (function_head n x at) z) (dropped rest following v e k))
 
     -- a parenthesis at level 0 is no fault
     pub open_never : {A : Type 0} (f : Fault) (r : List Lexeme) → passes (is_of (sign punct.OpenParen)) rest ≡ true → token 256 (sign punct.OpenParen) 0 rest ≡ Stuck f r → A

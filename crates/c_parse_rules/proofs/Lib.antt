@@ -2,5 +2,5 @@ pub mod Steps
 pub mod Singles
 pub mod Turns
 pub mod HeadSteps
-pub mod Behind
+pub mod After
 pub mod Rounds

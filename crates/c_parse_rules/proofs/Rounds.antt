@@ -22,7 +22,7 @@ all_got (Got a us) = refl
 all_got (Stuck f us) = refl
 all_got Spent = refl
 
--- the tokens behind a phrase are no more than those before, and fewer where it takes one
+-- the tokens after a phrase are no more than those before, and fewer where it takes one
 pub no_longer : (n : Phrase) (ts rest : List Token) (a : TreeOf n) → read 256 n (lexemes ts) ≡ Got a (lexemes rest) → length rest ≤ length ts
 no_longer n ts rest a e = omega (arith, read_no_more 256 n (lexemes ts) a (lexemes rest) e, length-map ts lexeme_of, length-map rest lexeme_of)
 
@@ -31,7 +31,7 @@ shorter n ts rest a some e = omega (arith, read_fewer 256 n (lexemes ts) a (lexe
 
 -- ---- parts of a block
 
--- a part, and then what comes behind it
+-- a part, and then what comes after it
 module _ (k : Part → Parser (List Part)) where
   made : {A : Type 0} (o : Outcome A) (f : A → Part) (o' : Outcome Part) → and_then o (λ a us. Got (f a) us) ≡ o' → and_then o (λ a. k (f a)) ≡ and_then o' k
   made (Got a us) f o' e = ap (λ z. and_then z k) e
@@ -45,15 +45,15 @@ module _ (k : Part → Parser (List Part)) where
   part_then l false us o e = made (read 256 (phrase.statement l) us) (λ s. part_does s) o e
 
 module _ (l : ℕ) (ps : List Part) (us : List Lexeme) (more : passes (is_of (sign punct.CloseBrace)) us ≡ false) where
-  behind : Part → Parser (List Part)
-  behind p = λ ts. and_then (read 256 (phrase.parts l (ps ++ p ∷ [])) ts) (λ all rest. Got all rest)
+  following : Part → Parser (List Part)
+  following p = λ ts. and_then (read 256 (phrase.parts l (ps ++ p ∷ [])) ts) (λ all rest. Got all rest)
 
-  part_next : (o : Outcome Part) → run 256 (read 256) (part_rule l) us ≡ o → read 256 (phrase.parts l ps) us ≡ and_then o behind
-  unfolding behind
-  part_next o e = rw (by_rule (phrase.parts l ps) us, more) (part_then behind l (passes is_type us) us o e)
+  part_next : (o : Outcome Part) → run 256 (read 256) (part_rule l) us ≡ o → read 256 (phrase.parts l ps) us ≡ and_then o following
+  unfolding following
+  part_next o e = rw (by_rule (phrase.parts l ps) us, more) (part_then following l (passes is_type us) us o e)
 
   pub parts_turn : (x : Part) (rest : List Lexeme) → run 256 (read 256) (part_rule l) us ≡ Got x rest → read 256 (phrase.parts l ps) us ≡ read 256 (phrase.parts l (ps ++ x ∷ [])) rest
-  unfolding behind
+  unfolding following
   parts_turn x rest e = part_next (Got x rest) e ∙ all_got (read 256 (phrase.parts l (ps ++ x ∷ [])) rest)
 
   pub parts_stuck : (f : Fault) (rest : List Lexeme) → run 256 (read 256) (part_rule l) us ≡ Stuck f rest → read 256 (phrase.parts l ps) us ≡ Stuck f rest
@@ -138,7 +138,7 @@ pub program_ends : (os : List Outer) (ts : List Token) → ts ≡ [] → read 25
 program_ends os [] e = program_over os
 program_ends os (t ∷ ts) e = cc
 
-pub objects_stuck : (is_static : Bool) (s : Specifier) (at : Position) (n : ℕ) (x : List ℕ) (there : Position) (us behind first all : List Lexeme) (es : List Exp) (o : Object) (os : List Object) (f : Fault) (rest : List Lexeme)
-    → read 256 (phrase.lengths n []) us ≡ Got es behind → read 256 (phrase.object_behind 0 (declared n (name_of x there) es)) behind ≡ Got o first → read 256 (phrase.more_objects 0 (o ∷ [])) first ≡ Got os all
+pub objects_stuck : (is_static : Bool) (s : Specifier) (at : Position) (n : ℕ) (x : List ℕ) (there : Position) (us following first all : List Lexeme) (es : List Exp) (o : Object) (os : List Object) (f : Fault) (rest : List Lexeme)
+    → read 256 (phrase.lengths n []) us ≡ Got es following → read 256 (phrase.object_past 0 (declared n (name_of x there) es)) following ≡ Got o first → read 256 (phrase.more_objects 0 (o ∷ [])) first ≡ Got os all
     → token 256 (sign punct.Semicolon) 0 all ≡ Stuck f rest → run 256 (read 256) (objects_rule is_static s at n x there) us ≡ Stuck f rest
-objects_stuck is_static s at n x there us behind first all es o os f rest h k r z = rw (h, k, r, z) refl
+objects_stuck is_static s at n x there us following first all es o os f rest h k r z = rw (h, k, r, z) refl

@@ -87,8 +87,8 @@ more_initials_rules l is ts = by_rule (phrase.more_initials l is) ts
 pub object_rules : (l : ℕ) (ts : List Lexeme) → read 256 (phrase.object l) ts ≡ run 256 (read 256) (rules (phrase.object l)) ts
 object_rules l ts = by_rule (phrase.object l) ts
 
-pub object_behind_rules : (l : ℕ) (d : Declared) (ts : List Lexeme) → read 256 (phrase.object_behind l d) ts ≡ run 256 (read 256) (rules (phrase.object_behind l d)) ts
-object_behind_rules l d ts = by_rule (phrase.object_behind l d) ts
+pub object_after_rules : (l : ℕ) (d : Declared) (ts : List Lexeme) → read 256 (phrase.object_past l d) ts ≡ run 256 (read 256) (rules (phrase.object_past l d)) ts
+object_after_rules l d ts = by_rule (phrase.object_past l d) ts
 
 pub more_objects_rules : (l : ℕ) (os : List Object) (ts : List Lexeme) → read 256 (phrase.more_objects l os) ts ≡ run 256 (read 256) (rules (phrase.more_objects l os)) ts
 more_objects_rules l os ts = by_rule (phrase.more_objects l os) ts
@@ -108,8 +108,8 @@ parts_rules l ps ts = by_rule (phrase.parts l ps) ts
 pub param_rules : (ts : List Lexeme) → read 256 phrase.param ts ≡ run 256 (read 256) (rules phrase.param) ts
 param_rules ts = by_rule phrase.param ts
 
-pub param_behind_rules : (s : Specifier) (ts : List Lexeme) → read 256 (phrase.param_behind s) ts ≡ run 256 (read 256) (rules (phrase.param_behind s)) ts
-param_behind_rules s ts = by_rule (phrase.param_behind s) ts
+pub param_after_rules : (s : Specifier) (ts : List Lexeme) → read 256 (phrase.param_after s) ts ≡ run 256 (read 256) (rules (phrase.param_after s)) ts
+param_after_rules s ts = by_rule (phrase.param_after s) ts
 
 pub more_params_rules : (xs : List Param) (ts : List Lexeme) → read 256 (phrase.more_params xs) ts ≡ run 256 (read 256) (rules (phrase.more_params xs)) ts
 more_params_rules xs ts = by_rule (phrase.more_params xs) ts
@@ -132,8 +132,8 @@ more_members_rules fs ts = by_rule (phrase.more_members fs) ts
 pub outer_rules : (ts : List Lexeme) → read 256 phrase.outer ts ≡ run 256 (read 256) (rules phrase.outer) ts
 outer_rules ts = by_rule phrase.outer ts
 
-pub outer_behind_rules : (is_static : Bool) (s : Specifier) (at : Position) (ts : List Lexeme) → read 256 (phrase.outer_behind is_static s at) ts ≡ run 256 (read 256) (rules (phrase.outer_behind is_static s at)) ts
-outer_behind_rules is_static s at ts = by_rule (phrase.outer_behind is_static s at) ts
+pub outer_after_rules : (is_static : Bool) (s : Specifier) (at : Position) (ts : List Lexeme) → read 256 (phrase.outer_after is_static s at) ts ≡ run 256 (read 256) (rules (phrase.outer_after is_static s at)) ts
+outer_after_rules is_static s at ts = by_rule (phrase.outer_after is_static s at) ts
 
 pub program_rules : (os : List Outer) (ts : List Lexeme) → read 256 (phrase.program os) ts ≡ run 256 (read 256) (rules (phrase.program os)) ts
 program_rules os ts = by_rule (phrase.program os) ts

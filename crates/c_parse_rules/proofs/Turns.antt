@@ -27,7 +27,7 @@ stars_turn l n ts rest x h k =
     let next : suc n ≡ n + 1 = omega arith in
     rw (by_rule (phrase.stars l n) ts, h, k) (returned (read 256 (phrase.stars l (suc n)) rest) ∙ ap (λ z. read 256 (phrase.stars l z) rest) next)
 
--- the tokens behind a phrase are no more than those before
+-- the tokens after a phrase are no more than those before
 pub no_longer : (n : Phrase) (ts rest : List Token) (a : TreeOf n) → read 256 n (lexemes ts) ≡ Got a (lexemes rest) → length rest ≤ length ts
 no_longer n ts rest a e = omega (arith, read_no_more 256 n (lexemes ts) a (lexemes rest) e, length-map ts lexeme_of, length-map rest lexeme_of)
 
@@ -67,7 +67,7 @@ lengths_stop s l m es ts mid next x e d h k r z =
     let close = rw d at z in
     rw (by_rule (phrase.lengths l es) ts, h, there, r) (stops_then s (token 256 (sign punct.CloseBracket) (suc l) next) _ close)
 
--- ---- behind a parenthesis
+-- ---- after a parenthesis
 
 pub enclosed_stop : (s : Stop) (l m : ℕ) (at : Position) (ts mid : List Lexeme) (e : Exp) → m ≡ suc l → read 256 (phrase.expression m) ts ≡ Got e mid → Stops s (token 256 (sign punct.CloseParen) m mid) → Stops s (read 256 (phrase.enclosed l at) ts)
 enclosed_stop s l m at ts mid e d r z =

@@ -11,10 +11,10 @@ use c_lexer::{Kind, Punct, Token};
 use c_tree::Name;
 use std::alloc::Global;
 
-/// Stars and a name: of a function, with the parenthesis behind it, or of an object.
+/// Stars and a name: of a function, with the parenthesis after it, or of an object.
 #[derive(Drop)]
 pub enum Head {
-    /// Of a function, behind whose parenthesis reading goes on.
+    /// Of a function, after whose parenthesis reading goes on.
     Function { stars: usize, name: Name },
     /// Of an object, each of whose stars is a level.
     Object { stars: u32, name: Name },
@@ -43,15 +43,15 @@ fn tokens_from(tokens: &[Token], start: usize) -> &[Token]
     &tokens[start..]
 }
 
-/// The stars of an object raise the level, and those of a function don't; which they are is seen behind the name.
+/// The stars of an object raise the level, and those of a function don't; which they are is seen after the name.
 pub fn outer_head(alloc: Global, tokens: &[Token]) -> Result<(Head, &[Token]), Stop<'_>>
     ensures head { Gives (λ h. head_of h) result (spec.outer_head limit (lexemes tokens.now)) }
     ensures low { IfOk result (λ x. IsLow x.0) }
 {
     let (stars, rest) = stars(0, tokens)?;
     let (name, rest) = name(alloc, rest, 0)?;
-    if let Some((_, behind)) = next_punct(rest, Punct::OpenParen, 0)? {
-        return Ok((Head::Function { stars, name }, behind));
+    if let Some((_, following)) = next_punct(rest, Punct::OpenParen, 0)? {
+        return Ok((Head::Function { stars, name }, following));
     }
     if !follows_declarator(rest) {
         return Err(Stop::Syntax(rest));

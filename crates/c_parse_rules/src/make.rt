@@ -97,7 +97,7 @@ pub fn call(name: Bytes, arguments: List<Expr>, place: Position) -> Expr
     }
 }
 
-/// Initials in braces; whether a comma stands behind the last is kept.
+/// Initials in braces; whether a comma stands after the last is kept.
 pub fn braces(parts: List<Initial>, comma: bool, place: Position) -> Initial
     ensures { init_of result ≡ tree.braces (tree.listed_inits (map init_of parts)) comma place }
 {

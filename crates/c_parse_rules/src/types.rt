@@ -51,7 +51,7 @@ pub fn specifier(
     Ok((Specifier::PthreadBarrierT { line, column }, rest))
 }
 
-// Behind the first `long`, which stands at that place.
+// After the first `long`, which stands at that place.
 fn long(level: u32, place: Position, tokens: &[Token]) -> Result<(Specifier, &[Token]), Stop<'_>>
     ensures { Follows (long_rule level place) (λ s. s) tokens.now result }
 {
@@ -117,9 +117,9 @@ pub fn stars(level: u32, tokens: &[Token]) -> Result<(usize, &[Token]), Stop<'_>
 {
     let mut rest = tokens;
     let mut count = 0;
-    while let Some((_, behind)) = next_punct(rest, Punct::Star, level)? {
+    while let Some((_, following)) = next_punct(rest, Punct::Star, level)? {
         count += 1;
-        rest = behind;
+        rest = following;
     }
     Ok((count, rest))
 }

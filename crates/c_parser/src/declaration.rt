@@ -1,5 +1,5 @@
 //! Reads declarations (C99 6.7). Each reader is named after its phrase. It takes the level of nesting at which the phrase
-//! stands, and gives the tree and the tokens behind it.
+//! stands, and gives the tree and the tokens after it.
 
 ghost use Rattle.std.specs.Prelude.{◌≡◌, ◌+◌, ◌≤◌, IfOk, [], map};
 ghost use Rattle.c_tree.specs.View.{exp_of, declared_of, init_of, object_of, declares_of};
@@ -25,9 +25,9 @@ fn raising_stars(level: u32, tokens: &[Token]) -> Result<(u32, &[Token]), Stop<'
 {
     let mut rest = tokens;
     let mut count = 0;
-    while let Some((_, behind)) = next_punct(rest, Punct::Star, level + count + 1)? {
+    while let Some((_, following)) = next_punct(rest, Punct::Star, level + count + 1)? {
         count += 1;
-        rest = behind;
+        rest = following;
     }
     Ok((count, rest))
 }
@@ -68,8 +68,8 @@ pub(crate) fn lengths(
     let mut found = List::new(alloc);
     let mut rest = tokens;
     let mut above = level;
-    while let Some((_, behind)) = next_punct(rest, Punct::OpenBracket, above + 1)? {
-        let (e, next) = conditional(alloc, above, behind)?;
+    while let Some((_, following)) = next_punct(rest, Punct::OpenBracket, above + 1)? {
+        let (e, next) = conditional(alloc, above, following)?;
         found.push(e)?;
         let (_, next) = punct(next, Punct::CloseBracket, above + 1)?;
         above += 1;
@@ -109,7 +109,7 @@ pub(crate) fn initial(
     Ok((Initial::Value(e), rest))
 }
 
-// Behind an opening brace at that place, all at one level.
+// After an opening brace at that place, all at one level.
 #[cycle(initials)]
 fn braces(
     alloc: Global,
@@ -128,7 +128,7 @@ fn braces(
     Ok((make::braces(parts, comma, place), rest))
 }
 
-// The initials with a comma before each, behind those that were found, and whether a comma stands behind the last.
+// The initials with a comma before each, after those that were found, and whether a comma stands after the last.
 #[cycle(initials)]
 #[tactic(auto, using(c_parse_rules::proofs::Steps::more_initials_rules))]
 fn more_initials(
@@ -141,11 +141,11 @@ fn more_initials(
     ensures { Reads (phrase.more_initials level (map init_of found)) (λ x. initials_of x) tokens.now result }
 {
     let mut rest = tokens;
-    while let Some((_, behind)) = next_punct(rest, Punct::Comma, level)? {
-        if begins_with(behind, Punct::CloseBrace) {
-            return Ok(((found, true), behind));
+    while let Some((_, following)) = next_punct(rest, Punct::Comma, level)? {
+        if begins_with(following, Punct::CloseBrace) {
+            return Ok(((found, true), following));
         }
-        let (i, next) = initial(alloc, level, behind)?;
+        let (i, next) = initial(alloc, level, following)?;
         found.push(i)?;
         rest = next;
     }
@@ -158,19 +158,19 @@ fn object(alloc: Global, level: u32, tokens: &[Token]) -> Result<(Item, &[Token]
     ensures { Reads (phrase.object level) (λ o. object_of o) tokens.now result }
 {
     let (declarator, rest) = declarator(alloc, level, tokens)?;
-    object_behind(alloc, level, declarator, rest)
+    object_past(alloc, level, declarator, rest)
 }
 
-/// An object behind its declarator.
-#[tactic(auto, using(c_parse_rules::proofs::Steps::object_behind_rules))]
-pub(crate) fn object_behind(
+/// An object after its declarator.
+#[tactic(auto, using(c_parse_rules::proofs::Steps::object_after_rules))]
+pub(crate) fn object_past(
     alloc: Global,
     level: u32,
     declarator: Declarator,
     tokens: &[Token],
 ) -> Result<(Item, &[Token]), Stop<'_>>
     requires { level ≤ limit }
-    ensures { Reads (phrase.object_behind level (declared_of declarator)) (λ o. object_of o) tokens.now result }
+    ensures { Reads (phrase.object_past level (declared_of declarator)) (λ o. object_of o) tokens.now result }
 {
     let Some((Position { line, column }, rest)) = next_punct(tokens, Punct::Assign, level)? else {
         return Ok((Item::Plain(declarator), tokens));
@@ -187,7 +187,7 @@ pub(crate) fn object_behind(
     ))
 }
 
-/// The objects with a comma before each, behind those that were found.
+/// The objects with a comma before each, after those that were found.
 #[tactic(auto, using(c_parse_rules::proofs::Steps::more_objects_rules))]
 pub(crate) fn more_objects(
     alloc: Global,
@@ -199,8 +199,8 @@ pub(crate) fn more_objects(
     ensures { Reads (phrase.more_objects level (map object_of found)) (λ os. map object_of os) tokens.now result }
 {
     let mut rest = tokens;
-    while let Some((_, behind)) = next_punct(rest, Punct::Comma, level)? {
-        let (item, next) = object(alloc, level, behind)?;
+    while let Some((_, following)) = next_punct(rest, Punct::Comma, level)? {
+        let (item, next) = object(alloc, level, following)?;
         found.push(item)?;
         rest = next;
     }

@@ -7,7 +7,7 @@ ghost use Rattle.c_grammar.specs.Grammar.{name_place, is_void_alone as spec_is_v
 ghost use Rattle.c_grammar.specs.Phrase as phrase;
 ghost use Rattle.c_grammar.specs.Rules as rules;
 
-use crate::declaration::{declarator, lengths, more_objects, object_behind};
+use crate::declaration::{declarator, lengths, more_objects, object_past};
 use crate::statement::parts;
 use c_lexer::{Punct, Token, Word};
 use c_parse_rules::head::{Head, outer_head};
@@ -24,21 +24,21 @@ fn param(alloc: Global, tokens: &[Token]) -> Result<(Param, &[Token]), Stop<'_>>
     ensures { Reads phrase.param (λ x. x) tokens.now result }
 {
     let (specifier, rest) = specifier(alloc, 0, tokens)?;
-    param_behind(alloc, specifier, rest)
+    param_after(alloc, specifier, rest)
 }
 
-// Behind the specifier.
-#[tactic(auto, using(c_parse_rules::proofs::Steps::param_behind_rules))]
-fn param_behind(
+// After the specifier.
+#[tactic(auto, using(c_parse_rules::proofs::Steps::param_after_rules))]
+fn param_after(
     alloc: Global,
     specifier: Specifier,
     tokens: &[Token],
 ) -> Result<(Param, &[Token]), Stop<'_>>
-    ensures { Reads (phrase.param_behind specifier) (λ x. x) tokens.now result }
+    ensures { Reads (phrase.param_after specifier) (λ x. x) tokens.now result }
 {
     let Position { line, column } = specifier_place(&specifier);
     let (stars, rest) = stars(0, tokens)?;
-    let Some((name, behind)) = next_name(alloc, rest, 0)? else {
+    let Some((name, following)) = next_name(alloc, rest, 0)? else {
         return Ok((
             Param {
                 specifier,
@@ -58,11 +58,11 @@ fn param_behind(
             line,
             column,
         },
-        behind,
+        following,
     ))
 }
 
-// The parameters with a comma before each, behind those that were found.
+// The parameters with a comma before each, after those that were found.
 fn more_params(
     alloc: Global,
     mut found: List<Param>,
@@ -71,10 +71,10 @@ fn more_params(
     ensures { Reads (phrase.more_params found) (λ xs. xs) tokens.now result }
 {
     let mut rest = tokens;
-    'params: while let Some((_, behind)) = next_punct(rest, Punct::Comma, 0)? {
-        let (next, behind) = param(alloc, behind)?;
+    'params: while let Some((_, following)) = next_punct(rest, Punct::Comma, 0)? {
+        let (next, following) = param(alloc, following)?;
         found.push(next)?;
-        rest = behind;
+        rest = following;
     }
     Ok((found, rest))
 }
@@ -143,7 +143,7 @@ fn code(alloc: Global, tokens: &[Token]) -> Result<(Body, &[Token]), Stop<'_>>
 
 // ---- structs (C99 6.7.2.1)
 
-// The declarators with a comma before each, behind those that were found.
+// The declarators with a comma before each, after those that were found.
 fn more_declared(
     alloc: Global,
     mut found: List<Declarator>,
@@ -152,10 +152,10 @@ fn more_declared(
     ensures { Reads (phrase.more_declared (map declared_of found)) (λ ds. map declared_of ds) tokens.now result }
 {
     let mut rest = tokens;
-    'declarators: while let Some((_, behind)) = next_punct(rest, Punct::Comma, 0)? {
-        let (next, behind) = declarator(alloc, 0, behind)?;
+    'declarators: while let Some((_, following)) = next_punct(rest, Punct::Comma, 0)? {
+        let (next, following) = declarator(alloc, 0, following)?;
         found.push(next)?;
-        rest = behind;
+        rest = following;
     }
     Ok((found, rest))
 }
@@ -182,7 +182,7 @@ fn member(alloc: Global, tokens: &[Token]) -> Result<(Member, &[Token]), Stop<'_
     ))
 }
 
-// The members up to the brace that closes them, behind those that were found.
+// The members up to the brace that closes them, after those that were found.
 fn more_members(
     alloc: Global,
     mut found: List<Member>,
@@ -192,14 +192,14 @@ fn more_members(
 {
     let mut rest = tokens;
     'members: while !begins_with(rest, Punct::CloseBrace) {
-        let (next, behind) = member(alloc, rest)?;
+        let (next, following) = member(alloc, rest)?;
         found.push(next)?;
-        rest = behind;
+        rest = following;
     }
     Ok((found, rest))
 }
 
-// Behind the name.
+// After the name.
 fn structure(alloc: Global, name: Name, tokens: &[Token]) -> Result<(External, &[Token]), Stop<'_>>
     ensures { Follows (rules.structure_rule name.text (name_place name)) (λ o. outer_of o) tokens.now result }
 {
@@ -215,7 +215,7 @@ fn structure(alloc: Global, name: Name, tokens: &[Token]) -> Result<(External, &
 
 // ---- functions and objects
 
-// Behind the parenthesis of its parameters.
+// After the parenthesis of its parameters.
 fn function(
     alloc: Global,
     is_static: bool,
@@ -242,7 +242,7 @@ fn function(
     ))
 }
 
-// Behind the name of the first.
+// After the name of the first.
 fn objects(
     alloc: Global,
     is_static: bool,
@@ -262,7 +262,7 @@ fn objects(
         name,
         lengths,
     };
-    let (first, rest) = object_behind(alloc, 0, declarator, rest)?;
+    let (first, rest) = object_past(alloc, 0, declarator, rest)?;
     let mut found = List::new(alloc);
     found.push(first)?;
     let (items, rest) = more_objects(alloc, 0, found, rest)?;
@@ -280,16 +280,16 @@ fn objects(
     ))
 }
 
-// Behind the specifier. The place is that of the first token.
-#[tactic(auto, using(c_parse_rules::proofs::Steps::outer_behind_rules))]
-fn outer_behind(
+// After the specifier. The place is that of the first token.
+#[tactic(auto, using(c_parse_rules::proofs::Steps::outer_after_rules))]
+fn outer_after(
     alloc: Global,
     is_static: bool,
     specifier: Specifier,
     place: Position,
     tokens: &[Token],
 ) -> Result<(External, &[Token]), Stop<'_>>
-    ensures { Reads (phrase.outer_behind is_static specifier place) (λ o. outer_of o) tokens.now result }
+    ensures { Reads (phrase.outer_after is_static specifier place) (λ o. outer_of o) tokens.now result }
 {
     let (head, rest) = outer_head(alloc, tokens)?;
     match head {
@@ -300,20 +300,20 @@ fn outer_behind(
     }
 }
 
-// Behind the word `struct` at that place: a struct's members, or what has its name for a specifier.
-fn behind_struct(
+// After the word `struct` at that place: a struct's members, or what has its name for a specifier.
+fn past_struct(
     alloc: Global,
     place: Position,
     tokens: &[Token],
 ) -> Result<(External, &[Token]), Stop<'_>>
-    ensures { Follows (rules.behind_struct_rule place) (λ o. outer_of o) tokens.now result }
+    ensures { Follows (rules.after_struct_rule place) (λ o. outer_of o) tokens.now result }
 {
     let (name, rest) = name(alloc, tokens, 0)?;
     if begins_with(rest, Punct::OpenBrace) {
         return structure(alloc, name, rest);
     }
     let Position { line, column } = place;
-    outer_behind(
+    outer_after(
         alloc,
         false,
         Specifier::Struct { name, line, column },
@@ -328,14 +328,14 @@ fn outer(alloc: Global, tokens: &[Token]) -> Result<(External, &[Token]), Stop<'
 {
     if let Some((place, rest)) = next_word(tokens, Word::Static, 0)? {
         let (specifier, rest) = specifier(alloc, 0, rest)?;
-        return outer_behind(alloc, true, specifier, place, rest);
+        return outer_after(alloc, true, specifier, place, rest);
     }
     if let Some((place, rest)) = next_word(tokens, Word::Struct, 0)? {
-        return behind_struct(alloc, place, rest);
+        return past_struct(alloc, place, rest);
     }
     let (specifier, rest) = specifier(alloc, 0, tokens)?;
     let place = specifier_place(&specifier);
-    outer_behind(alloc, false, specifier, place, rest)
+    outer_after(alloc, false, specifier, place, rest)
 }
 
 /// All to the end of the tokens.
@@ -348,9 +348,9 @@ pub(crate) fn program(
     let mut found = List::new(alloc);
     let mut rest = tokens;
     'externals: while !rest.is_empty() {
-        let (next, behind) = outer(alloc, rest)?;
+        let (next, following) = outer(alloc, rest)?;
         found.push(next)?;
-        rest = behind;
+        rest = following;
     }
     Ok((found, rest))
 }

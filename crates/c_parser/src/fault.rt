@@ -6,7 +6,7 @@ use thiserror::Error;
 /// The first fault of the tokens of a source, with the place at which it stands.
 #[derive(Clone, Copy, Debug, PartialEq, Eq, Error)]
 pub enum ParseFault {
-    /// No source has this token behind those before it; or the tokens end here, and no source has just them (C99 6.5 to
+    /// No source has this token after those before it; or the tokens end here, and no source has just them (C99 6.5 to
     /// 6.9).
     #[error("{}:{}: no source has this here", .at.line, .at.column)]
     Syntax { at: Position },

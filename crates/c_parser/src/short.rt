@@ -1,5 +1,5 @@
 //! Reads short statements, and how the others begin and end (C99 6.8). None of them holds a statement. Each reader takes the
-//! level of nesting at which it reads, and gives the tree and the tokens behind it.
+//! level of nesting at which it reads, and gives the tree and the tokens after it.
 
 ghost use Rattle.std.specs.Prelude.{◌≡◌, ◌≤◌};
 ghost use Rattle.c_tree.specs.View.{exp_of, maybe_of, start_of, stmt_of};

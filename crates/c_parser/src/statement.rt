@@ -1,5 +1,5 @@
 //! Reads statements and blocks (C99 6.8). Each reader takes the level of nesting at which it reads, and gives the tree and
-//! the tokens behind it.
+//! the tokens after it.
 
 ghost use Rattle.std.specs.Prelude.{◌≡◌, ◌≤◌, [], map};
 ghost use Rattle.c_tree.specs.View.{exp_of, stmt_of, part_of};
@@ -17,7 +17,7 @@ use c_tree::{Expr, Part, Stmt};
 use rr_base::{List, Position};
 use std::alloc::Global;
 
-/// Whether an `else` behind the statement would belong to it.
+/// Whether an `else` after the statement would belong to it.
 fn ends_open(statement: &Stmt) -> bool
     ensures { result ≡ spec_ends_open (stmt_of statement.now) }
 {
@@ -60,7 +60,7 @@ fn boxed(alloc: Global, level: u32, tokens: &[Token]) -> Result<(Box<Stmt>, &[To
     Ok((Box::new(alloc, found)?, rest))
 }
 
-// Behind the brace, which stands at that place.
+// After the brace, which stands at that place.
 #[cycle(statements)]
 fn block(
     alloc: Global,
@@ -98,7 +98,7 @@ fn control(alloc: Global, level: u32, tokens: &[Token]) -> Result<(Stmt, &[Token
 }
 
 #[cycle(statements)]
-#[tactic(auto, using(c_parse_rules::proofs::Behind::if_by_test))]
+#[tactic(auto, using(c_parse_rules::proofs::After::if_by_test))]
 fn branch(
     alloc: Global,
     level: u32,
@@ -113,7 +113,7 @@ fn branch(
     otherwise(alloc, level, test, yes, place, rest)
 }
 
-// Behind the statement of an `if`. An `else` behind one with an open end was read with it.
+// After the statement of an `if`. An `else` after one with an open end was read with it.
 #[cycle(statements)]
 fn otherwise(
     alloc: Global,
@@ -137,7 +137,7 @@ fn otherwise(
 }
 
 #[cycle(statements)]
-#[tactic(auto, using(c_parse_rules::proofs::Behind::while_by_test))]
+#[tactic(auto, using(c_parse_rules::proofs::After::while_by_test))]
 fn while_loop(
     alloc: Global,
     level: u32,
@@ -153,7 +153,7 @@ fn while_loop(
 }
 
 #[cycle(statements)]
-#[tactic(auto, using(c_parse_rules::proofs::Behind::do_by_end))]
+#[tactic(auto, using(c_parse_rules::proofs::After::do_by_end))]
 fn do_loop(
     alloc: Global,
     level: u32,
@@ -169,7 +169,7 @@ fn do_loop(
 }
 
 #[cycle(statements)]
-#[tactic(auto, using(c_parse_rules::proofs::Behind::for_by_head))]
+#[tactic(auto, using(c_parse_rules::proofs::After::for_by_head))]
 fn for_loop(
     alloc: Global,
     level: u32,
@@ -211,9 +211,9 @@ pub(crate) fn parts(
     let mut found = List::new(alloc);
     let mut rest = tokens;
     'parts: while !begins_with(rest, Punct::CloseBrace) {
-        let (next, behind) = part(alloc, level, rest)?;
+        let (next, following) = part(alloc, level, rest)?;
         found.push(next)?;
-        rest = behind;
+        rest = following;
     }
     Ok((found, rest))
 }

@@ -12,7 +12,7 @@ use Rattle.c_types.specs.Scopes.{Known, opened}
 use Rattle.c_programs.specs.Statements.{start_of_for_faults, after_start, test_faults, computed_faults, declares_faults, after_declares, statement_faults, parts_faults, after_parts}
 use Rattle.c_types.proofs.First.{first_of_both}
 
--- known behind one thing in a block
+-- known after one thing in a block
 abbrev pub after_part : Known → Part → Known
 after_part known (part_declares d) = after_declares known d
 after_part known (part_does s) = known
@@ -34,21 +34,21 @@ first_with_part known first gives in_loop (part_does s) ps = sym (first_of_both 
 abbrev pub shown_parts : List RustPart → Parts
 shown_parts ps = listed_parts (map part_of ps)
 
-pub known_behind : (before after : Known) (parts : List RustPart) (i : ℕ) (x : RustPart) →
+pub known_after : (before after : Known) (parts : List RustPart) (i : ℕ) (x : RustPart) →
     i < length parts → x ≡ get_or parts i x → after ≡ after_part before (part_of x) →
     after_parts after (shown_parts (drop (i + 1) parts)) ≡ after_parts before (shown_parts (drop i parts))
-known_behind before after parts i x lt is e =
+known_after before after parts i x lt is e =
     let rest = shown_parts (drop (i + 1) parts) in
     ap (λ k. after_parts k rest) e
     ∙ after_with_part before (part_of x) rest
     ∙ ap (λ y. after_parts before (with_part (part_of y) rest)) is
     ∙ sym (at_drop_more (λ (ys : List RustPart). after_parts before (shown_parts ys)) parts i x lt)
 
-pub first_behind : (before after : Known) (first more : Option Found) (gives : Option StarredType) (in_loop : Bool) (parts : List RustPart) (i : ℕ) (x : RustPart) →
+pub first_after : (before after : Known) (first more : Option Found) (gives : Option StarredType) (in_loop : Bool) (parts : List RustPart) (i : ℕ) (x : RustPart) →
     i < length parts → x ≡ get_or parts i x → after ≡ after_part before (part_of x) →
     more ≡ first_among first (part_faults before gives in_loop (part_of x)) →
     first_among more (parts_faults after gives in_loop (shown_parts (drop (i + 1) parts))) ≡ first_among first (parts_faults before gives in_loop (shown_parts (drop i parts)))
-first_behind before after first more gives in_loop parts i x lt is e f =
+first_after before after first more gives in_loop parts i x lt is e f =
     let rest = shown_parts (drop (i + 1) parts) in
     ap (λ m. first_among m (parts_faults after gives in_loop rest)) f
     ∙ ap (λ k. first_among (first_among first (part_faults before gives in_loop (part_of x))) (parts_faults k gives in_loop rest)) e
@@ -62,17 +62,17 @@ pub first_of_block : (known within : Known) (first last : Option Found) (gives :
     last ≡ first_among first (statement_faults known gives in_loop (block ps at))
 first_of_block known within first last gives in_loop ps at o l = l ∙ ap (λ k. first_among first (parts_faults k gives in_loop ps)) o
 
--- a `for`: what stands in its parentheses, and its body behind that
-pub first_of_for : (known within behind : Known) (first head last : Option Found) (gives : Option StarredType) (in_loop : Bool) (begin : Start) (test next : Option Exp) (body : Statement) (at : Position) →
-    within ≡ opened known → behind ≡ after_start within begin →
+-- a `for`: what stands in its parentheses, and its body after that
+pub first_of_for : (known within following : Known) (first head last : Option Found) (gives : Option StarredType) (in_loop : Bool) (begin : Start) (test next : Option Exp) (body : Statement) (at : Position) →
+    within ≡ opened known → following ≡ after_start within begin →
     head ≡ first_among first (start_of_for_faults within begin ++ test_faults (after_start within begin) at test ++ computed_faults (after_start within begin) next) →
-    last ≡ first_among head (statement_faults behind gives true body) →
+    last ≡ first_among head (statement_faults following gives true body) →
     last ≡ first_among first (statement_faults known gives in_loop (for_loop begin test next body at))
-first_of_for known within behind first head last gives in_loop begin test next body at o b h l =
+first_of_for known within following first head last gives in_loop begin test next body at o b h l =
     let before : Known → List Found = λ k. start_of_for_faults k begin ++ test_faults (after_start k begin) at test ++ computed_faults (after_start k begin) next in
     let inside : Known → List Found = λ k. statement_faults k gives true body in
     l
-    ∙ ap (λ m. first_among m (inside behind)) h
+    ∙ ap (λ m. first_among m (inside following)) h
     ∙ ap (λ k. first_among (first_among first (before within)) (inside k)) b
     ∙ sym (first_of_both first (before within) (inside (after_start within begin)))
     ∙ ap (λ k. first_among first (before k ++ inside (after_start k begin))) o

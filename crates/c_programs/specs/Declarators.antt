@@ -28,7 +28,7 @@ use Rattle.c_rules.specs.Sizes.{length_of, length_faults}
 
 -- ---- types
 
--- layers, and behind them an array of each length, where each one is known
+-- layers, and after them an array of each length, where each one is known
 abbrev pub with_arrays : List Layer → List (Option ℕ) → Option (List Layer)
 with_arrays ls [] = Some ls
 with_arrays ls (None ∷ ns) = None
@@ -99,7 +99,7 @@ taken_faults known name = where_it_comes (is_taken known name.text) fault.Duplic
 abbrev pub has_member : Members → Text → Bool
 has_member ms name = is_some (entry_of ms name)
 
--- a member, behind those that are there
+-- a member, after those that are there
 abbrev pub one_member_faults : Known → Specifier → Members → Declared → List Found
 one_member_faults known s ms d =
     declarator_faults known s d
@@ -151,7 +151,7 @@ struct_faults known name fs =
     ++ fields_faults known [] fs
     ++ size_faults (struct_cells known fs) name
 
--- a struct is defined behind its closing brace. One that was defined before stays
+-- a struct is defined after its closing brace. One that was defined before stays
 abbrev pub after_struct : Known → Name → List Fields → Known
 after_struct known name fs =
     if is_struct_defined known name.text then known

@@ -139,6 +139,6 @@ abbrev mutual
       ++ mismatch (is_none (part_at known t k)) at
       ++ inits_faults known is_global t (k + 1) at is
 
--- the whole of what stands behind the `=`
+-- the whole of what stands after the `=`
 abbrev pub start_faults : Known → Bool → Option ObjectType → Position → Init → List Found
 start_faults known is_global t at i = initial_faults known is_global (value_target t) t at i

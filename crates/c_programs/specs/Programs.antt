@@ -85,7 +85,7 @@ function_name_faults known name f code =
     ++ again_faults (entry_of (innermost known.scopes) name.text) (is_definition code && has_name known.begun name.text) f (name_place name)
     ++ mismatch (is_main name.text && not (is_main_signature f)) (name_place name)
 
--- a function is known behind its declarator, in its own body too
+-- a function is known after its declarator, in its own body too
 abbrev pub after_function : Known → Name → Signature → Code → Known
 after_function known name f (defined ps at) = record (declare known name.text (function_of f)) { begun = with_text known.begun name.text }
 after_function known name f prototype = declare known name.text (function_of f)

@@ -36,12 +36,12 @@ abbrev pub global_cells_with : Bool → ℕ → ℕ → ℕ
 global_cells_with true before cells = min (before + cells) (most_global_cells + 1)
 global_cells_with false before cells = before
 
--- known behind the declaration of an object of this type
+-- known after the declaration of an object of this type
 abbrev pub with_object : Known → Bool → Text → Option ObjectType → Known
 with_object known is_global name t =
     record (declare known name (variable t)) { global_cells = global_cells_with is_global known.global_cells (cells_of_some known t) }
 
--- known behind its declarator, where its scope begins
+-- known after its declarator, where its scope begins
 abbrev pub after_declared : Known → Bool → Specifier → Declared → Known
 after_declared known is_global s d = with_object known is_global (declared_name d).text (declared_type known s d)
 
@@ -138,7 +138,7 @@ abbrev mutual
   parts_faults known result in_loop (and_declares d ps) = declares_faults known d ++ parts_faults (after_declares known d) result in_loop ps
   parts_faults known result in_loop (and_does s ps) = statement_faults known result in_loop s ++ parts_faults known result in_loop ps
 
--- known behind what stands in a block
+-- known after what stands in a block
 abbrev pub after_parts : Known → Parts → Known
 after_parts known no_part = known
 after_parts known (and_declares d ps) = after_parts (after_declares known d) ps

@@ -92,7 +92,7 @@ fn note_lengths<N: Names>(names: &N, at: Position, lengths: &[Expr], first: &mut
     }
 }
 
-/// Notes what is wrong with a declarator behind its specifier: a struct that isn't known, an object of type Void, and
+/// Notes what is wrong with a declarator after its specifier: a struct that isn't known, an object of type Void, and
 /// the lengths.
 pub fn note_declarator<N: Names>(
     names: &N,

@@ -17,7 +17,7 @@ fn has_member(members: &Members, name: &[u8]) -> bool
     members.contains_key(name)
 }
 
-/// Adds a member behind the others, or says that one of its name is there, which stays.
+/// Adds a member after the others, or says that one of its name is there, which stays.
 pub fn add_member<'a>(
     members: &mut Members<'a>,
     name: &'a [u8],

@@ -36,7 +36,7 @@ pub fn cells_of_some<N: Names>(names: &N, of: &Option<ObjectType>) -> u32
     }
 }
 
-/// Adds a member behind those that are there, and notes what is wrong with it.
+/// Adds a member after those that are there, and notes what is wrong with it.
 fn note_member<'a, N: Names>(
     alloc: Global,
     names: &N,
@@ -107,7 +107,7 @@ fn is_struct_defined<N: Names>(names: &N, name: &[u8]) -> bool
     }
 }
 
-/// Defines a struct behind its closing brace, if it isn't defined before, and notes what is wrong with it.
+/// Defines a struct after its closing brace, if it isn't defined before, and notes what is wrong with it.
 pub fn note_struct<'a>(
     alloc: Global,
     table: &mut Table<'a>,

@@ -10,13 +10,13 @@ use Rattle.c_types.specs.declared.fault.Found.{Found}
 use Rattle.c_types.specs.declared.library.Wanted.{Wanted}
 use Rattle.c_types.specs.Scopes.{Known, seen}
 use Rattle.c_types.specs.Operands.{Standing, no_type}
-use Rattle.c_types.specs.Standing.{Target, no_target, standing, let_go, behind, last_standing, fits_wanted, fit_wanted, format_of, callee_of, callee_gives, callee_wants, call_standing}
+use Rattle.c_types.specs.Standing.{Target, no_target, standing, let_go, following, last_standing, fits_wanted, fit_wanted, format_of, callee_of, callee_gives, callee_wants, call_standing}
 use Rattle.c_types.specs.Found.{first_among}
 use Rattle.c_rules.specs.Faults.{faults, go_faults, rest_faults, one_argument_faults, arguments_faults, call_faults, wants_of}
 use Rattle.c_types.proofs.First.{first_of_both}
 use Rattle.c_rules.proofs.Fitting.{called_by_wants}
 
--- an expression of a list, and those behind it
+-- an expression of a list, and those after it
 pub exps_at : (es : List Expr) (i : ℕ) (e : Expr) → i < length es → e ≡ get_or es i e → listed (map exp_of (drop i es)) ≡ and_exp (exp_of e) (listed (map exp_of (drop (i + 1) es)))
 exps_at es i e within is =
     let here : drop i es ≡ get_or es i e ∷ drop (i + 1) es = rw add-one (drop-cons es i e within) in
@@ -26,7 +26,7 @@ exps_at es i e within is =
 after_both : (old new : Option Found) (xs ys : List Found) → new ≡ first_among old xs → first_among new ys ≡ first_among old (xs ++ ys)
 after_both old new xs ys e = ap (λ z. first_among z ys) e ∙ sym (first_of_both old xs ys)
 
--- ---- behind a comma
+-- ---- after a comma
 
 pub comma_standing : (known : Known) (head head' : Expr) (rest rest' : List Expr) (first last : Standing) → head' ≡ head → rest' ≡ rest → first ≡ let_go (standing known no_target (exp_of head')) → last ≡ last_standing known first (listed (map exp_of rest')) → last ≡ last_standing known (let_go (standing known no_target (exp_of head))) (listed (map exp_of rest))
 comma_standing known head head' rest rest' first last same_head same_rest is_first is_last =
@@ -42,9 +42,9 @@ comma_faults known head head' rest rest' old mid new same_head same_rest is_mid 
     ∙ (ap (λ z. first_among mid (rest_faults known (listed (map exp_of z)))) same_rest
     ∙ after_both old mid (faults known no_target (exp_of head) ++ go_faults (standing known no_target (exp_of head)) (exp_of head)) (rest_faults known (listed (map exp_of rest))) known_mid)
 
-pub rest_standing : (known : Known) (es : List Expr) (i : ℕ) (e : Expr) (s here s' all : Standing) → i < length es → e ≡ get_or es i e → here ≡ let_go (standing known no_target (exp_of e)) → s' ≡ behind s here → last_standing known s (listed (map exp_of (drop i es))) ≡ all → last_standing known s' (listed (map exp_of (drop (i + 1) es))) ≡ all
-rest_standing known es i e s here s' all within is is_here is_behind before =
-    ap (λ z. last_standing known z (listed (map exp_of (drop (i + 1) es)))) (is_behind ∙ ap (behind s) is_here)
+pub rest_standing : (known : Known) (es : List Expr) (i : ℕ) (e : Expr) (s here s' all : Standing) → i < length es → e ≡ get_or es i e → here ≡ let_go (standing known no_target (exp_of e)) → s' ≡ following s here → last_standing known s (listed (map exp_of (drop i es))) ≡ all → last_standing known s' (listed (map exp_of (drop (i + 1) es))) ≡ all
+rest_standing known es i e s here s' all within is is_here is_past before =
+    ap (λ z. last_standing known z (listed (map exp_of (drop (i + 1) es)))) (is_past ∙ ap (following s) is_here)
     ∙ (sym (ap (last_standing known s) (exps_at es i e within is)) ∙ before)
 
 pub rest_faulty : (known : Known) (es : List Expr) (i : ℕ) (e : Expr) (old new all : Option Found) → i < length es → e ≡ get_or es i e → new ≡ first_among old (faults known no_target (exp_of e) ++ go_faults (standing known no_target (exp_of e)) (exp_of e)) → first_among old (rest_faults known (listed (map exp_of (drop i es)))) ≡ all → first_among new (rest_faults known (listed (map exp_of (drop (i + 1) es)))) ≡ all
@@ -76,7 +76,7 @@ wanted_faulty known w ws all_ws at es i e old mid new all within is is_wanted is
     ∙ (sym (ap (λ z. first_among old (arguments_faults known (w ∷ ws) at z)) (exps_at es i e within is))
     ∙ (sym (ap (λ z. first_among old (arguments_faults known z at (listed (map exp_of (drop i es))))) is_wanted) ∙ before))
 
--- one behind those that are wanted
+-- one after those that are wanted
 pub unwanted_fits : (known : Known) (ws : List Wanted) (es : List Expr) (i : ℕ) (e : Expr) (fit fit' all : Bool) → i < length es → e ≡ get_or es i e → ws ≡ [] → fit' ≡ false → (fit && fit_wanted known ws (listed (map exp_of (drop i es)))) ≡ all → (fit' && fit_wanted known ws (listed (map exp_of (drop (i + 1) es)))) ≡ all
 unwanted_fits known ws es i e fit fit' all within is is_end is_fit before =
     ap (λ z. z && fit_wanted known ws (listed (map exp_of (drop (i + 1) es)))) is_fit

@@ -361,7 +361,7 @@ abbrev mutual
   faults known w (null at) = []
   faults known w (paren a at) = faults known w a
 
-  -- of the expressions behind a comma
+  -- of the expressions after a comma
   pub rest_faults : Known → Exps → List Found
   rest_faults known no_exp = []
   rest_faults known (and_exp e es) = faults known no_target e ++ go_faults (standing known no_target e) e ++ rest_faults known es

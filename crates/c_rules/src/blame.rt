@@ -288,7 +288,7 @@ pub fn note_prefix<N: Names>(
     note_mismatch(first, !prefix_takes(op, of), at);
 }
 
-/// Notes what is wrong with a `++` or `--` behind its operand.
+/// Notes what is wrong with a `++` or `--` after its operand.
 pub fn note_step<N: Names>(
     names: &N,
     operand: &Expr,

@@ -200,8 +200,8 @@ pub fn let_go<'a>(of: Standing<'a>) -> Standing<'a>
 }
 
 /// The second of two expressions with a comma between them.
-pub fn behind<'a>(first: Standing<'a>, second: Standing<'a>) -> Standing<'a>
-    ensures { shown_standing result ≡ spec.behind (shown_standing first.entry) (shown_standing second.entry) }
+pub fn following<'a>(first: Standing<'a>, second: Standing<'a>) -> Standing<'a>
+    ensures { shown_standing result ≡ spec.following (shown_standing first.entry) (shown_standing second.entry) }
 {
     match first {
         Standing::NoType => Standing::NoType,

@@ -18,7 +18,8 @@ use crate::blame::{
 };
 use crate::blame_call::{is_judged, note_argument, note_call, note_named, wants_of};
 use crate::calls::{
-    behind, call_standing, can_go, fits_wanted, format_of, given_by_call, let_go, number_standing,
+    call_standing, can_go, fits_wanted, following, format_of, given_by_call, let_go,
+    number_standing,
 };
 use crate::constants::constant_named;
 use c_tree::{CType, Expr, Name, PrefixOp};
@@ -261,7 +262,7 @@ fn judge_step<'a, N: Names>(
     stepped(of)
 }
 
-// An expression before a comma, or behind one.
+// An expression before a comma, or after one.
 #[cycle(judge)]
 fn judge_going<'a, N: Names>(names: &'a N, e: &Expr, first: &mut Option<Found>) -> Standing<'a>
     ensures standing { shown_standing result ≡ standings.let_go (standings.standing (N.known names.now) standings.no_target (exp_of e.now)) }
@@ -285,7 +286,7 @@ fn judge_rest<'a, N: Names>(
 {
     let mut last = head;
     for e in rest {
-        last = behind(last, judge_going(names, e, first));
+        last = following(last, judge_going(names, e, first));
     }
     last.as_value()
 }

@@ -12,7 +12,7 @@ mod sizes;
 pub use blame::{first_place, name_place, note_mismatch, note_specifier, own_place};
 pub use blame_call::wants_of;
 pub use calls::{
-    behind, call_standing, can_go, fits_wanted, format_of, given_by_call, is_main, let_go,
+    call_standing, can_go, fits_wanted, following, format_of, given_by_call, is_main, let_go,
 };
 pub use constants::{
     chosen_value, constant_named, is_constant, is_int, is_of_numbers, operation_value,

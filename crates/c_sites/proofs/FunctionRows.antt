@@ -9,7 +9,7 @@ use Rattle.c_tree.specs.Tree.{Exp, call, null, sizeof_exp, no_exp, and_exp, decl
 use Rattle.c_sites.specs.declared.function_info.FunctionInfo.{FunctionInfo}
 use Rattle.c_types.specs.Constants.{constant_named}
 use Rattle.c_types.specs.Library.{library_named}
-use Rattle.c_sites.specs.Addresses.{behind}
+use Rattle.c_sites.specs.Addresses.{following}
 use Rattle.c_sites.specs.Functions.{program_functions}
 use Rattle.c_sites.specs.Layouts.{layout_named}
 use Rattle.c_sites.proofs.SiteRows.{at, name_at, plain_at, int, address, n, function_at, of_kinds, first_source, second_source}
@@ -19,12 +19,12 @@ info name formals registers is_root = record { name = name; formals = formals; r
 
 -- of `f`: the formal, `a`, `p` and the inner `b` are registers
 pub first_functions_are : program_functions first_source ≡ info (codes "f") 1 4 false ∷ []
-unfolding behind library_named
+unfolding following library_named
 first_functions_are = refl
 
 -- `f` has a struct, and `&` is applied to a formal of `h`
 pub second_functions_are : program_functions second_source ≡ info (codes "f") 1 1 false ∷ info (codes "h") 2 1 false ∷ []
-unfolding behind library_named
+unfolding following library_named
 second_functions_are = refl
 
 abbrev create : List ℕ → ℕ → Exp
@@ -45,7 +45,7 @@ third_source =
 
 -- what stands in `sizeof` isn't evaluated, but `t` is kept in cells
 pub third_functions_are : program_functions third_source ≡ info (codes "w") 0 0 true ∷ info (codes "u") 0 0 false ∷ info (codes "main") 0 0 true ∷ []
-unfolding behind library_named
+unfolding following library_named
 third_functions_are = refl
 
 abbrev of_type : Specifier → ℕ → CType
@@ -56,21 +56,21 @@ struct_named name = specifier.Struct (name_at name 8) 1 1
 
 -- struct s { int a; int *q; }
 pub struct_is_laid_out : layout_named second_source (of_type (struct_named (codes "s")) 0) ≡ Some (of_kinds 2 (cell.Whole ∷ cell.Pointer ∷ []))
-unfolding behind constant_named library_named
+unfolding following constant_named library_named
 struct_is_laid_out = refl
 
 pub pointer_is_laid_out : layout_named second_source (of_type (struct_named (codes "s")) 1) ≡ Some (of_kinds 1 (cell.Pointer ∷ []))
-unfolding behind constant_named library_named
+unfolding following constant_named library_named
 pointer_is_laid_out = refl
 
 pub unknown_is_not_laid_out : layout_named second_source (of_type (struct_named (codes "t")) 0) ≡ None
-unfolding behind constant_named library_named
+unfolding following constant_named library_named
 unknown_is_not_laid_out = refl
 
 pub void_is_not_laid_out : layout_named second_source (of_type (specifier.Void 1 1) 0) ≡ None
-unfolding behind constant_named library_named
+unfolding following constant_named library_named
 void_is_not_laid_out = refl
 
 pub mutex_is_laid_out : layout_named second_source (of_type (specifier.PthreadMutexT 1 1) 0) ≡ Some (of_kinds 1 (cell.Mutex ∷ []))
-unfolding behind constant_named library_named
+unfolding following constant_named library_named
 mutex_is_laid_out = refl

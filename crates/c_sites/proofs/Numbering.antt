@@ -8,38 +8,38 @@ use Rattle.c_tree.specs.Tree.{Declared, Object, Declares, declares, Start, start
 use Rattle.c_types.specs.Scopes.{or_else}
 use Rattle.c_programs.specs.Declarators.{declared_name}
 use Rattle.c_programs.specs.Statements.{declared_by}
-use Rattle.c_sites.specs.Addresses.{Numbered, number_seen, behind, inside, outside, numbered_in, after_name, after_names, after_declaration, after_for_start, behind_statement, behind_parts, count_of_declares, count_of_start, count_of_locals, count_of_parts, after_formal, after_formals, numbered_from}
+use Rattle.c_sites.specs.Addresses.{Numbered, number_seen, following, inside, outside, numbered_in, after_name, after_names, after_declaration, after_for_start, past_statement, past_parts, count_of_declares, count_of_start, count_of_locals, count_of_parts, after_formal, after_formals, numbered_from}
 use Rattle.c_types.proofs.Keyed.{reverse-take}
 
 same : (x y : Numbered) → x.next ≡ y.next → x.scopes ≡ y.scopes → x ≡ y
 same x y n s = ap (λ m. record x { next = m }) n ∙ ap (λ ss. record y { scopes = ss }) s
 
-behind_next : (known : Numbered) (n : ℕ) → (behind known n).next ≡ known.next + n
-unfolding behind
-behind_next known n = refl
+after_next : (known : Numbered) (n : ℕ) → (following known n).next ≡ known.next + n
+unfolding following
+after_next known n = refl
 
-behind_scopes : (known : Numbered) (n : ℕ) → (behind known n).scopes ≡ known.scopes
-unfolding behind
-behind_scopes known n = refl
+after_scopes : (known : Numbered) (n : ℕ) → (following known n).scopes ≡ known.scopes
+unfolding following
+after_scopes known n = refl
 
-pub behind_none : (known : Numbered) → behind known 0 ≡ known
-behind_none known = same _ _ (omega (arith, behind_next known 0)) (behind_scopes known 0)
+pub after_none : (known : Numbered) → following known 0 ≡ known
+after_none known = same _ _ (omega (arith, after_next known 0)) (after_scopes known 0)
 
-pub behind_both : (known : Numbered) (m n : ℕ) → behind (behind known m) n ≡ behind known (m + n)
-behind_both known m n =
+pub past_both : (known : Numbered) (m n : ℕ) → following (following known m) n ≡ following known (m + n)
+past_both known m n =
     same _ _
-    (omega (arith, behind_next (behind known m) n, behind_next known m, behind_next known (m + n)))
-    (behind_scopes (behind known m) n ∙ behind_scopes known m ∙ sym (behind_scopes known (m + n)))
+    (omega (arith, after_next (following known m) n, after_next known m, after_next known (m + n)))
+    (after_scopes (following known m) n ∙ after_scopes known m ∙ sym (after_scopes known (m + n)))
 
 outer_scopes : (ss : List (List (Text × ℕ))) (name : Text) (n : ℕ) → drop 1 (numbered_in ss name n) ≡ drop 1 ss
 outer_scopes [] name n = refl
 outer_scopes (s ∷ ss) name n = refl
 
 name_next : (known : Numbered) (d : Declared) → (after_name known d).next ≡ known.next + 1
-name_next known d = behind_next _ 1
+name_next known d = after_next _ 1
 
 name_scopes : (known : Numbered) (d : Declared) → drop 1 (after_name known d).scopes ≡ drop 1 known.scopes
-name_scopes known d = ap (λ ss. drop 1 ss) (behind_scopes _ 1) ∙ outer_scopes known.scopes (declared_name d).text known.next
+name_scopes known d = ap (λ ss. drop 1 ss) (after_scopes _ 1) ∙ outer_scopes known.scopes (declared_name d).text known.next
 
 names_next : (known : Numbered) (os : List Object) → (after_names known os).next ≡ known.next + length os
 names_next known [] = omega arith
@@ -63,57 +63,57 @@ start_scopes : (known : Numbered) (s : Start) → drop 1 (after_for_start known 
 start_scopes known (start_declares d) = declares_scopes known d
 start_scopes known (start_computes e) = refl
 
-parts_next : (known : Numbered) (ps : Parts) → (behind_parts known ps).next ≡ known.next + count_of_parts ps
+parts_next : (known : Numbered) (ps : Parts) → (past_parts known ps).next ≡ known.next + count_of_parts ps
 parts_next known no_part = omega arith
 parts_next known (and_declares d ps) = omega (arith, parts_next (after_declaration known d) ps, declares_next known d)
-parts_next known (and_does s ps) = omega (arith, parts_next (behind_statement known s) ps, behind_next known (count_of_locals s))
+parts_next known (and_does s ps) = omega (arith, parts_next (past_statement known s) ps, after_next known (count_of_locals s))
 
-parts_scopes : (known : Numbered) (ps : Parts) → drop 1 (behind_parts known ps).scopes ≡ drop 1 known.scopes
+parts_scopes : (known : Numbered) (ps : Parts) → drop 1 (past_parts known ps).scopes ≡ drop 1 known.scopes
 parts_scopes known no_part = refl
 parts_scopes known (and_declares d ps) = parts_scopes (after_declaration known d) ps ∙ declares_scopes known d
-parts_scopes known (and_does s ps) = parts_scopes (behind_statement known s) ps ∙ ap (λ ss. drop 1 ss) (behind_scopes known (count_of_locals s))
+parts_scopes known (and_does s ps) = parts_scopes (past_statement known s) ps ∙ ap (λ ss. drop 1 ss) (after_scopes known (count_of_locals s))
 
-outside_parts : (known : Numbered) (ps : Parts) → outside (behind_parts (inside known) ps) ≡ behind known (count_of_parts ps)
+outside_parts : (known : Numbered) (ps : Parts) → outside (past_parts (inside known) ps) ≡ following known (count_of_parts ps)
 outside_parts known ps =
     same _ _
-    (parts_next (inside known) ps ∙ sym (behind_next known (count_of_parts ps)))
-    (parts_scopes (inside known) ps ∙ sym (behind_scopes known (count_of_parts ps)))
+    (parts_next (inside known) ps ∙ sym (after_next known (count_of_parts ps)))
+    (parts_scopes (inside known) ps ∙ sym (after_scopes known (count_of_parts ps)))
 
-outside_for : (known : Numbered) (s : Start) (n : ℕ) → outside (behind (after_for_start (inside known) s) n) ≡ behind known (count_of_start s + n)
+outside_for : (known : Numbered) (s : Start) (n : ℕ) → outside (following (after_for_start (inside known) s) n) ≡ following known (count_of_start s + n)
 outside_for known s n =
     same _ _
-    (omega (arith, behind_next (after_for_start (inside known) s) n, start_next (inside known) s, behind_next known (count_of_start s + n)))
-    (ap (λ ss. drop 1 ss) (behind_scopes (after_for_start (inside known) s) n) ∙ start_scopes (inside known) s ∙ sym (behind_scopes known (count_of_start s + n)))
+    (omega (arith, after_next (after_for_start (inside known) s) n, start_next (inside known) s, after_next known (count_of_start s + n)))
+    (ap (λ ss. drop 1 ss) (after_scopes (after_for_start (inside known) s) n) ∙ start_scopes (inside known) s ∙ sym (after_scopes known (count_of_start s + n)))
 
 -- a block and a `for` use the numbers of what they declare
-pub block_numbers : (before opened filled after : Numbered) (ps : Parts) → opened ≡ inside before → filled ≡ behind_parts opened ps → after ≡ outside filled → after ≡ behind before (count_of_parts ps)
+pub block_numbers : (before opened filled after : Numbered) (ps : Parts) → opened ≡ inside before → filled ≡ past_parts opened ps → after ≡ outside filled → after ≡ following before (count_of_parts ps)
 block_numbers before opened filled after ps o f a =
-    a ∙ ap outside (f ∙ ap (λ k. behind_parts k ps) o) ∙ outside_parts before ps
+    a ∙ ap outside (f ∙ ap (λ k. past_parts k ps) o) ∙ outside_parts before ps
 
 pub for_numbers : (before opened begun filled after : Numbered) (s : Start) (n : ℕ) →
-    opened ≡ inside before → begun ≡ after_for_start opened s → filled ≡ behind begun n → after ≡ outside filled → after ≡ behind before (count_of_start s + n)
+    opened ≡ inside before → begun ≡ after_for_start opened s → filled ≡ following begun n → after ≡ outside filled → after ≡ following before (count_of_start s + n)
 for_numbers before opened begun filled after s n o b f a =
-    a ∙ ap outside (f ∙ ap (λ k. behind k n) (b ∙ ap (λ k. after_for_start k s) o)) ∙ outside_for before s n
+    a ∙ ap outside (f ∙ ap (λ k. following k n) (b ∙ ap (λ k. after_for_start k s) o)) ∙ outside_for before s n
 
 formals_next : (known : Numbered) (ps : List Param) → (after_formals known ps).next ≡ known.next + length ps
 formals_next known [] = omega arith
 formals_next known (p ∷ ps) = omega (arith, formals_next (after_formal known p.name) ps, formal_next known p.name)
   where
     formal_next : (known : Numbered) (name : Option Name) → (after_formal known name).next ≡ known.next + 1
-    formal_next known None = behind_next known 1
-    formal_next known (Some name) = behind_next _ 1
+    formal_next known None = after_next known 1
+    formal_next known (Some name) = after_next _ 1
 
-definition_next : (n : ℕ) (ps : List Param) (parts : Parts) → (behind_parts (numbered_from n ps) parts).next ≡ n + (length ps + count_of_parts parts)
+definition_next : (n : ℕ) (ps : List Param) (parts : Parts) → (past_parts (numbered_from n ps) parts).next ≡ n + (length ps + count_of_parts parts)
 definition_next n ps parts = omega (arith, parts_next (numbered_from n ps) parts, formals_next (record { next = n; scopes = [] ∷ [] }) ps)
 
 -- the formals and locals of a definition are numbered one after another
 pub definition_numbers : (n last : ℕ) (begun named filled : Numbered) (ps : List Param) (parts : Parts) →
-    begun ≡ record { next = n; scopes = [] ∷ [] } → named ≡ after_formals begun ps → filled ≡ behind_parts named parts → last ≡ filled.next →
+    begun ≡ record { next = n; scopes = [] ∷ [] } → named ≡ after_formals begun ps → filled ≡ past_parts named parts → last ≡ filled.next →
     last ≡ n + (length ps + count_of_parts parts)
 definition_numbers n last begun named filled ps parts b m f l =
-    l ∙ ap (λ k. k.next) (f ∙ ap (λ k. behind_parts k parts) (m ∙ ap (λ k. after_formals k ps) b)) ∙ definition_next n ps parts
+    l ∙ ap (λ k. k.next) (f ∙ ap (λ k. past_parts k parts) (m ∙ ap (λ k. after_formals k ps) b)) ∙ definition_next n ps parts
 
-pub ruleset numbering = (behind_none, behind_both)
+pub ruleset numbering = (after_none, past_both)
 
 -- a name is sought in the innermost scope of those that are left
 pub seen-innermost : {S : Type 0} (f : S → List (Text × ℕ)) (xs : List S) (n : ℕ) (x : S) (name : Text) (o : Option ℕ) →

@@ -15,7 +15,7 @@ use Rattle.c_types.specs.declared.fault.Found.{Found}
 use Rattle.c_types.specs.Constants.{constant_named}
 use Rattle.c_types.specs.Library.{library_named}
 use Rattle.c_types.specs.Found.{found_at}
-use Rattle.c_sites.specs.Addresses.{behind}
+use Rattle.c_sites.specs.Addresses.{following}
 use Rattle.c_sites.specs.Whole.{first_fault}
 
 abbrev at : ℕ → Position
@@ -108,5 +108,5 @@ source_rows =
     plain_member column name stars = declared stars (name_at name column) []
 
 pub sources_are : map (λ r. first_fault r.0) source_rows ≡ map (λ r. r.1) source_rows
-unfolding behind constant_named library_named source_rows
+unfolding following constant_named library_named source_rows
 sources_are = refl

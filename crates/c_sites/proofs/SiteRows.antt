@@ -15,7 +15,7 @@ use Rattle.rr_base.specs.declared.position.Position.{Position}
 use Rattle.rr_base.specs.Positions.{position_at}
 use Rattle.c_types.specs.Constants.{constant_named}
 use Rattle.c_types.specs.Library.{library_named}
-use Rattle.c_sites.specs.Addresses.{behind, program_addressed}
+use Rattle.c_sites.specs.Addresses.{following, program_addressed}
 use Rattle.c_sites.specs.Spots.{Holder, a_global, a_local, an_allocation, program_spots, kinds_of_structs, layout_by}
 
 abbrev pub at : ℕ → Position
@@ -82,7 +82,7 @@ rows_of os = map (λ s. (s.holder, s.at, layout_by (kinds_of_structs os) s.of)) 
 
 -- the formal of `f` is 0, and `a` is 1; of `h` the formals are 2 and 3
 pub numbers_are : map program_addressed (first_source ∷ second_source ∷ []) ≡ (2 ∷ []) ∷ (3 ∷ []) ∷ []
-unfolding behind
+unfolding following
 numbers_are = refl
 
 pub first_rows_are : rows_of first_source ≡
@@ -91,7 +91,7 @@ pub first_rows_are : rows_of first_source ≡
     ∷ row (a_local (codes "f") (codes "v")) 66 (of_kinds 1 (cell.Whole ∷ cell.Whole ∷ []))
     ∷ row an_allocation 78 (of_kinds 1 (cell.Whole ∷ []))
     ∷ []
-unfolding behind constant_named library_named
+unfolding following constant_named library_named
 first_rows_are = refl
 
 pub second_rows_are : rows_of second_source ≡
@@ -99,5 +99,5 @@ pub second_rows_are : rows_of second_source ≡
     ∷ row (a_local (codes "f") (codes "x")) 70 (of_kinds 2 (cell.Whole ∷ cell.Pointer ∷ []))
     ∷ row (a_local (codes "h") (codes "k")) 93 (of_kinds 1 (cell.Whole ∷ []))
     ∷ []
-unfolding behind constant_named library_named
+unfolding following constant_named library_named
 second_rows_are = refl

@@ -25,12 +25,12 @@ numbered_in [] name n = []
 numbered_in (s ∷ ss) name n = with_name s name n ∷ ss
 
 -- so many numbers are used
-unfoldable pub behind : Numbered → ℕ → Numbered
-behind known many = record known { next = known.next + many }
+unfoldable pub following : Numbered → ℕ → Numbered
+following known many = record known { next = known.next + many }
 
 -- the next number goes to a name
 abbrev pub number_name : Numbered → Name → Numbered
-number_name known name = behind (record known { scopes = numbered_in known.scopes name.text known.next }) 1
+number_name known name = following (record known { scopes = numbered_in known.scopes name.text known.next }) 1
 
 abbrev pub inside : Numbered → Numbered
 inside known = record known { scopes = [] ∷ known.scopes }
@@ -169,15 +169,15 @@ abbrev mutual
   count_of_parts (and_declares d ps) = count_of_declares d + count_of_parts ps
   count_of_parts (and_does s ps) = count_of_locals s + count_of_parts ps
 
--- behind a statement its locals aren't seen, and their numbers are used
-abbrev pub behind_statement : Numbered → Statement → Numbered
-behind_statement known s = behind known (count_of_locals s)
+-- after a statement its locals aren't seen, and their numbers are used
+abbrev pub past_statement : Numbered → Statement → Numbered
+past_statement known s = following known (count_of_locals s)
 
--- behind what stands in a block its own names are seen
-abbrev pub behind_parts : Numbered → Parts → Numbered
-behind_parts known no_part = known
-behind_parts known (and_declares d ps) = behind_parts (after_declaration known d) ps
-behind_parts known (and_does s ps) = behind_parts (behind_statement known s) ps
+-- after what stands in a block its own names are seen
+abbrev pub past_parts : Numbered → Parts → Numbered
+past_parts known no_part = known
+past_parts known (and_declares d ps) = past_parts (after_declaration known d) ps
+past_parts known (and_does s ps) = past_parts (past_statement known s) ps
 
 abbrev mutual
   pub statement_addressed : Numbered → Statement → List ℕ
@@ -187,9 +187,9 @@ abbrev mutual
   statement_addressed known (continue_at at) = []
   statement_addressed known (gives e at) = maybe_addressed known e
   statement_addressed known (branch e a at) = addressed known e ++ statement_addressed known a
-  statement_addressed known (branch_else e a b at) = addressed known e ++ statement_addressed known a ++ statement_addressed (behind_statement known a) b
+  statement_addressed known (branch_else e a b at) = addressed known e ++ statement_addressed known a ++ statement_addressed (past_statement known a) b
   statement_addressed known (while_loop e a at) = addressed known e ++ statement_addressed known a
-  statement_addressed known (do_loop a e at) = statement_addressed known a ++ addressed (behind_statement known a) e
+  statement_addressed known (do_loop a e at) = statement_addressed known a ++ addressed (past_statement known a) e
   statement_addressed known (for_loop start test next a at) =
       for_addressed (inside known) start test next
       ++ statement_addressed (after_for_start (inside known) start) a
@@ -197,13 +197,13 @@ abbrev mutual
   pub parts_addressed : Numbered → Parts → List ℕ
   parts_addressed known no_part = []
   parts_addressed known (and_declares d ps) = declares_addressed known d ++ parts_addressed (after_declaration known d) ps
-  parts_addressed known (and_does s ps) = statement_addressed known s ++ parts_addressed (behind_statement known s) ps
+  parts_addressed known (and_does s ps) = statement_addressed known s ++ parts_addressed (past_statement known s) ps
 
 -- ---- a source
 
 -- each formal of a definition has a number, also one without a name
 abbrev pub after_formal : Numbered → Option Name → Numbered
-after_formal known None = behind known 1
+after_formal known None = following known 1
 after_formal known (Some name) = number_name known name
 
 abbrev pub after_formals : Numbered → List Param → Numbered

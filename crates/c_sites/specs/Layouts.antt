@@ -8,7 +8,7 @@ use Rattle.c_types.specs.declared.types.ObjectType.{ObjectType}
 use Rattle.c_types.specs.Types.{layout_of_type, struct_kinds}
 use Rattle.c_types.specs.Scopes.{Known, type_named, is_complete}
 use Rattle.c_programs.specs.Programs.{known_at_start}
-use Rattle.c_sites.specs.Spots.{known_behind, types_of_members, is_laid_out}
+use Rattle.c_sites.specs.Spots.{known_after, types_of_members, is_laid_out}
 
 -- an object has a layout if its type is complete and it has no more cells than an object may have
 abbrev pub layout_in : Known → List (List CellKind) → Option ObjectType → Option Layout
@@ -16,9 +16,9 @@ layout_in known structs None = None
 layout_in known structs (Some t) = if is_complete known t && is_laid_out structs t then Some (layout_of_type structs t) else None
 
 -- where the structs that are known have the members that are known of them
-abbrev pub layout_behind : Known → CType → Option Layout
-layout_behind known t = layout_in known (struct_kinds (map types_of_members known.structs)) (type_named known t)
+abbrev pub layout_after : Known → CType → Option Layout
+layout_after known t = layout_in known (struct_kinds (map types_of_members known.structs)) (type_named known t)
 
--- behind a source
+-- after a source
 abbrev pub layout_named : List Outer → CType → Option Layout
-layout_named os t = layout_behind (known_behind (known_at_start os) os) t
+layout_named os t = layout_after (known_after (known_at_start os) os) t

@@ -253,9 +253,9 @@ program_spots os = outers_spots (program_addressed os) (known_at_start os) 0 os
 
 -- ---- the sites of a source without a fault
 
-abbrev pub known_behind : Known → List Outer → Known
-known_behind known [] = known
-known_behind known (o ∷ os) = known_behind (after_outer known o) os
+abbrev pub known_after : Known → List Outer → Known
+known_after known [] = known
+known_after known (o ∷ os) = known_after (after_outer known o) os
 
 abbrev pub known_type : Option ObjectType → List ObjectType
 known_type None = []
@@ -271,7 +271,7 @@ types_of_members ms = known_types (members_of (Some ms))
 
 -- the cells of each struct that a source defines
 abbrev pub kinds_of_structs : List Outer → List (List CellKind)
-kinds_of_structs os = struct_kinds (map types_of_members (known_behind (known_at_start os) os).structs)
+kinds_of_structs os = struct_kinds (map types_of_members (known_after (known_at_start os) os).structs)
 
 -- `x`, `f.x@L:C` and `malloc@L:C`: 46 is `.`, 64 is `@`, and 58 is `:`
 abbrev pub at_place : Text → Position → Text

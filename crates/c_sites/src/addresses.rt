@@ -201,7 +201,7 @@ fn push_initials(
     Ok(())
 }
 
-/// The object is numbered behind its declarator.
+/// The object is numbered after its declarator.
 fn push_object<'a>(
     table: &mut NumberTable<'a>,
     item: &'a Item,
@@ -282,7 +282,7 @@ fn push_for<'a>(
     push_maybe_addressed(&*table, step, out)
 }
 
-/// The names that the statement declares are numbered, and are not seen behind it.
+/// The names that the statement declares are numbered, and are not seen after it.
 #[cycle(statement_addressed)]
 #[tactic(auto, using(crate::proofs::Numbering::numbering))]
 fn push_statement<'a>(
@@ -291,7 +291,7 @@ fn push_statement<'a>(
     stmt: &'a Stmt,
     out: &mut List<usize>,
 ) -> Result<(), AllocError>
-    ensures known { OnOk result (numbered_of table.new ≡ spec.behind_statement (numbered_of table.old) (stmt_of stmt.now)) }
+    ensures known { OnOk result (numbered_of table.new ≡ spec.past_statement (numbered_of table.old) (stmt_of stmt.now)) }
     ensures out { OnOk result (out.new ≡ out.old ++ spec.statement_addressed (numbered_of table.old) (stmt_of stmt.now)) }
 {
     match stmt {
@@ -346,7 +346,7 @@ fn push_parts<'a>(
     parts: &'a [Part],
     out: &mut List<usize>,
 ) -> Result<(), AllocError>
-    ensures known { OnOk result (numbered_of table.new ≡ spec.behind_parts (numbered_of table.old) (listed_parts (map part_of parts.now))) }
+    ensures known { OnOk result (numbered_of table.new ≡ spec.past_parts (numbered_of table.old) (listed_parts (map part_of parts.now))) }
     ensures out { OnOk result (out.new ≡ out.old ++ spec.parts_addressed (numbered_of table.old) (listed_parts (map part_of parts.now))) }
 {
     for part in parts {

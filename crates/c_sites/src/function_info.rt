@@ -129,7 +129,7 @@ fn definition_kept(
     Ok(kept)
 }
 
-/// How many are kept neither by their type nor because `&` is applied to them. They are numbered from `next`, and behind
+/// How many are kept neither by their type nor because `&` is applied to them. They are numbered from `next`, and after
 /// the call it is the number that follows them.
 fn count_registers(marks: &Marks, next: &mut usize, kept: &[bool]) -> Result<usize, AllocError>
     ensures count { IfOk result (λ n. n ≡ spec.registers_from marks.now.numbers next.old kept.now) }

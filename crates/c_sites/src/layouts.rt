@@ -37,8 +37,8 @@ fn layout_in(
 }
 
 /// The layout of an object of the type, with the structs that the table knows.
-fn layout_behind(alloc: Global, table: &Table, of: &CType) -> Result<Option<Layout>, AllocError>
-    ensures { IfOk result (λ l. l ≡ spec.layout_behind (known_of table.now) of.now) }
+fn layout_after(alloc: Global, table: &Table, of: &CType) -> Result<Option<Layout>, AllocError>
+    ensures { IfOk result (λ l. l ≡ spec.layout_after (known_of table.now) of.now) }
 {
     let structs = kinds_of_structs(alloc, table)?;
     layout_in(alloc, table, structs.as_slice(), type_named(table, of))
@@ -55,5 +55,5 @@ pub fn layout_of(alloc: Global, program: &Program, of: &CType) -> Result<Option<
 {
     let marks = Marks::of(alloc, List::new(alloc))?;
     let (table, _) = spots_in(alloc, &marks, program)?;
-    layout_behind(alloc, &table, of)
+    layout_after(alloc, &table, of)
 }

@@ -50,10 +50,10 @@ impl<'a> NumberTable<'a> {
         let _ = self.scopes.pop();
     }
 
-    #[tactic(auto, unfolding(crate::specs::Addresses::behind))]
+    #[tactic(auto, unfolding(crate::specs::Addresses::following))]
     /// Uses a number for what has no name. More numbers than the machine can count don't fit its memory either.
     pub fn skip(&mut self) -> Result<(), AllocError>
-        ensures { OnOk result (numbered_of self.new ≡ spec.behind (numbered_of self.old) 1) }
+        ensures { OnOk result (numbered_of self.new ≡ spec.following (numbered_of self.old) 1) }
     {
         let Some(next) = self.next.checked_add(1) else {
             return Err(AllocError);

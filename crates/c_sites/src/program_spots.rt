@@ -220,7 +220,7 @@ fn push_externals<'a>(
     externals: &'a [External],
     out: &mut List<Spot<'a>>,
 ) -> Result<(), AllocError>
-    ensures known { OnOk result (known_of table.new ≡ spec.known_behind (known_of table.old) (map outer_of externals.now)) }
+    ensures known { OnOk result (known_of table.new ≡ spec.known_after (known_of table.old) (map outer_of externals.now)) }
     ensures out { OnOk result (shown_spots out.new ≡ shown_spots out.old ++ spec.outers_spots marks.now.numbers (known_of table.old) 0 (map outer_of externals.now)) }
 {
     let mut next = 0;
@@ -230,13 +230,13 @@ fn push_externals<'a>(
     Ok(())
 }
 
-/// What has cells of its own in a source, where those are marked to which `&` is applied; and what is known behind it.
+/// What has cells of its own in a source, where those are marked to which `&` is applied; and what is known after it.
 pub fn spots_in<'a>(
     alloc: Global,
     marks: &'a Marks,
     program: &'a Program,
 ) -> Result<(Table<'a>, List<Spot<'a>>), AllocError>
-    ensures known { IfOk result (λ r. known_of r.0 ≡ spec.known_behind (known_at_start (program_of program.now)) (program_of program.now)) }
+    ensures known { IfOk result (λ r. known_of r.0 ≡ spec.known_after (known_at_start (program_of program.now)) (program_of program.now)) }
     ensures spots { IfOk result (λ r. shown_spots r.1 ≡ spec.outers_spots marks.now.numbers (known_at_start (program_of program.now)) 0 (program_of program.now)) }
 {
     let mut table = Table::new(alloc, program)?;

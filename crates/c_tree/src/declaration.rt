@@ -15,7 +15,7 @@ pub struct Declarator {
 #[derive(Drop)]
 pub enum Initial {
     Value(Expr),
-    /// One or more in braces, with or without a comma behind the last.
+    /// One or more in braces, with or without a comma after the last.
     Braces {
         parts: List<Initial>,
         comma: bool,

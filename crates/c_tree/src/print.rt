@@ -259,7 +259,7 @@ fn print_enclosed(
     put_punct(out, closing)
 }
 
-// A member behind a point or an arrow.
+// A member after a point or an arrow.
 #[cycle(print)]
 fn print_selection(
     alloc: Global,
@@ -347,7 +347,7 @@ fn print_declarator(
     Ok(())
 }
 
-// The brace behind initials, and maybe a comma before it.
+// The brace after initials, and maybe a comma before it.
 fn put_closing(out: &mut List<Kind>, comma: bool) -> Result<(), AllocError>
     ensures { OnOk result (out.new ≡ out.old ++ (spec.if_there comma (spec.p punct.Comma) ++ spec.p punct.CloseBrace ∷ [])) }
 {

@@ -1,4 +1,4 @@
--- The first fault of two lists, one behind the other.
+-- The first fault of two lists, one after the other.
 use Rattle.std.proofs.Common.{◌≡◌, List, [], ◌∷◌, ◌++◌, Option, refl}
 use Rattle.c_types.specs.declared.fault.Found.{Found}
 use Rattle.c_types.specs.Found.{first_of, first_among}

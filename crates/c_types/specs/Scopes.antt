@@ -80,7 +80,7 @@ base_of known (specifier.PthreadMutexT line column) = Some base.Mutex
 base_of known (specifier.PthreadCondT line column) = Some base.Cond
 base_of known (specifier.PthreadBarrierT line column) = Some base.Barrier
 
--- so many stars behind a base
+-- so many stars after a base
 abbrev pub starred : ℕ → BaseType → ObjectType
 starred n b = record { layers = replicate n layer.Pointer; base = b }
 
@@ -151,7 +151,7 @@ abbrev pub innermost : List Scope → Scope
 innermost [] = []
 innermost (s ∷ ss) = s
 
--- a name is added behind the others, but where it is there the older one stays
+-- a name is added after the others, but where it is there the older one stays
 abbrev pub with_name : {A : Type 0} → List (Text × A) → Text → A → List (Text × A)
 with_name es name x = if is_some (entry_of es name) then es else es ++ (name, x) ∷ []
 
@@ -168,6 +168,6 @@ opened known = record known { scopes = [] ∷ known.scopes }
 abbrev pub closed : Known → Known
 closed known = record known { scopes = drop 1 known.scopes }
 
--- a name is added behind the others, but where it is there
+-- a name is added after the others, but where it is there
 abbrev pub with_text : List Text → Text → List Text
 with_text names name = if has_name names name then names else names ++ name ∷ []

@@ -285,10 +285,10 @@ can_go _ = true
 abbrev pub let_go : Standing → Standing
 let_go s = if can_go s then s else no_type
 
--- behind another one
-abbrev pub behind : Standing → Standing → Standing
-behind no_type s = no_type
-behind _ s = s
+-- after another one
+abbrev pub following : Standing → Standing → Standing
+following no_type s = no_type
+following _ s = s
 
 abbrev pub number_standing : ℤ → Standing
 number_standing n = if is_zero n then zero_literal else int_value
@@ -318,10 +318,10 @@ abbrev mutual
   standing known w (null at) = null_literal
   standing known w (paren a at) = standing known w a
 
-  -- the last expression behind a comma
+  -- the last expression after a comma
   pub last_standing : Known → Standing → Exps → Standing
   last_standing known s no_exp = as_value s
-  last_standing known s (and_exp e es) = last_standing known (behind s (let_go (standing known no_target e))) es
+  last_standing known s (and_exp e es) = last_standing known (following s (let_go (standing known no_target e))) es
 
   -- as many arguments as are wanted, each of which fits
   pub fit_wanted : Known → List Wanted → Exps → Bool

@@ -19,7 +19,7 @@ impl<'a> Wants<'a> {
         Wants { listed, numbers: 0 }
     }
 
-    /// The first one, and those behind it.
+    /// The first one, and those after it.
     pub fn next(self) -> Option<(Wanted, Wants<'a>)>
         ensures { MatchOption result (shown_wants self.entry ≡ []) (λ next. shown_wants self.entry ≡ next.0 ∷ shown_wants next.1) }
     {

@@ -4,7 +4,7 @@ use Rattle.std.proofs.lemmas.List.{drop_more, drop_all}
 use Rattle.std.proofs.lemmas.Option.{slice_get_within, get_or_from_slice_get}
 use Rattle.c_types.specs.declared.types.ObjectType.{ObjectType}
 use Rattle.c_types.specs.Scopes.{Known, cells_of_some}
-use Rattle.c_values.specs.Here.{cells_of_first}
+use Rattle.c_values.specs.Context.{cells_of_first}
 
 drop_none : {A : Type 0} (xs : List A) (i : ℕ) → slice_get xs i ≡ None → drop i xs ≡ []
 drop_none [] i e = drop_all i [] (omega arith)
@@ -18,8 +18,8 @@ cells_of_nothing : (known : Known) (n : ℕ) → cells_of_first known n [] ≡ 0
 cells_of_nothing known zero = refl
 cells_of_nothing known (suc n) = refl
 
-pub cells_behind : (known : Known) (ts : List (Option ObjectType)) (n i : ℕ) → slice_get ts i ≡ None → cells_of_first known n (drop i ts) ≡ 0
-cells_behind known ts n i e = ap (cells_of_first known n) (drop_none ts i e) ∙ cells_of_nothing known n
+pub cells_after : (known : Known) (ts : List (Option ObjectType)) (n i : ℕ) → slice_get ts i ≡ None → cells_of_first known n (drop i ts) ≡ 0
+cells_after known ts n i e = ap (cells_of_first known n) (drop_none ts i e) ∙ cells_of_nothing known n
 
 pub cells_met : (known : Known) (ts : List (Option ObjectType)) (many i : ℕ) (t : Option ObjectType) → i < many → slice_get ts i ≡ Some t →
     cells_of_first known (many - i) (drop i ts) ≡ cells_of_some known t + cells_of_first known (many - (i + 1)) (drop (i + 1) ts)

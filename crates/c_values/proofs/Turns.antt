@@ -7,9 +7,9 @@ use Rattle.c_core.specs.Core as core
 use Rattle.c_core.specs.Core.{Program}
 use Rattle.c_core.specs.Runs.{M, ◌>>◌}
 use Rattle.c_core.specs.Meaning.{Calls, value}
-use Rattle.c_values.specs.Commas.{behind, with_last, joined}
-use Rattle.c_values.specs.Held.{position_of}
-use Rattle.c_values.specs.Here.{Here}
+use Rattle.c_values.specs.Commas.{following, with_last, joined}
+use Rattle.c_values.specs.Denoted.{position_of}
+use Rattle.c_values.specs.Context.{Context}
 use Rattle.c_values.specs.Expressions.{with_tail, tail_of, value_of}
 use Rattle.c_values.specs.Turns.{one_by_one, CommasGoInTurn}
 
@@ -17,12 +17,12 @@ module _ (p : Program) (s : SetupView) (t : ℕ) (calls : Calls) where
   abbrev run : core.Exp → M ℕ
   run = value p s t calls
 
-  -- a word behind what is done, where there is one
+  -- a word after what is done, where there is one
   abbrev with_word : M ℕ → Option core.Exp → M ℕ
   with_word m None = m
   with_word m (Some e) = m >> run e
 
-  -- the words so far, behind what is done
+  -- the words so far, after what is done
   abbrev with_words : M ℕ → List (Option core.Exp) → M ℕ
   with_words m [] = m
   with_words m (e ∷ places) = with_word (with_words m places) e
@@ -36,16 +36,16 @@ module _ (p : Program) (s : SetupView) (t : ℕ) (calls : Calls) where
   last_goes m e (None ∷ places) at = refl
   last_goes m e (Some before ∷ places) at = last_goes m (core.comma before e at) places at
 
-  behind_goes : (m : M ℕ) (before last : Option core.Exp) (at : Position) → with_word m (behind before last at) ≡ with_word (with_word m before) last
-  behind_goes m None last at = refl
-  behind_goes m (Some before) None at = refl
-  behind_goes m (Some before) (Some e) at = refl
+  after_goes : (m : M ℕ) (before last : Option core.Exp) (at : Position) → with_word m (following before last at) ≡ with_word (with_word m before) last
+  after_goes m None last at = refl
+  after_goes m (Some before) None at = refl
+  after_goes m (Some before) (Some e) at = refl
 
   joined_goes : (m : M ℕ) (places : List (Option core.Exp)) (last : Option core.Exp) (at : Position) → with_word m (joined places last at) ≡ with_word (with_words m places) last
   joined_goes m [] last at = refl
-  joined_goes m (before ∷ places) last at = joined_goes m places (behind before last at) at ∙ behind_goes (with_words m places) before last at
+  joined_goes m (before ∷ places) last at = joined_goes m places (following before last at) at ∙ after_goes (with_words m places) before last at
 
-  each_goes : (h : Here) (m : M ℕ) (es : Exps) (places : List (Option core.Exp)) (at : Position) → with_word m (tail_of h es places at) ≡ one_by_one p s t calls h (with_words m places) es
+  each_goes : (h : Context) (m : M ℕ) (es : Exps) (places : List (Option core.Exp)) (at : Position) → with_word m (tail_of h es places at) ≡ one_by_one p s t calls h (with_words m places) es
   each_goes h m no_exp places at = joined_goes m places None at
   each_goes h m (and_exp e es) places at =
       each_goes h m es (with_last (value_of h e) places at) at ∙ ap (λ (n : M ℕ). one_by_one p s t calls h n es) (last_goes m (value_of h e) places at)

@@ -5,13 +5,13 @@ use Rattle.std.specs.Prelude.{List, [], ◌∷◌, Option, Some, None}
 use Rattle.rr_base.specs.declared.position.Position.{Position}
 use Rattle.c_core.specs.Core as core
 
--- one word behind another, whose value is let go
-abbrev pub behind : Option core.Exp → Option core.Exp → Position → Option core.Exp
-behind None e at = e
-behind (Some before) None at = Some before
-behind (Some before) (Some e) at = Some (core.comma before e at)
+-- one word after another, whose value is let go
+abbrev pub following : Option core.Exp → Option core.Exp → Position → Option core.Exp
+following None e at = e
+following (Some before) None at = Some before
+following (Some before) (Some e) at = Some (core.comma before e at)
 
--- a word more behind those so far
+-- a word more after those so far
 abbrev pub with_last : core.Exp → List (Option core.Exp) → Position → List (Option core.Exp)
 with_last e [] at = Some e ∷ []
 with_last e (None ∷ places) at = Some e ∷ places
@@ -20,4 +20,4 @@ with_last e (Some before ∷ places) at = None ∷ with_last (core.comma before 
 -- all words so far as one, before what comes last
 abbrev pub joined : List (Option core.Exp) → Option core.Exp → Position → Option core.Exp
 joined [] last at = last
-joined (before ∷ places) last at = joined places (behind before last at) at
+joined (before ∷ places) last at = joined places (following before last at) at

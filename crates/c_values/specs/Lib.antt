@@ -1,6 +1,6 @@
 pub mod Constants
-pub mod Held
-pub mod Here
+pub mod Denoted
+pub mod Context
 pub mod Operators
 pub mod Calls
 pub mod Commas

@@ -15,8 +15,8 @@ use Rattle.c_core.specs.declared.value.UnaryOp.TheVariants as unary
 use Rattle.c_core.specs.declared.value.Change.{Change}
 use Rattle.c_core.specs.declared.value.Change.TheVariants as change
 use Rattle.c_core.specs.Core as core
-use Rattle.c_values.specs.Held.{Held, held_register, held_cells, held_zero, held_value, Part, operand_in, is_pointing, value_in, wanted_in}
-use Rattle.c_values.specs.Here.{Source, element_of}
+use Rattle.c_values.specs.Denoted.{Denoted, denoted_register, denoted_cells, denoted_zero, denoted_value, Part, operand_in, is_pointing, value_in, wanted_in}
+use Rattle.c_values.specs.Context.{Source, element_of}
 
 -- an operator on two words; `&&` and `||` are none of these
 abbrev pub flow_operator : BinaryOp → FlowOp
@@ -90,8 +90,8 @@ conditional_in a b c at =
     core.conditional (value_in a) (wanted_in (not (are_whole (operand_in b) (operand_in c))) b) (wanted_in (not (are_whole (operand_in b) (operand_in c))) c) at
 
 -- an element of an array: the place is the moved pointer
-abbrev pub index_in : Source → Part → Part → Position → Held
-index_in s a b at = held_cells (sum_in s a b at) at
+abbrev pub index_in : Source → Part → Part → Position → Denoted
+index_in s a b at = denoted_cells (sum_in s a b at) at
 
 -- ---- changes
 
@@ -104,48 +104,48 @@ change_of s a o = if is_pointing a then change.Move (element_of s a) (goes_back 
     goes_back _ = false
 
 -- the object changes by the operand; the expression gives what it held before or holds then
-abbrev pub changed_by : Change → Held → core.Exp → Bool → Position → core.Exp
-changed_by c (held_register n loaded) by old at = core.change_register n c by old at
-changed_by c (held_cells e loaded) by old at = core.change_cell e loaded c by old at
-changed_by c (held_zero loaded) by old at = by
-changed_by c (held_value e) by old at = by
+abbrev pub changed_by : Change → Denoted → core.Exp → Bool → Position → core.Exp
+changed_by c (denoted_register n loaded) by old at = core.change_register n c by old at
+changed_by c (denoted_cells e loaded) by old at = core.change_cell e loaded c by old at
+changed_by c (denoted_zero loaded) by old at = by
+changed_by c (denoted_value e) by old at = by
 
 abbrev pub changed_in : Source → FlowOp → Part → core.Exp → Bool → Position → core.Exp
-changed_in s o a by old at = changed_by (change_of s (operand_in a) o) a.held by old at
+changed_in s o a by old at = changed_by (change_of s (operand_in a) o) a.denoted by old at
 
 -- `++` and `--`
 abbrev pub stepped_in : Source → FlowOp → Part → Bool → Position → core.Exp
 stepped_in s o a old at = changed_in s o a (core.number (pos 1) at) old at
 
 -- the object gets the word
-abbrev pub stored_in : Held → core.Exp → Position → core.Exp
-stored_in (held_register n loaded) e at = core.set_register n e at
-stored_in (held_cells to loaded) e at = core.store to e at
-stored_in (held_zero loaded) e at = e
-stored_in (held_value v) e at = e
+abbrev pub stored_in : Denoted → core.Exp → Position → core.Exp
+stored_in (denoted_register n loaded) e at = core.set_register n e at
+stored_in (denoted_cells to loaded) e at = core.store to e at
+stored_in (denoted_zero loaded) e at = e
+stored_in (denoted_value v) e at = e
 
 abbrev pub assigned_in : Source → AssignOp → Part → Part → Position → core.Exp
-assigned_in s assign_op.Assign a b at = stored_in a.held (wanted_in (is_pointing (operand_in a)) b) at
+assigned_in s assign_op.Assign a b at = stored_in a.denoted (wanted_in (is_pointing (operand_in a)) b) at
 assigned_in s o a b at = changed_in s (changing_operator o) a (value_in b) false at
 
 -- ---- operators with one operand
 
 -- the pointer to an object in cells
-abbrev pub address_in : Held → Held
-address_in (held_cells e loaded) = held_value e
-address_in (held_register n at) = held_zero at
-address_in (held_zero at) = held_zero at
-address_in (held_value e) = held_value e
+abbrev pub address_in : Denoted → Denoted
+address_in (denoted_cells e loaded) = denoted_value e
+address_in (denoted_register n at) = denoted_zero at
+address_in (denoted_zero at) = denoted_zero at
+address_in (denoted_value e) = denoted_value e
 
-abbrev pub prefix_in : Source → PrefixOp → Part → Position → Held
-prefix_in s prefix_op.Address a at = address_in a.held
-prefix_in s prefix_op.Indirect a at = held_cells (value_in a) at
-prefix_in s prefix_op.Plus a at = held_value (core.copy (value_in a) at)
-prefix_in s prefix_op.Minus a at = held_value (core.unary unary.Minus (value_in a) at)
-prefix_in s prefix_op.Not a at = held_value (core.unary unary.Not (value_in a) at)
-prefix_in s prefix_op.Complement a at = held_value (core.unary unary.Complement (value_in a) at)
-prefix_in s prefix_op.Increment a at = held_value (stepped_in s flow.Add a false at)
-prefix_in s prefix_op.Decrement a at = held_value (stepped_in s flow.Subtract a false at)
+abbrev pub prefix_in : Source → PrefixOp → Part → Position → Denoted
+prefix_in s prefix_op.Address a at = address_in a.denoted
+prefix_in s prefix_op.Indirect a at = denoted_cells (value_in a) at
+prefix_in s prefix_op.Plus a at = denoted_value (core.copy (value_in a) at)
+prefix_in s prefix_op.Minus a at = denoted_value (core.unary unary.Minus (value_in a) at)
+prefix_in s prefix_op.Not a at = denoted_value (core.unary unary.Not (value_in a) at)
+prefix_in s prefix_op.Complement a at = denoted_value (core.unary unary.Complement (value_in a) at)
+prefix_in s prefix_op.Increment a at = denoted_value (stepped_in s flow.Add a false at)
+prefix_in s prefix_op.Decrement a at = denoted_value (stepped_in s flow.Subtract a false at)
 
 abbrev pub is_some_address : Operand → Bool
 is_some_address (pointing t) = true
@@ -162,11 +162,11 @@ cast_in to_pointer a at =
 -- ---- members
 
 -- the struct stands in cells, or a pointer to it is given
-abbrev pub member_in : Held → ℕ → Position → Held
-member_in (held_cells e loaded) by at = held_cells (core.member e by at) at
-member_in (held_register n loaded) by at = held_zero at
-member_in (held_zero loaded) by at = held_zero at
-member_in (held_value e) by at = held_value e
+abbrev pub member_in : Denoted → ℕ → Position → Denoted
+member_in (denoted_cells e loaded) by at = denoted_cells (core.member e by at) at
+member_in (denoted_register n loaded) by at = denoted_zero at
+member_in (denoted_zero loaded) by at = denoted_zero at
+member_in (denoted_value e) by at = denoted_value e
 
-abbrev pub arrow_in : Part → ℕ → Position → Held
-arrow_in a by at = held_cells (core.member (value_in a) by at) at
+abbrev pub arrow_in : Part → ℕ → Position → Denoted
+arrow_in a by at = denoted_cells (core.member (value_in a) by at) at

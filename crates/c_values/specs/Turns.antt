@@ -7,16 +7,16 @@ use Rattle.c_tree.specs.Tree.{Exp, comma, Exps, no_exp, and_exp}
 use Rattle.c_core.specs.Core.{Program}
 use Rattle.c_core.specs.Runs.{M, ◌>>◌}
 use Rattle.c_core.specs.Meaning.{Calls, value}
-use Rattle.c_values.specs.Here.{Here}
+use Rattle.c_values.specs.Context.{Context}
 use Rattle.c_values.specs.Expressions.{value_of}
 
-module _ (p : Program) (s : SetupView) (t : ℕ) (calls : Calls) (h : Here) where
-  -- what is done first, and behind it one expression after another
+module _ (p : Program) (s : SetupView) (t : ℕ) (calls : Calls) (h : Context) where
+  -- what is done first, and after it one expression after another
   abbrev pub one_by_one : M ℕ → Exps → M ℕ
   one_by_one before no_exp = before
   one_by_one before (and_exp e es) = one_by_one (before >> value p s t calls (value_of h e)) es
 
 abbrev pub CommasGoInTurn : Type 0
 CommasGoInTurn =
-    (p : Program) (s : SetupView) (t : ℕ) (calls : Calls) (h : Here) (e : Exp) (es : Exps) (at : Position) →
+    (p : Program) (s : SetupView) (t : ℕ) (calls : Calls) (h : Context) (e : Exp) (es : Exps) (at : Position) →
     value p s t calls (value_of h (comma e es at)) ≡ one_by_one p s t calls h (value p s t calls (value_of h e)) es

@@ -10,27 +10,27 @@ use Rattle.c_sites.specs.NumberTables.{numbered_of}
 use Rattle.c_core.specs.declared.value.Value.{Value}
 use Rattle.c_core.specs.Core.{Exp}
 use Rattle.c_core.specs.View.{exp_of}
-use Rattle.c_values.specs.declared.held.Held.{Held as RustHeld}
-use Rattle.c_values.specs.declared.held.Held.TheVariants as rust
-use Rattle.c_values.specs.declared.held.Part.{Part as RustPart}
-use Rattle.c_values.specs.declared.here.Source.{Source as RustSource}
-use Rattle.c_values.specs.declared.here.Frame.{Frame as RustFrame}
-use Rattle.c_values.specs.declared.here.Here.{Here as RustHere}
-use Rattle.c_values.specs.Held.{Held, held_register, held_cells, held_zero, held_value, Part, part_by}
-use Rattle.c_values.specs.Here.{Source, Frame, Here}
+use Rattle.c_values.specs.declared.denoted.Denoted.{Denoted as RustDenoted}
+use Rattle.c_values.specs.declared.denoted.Denoted.TheVariants as rust
+use Rattle.c_values.specs.declared.denoted.Part.{Part as RustPart}
+use Rattle.c_values.specs.declared.context.Source.{Source as RustSource}
+use Rattle.c_values.specs.declared.context.Frame.{Frame as RustFrame}
+use Rattle.c_values.specs.declared.context.Context.{Context as RustHere}
+use Rattle.c_values.specs.Denoted.{Denoted, denoted_register, denoted_cells, denoted_zero, denoted_value, Part, part_by}
+use Rattle.c_values.specs.Context.{Source, Frame, Context}
 
 abbrev pub maybe_word : Option (Box Value) → Option Exp
 maybe_word None = None
 maybe_word (Some e) = Some (exp_of e.value)
 
-abbrev pub held_of : RustHeld → Held
-held_of (rust.Register n at) = held_register n at
-held_of (rust.Cells e at) = held_cells (exp_of e.value) at
-held_of (rust.Zero at) = held_zero at
-held_of (rust.Value e) = held_value (exp_of e.value)
+abbrev pub denoted_of : RustDenoted → Denoted
+denoted_of (rust.Register n at) = denoted_register n at
+denoted_of (rust.Cells e at) = denoted_cells (exp_of e.value) at
+denoted_of (rust.Zero at) = denoted_zero at
+denoted_of (rust.Value e) = denoted_value (exp_of e.value)
 
 abbrev pub part_of : RustPart → Part
-part_of p = part_by (shown_standing p.standing) (held_of p.held)
+part_of p = part_by (shown_standing p.standing) (denoted_of p.denoted)
 
 -- words so far, of which the last place stands last
 abbrev pub places_of : List (Option (Box Value)) → List (Option Exp)
@@ -45,5 +45,5 @@ source_in s = record { whole = known_of s.whole; kinds = s.kinds; sites = s.site
 abbrev pub frame_in : RustFrame → Frame
 frame_in f = record { first = f.first; homes = f.homes; gives_pointer = f.gives_pointer }
 
-abbrev pub here_of : RustHere → Here
-here_of h = record { source = source_in h.source.now; frame = frame_in h.frame.now; known = known_of h.table.now; numbers = numbered_of h.numbers.now }
+abbrev pub context_of : RustHere → Context
+context_of h = record { source = source_in h.source.now; frame = frame_in h.frame.now; known = known_of h.table.now; numbers = numbered_of h.numbers.now }

@@ -10,8 +10,8 @@ ghost use Rattle.c_core.specs.View.{exp_of};
 ghost use Rattle.c_values.specs.Calls as spec;
 ghost use Rattle.c_values.specs.Views.{part_of};
 
-use crate::held::Part;
-use crate::here::function_counted;
+use crate::context::function_counted;
+use crate::denoted::Part;
 use crate::make;
 use abstract_machine::{LibraryCall, Piece};
 use c_core::Value;
@@ -62,7 +62,7 @@ fn push_met(pieces: &mut List<Piece>, inside: Inside, byte: u8) -> Result<Inside
     }
 }
 
-/// A byte behind a percent sign.
+/// A byte after a percent sign.
 fn push_conversion(pieces: &mut List<Piece>, byte: u8) -> Result<Inside, AllocError>
     ensures { IfOk result (λ i. (rest : List ℕ) → pieces.new ++ spec.pieces_from i rest ≡ pieces.old ++ spec.pieces_from met.Percent (byte ∷ rest)) }
 {

@@ -9,14 +9,14 @@ use c_core::Value;
 use rr_base::{List, Position};
 use std::alloc::{AllocError, Global};
 
-/// One word behind another, whose value is let go.
-fn behind(
+/// One word after another, whose value is let go.
+fn following(
     alloc: Global,
     before: Option<Box<Value>>,
     value: Option<Box<Value>>,
     at: Position,
 ) -> Result<Option<Box<Value>>, AllocError>
-    ensures { IfOk result (λ v. maybe_word v ≡ spec.behind (maybe_word before) (maybe_word value) at) }
+    ensures { IfOk result (λ v. maybe_word v ≡ spec.following (maybe_word before) (maybe_word value) at) }
 {
     match (before, value) {
         (None, value) => Ok(value),
@@ -28,7 +28,7 @@ fn behind(
     }
 }
 
-/// A word more behind those so far, of which the last place stands last.
+/// A word more after those so far, of which the last place stands last.
 pub fn push_last(
     alloc: Global,
     so_far: &mut List<Option<Box<Value>>>,
@@ -58,7 +58,7 @@ pub fn joined(
     let mut so_far = so_far;
     let mut last = None;
     while let Some(before) = so_far.pop() {
-        last = behind(alloc, before, last, at)?;
+        last = following(alloc, before, last, at)?;
     }
     Ok(last)
 }

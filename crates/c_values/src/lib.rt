@@ -5,9 +5,9 @@
 mod calls;
 mod commas;
 mod constant;
+mod context;
+mod denoted;
 mod expression;
-mod held;
-mod here;
 mod home;
 mod laws;
 mod leaves;
@@ -16,8 +16,8 @@ mod operators;
 mod parts;
 
 pub use calls::gives_pointer;
+pub use context::{Context, Frame, Source, site_at};
 pub use expression::{value, wanted};
-pub use here::{Frame, Here, Source, site_at};
 pub use home::Home;
 pub use laws::law_commas;
 pub use parts::is_pointer_type;

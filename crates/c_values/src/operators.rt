@@ -3,12 +3,12 @@ ghost use Rattle.std.specs.Prelude.{◌≡◌, false, IfOk};
 ghost use Rattle.c_types.specs.Shown.{shown_operand};
 ghost use Rattle.c_core.specs.View.{exp_of};
 ghost use Rattle.c_core.specs.Core as core;
-ghost use Rattle.c_values.specs.Held.{held_value, value_in, wanted_in};
+ghost use Rattle.c_values.specs.Denoted.{denoted_value, value_in, wanted_in};
 ghost use Rattle.c_values.specs.Operators as spec;
-ghost use Rattle.c_values.specs.Views.{held_of, part_of, source_in};
+ghost use Rattle.c_values.specs.Views.{denoted_of, part_of, source_in};
 
-use crate::held::{Held, Part, is_pointing};
-use crate::here::Source;
+use crate::context::Source;
+use crate::denoted::{Denoted, Part, is_pointing};
 use crate::make;
 use abstract_machine::BinaryOp as FlowOp;
 use c_core::{Change, UnaryOp, Value};
@@ -193,11 +193,11 @@ pub fn index(
     base: Part,
     index: Part,
     at: Position,
-) -> Result<Held, AllocError>
-    ensures { IfOk result (λ h. held_of h ≡ spec.index_in (source_in source.now) (part_of base.entry) (part_of index.entry) at) }
+) -> Result<Denoted, AllocError>
+    ensures { IfOk result (λ h. denoted_of h ≡ spec.index_in (source_in source.now) (part_of base.entry) (part_of index.entry) at) }
 {
     let through = sum(alloc, source, base, index, at)?;
-    Ok(Held::Cells { through, at })
+    Ok(Denoted::Cells { through, at })
 }
 
 /// A pointer changes by elements, a number by the operator.
@@ -218,22 +218,22 @@ fn change_of(source: &Source, operand: Operand, op: FlowOp) -> Change
 fn changed_by(
     alloc: Global,
     change: Change,
-    place: Held,
+    place: Denoted,
     by: Box<Value>,
     gives_old: bool,
     at: Position,
 ) -> Result<Box<Value>, AllocError>
-    ensures { IfOk result (λ v. exp_of v.value ≡ spec.changed_by change (held_of place) (exp_of by.value) gives_old at) }
+    ensures { IfOk result (λ v. exp_of v.value ≡ spec.changed_by change (denoted_of place) (exp_of by.value) gives_old at) }
 {
     match place {
-        Held::Register { number, .. } => {
+        Denoted::Register { number, .. } => {
             make::change_register(alloc, number, change, by, gives_old, at)
         }
-        Held::Cells {
+        Denoted::Cells {
             through,
             at: loaded_at,
         } => make::change_cell(alloc, through, loaded_at, change, by, gives_old, at),
-        Held::Zero { .. } | Held::Value(_) => Ok(by),
+        Denoted::Zero { .. } | Denoted::Value(_) => Ok(by),
     }
 }
 
@@ -249,8 +249,8 @@ fn changed(
     ensures { IfOk result (λ v. exp_of v.value ≡ spec.changed_in (source_in source.now) op (part_of place.entry) (exp_of by.value) gives_old at) }
 {
     let change = change_of(source, place.operand(), op);
-    let Part { held, .. } = place;
-    changed_by(alloc, change, held, by, gives_old, at)
+    let Part { denoted, .. } = place;
+    changed_by(alloc, change, denoted, by, gives_old, at)
 }
 
 /// `++` and `--`, by the operator `+` or `-`.
@@ -271,16 +271,16 @@ pub fn stepped(
 /// An object gets a word.
 fn stored(
     alloc: Global,
-    place: Held,
+    place: Denoted,
     value: Box<Value>,
     at: Position,
 ) -> Result<Box<Value>, AllocError>
-    ensures { IfOk result (λ v. exp_of v.value ≡ spec.stored_in (held_of place) (exp_of value.value) at) }
+    ensures { IfOk result (λ v. exp_of v.value ≡ spec.stored_in (denoted_of place) (exp_of value.value) at) }
 {
     match place {
-        Held::Register { number, .. } => make::set_register(alloc, number, value, at),
-        Held::Cells { through, .. } => make::store(alloc, through, value, at),
-        Held::Zero { .. } | Held::Value(_) => Ok(value),
+        Denoted::Register { number, .. } => make::set_register(alloc, number, value, at),
+        Denoted::Cells { through, .. } => make::store(alloc, through, value, at),
+        Denoted::Zero { .. } | Denoted::Value(_) => Ok(value),
     }
 }
 
@@ -298,8 +298,8 @@ pub fn assigned(
     match op {
         AssignOp::Assign => {
             let value = right.into_wanted(alloc, is_pointing(left.operand()))?;
-            let Part { held, .. } = left;
-            stored(alloc, held, value, at)
+            let Part { denoted, .. } = left;
+            stored(alloc, denoted, value, at)
         }
         _ => {
             let by = right.into_value(alloc)?;
@@ -309,22 +309,22 @@ pub fn assigned(
 }
 
 /// The pointer to an object in cells.
-fn address(of: Held) -> Held
-    ensures { held_of result ≡ spec.address_in (held_of of) }
+fn address(of: Denoted) -> Denoted
+    ensures { denoted_of result ≡ spec.address_in (denoted_of of) }
 {
     match of {
-        Held::Cells { through, .. } => Held::Value(through),
-        Held::Register { at, .. } | Held::Zero { at } => Held::Zero { at },
-        Held::Value(value) => Held::Value(value),
+        Denoted::Cells { through, .. } => Denoted::Value(through),
+        Denoted::Register { at, .. } | Denoted::Zero { at } => Denoted::Zero { at },
+        Denoted::Value(value) => Denoted::Value(value),
     }
 }
 
-fn unary(alloc: Global, op: UnaryOp, operand: Part, at: Position) -> Result<Held, AllocError>
-    ensures { IfOk result (λ h. held_of h ≡ held_value (core.unary op (value_in (part_of operand.entry)) at)) }
+fn unary(alloc: Global, op: UnaryOp, operand: Part, at: Position) -> Result<Denoted, AllocError>
+    ensures { IfOk result (λ h. denoted_of h ≡ denoted_value (core.unary op (value_in (part_of operand.entry)) at)) }
 {
     let operand = operand.into_value(alloc)?;
     let value = make::unary(alloc, op, operand, at)?;
-    Ok(Held::Value(value))
+    Ok(Denoted::Value(value))
 }
 
 /// `++` and `--` before their operand.
@@ -334,11 +334,11 @@ fn stepped_before(
     op: FlowOp,
     place: Part,
     at: Position,
-) -> Result<Held, AllocError>
-    ensures { IfOk result (λ h. held_of h ≡ held_value (spec.stepped_in (source_in source.now) op (part_of place.entry) false at)) }
+) -> Result<Denoted, AllocError>
+    ensures { IfOk result (λ h. denoted_of h ≡ denoted_value (spec.stepped_in (source_in source.now) op (part_of place.entry) false at)) }
 {
     let value = stepped(alloc, source, op, place, false, at)?;
-    Ok(Held::Value(value))
+    Ok(Denoted::Value(value))
 }
 
 /// An operator before its operand.
@@ -348,22 +348,22 @@ pub fn prefix(
     op: PrefixOp,
     operand: Part,
     at: Position,
-) -> Result<Held, AllocError>
-    ensures { IfOk result (λ h. held_of h ≡ spec.prefix_in (source_in source.now) op (part_of operand.entry) at) }
+) -> Result<Denoted, AllocError>
+    ensures { IfOk result (λ h. denoted_of h ≡ spec.prefix_in (source_in source.now) op (part_of operand.entry) at) }
 {
     match op {
         PrefixOp::Address => {
-            let Part { held, .. } = operand;
-            Ok(address(held))
+            let Part { denoted, .. } = operand;
+            Ok(address(denoted))
         }
         PrefixOp::Indirect => {
             let through = operand.into_value(alloc)?;
-            Ok(Held::Cells { through, at })
+            Ok(Denoted::Cells { through, at })
         }
         PrefixOp::Plus => {
             let operand = operand.into_value(alloc)?;
             let value = make::copy(alloc, operand, at)?;
-            Ok(Held::Value(value))
+            Ok(Denoted::Value(value))
         }
         PrefixOp::Minus => unary(alloc, UnaryOp::Minus, operand, at),
         PrefixOp::Not => unary(alloc, UnaryOp::Not, operand, at),
@@ -401,24 +401,24 @@ pub fn cast(
 }
 
 /// A member of a struct that stands in cells.
-pub fn member(alloc: Global, of: Held, by: u32, at: Position) -> Result<Held, AllocError>
-    ensures { IfOk result (λ h. held_of h ≡ spec.member_in (held_of of) by at) }
+pub fn member(alloc: Global, of: Denoted, by: u32, at: Position) -> Result<Denoted, AllocError>
+    ensures { IfOk result (λ h. denoted_of h ≡ spec.member_in (denoted_of of) by at) }
 {
     match of {
-        Held::Cells { through, .. } => {
+        Denoted::Cells { through, .. } => {
             let through = make::member(alloc, through, by, at)?;
-            Ok(Held::Cells { through, at })
+            Ok(Denoted::Cells { through, at })
         }
-        Held::Register { .. } | Held::Zero { .. } => Ok(Held::Zero { at }),
-        Held::Value(value) => Ok(Held::Value(value)),
+        Denoted::Register { .. } | Denoted::Zero { .. } => Ok(Denoted::Zero { at }),
+        Denoted::Value(value) => Ok(Denoted::Value(value)),
     }
 }
 
 /// A member of a struct to which a pointer is given.
-pub fn arrow(alloc: Global, of: Part, by: u32, at: Position) -> Result<Held, AllocError>
-    ensures { IfOk result (λ h. held_of h ≡ spec.arrow_in (part_of of.entry) by at) }
+pub fn arrow(alloc: Global, of: Part, by: u32, at: Position) -> Result<Denoted, AllocError>
+    ensures { IfOk result (λ h. denoted_of h ≡ spec.arrow_in (part_of of.entry) by at) }
 {
     let pointer = of.into_value(alloc)?;
     let through = make::member(alloc, pointer, by, at)?;
-    Ok(Held::Cells { through, at })
+    Ok(Denoted::Cells { through, at })
 }

@@ -10,27 +10,27 @@ ghost use Rattle.c_types.specs.Scopes as scopes;
 ghost use Rattle.c_types.specs.Standing as standings;
 ghost use Rattle.c_types.specs.Operands.{as_value, binary_standing};
 ghost use Rattle.c_core.specs.View.{exp_of};
-ghost use Rattle.c_values.specs.Held.{held_value, operand_in, part_by, position_of, value_in};
+ghost use Rattle.c_values.specs.Denoted.{denoted_value, operand_in, part_by, position_of, value_in};
 ghost use Rattle.c_values.specs.Calls as calls;
 ghost use Rattle.c_values.specs.Constants.{no_constant, choice_constant, operation_constant, prefix_constant, cast_constant};
-ghost use Rattle.c_values.specs.Here as heres;
-ghost use Rattle.c_values.specs.Here.{offset_in};
+ghost use Rattle.c_values.specs.Context as heres;
+ghost use Rattle.c_values.specs.Context.{offset_in};
 ghost use Rattle.c_values.specs.Operators.{arrow_in, assigned_in, binary_in, cast_in, conditional_in, index_in, member_in, prefix_in, stepped_in};
 ghost use Rattle.c_values.specs.Expressions as spec;
 ghost use Rattle.c_values.specs.Tails as tails;
-ghost use Rattle.c_values.specs.Views.{held_of, here_of, maybe_word, part_of};
+ghost use Rattle.c_values.specs.Views.{denoted_of, context_of, maybe_word, part_of};
 
 use crate::calls::called;
 use crate::constant::Constant;
-use crate::held::{Held, Part, is_pointing};
-use crate::here::{Here, site_at};
+use crate::context::{Context, site_at};
+use crate::denoted::{Denoted, Part, is_pointing};
 use crate::make;
 use crate::operators::{
     arrow, assigned, binary, cast, conditional, index, member, prefix, stepped,
 };
 use abstract_machine::BinaryOp as FlowOp;
 use c_core::Value;
-use c_rules::{behind, let_go};
+use c_rules::{following, let_go};
 use c_tree::{AssignOp, BinaryOp, CType, Expr, Name, PrefixOp};
 use c_types::{
     Names, Operand, Standing, TypeRef, assign_standing, binary_standing, cast_standing,
@@ -41,18 +41,23 @@ use rr_base::{List, Position};
 use std::alloc::{AllocError, Global};
 
 /// What is constant is its value.
-fn folded(alloc: Global, constant: Constant, at: Position, held: Held) -> Result<Held, AllocError>
-    ensures { IfOk result (λ h. held_of h ≡ spec.constant_by constant.is_formed constant.value at (held_of held)) }
+fn folded(
+    alloc: Global,
+    constant: Constant,
+    at: Position,
+    denoted: Denoted,
+) -> Result<Denoted, AllocError>
+    ensures { IfOk result (λ h. denoted_of h ≡ spec.constant_by constant.is_formed constant.value at (denoted_of denoted)) }
 {
     if !constant.is_formed {
-        return Ok(held);
+        return Ok(denoted);
     }
     match constant.value {
         Ok(number) => {
             let value = make::number(alloc, number, at)?;
-            Ok(Held::Value(value))
+            Ok(Denoted::Value(value))
         }
-        Err(_) => Ok(held),
+        Err(_) => Ok(denoted),
     }
 }
 
@@ -62,27 +67,27 @@ pub fn computed<'h>(
     standing: Standing<'h>,
     constant: Constant,
     at: Position,
-    held: Held,
+    denoted: Denoted,
 ) -> Result<Part<'h>, AllocError>
-    ensures part { IfOk result (λ p. part_of p ≡ part_by (shown_standing standing.entry) (spec.constant_by constant.is_formed constant.value at (held_of held))) }
+    ensures part { IfOk result (λ p. part_of p ≡ part_by (shown_standing standing.entry) (spec.constant_by constant.is_formed constant.value at (denoted_of denoted))) }
     ensures constant { IfOk result (λ p. p.constant ≡ constant) }
 {
-    let held = folded(alloc, constant, at, held)?;
+    let denoted = folded(alloc, constant, at, denoted)?;
     Ok(Part {
         standing,
-        held,
+        denoted,
         constant,
     })
 }
 
 /// An expression that is no constant.
-pub fn changing<'h>(standing: Standing<'h>, held: Held) -> Part<'h>
-    ensures part { part_of result ≡ part_by (shown_standing standing.entry) (held_of held) }
+pub fn changing<'h>(standing: Standing<'h>, denoted: Denoted) -> Part<'h>
+    ensures part { part_of result ≡ part_by (shown_standing standing.entry) (denoted_of denoted) }
     ensures constant { result.constant ≡ no_constant }
 {
     Part {
         standing,
-        held,
+        denoted,
         constant: Constant::none(),
     }
 }
@@ -103,21 +108,21 @@ pub fn one_more<'h>(before: Option<Standing<'h>>, next: Standing<'h>) -> Standin
 {
     match before {
         None => next,
-        Some(before) => behind(before, next),
+        Some(before) => following(before, next),
     }
 }
 
-/// What the last of those behind an expression is, if any.
-fn behind_first<'h>(first: Standing<'h>, last: Option<Standing<'h>>) -> Standing<'h>
-    ensures { shown_standing result ≡ tails.behind_first (shown_standing first.entry) (option_map shown_standing last.entry) }
+/// What the last of those after an expression is, if any.
+fn past_first<'h>(first: Standing<'h>, last: Option<Standing<'h>>) -> Standing<'h>
+    ensures { shown_standing result ≡ tails.past_first (shown_standing first.entry) (option_map shown_standing last.entry) }
 {
     match last {
         None => first,
-        Some(last) => behind(first, last),
+        Some(last) => following(first, last),
     }
 }
 
-/// An expression with others behind it, the last of which is `last`.
+/// An expression with others after it, the last of which is `last`.
 pub fn sequence<'h>(
     alloc: Global,
     first: Part<'h>,
@@ -125,33 +130,33 @@ pub fn sequence<'h>(
     last: Option<Standing<'h>>,
     at: Position,
 ) -> Result<Part<'h>, AllocError>
-    ensures part { IfOk result (λ p. part_of p ≡ part_by (as_value (tails.behind_first (standings.let_go (part_of first.entry).standing) (option_map shown_standing last.entry))) (held_value (spec.with_tail (value_in (part_of first.entry)) (maybe_word tail) at))) }
+    ensures part { IfOk result (λ p. part_of p ≡ part_by (as_value (tails.past_first (standings.let_go (part_of first.entry).standing) (option_map shown_standing last.entry))) (denoted_value (spec.with_tail (value_in (part_of first.entry)) (maybe_word tail) at))) }
     ensures constant { IfOk result (λ p. p.constant ≡ no_constant) }
 {
-    let last = behind_first(let_go(first.standing), last);
+    let last = past_first(let_go(first.standing), last);
     let first = first.into_value(alloc)?;
     let value = match tail {
         None => first,
         Some(tail) => make::comma(alloc, first, tail, at)?,
     };
-    Ok(changing(last.as_value(), Held::Value(value)))
+    Ok(changing(last.as_value(), Denoted::Value(value)))
 }
 
 /// An assignment of which the sides are made.
 pub fn assignment<'h>(
     alloc: Global,
-    here: Here,
+    context: Context,
     op: AssignOp,
     left: Part<'h>,
     right: Part<'h>,
     at: Position,
 ) -> Result<Part<'h>, AllocError>
-    ensures part { IfOk result (λ p. part_of p ≡ part_by (standings.assign_standing op (part_of left.entry).standing (operand_in (part_of right.entry))) (held_value (assigned_in (here_of here.entry).source op (part_of left.entry) (part_of right.entry) at))) }
+    ensures part { IfOk result (λ p. part_of p ≡ part_by (standings.assign_standing op (part_of left.entry).standing (operand_in (part_of right.entry))) (denoted_value (assigned_in (context_of context.entry).source op (part_of left.entry) (part_of right.entry) at))) }
     ensures constant { IfOk result (λ p. p.constant ≡ no_constant) }
 {
     let standing = assign_standing(op, left.standing, right.operand());
-    let value = assigned(alloc, here.source, op, left, right, at)?;
-    Ok(changing(standing, Held::Value(value)))
+    let value = assigned(alloc, context.source, op, left, right, at)?;
+    Ok(changing(standing, Denoted::Value(value)))
 }
 
 /// `?:`, whose operands are made.
@@ -162,162 +167,162 @@ pub fn choice<'h>(
     no: Part<'h>,
     at: Position,
 ) -> Result<Part<'h>, AllocError>
-    ensures part { let k = choice_constant test.entry.constant yes.entry.constant no.entry.constant in IfOk result (λ p. part_of p ≡ part_by (standings.conditional_standing (operand_in (part_of test.entry)) (operand_in (part_of yes.entry)) (operand_in (part_of no.entry))) (spec.constant_by k.is_formed k.value at (held_value (conditional_in (part_of test.entry) (part_of yes.entry) (part_of no.entry) at)))) }
+    ensures part { let k = choice_constant test.entry.constant yes.entry.constant no.entry.constant in IfOk result (λ p. part_of p ≡ part_by (standings.conditional_standing (operand_in (part_of test.entry)) (operand_in (part_of yes.entry)) (operand_in (part_of no.entry))) (spec.constant_by k.is_formed k.value at (denoted_value (conditional_in (part_of test.entry) (part_of yes.entry) (part_of no.entry) at)))) }
     ensures constant { IfOk result (λ p. p.constant ≡ choice_constant test.entry.constant yes.entry.constant no.entry.constant) }
 {
     let standing = conditional_standing(test.operand(), yes.operand(), no.operand());
     let constant = Constant::of_choice(test.constant, yes.constant, no.constant);
     let value = conditional(alloc, test, yes, no, at)?;
-    computed(alloc, standing, constant, at, Held::Value(value))
+    computed(alloc, standing, constant, at, Denoted::Value(value))
 }
 
 /// An operator with two operands, which are made.
 pub fn operation<'h>(
     alloc: Global,
-    here: Here,
+    context: Context,
     op: BinaryOp,
     left: Part<'h>,
     right: Part<'h>,
     at: Position,
 ) -> Result<Part<'h>, AllocError>
-    ensures part { let k = operation_constant op left.entry.constant right.entry.constant in IfOk result (λ p. part_of p ≡ part_by (binary_standing op (operand_in (part_of left.entry)) (operand_in (part_of right.entry))) (spec.constant_by k.is_formed k.value at (held_value (binary_in (here_of here.entry).source op (part_of left.entry) (part_of right.entry) at)))) }
+    ensures part { let k = operation_constant op left.entry.constant right.entry.constant in IfOk result (λ p. part_of p ≡ part_by (binary_standing op (operand_in (part_of left.entry)) (operand_in (part_of right.entry))) (spec.constant_by k.is_formed k.value at (denoted_value (binary_in (context_of context.entry).source op (part_of left.entry) (part_of right.entry) at)))) }
     ensures constant { IfOk result (λ p. p.constant ≡ operation_constant op left.entry.constant right.entry.constant) }
 {
     let standing = binary_standing(op, left.operand(), right.operand());
     let constant = Constant::of_operation(op, left.constant, right.constant);
-    let value = binary(alloc, here.source, op, left, right, at)?;
-    computed(alloc, standing, constant, at, Held::Value(value))
+    let value = binary(alloc, context.source, op, left, right, at)?;
+    computed(alloc, standing, constant, at, Denoted::Value(value))
 }
 
 /// An operator before its operand, which is made.
 pub fn prefixing<'h>(
     alloc: Global,
-    here: Here,
+    context: Context,
     op: PrefixOp,
     operand: Part<'h>,
     at: Position,
 ) -> Result<Part<'h>, AllocError>
-    ensures part { let p = part_of operand.entry in let k = prefix_constant op operand.entry.constant in IfOk result (λ r. part_of r ≡ part_by (standings.prefix_standing op p.standing) (spec.constant_by k.is_formed k.value at (prefix_in (here_of here.entry).source op p at))) }
+    ensures part { let p = part_of operand.entry in let k = prefix_constant op operand.entry.constant in IfOk result (λ r. part_of r ≡ part_by (standings.prefix_standing op p.standing) (spec.constant_by k.is_formed k.value at (prefix_in (context_of context.entry).source op p at))) }
     ensures constant { IfOk result (λ r. r.constant ≡ prefix_constant op operand.entry.constant) }
 {
     let standing = prefix_standing(op, operand.standing);
     let constant = Constant::of_prefix(op, operand.constant);
-    let held = prefix(alloc, here.source, op, operand, at)?;
-    computed(alloc, standing, constant, at, held)
+    let denoted = prefix(alloc, context.source, op, operand, at)?;
+    computed(alloc, standing, constant, at, denoted)
 }
 
 /// A cast of what is made.
 pub fn casting<'h>(
     alloc: Global,
-    here: Here<'h, '_>,
+    context: Context<'h, '_>,
     to: &CType,
     operand: Part<'h>,
     at: Position,
 ) -> Result<Part<'h>, AllocError>
-    ensures part { let named = scopes.type_named (here_of here.entry).known to.now in let p = part_of operand.entry in let k = cast_constant to.now operand.entry.constant in IfOk result (λ r. part_of r ≡ part_by (standings.cast_standing named to.now.stars (operand_in p)) (spec.constant_by k.is_formed k.value at (held_value (cast_in (spec.is_pointer_type named) p at)))) }
+    ensures part { let named = scopes.type_named (context_of context.entry).known to.now in let p = part_of operand.entry in let k = cast_constant to.now operand.entry.constant in IfOk result (λ r. part_of r ≡ part_by (standings.cast_standing named to.now.stars (operand_in p)) (spec.constant_by k.is_formed k.value at (denoted_value (cast_in (spec.is_pointer_type named) p at)))) }
     ensures constant { IfOk result (λ r. r.constant ≡ cast_constant to.now operand.entry.constant) }
 {
-    let named = type_named(here.table, to);
+    let named = type_named(context.table, to);
     let standing = cast_standing(named, to.stars, operand.operand());
     let constant = Constant::of_cast(to, operand.constant);
     let value = cast(alloc, is_pointer_type(named), operand, at)?;
-    computed(alloc, standing, constant, at, Held::Value(value))
+    computed(alloc, standing, constant, at, Denoted::Value(value))
 }
 
 /// An element of an array, of which the base and the index are made.
 pub fn element<'h>(
     alloc: Global,
-    here: Here,
+    context: Context,
     base: Part<'h>,
     by: Part<'h>,
     at: Position,
 ) -> Result<Part<'h>, AllocError>
-    ensures part { IfOk result (λ p. part_of p ≡ part_by (standings.index_standing (operand_in (part_of base.entry)) (operand_in (part_of by.entry))) (index_in (here_of here.entry).source (part_of base.entry) (part_of by.entry) at)) }
+    ensures part { IfOk result (λ p. part_of p ≡ part_by (standings.index_standing (operand_in (part_of base.entry)) (operand_in (part_of by.entry))) (index_in (context_of context.entry).source (part_of base.entry) (part_of by.entry) at)) }
     ensures constant { IfOk result (λ p. p.constant ≡ no_constant) }
 {
     let standing = index_standing(base.operand(), by.operand());
-    let held = index(alloc, here.source, base, by, at)?;
-    Ok(changing(standing, held))
+    let denoted = index(alloc, context.source, base, by, at)?;
+    Ok(changing(standing, denoted))
 }
 
 /// A member of a struct that is made.
 pub fn member_in_part<'h>(
     alloc: Global,
-    here: Here<'h, '_>,
+    context: Context<'h, '_>,
     name: &Name,
     base: Part<'h>,
     at: Position,
 ) -> Result<Part<'h>, AllocError>
-    ensures part { let h = here_of here.entry in let p = part_of base.entry in let number = standings.struct_of p.standing in IfOk result (λ r. part_of r ≡ part_by (standings.member_standing h.known number name.now.text) (member_in p.held (offset_in h.source number name.now.text) at)) }
+    ensures part { let h = context_of context.entry in let p = part_of base.entry in let number = standings.struct_of p.standing in IfOk result (λ r. part_of r ≡ part_by (standings.member_standing h.known number name.now.text) (member_in p.denoted (offset_in h.source number name.now.text) at)) }
     ensures constant { IfOk result (λ r. r.constant ≡ no_constant) }
 {
     let number = struct_of(base.standing);
-    let by = here.source.offset_in(number, name.text.as_slice())?;
-    let held = member(alloc, base.held, by, at)?;
+    let by = context.source.offset_in(number, name.text.as_slice())?;
+    let denoted = member(alloc, base.denoted, by, at)?;
     Ok(changing(
-        member_standing(here.table, number, name.text.as_slice()),
-        held,
+        member_standing(context.table, number, name.text.as_slice()),
+        denoted,
     ))
 }
 
 /// A member of a struct to which a pointer is made.
 pub fn member_through<'h>(
     alloc: Global,
-    here: Here<'h, '_>,
+    context: Context<'h, '_>,
     name: &Name,
     base: Part<'h>,
     at: Position,
 ) -> Result<Part<'h>, AllocError>
-    ensures part { let h = here_of here.entry in let p = part_of base.entry in let number = standings.pointed_struct (operand_in p) in IfOk result (λ r. part_of r ≡ part_by (standings.member_standing h.known number name.now.text) (arrow_in p (offset_in h.source number name.now.text) at)) }
+    ensures part { let h = context_of context.entry in let p = part_of base.entry in let number = standings.pointed_struct (operand_in p) in IfOk result (λ r. part_of r ≡ part_by (standings.member_standing h.known number name.now.text) (arrow_in p (offset_in h.source number name.now.text) at)) }
     ensures constant { IfOk result (λ r. r.constant ≡ no_constant) }
 {
     let number = pointed_struct(base.operand());
-    let by = here.source.offset_in(number, name.text.as_slice())?;
-    let held = arrow(alloc, base, by, at)?;
+    let by = context.source.offset_in(number, name.text.as_slice())?;
+    let denoted = arrow(alloc, base, by, at)?;
     Ok(changing(
-        member_standing(here.table, number, name.text.as_slice()),
-        held,
+        member_standing(context.table, number, name.text.as_slice()),
+        denoted,
     ))
 }
 
-/// `++` and `--` behind what is made.
+/// `++` and `--` after what is made.
 pub fn stepping<'h>(
     alloc: Global,
-    here: Here,
+    context: Context,
     op: FlowOp,
     place: Part<'h>,
     at: Position,
 ) -> Result<Part<'h>, AllocError>
-    ensures part { let p = part_of place.entry in IfOk result (λ r. part_of r ≡ part_by (standings.stepped p.standing) (held_value (stepped_in (here_of here.entry).source op p true at))) }
+    ensures part { let p = part_of place.entry in IfOk result (λ r. part_of r ≡ part_by (standings.stepped p.standing) (denoted_value (stepped_in (context_of context.entry).source op p true at))) }
     ensures constant { IfOk result (λ r. r.constant ≡ no_constant) }
 {
     let standing = c_types::stepped(place.standing);
-    let value = stepped(alloc, here.source, op, place, true, at)?;
-    Ok(changing(standing, Held::Value(value)))
+    let value = stepped(alloc, context.source, op, place, true, at)?;
+    Ok(changing(standing, Denoted::Value(value)))
 }
 
 /// A call of which the operands are made.
-pub fn call_held(
+pub fn call_denoted(
     alloc: Global,
-    here: Here,
+    context: Context,
     name: &[u8],
     es: &[Expr],
     operands: List<Value>,
     at: Position,
-) -> Result<Held, AllocError>
-    ensures { let h = here_of here.entry in IfOk result (λ r. held_of r ≡ held_value (calls.called h.known (heres.site_at h.source.sites at) name.now (names.library_named name.now) (scopes.seen h.known name.now) (listed (map tree.exp_of es.now)) (map exp_of operands) (position_of at))) }
+) -> Result<Denoted, AllocError>
+    ensures { let h = context_of context.entry in IfOk result (λ r. denoted_of r ≡ denoted_value (calls.called h.known (heres.site_at h.source.sites at) name.now (names.library_named name.now) (scopes.seen h.known name.now) (listed (map tree.exp_of es.now)) (map exp_of operands) (position_of at))) }
 {
-    let site = site_at(here.source.sites, at)?;
+    let site = site_at(context.source.sites, at)?;
     let value = called(
         alloc,
-        here.table,
+        context.table,
         site,
         name,
         library_named(name),
-        here.table.seen(name),
+        context.table.seen(name),
         es,
         operands,
         at,
     )?;
-    Ok(Held::Value(value))
+    Ok(Denoted::Value(value))
 }

@@ -51,8 +51,8 @@ fn command_line(rt: &(impl std::rt::Env + AllocGlobal)) -> io::Result<Vec<String
     Ok(words)
 }
 
-// The words behind the program's name.
-fn behind_name(mut line: Vec<String>) -> Vec<String>
+// The words after the program's name.
+fn past_name(mut line: Vec<String>) -> Vec<String>
     ensures { result.items ≡ drop 1 line.items }
 {
     if !line.is_empty() {
@@ -89,7 +89,7 @@ fn main(rt: HostRuntime) -> ExitCode {
         // Words that aren't text are no job.
         Err(_) => Vec::new(rt.alloc()),
     };
-    let words = behind_name(line);
+    let words = past_name(line);
     run(
         &rt,
         rt.alloc(),

@@ -94,7 +94,7 @@ fn outside_of<'a>(failing: Failing, number: &'a [u64]) -> Outside<'a> {
     }
 }
 
-// Each call that a job makes outside fails in turn: what was put before stays, and nothing is put behind it.
+// Each call that a job makes outside fails in turn: what was put before stays, and nothing is put after it.
 #[test]
 fn tells_each_fault_of_the_outside(rt: HostRuntime) -> Result<(), Fail> {
     let alloc = rt.alloc();

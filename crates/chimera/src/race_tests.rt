@@ -100,7 +100,7 @@ int main(void) { pthread_t a; pthread_create(&a, NULL, c, NULL); return 0; }
 ";
 
 // A formal is known by its name on the other side of a call, and of a choice, in the same arguments.
-const BEHIND_A_CALL: &str = "pthread_mutex_t m; int x;
+const AFTER_A_CALL: &str = "pthread_mutex_t m; int x;
 int f(void) { return 1; }
 void k(pthread_mutex_t *q, int n) { pthread_mutex_lock(q); }
 void c(pthread_mutex_t *q) { k(q, f()); x = x + 1; pthread_mutex_unlock(q); }
@@ -109,7 +109,7 @@ int main(void) { pthread_t a; pthread_t b; pthread_create(&a, NULL, r, NULL);
 pthread_create(&b, NULL, r, NULL); return 0; }
 ";
 
-const BEHIND_A_CHOICE: &str = "pthread_mutex_t m; int x; int n;
+const AFTER_A_CHOICE: &str = "pthread_mutex_t m; int x; int n;
 void k(pthread_mutex_t *q, int n) { pthread_mutex_lock(q); }
 void c(pthread_mutex_t *q) { k(q, n ? 1 : 2); x = x + 1; pthread_mutex_unlock(q); }
 void *r(void *p) { c(&m); return NULL; }
@@ -145,8 +145,8 @@ const ROWS: [(&str, &str, u8); 12] = [
         "race y+0 store 6:43 store 6:43\nraces 1\n",
         0,
     ),
-    (BEHIND_A_CALL, "races 0\n", 0),
-    (BEHIND_A_CHOICE, "races 0\n", 0),
+    (AFTER_A_CALL, "races 0\n", 0),
+    (AFTER_A_CHOICE, "races 0\n", 0),
     ("int main(void){return y;}\n", "source refused 9 1 23\n", 2),
     (
         "int main(void){switch(0){}}\n",

@@ -56,7 +56,7 @@ const LOOP_AT_4: &str = "lock w0 v+0 stripes 8\naccess 5:6 store loop 4:1\n";
 // What the threads run, the listing of its weak locks, a log in which one thread comes after the other, from the begin of the
 // first on, and what is told of that log.
 static RANGES: [(&str, &str, &[&str], &str, u8); 7] = [
-    // behind the counter: elements 0 to 2
+    // after the counter: elements 0 to 2
     (
         "void *f(void *p) {\nfor (int i = 1; i < 4; i++)\nv[i - 1] = i;\nreturn NULL; }\n",
         "lock w0 v+0 stripes 8\naccess 5:10 store loop 4:1\n",

@@ -3,7 +3,7 @@ use crate::record_tests::with_source;
 use crate::tests::{Outside, SOUND, check_in};
 use std::test::Fail;
 
-// Two threads that run `f`, and what `main` does behind them.
+// Two threads that run `f`, and what `main` does after them.
 const MAIN: &str = "int main(void) {
 pthread_t a; pthread_t b;
 pthread_create(&a, NULL, f, NULL);

@@ -458,7 +458,7 @@ pub fn joined(alloc: Global, parts: &[&str]) -> Result<Bytes, AllocError> {
     Ok(text)
 }
 
-/// Puts a file of these parts behind the others.
+/// Puts a file of these parts after the others.
 pub fn push_file(
     alloc: Global,
     files: &mut List<(Bytes, Bytes)>,

@@ -14,7 +14,7 @@ use Rattle.c_rules.specs.Sizes.{value_here, is_trap, is_sound, constant_faults}
 use Rattle.c_core.specs.Core.{Program}
 use Rattle.c_core.specs.Meaning.{Calls, value}
 use Rattle.c_core.specs.Runs.{M, pure, result_at}
-use Rattle.c_values.specs.Here.{Here}
+use Rattle.c_values.specs.Context.{Context}
 use Rattle.constant_sound.specs.Running.{worded}
 use Rattle.constant_sound.specs.Written.{HidesNoConstant, literals_fit, written_of}
 use Rattle.constant_sound.proofs.Expressions.{written_is}
@@ -28,7 +28,7 @@ module _ (p : Program) (s : SetupView) (t : ℕ) (calls : Calls) where
   by_value true false c line m at k l e = cc
   by_value false sound c line m at k l e = cc
 
-  pub refused : (h : Here) (e : Exp) → HidesNoConstant h.known → is_constant e ≡ true → literals_fit e ≡ true → is_sound h.known e ≡ true → (constant_faults h.known e ≡ []) ↔ ((w : ℕ) × (value p s t calls (written_of h e) ≡ pure w))
+  pub refused : (h : Context) (e : Exp) → HidesNoConstant h.known → is_constant e ≡ true → literals_fit e ≡ true → is_sound h.known e ≡ true → (constant_faults h.known e ≡ []) ↔ ((w : ℕ) × (value p s t calls (written_of h e) ≡ pure w))
   refused h e own k l sound =
       let r = (written_is p s t calls h own no_target e k l).runs in
       by_value (is_constant e) (is_sound h.known e) (value_here h.known e) r.0 (value p s t calls (written_of h e)) (first_place e) k sound r.1

@@ -11,7 +11,7 @@ use Rattle.c_rules.specs.Sizes.{value_here}
 use Rattle.c_core.specs.Core.{Program}
 use Rattle.c_core.specs.Meaning.{Calls, value}
 use Rattle.c_core.specs.Runs.{result_at}
-use Rattle.c_values.specs.Here.{Here}
+use Rattle.c_values.specs.Context.{Context}
 use Rattle.constant_sound.specs.Written.{written_of}
 
 -- operators at their column of line 1
@@ -39,12 +39,12 @@ rows =
     ∷ b (minus (k (2 ^ 63 - 1) 2)) op.Subtract 22 (k 2 24)
     ∷ []
 
-pub folded_rows : (h : Here) → map (value_here h.known) rows
+pub folded_rows : (h : Context) → map (value_here h.known) rows
     ≡ Ok (negsuc 2) ∷ Ok (negsuc 0) ∷ Ok (negsuc 6) ∷ Ok (pos 1) ∷ Ok (pos 0) ∷ Ok (pos 2) ∷ Err trap.DivideByZero ∷ Err trap.Overflow ∷ Err trap.ShiftRange ∷ Err trap.Overflow ∷ []
 unfolding rows
 folded_rows h = refl
 
-pub run_rows : (p : Program) (s : SetupView) (t : ℕ) (calls : Calls) (h : Here) → map (λ e. value p s t calls (written_of h e)) rows
+pub run_rows : (p : Program) (s : SetupView) (t : ℕ) (calls : Calls) (h : Context) → map (λ e. value p s t calls (written_of h e)) rows
     ≡ map (result_at 1) (Ok (2 ^ 64 - 3) ∷ Ok (2 ^ 64 - 1) ∷ Ok (2 ^ 64 - 7) ∷ Ok 1 ∷ Ok 0 ∷ Ok 2 ∷ Err trap.DivideByZero ∷ Err trap.Overflow ∷ Err trap.ShiftRange ∷ Err trap.Overflow ∷ [])
 unfolding rows
 run_rows p s t calls h = refl

@@ -22,8 +22,8 @@ use Rattle.c_core.specs.Core as core
 use Rattle.c_core.specs.Core.{Program}
 use Rattle.c_core.specs.Meaning.{Calls, value, is_pointer, unary_of}
 use Rattle.c_core.specs.Runs.{M, ◌>>=◌, pure, result_at, choose}
-use Rattle.c_values.specs.Held.{Held, Part, operand_in, is_pointing, value_in, value_by, wanted_in}
-use Rattle.c_values.specs.Here.{Source, element_of}
+use Rattle.c_values.specs.Denoted.{Denoted, Part, operand_in, is_pointing, value_in, value_by, wanted_in}
+use Rattle.c_values.specs.Context.{Source, element_of}
 use Rattle.c_values.specs.Operators.{flow_operator, binary_in, sum_in, difference_in, operated_in, conditional_in, prefix_in, cast_in}
 use Rattle.c_values.specs.Expressions.{constant_by}
 use Rattle.constant_sound.specs.Running.{worded, is_logical, Computes}
@@ -184,7 +184,7 @@ module _ (p : Program) (s : SetupView) (t : ℕ) (calls : Calls) where
   pub number_gives : (n : ℤ) (at : Position) → fits n ≡ true → Gives (core.number n at) (Ok n)
   number_gives n at h = record { runs = (0, refl); whole = refl; fits = number_fits n h }
 
-  pub folded_gives : (b : Bool) (c : Computed) (st : Standing) (x : Held) (at : Position) → b ≡ true → Fits c → Gives (value_by st x) c → Gives (value_by st (constant_by b c at x)) c
+  pub folded_gives : (b : Bool) (c : Computed) (st : Standing) (x : Denoted) (at : Position) → b ≡ true → Fits c → Gives (value_by st x) c → Gives (value_by st (constant_by b c at x)) c
   folded_gives true (Ok n) st x at e fit own = number_gives n at (fit n refl)
   folded_gives true (Err kind) st x at e fit own = own
   folded_gives false c st x at e fit own = cc

@@ -7,24 +7,24 @@ use Rattle.c_types.specs.Constants.{constant_named}
 use Rattle.c_types.specs.Scopes.{Known, Meaning, seen, type_named}
 use Rattle.c_types.specs.Standing.{Target, no_target, cast_target, standing}
 use Rattle.c_core.specs.Core as core
-use Rattle.c_values.specs.Held.{position_of, Held, held_value, part_by, value_by}
-use Rattle.c_values.specs.Here.{Here}
+use Rattle.c_values.specs.Denoted.{position_of, Denoted, denoted_value, part_by, value_by}
+use Rattle.c_values.specs.Context.{Context}
 use Rattle.c_values.specs.Operators.{binary_in, conditional_in, prefix_in, cast_in}
-use Rattle.c_values.specs.Expressions.{is_pointer_type, held}
+use Rattle.c_values.specs.Expressions.{is_pointer_type, denoted}
 
 -- each operator stays; what has none is a number
-abbrev pub written : Here → Target → Exp → Held
+abbrev pub written : Context → Target → Exp → Denoted
 written h w (conditional a b c at) =
-    held_value (conditional_in (part_by (standing h.known no_target a) (written h no_target a)) (part_by (standing h.known no_target b) (written h no_target b)) (part_by (standing h.known no_target c) (written h no_target c)) (position_of at))
+    denoted_value (conditional_in (part_by (standing h.known no_target a) (written h no_target a)) (part_by (standing h.known no_target b) (written h no_target b)) (part_by (standing h.known no_target c) (written h no_target c)) (position_of at))
 written h w (binary a op b at) =
-    held_value (binary_in h.source op (part_by (standing h.known no_target a) (written h no_target a)) (part_by (standing h.known no_target b) (written h no_target b)) (position_of at))
+    denoted_value (binary_in h.source op (part_by (standing h.known no_target a) (written h no_target a)) (part_by (standing h.known no_target b) (written h no_target b)) (position_of at))
 written h w (prefix op a at) = prefix_in h.source op (part_by (standing h.known no_target a) (written h no_target a)) (position_of at)
 written h w (cast t a at) =
-    held_value (cast_in (is_pointer_type (type_named h.known t)) (part_by (standing h.known (cast_target (type_named h.known t) t.stars) a) (written h (cast_target (type_named h.known t) t.stars) a)) (position_of at))
+    denoted_value (cast_in (is_pointer_type (type_named h.known t)) (part_by (standing h.known (cast_target (type_named h.known t) t.stars) a) (written h (cast_target (type_named h.known t) t.stars) a)) (position_of at))
 written h w (paren a at) = written h w a
-written h w e = held h w e
+written h w e = denoted h w e
 
-abbrev pub written_of : Here → Exp → core.Exp
+abbrev pub written_of : Context → Exp → core.Exp
 written_of h e = value_by (standing h.known no_target e) (written h no_target e)
 
 -- no declared name is one of the library's constants: a source that declares one has a fault

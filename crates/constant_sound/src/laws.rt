@@ -14,7 +14,7 @@ ghost use Rattle.c_core.specs.Core.{Program};
 ghost use Rattle.c_core.specs.Meaning.{Calls, unary_of, value};
 ghost use Rattle.c_core.specs.Runs.{pure};
 ghost use Rattle.c_core.specs.declared.value.UnaryOp.TheVariants as unary_op;
-ghost use Rattle.c_values.specs.Here.{Here};
+ghost use Rattle.c_values.specs.Context.{Context};
 ghost use Rattle.c_values.specs.Operators.{flow_operator};
 ghost use Rattle.c_values.specs.Expressions.{value_of};
 ghost use Rattle.constant_sound.specs.Running.{worded, fit, is_logical, Computes};
@@ -49,12 +49,12 @@ pub fn law_one_value()
 /// folding finds that it traps, with the same cause: the tree as it is written, in which nothing is folded, and the tree
 /// that a source gets. Nothing else is done: no event, and the thread's own state stays. The value fits 64 bits.
 pub fn law_constant()
-    ensures written { (p : Program) (setup : SetupView) (t : ℕ) (calls : Calls) (h : Here) (e : Exp) →
+    ensures written { (p : Program) (setup : SetupView) (t : ℕ) (calls : Calls) (h : Context) (e : Exp) →
         HidesNoConstant h.known →
         is_constant e ≡ true →
         literals_fit e ≡ true →
         Computes p setup t calls (written_of h e) (value_here h.known e) }
-    ensures folded { (p : Program) (setup : SetupView) (t : ℕ) (calls : Calls) (h : Here) (e : Exp) →
+    ensures folded { (p : Program) (setup : SetupView) (t : ℕ) (calls : Calls) (h : Context) (e : Exp) →
         HidesNoConstant h.known →
         is_constant e ≡ true →
         literals_fit e ≡ true →
@@ -65,7 +65,7 @@ pub fn law_constant()
 /// Where a source must have a constant, as for the length of an array, one that breaks no other rule is refused just where its
 /// core tree as it is written would trap.
 pub fn law_refused()
-    ensures { (p : Program) (setup : SetupView) (t : ℕ) (calls : Calls) (h : Here) (e : Exp) →
+    ensures { (p : Program) (setup : SetupView) (t : ℕ) (calls : Calls) (h : Context) (e : Exp) →
         HidesNoConstant h.known →
         is_constant e ≡ true →
         literals_fit e ≡ true →

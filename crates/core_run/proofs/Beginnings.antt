@@ -1,4 +1,4 @@
--- The words at the start: those of cells, and behind them each object's start word at its place.
+-- The words at the start: those of cells, and after them each object's start word at its place.
 use Rattle.std.proofs.Common.{◌≡◌, ℕ, zero, suc, ◌+◌, ◌*◌, ◌<◌, true, nat_lt, List, [], ◌∷◌, ◌++◌, length, replicate, Option, Some, refl, sym, ap, ◌∙◌, arith, append_assoc, length-append}
 use Rattle.std.specs.Prelude.{slice_get}
 use Rattle.std.proofs.lemmas.Bool.{ltb-true, and_parts}
@@ -34,17 +34,17 @@ length-start_cells code s =
     let g : length globals ≡ length code.globals = globals_length s.slots code.global_kinds code.globals in
     omega arith
 
--- the first objects behind those of cells: the slots, and those of which there is one
+-- the first objects after those of cells: the slots, and those of which there is one
 abbrev slot_words : List ℕ
 slot_words = start_word (object.Slot 0) ∷ replicate 15 0
 
 abbrev single_words : List ℕ
 single_words = start_word object.Threads ∷ start_word object.Halt ∷ start_word object.Input ∷ start_word object.Output ∷ []
 
-abbrev words_behind : Code → List ℕ
-words_behind code = (slot_words ++ single_words) ++ replicate (8 * length code.locks) 0
+abbrev words_past : Code → List ℕ
+words_past code = (slot_words ++ single_words) ++ replicate (8 * length code.locks) 0
 
-objects_are : (code : Code) (s : SetupView) → start_objects code s ≡ replicate (3 * cells_of code s) 0 ++ words_behind code
+objects_are : (code : Code) (s : SetupView) → start_objects code s ≡ replicate (3 * cells_of code s) 0 ++ words_past code
 objects_are code s =
     ap (λ (ws : List ℕ). ws ++ replicate (8 * length code.locks) 0) (append_assoc (replicate (3 * cells_of code s) 0) slot_words single_words)
     ∙ append_assoc (replicate (3 * cells_of code s) 0) (slot_words ++ single_words) (replicate (8 * length code.locks) 0)
@@ -55,9 +55,9 @@ length-start_words code s =
     let stripes : List ℕ = replicate (8 * length code.locks) 0 in
     let a : length (start_words code s) ≡ length (start_cells code s) + length (start_objects code s) = length-append (start_cells code s) (start_objects code s) in
     let b = length-start_cells code s in
-    let o : length (start_objects code s) ≡ length (zeros ++ words_behind code) = ap length (objects_are code s) in
-    let c : length (zeros ++ words_behind code) ≡ length zeros + length (words_behind code) = length-append zeros (words_behind code) in
-    let d : length (words_behind code) ≡ 20 + length stripes = length-append (slot_words ++ single_words) stripes in
+    let o : length (start_objects code s) ≡ length (zeros ++ words_past code) = ap length (objects_are code s) in
+    let c : length (zeros ++ words_past code) ≡ length zeros + length (words_past code) = length-append zeros (words_past code) in
+    let d : length (words_past code) ≡ 20 + length stripes = length-append (slot_words ++ single_words) stripes in
     let e : length zeros ≡ 3 * cells_of code s = length-replicate (3 * cells_of code s) 0 in
     let f : length stripes ≡ 8 * length code.locks = length-replicate (8 * length code.locks) 0 in
     omega arith
@@ -69,31 +69,31 @@ get_replicate zero i h = absurd (omega arith)
 get_replicate (suc n) zero h = refl
 get_replicate (suc n) (suc i) h = get_replicate n i (omega arith)
 
--- behind the cells
-behind : (code : Code) (s : SetupView) (n : ℕ) (o : Option ℕ) → slice_get (start_objects code s) n ≡ o → slice_get (start_words code s) (cells_of code s + n) ≡ o
-behind code s n o e = ap (λ k. slice_get (start_words code s) (k + n)) (sym (length-start_cells code s)) ∙ slice_get-append_right (start_cells code s) (start_objects code s) n ∙ e
+-- after the cells
+following : (code : Code) (s : SetupView) (n : ℕ) (o : Option ℕ) → slice_get (start_objects code s) n ≡ o → slice_get (start_words code s) (cells_of code s + n) ≡ o
+following code s n o e = ap (λ k. slice_get (start_words code s) (k + n)) (sym (length-start_cells code s)) ∙ slice_get-append_right (start_cells code s) (start_objects code s) n ∙ e
 
 -- an object of a cell has the word 0
 at_cell : (code : Code) (s : SetupView) (n : ℕ) → n < 3 * cells_of code s → slice_get (start_words code s) (cells_of code s + n) ≡ Some 0
 at_cell code s n h =
     let zeros : List ℕ = replicate (3 * cells_of code s) 0 in
     let len : length zeros ≡ 3 * cells_of code s = length-replicate (3 * cells_of code s) 0 in
-    behind code s n (Some 0) (ap (λ ws. slice_get ws n) (objects_are code s) ∙ slice_get-append_left zeros (words_behind code) n (omega arith) ∙ get_replicate (3 * cells_of code s) n h)
+    following code s n (Some 0) (ap (λ ws. slice_get ws n) (objects_are code s) ∙ slice_get-append_left zeros (words_past code) n (omega arith) ∙ get_replicate (3 * cells_of code s) n h)
 
--- behind the objects of cells
-behind_cells : (code : Code) (s : SetupView) (n : ℕ) (o : Option ℕ) → slice_get (words_behind code) n ≡ o → slice_get (start_words code s) (4 * cells_of code s + n) ≡ o
-behind_cells code s n o e =
+-- after the objects of cells
+after_cells : (code : Code) (s : SetupView) (n : ℕ) (o : Option ℕ) → slice_get (words_past code) n ≡ o → slice_get (start_words code s) (4 * cells_of code s + n) ≡ o
+after_cells code s n o e =
     let zeros : List ℕ = replicate (3 * cells_of code s) 0 in
     let place : 4 * cells_of code s + n ≡ cells_of code s + (3 * cells_of code s + n) = omega arith in
     let len : 3 * cells_of code s ≡ length zeros = sym (length-replicate (3 * cells_of code s) 0) in
     ap (slice_get (start_words code s)) place
-    ∙ behind code s (3 * cells_of code s + n) o (ap (λ ws. slice_get ws (3 * cells_of code s + n)) (objects_are code s) ∙ ap (λ k. slice_get (zeros ++ words_behind code) (k + n)) len ∙ slice_get-append_right zeros (words_behind code) n ∙ e)
+    ∙ following code s (3 * cells_of code s + n) o (ap (λ ws. slice_get ws (3 * cells_of code s + n)) (objects_are code s) ∙ ap (λ k. slice_get (zeros ++ words_past code) (k + n)) len ∙ slice_get-append_right zeros (words_past code) n ∙ e)
 
 zero_word : (n : ℕ) → n ≡ 0 → Some 0 ≡ Some (word_of 0 n)
 zero_word n e = ap (λ k. Some (word_of 0 k)) (sym e)
 
 -- an idle slot has the word 0
-slot_word : (code : Code) (k : ℕ) → k < 15 → slice_get (words_behind code) (suc k) ≡ Some 0
+slot_word : (code : Code) (k : ℕ) → k < 15 → slice_get (words_past code) (suc k) ≡ Some 0
 slot_word code k h =
     slice_get-append_left (slot_words ++ single_words) (replicate (8 * length code.locks) 0) (suc k) (omega arith) ∙ slice_get-append_left slot_words single_words (suc k) (omega arith) ∙ get_replicate 15 k h
 
@@ -107,15 +107,15 @@ start_word_at code s (object.Barrier cell) l h =
     let lt = ltb-true cell (cells_of code s) h in
     let place : 3 * cells_of code s + cell ≡ cells_of code s + (2 * cells_of code s + cell) = omega arith in
     ap (slice_get (start_words code s)) place ∙ at_cell code s (2 * cells_of code s + cell) (omega arith) ∙ zero_word (packed_start (object.Barrier cell)) (starts-Barrier cell)
-start_word_at code s (object.Slot zero) l h = behind_cells code s 0 (Some (start_word (object.Slot 0))) refl
+start_word_at code s (object.Slot zero) l h = after_cells code s 0 (Some (start_word (object.Slot 0))) refl
 start_word_at code s (object.Slot (suc k)) l h =
     let lt = ltb-true (suc k) s.slots h in
     let few = l.few_slots in
-    behind_cells code s (suc k) (Some 0) (slot_word code k (omega arith)) ∙ zero_word (packed_start (object.Slot (suc k))) (starts-other_slot (suc k) (λ e. absurd (omega arith)))
-start_word_at code s object.Threads l h = behind_cells code s 16 (Some (start_word object.Threads)) refl
-start_word_at code s object.Halt l h = behind_cells code s 17 (Some (start_word object.Halt)) refl
-start_word_at code s object.Input l h = behind_cells code s 18 (Some (start_word object.Input)) refl
-start_word_at code s object.Output l h = behind_cells code s 19 (Some (start_word object.Output)) refl
+    after_cells code s (suc k) (Some 0) (slot_word code k (omega arith)) ∙ zero_word (packed_start (object.Slot (suc k))) (starts-other_slot (suc k) (λ e. absurd (omega arith)))
+start_word_at code s object.Threads l h = after_cells code s 16 (Some (start_word object.Threads)) refl
+start_word_at code s object.Halt l h = after_cells code s 17 (Some (start_word object.Halt)) refl
+start_word_at code s object.Input l h = after_cells code s 18 (Some (start_word object.Input)) refl
+start_word_at code s object.Output l h = after_cells code s 19 (Some (start_word object.Output)) refl
 start_word_at code s (object.Weak lock stripe) l h =
     let parts = and_parts (nat_lt lock (length code.locks)) (nat_lt stripe 8) h in
     let low = ltb-true lock (length code.locks) parts.0 in
@@ -123,7 +123,7 @@ start_word_at code s (object.Weak lock stripe) l h =
     let n = 8 * lock + stripe in
     let place : 4 * cells_of code s + 20 + 8 * lock + stripe ≡ 4 * cells_of code s + (20 + n) = omega arith in
     ap (slice_get (start_words code s)) place
-    ∙ behind_cells code s (20 + n) (Some 0) (slice_get-append_right (slot_words ++ single_words) (replicate (8 * length code.locks) 0) n ∙ get_replicate (8 * length code.locks) n (omega arith))
+    ∙ after_cells code s (20 + n) (Some 0) (slice_get-append_right (slot_words ++ single_words) (replicate (8 * length code.locks) 0) n ∙ get_replicate (8 * length code.locks) n (omega arith))
     ∙ zero_word (packed_start (object.Weak lock stripe)) (starts-Weak lock stripe)
 
 -- no object has had an operation

@@ -16,7 +16,7 @@ use Rattle.core_run.specs.Machine.{Told, machine}
 use Rattle.core_run.specs.Parts.{KeepsObjects}
 use Rattle.core_run.specs.Walks.{pieces_of, joined}
 use Rattle.core_run.specs.Shown.{running_thread, told_thread, IsShown, GoesTo, EntryStep, PartStep}
-use Rattle.core_run.proofs.Places.{place_behind}
+use Rattle.core_run.proofs.Places.{place_past}
 use Rattle.core_run.proofs.Walked.{stands}
 use Rattle.runs.specs.Labels.{Go, label_of}
 use Rattle.runs.specs.Steps.{State, stepped, entry_of_thread, step_of_thread, count_of, count_or_zero}
@@ -27,8 +27,8 @@ use Rattle.runs.proofs.Apart.{thread_of_label}
 pub still_sound : (code : Code) (s : SetupView) (most cells : ℕ) (ws ws1 : List ℕ) → cells ≡ cells_of code s → KeepsObjects cells ws ws1 → AreSound code s most ws → AreSound code s most ws1
 still_sound code s most cells ws ws1 e keeps sound = record {
   each = λ o w has at.
-      let behind : cells_of code s ≤ place_of (cells_of code s) o = place_behind (cells_of code s) o in
-      sound.each o w has (sym (keeps.objects (place_of (cells_of code s) o) (omega (arith, e, behind))) ∙ at);
+      let following : cells_of code s ≤ place_of (cells_of code s) o = place_past (cells_of code s) o in
+      sound.each o w has (sym (keeps.objects (place_of (cells_of code s) o) (omega (arith, e, following))) ∙ at);
 }
 
 running_at : (flows : List Running) (t : ℕ) → t < length flows → (r : Running) × (slice_get flows t ≡ Some r)
@@ -51,7 +51,7 @@ module _ (code : Code) (s : SetupView) (f : Formula) (e : Entry) (st : State Tol
       go zero = made_outside h
       go (suc n) = ap (option_and_then (made (machine code s) e)) (ap (λ z. if_nothing z (option_and_then (alone (machine code s) n e.thread) (stepped (machine code s) st (Go e.thread)))) (ap (entry_of_thread (machine code s) st.words (Go e.thread)) h) ∙ ap (option_and_then (alone (machine code s) n e.thread)) (ap (step_of_thread (machine code s) st (Go e.thread)) h))
 
-  -- how many events the thread has behind it
+  -- how many events the thread has after it
   pub count_is : (flows : List Running) (words : List ℕ) (reads : List (List Access)) (r : Running) → IsShown f flows words reads st → slice_get flows e.thread ≡ Some r → count_of (machine code s) st e.thread ≡ r.kept.thread.count
   count_is flows words reads r h at =
       let it = stands f flows words reads st e.thread r h at in

@@ -9,7 +9,7 @@ use Rattle.abstract_machine.specs.declared.event.Action.TheVariants as action
 use Rattle.flow_code.specs.declared.act.Instr.{Instr}
 use Rattle.flow_code.specs.declared.thread.Phase.TheVariants as phase
 use Rattle.flow_code.specs.Threads.{Thread, instr_at}
-use Rattle.flow_code.specs.Next.{act_at, act_in, act_due, phase_due, limited, first_owed, owing, listed, due_of, action_of, action_at, after_due, stepped, gave_up, stopped, shut, has_ended}
+use Rattle.flow_code.specs.Next.{act_at, act_in, act_due, phase_due, limited, first_owed, owing, listed, due_of, action_of, action_at, after_due, stepped, gave_up, stopped, slot_closed, has_ended}
 use Rattle.abstract_machine.specs.Limits.{most_entries, most_revokes}
 use Rattle.flow_code.specs.Settle.{IsRunnable}
 use Rattle.flow_code.proofs.Ranges.{stepped_in_range, gave_up_in_range, stopped_in_range, shut_in_range, count_fits, arena_fits}
@@ -42,7 +42,7 @@ sound_give_up code s t th lock stripe e r f = record { runnable = f.runnable; li
 pub sound_stop : (code : Code) (s : SetupView) (t : ℕ) (th : Thread) → has_ended th.phase ≡ false → IsSoundFlow code s t th → IsSoundFlow code s t (stopped th)
 sound_stop code s t th lives f = record { runnable = f.runnable; limits = f.limits; number = f.number; range = stopped_in_range code s most_extra t th lives f.range }
 
-pub sound_shut : (code : Code) (s : SetupView) (t : ℕ) (th : Thread) → has_ended th.phase ≡ false → IsSoundFlow code s t th → IsSoundFlow code s t (shut th)
+pub sound_shut : (code : Code) (s : SetupView) (t : ℕ) (th : Thread) → has_ended th.phase ≡ false → IsSoundFlow code s t th → IsSoundFlow code s t (slot_closed th)
 sound_shut code s t th lives f = record { runnable = f.runnable; limits = f.limits; number = f.number; range = shut_in_range code s most_extra t th lives f.range }
 
 -- the same, for what the code computes

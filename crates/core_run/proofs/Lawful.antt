@@ -18,7 +18,7 @@ use Rattle.abstract_machine.specs.declared.event.Action.{Action}
 use Rattle.abstract_machine.specs.declared.event.Action.TheVariants as action
 use Rattle.abstract_machine.specs.Values.{number}
 use Rattle.flow_code.specs.Threads.{Thread}
-use Rattle.flow_code.specs.Next.{stepped, action_at, gave_up, stopped, shut}
+use Rattle.flow_code.specs.Next.{stepped, action_at, gave_up, stopped, slot_closed}
 use Rattle.flow_code.specs.Settle.{settled, IsRunnable}
 use Rattle.abstract_machine.proofs.Calls.{is_from_outside}
 use Rattle.flow_code.proofs.Counts.{Counts, action_counts, step_grows, settled_count}
@@ -26,7 +26,7 @@ use Rattle.flow_code.proofs.Asked.{own_action}
 use Rattle.core_run.specs.Words.{cells_of, has_object}
 use Rattle.core_run.specs.Pieces.{piece_next}
 use Rattle.core_run.specs.Machine.{Told, operated, change_of, entry_of, operation, action_effect, may_revoke, may_stop, may_close, effect_of, machine}
-use Rattle.core_run.proofs.Places.{place_behind, place_apart}
+use Rattle.core_run.proofs.Places.{place_past, place_apart}
 use Rattle.runs.specs.Labels.{Label, Go, Revoke, Stop, Close, operation_label}
 use Rattle.runs.specs.Steps.{Becomes, Effect, Refused}
 use Rattle.runs.specs.Laws.{GoesOn, IsLawfulEffect, IsLawful}
@@ -45,7 +45,7 @@ pub effect_stop : (code : Code) (s : SetupView) (t : ℕ) (told : Told) → effe
 unfolding effect_of
 effect_stop code s t told = refl
 
-pub effect_close : (code : Code) (s : SetupView) (t : ℕ) (told : Told) → effect_of code s (Close t) told ≡ (if may_close told.thread then operation code s t told op.Close (object.Slot t) [] (λ answer. shut told.thread) else Refused)
+pub effect_close : (code : Code) (s : SetupView) (t : ℕ) (told : Told) → effect_of code s (Close t) told ≡ (if may_close told.thread then operation code s t told op.Close (object.Slot t) [] (λ answer. slot_closed told.thread) else Refused)
 unfolding effect_of
 effect_close code s t told = refl
 
@@ -116,12 +116,12 @@ module _ (code : Code) (s : SetupView) where
       (if_may (Stop t) told (may_stop told.thread) _ (lawful_operation (Stop t) t told told op.Stop object.Halt [] (λ answer. stopped told.thread) refl refl (λ answer. omega arith)))
   lawful_label runnable (Close t) told =
       subst (IsLawfulEffect (machine code s) (Close t) told) (sym (effect_close code s t told))
-      (if_may (Close t) told (may_close told.thread) _ (lawful_operation (Close t) t told told op.Close (object.Slot t) [] (λ answer. shut told.thread) refl refl (λ answer. omega arith)))
+      (if_may (Close t) told (may_close told.thread) _ (lawful_operation (Close t) t told told op.Close (object.Slot t) [] (λ answer. slot_closed told.thread) refl refl (λ answer. omega arith)))
 
   -- the machine keeps to the laws
   pub lawful : IsRunnable code → IsWithinLimits s → IsLawful (machine code s)
   lawful runnable limits = record {
     effects = lawful_label runnable;
-    behind = λ o has. place_behind (cells_of code s) o;
+    following = λ o has. place_past (cells_of code s) o;
     apart = λ o p has also same. place_apart code s o p limits has also same;
   }

@@ -20,7 +20,7 @@ use Rattle.abstract_machine.specs.declared.event.Action.{Action}
 use Rattle.abstract_machine.specs.declared.event.Action.TheVariants as action
 use Rattle.abstract_machine.specs.Values.{number}
 use Rattle.flow_code.specs.Threads.{Thread}
-use Rattle.flow_code.specs.Next.{stepped as thread_stepped, action_at, gave_up, stopped, shut}
+use Rattle.flow_code.specs.Next.{stepped as thread_stepped, action_at, gave_up, stopped, slot_closed}
 use Rattle.flow_code.specs.Settle.{settled}
 use Rattle.flow_code.specs.Ranges.{InRange}
 use Rattle.flow_code.proofs.Ranges.{operation_count, not_ended, settled_in_range}
@@ -136,7 +136,7 @@ module _ (code : Code) (s : SetupView) where
   effect_listed (Stop t) told r h =
       subst (KeepsListed t) (sym (effect_stop code s t told)) (if_listed t (may_stop told.thread) _ (λ m. operation_listed t told op.Stop object.Halt [] (λ answer. stopped told.thread) h (λ has. outside t told op.Stop object.Halt has (not_ended code s 0 t told.thread r.counted (λ e. true≢false (sym e ∙ stop_lives told.thread m))) (λ n ne. absurd (true≢false n))) (λ answer. (stopped_ends code s t told.thread (endings_in told.entries) (stop_lives told.thread m) h.ends, refl))))
   effect_listed (Close t) told r h =
-      subst (KeepsListed t) (sym (effect_close code s t told)) (if_listed t (may_close told.thread) _ (λ m. operation_listed t told op.Close (object.Slot t) [] (λ answer. shut told.thread) h (λ has. outside t told op.Close (object.Slot t) has (not_ended code s 0 t told.thread r.counted (λ e. true≢false (sym e ∙ close_lives told.thread m))) (λ n ne. absurd (true≢false n))) (λ answer. (shut_ends code s t told.thread (endings_in told.entries) (close_lives told.thread m) h.ends, refl))))
+      subst (KeepsListed t) (sym (effect_close code s t told)) (if_listed t (may_close told.thread) _ (λ m. operation_listed t told op.Close (object.Slot t) [] (λ answer. slot_closed told.thread) h (λ has. outside t told op.Close (object.Slot t) has (not_ended code s 0 t told.thread r.counted (λ e. true≢false (sym e ∙ close_lives told.thread m))) (λ n ne. absurd (true≢false n))) (λ answer. (shut_ends code s t told.thread (endings_in told.entries) (close_lives told.thread m) h.ends, refl))))
 
   outcome_listed : (t : ℕ) (words after : List ℕ) (e : Effect Told) (told : Told) → KeepsListed t e → outcome (machine code s) words e ≡ Leaves after told → IsListed t told
   outcome_listed t words after Refused told h e = cc

@@ -15,7 +15,7 @@ use Rattle.sync_objects.specs.declared.operation.OpName.{OpName}
 use Rattle.sync_objects.specs.declared.operation.OpName.TheVariants as name
 use Rattle.flow_code.specs.declared.code.Code.{Code}
 use Rattle.flow_code.specs.Threads.{Thread}
-use Rattle.flow_code.specs.Next.{gave_up, stopped, shut}
+use Rattle.flow_code.specs.Next.{gave_up, stopped, slot_closed}
 use Rattle.core_run.specs.Machine.{Told, effect_of, change_of, operated, entry_of, operation, may_revoke, may_stop, may_close}
 use Rattle.core_run.specs.Words.{cells_of, has_object, place_of}
 use Rattle.core_run.specs.Parts.{made_outcome, MadeIs, noted, LacksWord, no_object, no_word, no_row, HasWord}
@@ -116,7 +116,7 @@ stop_effect code s told th e is l =
     ap (λ z. effect_of code s z told) l ∙ effect_stop code s e.thread told
     ∙ ap (λ z. if may_stop z then operation code s e.thread told op.Stop object.Halt [] (λ answer. stopped z) else Refused) is
 
-pub close_effect : (code : Code) (s : SetupView) (told : Told) (th : Thread) (e : Entry) → told.thread ≡ th → label_of e ≡ Close e.thread → effect_of code s (label_of e) told ≡ (if may_close th then operation code s e.thread told op.Close (object.Slot e.thread) [] (λ answer. shut th) else Refused)
+pub close_effect : (code : Code) (s : SetupView) (told : Told) (th : Thread) (e : Entry) → told.thread ≡ th → label_of e ≡ Close e.thread → effect_of code s (label_of e) told ≡ (if may_close th then operation code s e.thread told op.Close (object.Slot e.thread) [] (λ answer. slot_closed th) else Refused)
 close_effect code s told th e is l =
     ap (λ z. effect_of code s z told) l ∙ effect_close code s e.thread told
-    ∙ ap (λ z. if may_close z then operation code s e.thread told op.Close (object.Slot e.thread) [] (λ answer. shut z) else Refused) is
+    ∙ ap (λ z. if may_close z then operation code s e.thread told op.Close (object.Slot e.thread) [] (λ answer. slot_closed z) else Refused) is

@@ -1,4 +1,4 @@
--- The words of objects stand behind those of cells, each at a place of its own.
+-- The words of objects stand after those of cells, each at a place of its own.
 use Rattle.std.proofs.Common.{◌≡◌, ℕ, zero, suc, ◌+◌, ◌*◌, ◌-◌, ◌/◌, ◌%◌, ◌<◌, ◌≤◌, true, if◌then◌else◌, nat_lt, length, sym, ap, ◌∙◌, arith}
 use Rattle.std.proofs.lemmas.Bool.{ltb-true, lt-ltb, le-ltb, and_parts, cond-true, cond-false}
 use Rattle.sync_objects.specs.Setup.{SetupView, IsWithinLimits}
@@ -7,16 +7,16 @@ use Rattle.sync_objects.specs.declared.object.ObjId.TheVariants as object
 use Rattle.flow_code.specs.declared.code.Code.{Code}
 use Rattle.core_run.specs.Words.{cells_of, has_object, place_of}
 
-pub place_behind : (cells : ℕ) (o : ObjId) → cells ≤ place_of cells o
-place_behind cells (object.Mutex cell) = omega arith
-place_behind cells (object.Cond cell) = omega arith
-place_behind cells (object.Barrier cell) = omega arith
-place_behind cells (object.Weak lock stripe) = omega arith
-place_behind cells (object.Slot k) = omega arith
-place_behind cells object.Threads = omega arith
-place_behind cells object.Halt = omega arith
-place_behind cells object.Input = omega arith
-place_behind cells object.Output = omega arith
+pub place_past : (cells : ℕ) (o : ObjId) → cells ≤ place_of cells o
+place_past cells (object.Mutex cell) = omega arith
+place_past cells (object.Cond cell) = omega arith
+place_past cells (object.Barrier cell) = omega arith
+place_past cells (object.Weak lock stripe) = omega arith
+place_past cells (object.Slot k) = omega arith
+place_past cells object.Threads = omega arith
+place_past cells object.Halt = omega arith
+place_past cells object.Input = omega arith
+place_past cells object.Output = omega arith
 
 -- the object of a place
 
@@ -26,7 +26,7 @@ single (suc zero) = object.Halt
 single (suc (suc zero)) = object.Input
 single (suc (suc (suc n))) = object.Output
 
--- the object behind those of cells
+-- the object after those of cells
 abbrev other : ℕ → ObjId
 other n = if nat_lt n 16 then object.Slot n else (if nat_lt n 20 then single (n - 16) else object.Weak ((n - 20) / 8) ((n - 20) % 8))
 
@@ -43,8 +43,8 @@ below m n x y h = cond-true (nat_lt m n) x y (lt-ltb m n h)
 above : {A : Type 0} (m n : ℕ) (x y : A) → n ≤ m → (if nat_lt m n then x else y) ≡ y
 above m n x y h = cond-false (nat_lt m n) x y (le-ltb m n h)
 
-behind_cells : (cells n : ℕ) → object_at cells (4 * cells + n) ≡ other n
-behind_cells cells n =
+after_cells : (cells n : ℕ) → object_at cells (4 * cells + n) ≡ other n
+after_cells cells n =
     let p = 4 * cells + n in
     let left : p - 4 * cells ≡ n = omega arith in
     above p (2 * cells) _ _ (omega arith) ∙ above p (3 * cells) _ _ (omega arith) ∙ above p (4 * cells) _ _ (omega arith) ∙ ap other left
@@ -61,15 +61,15 @@ object_at_place code s (object.Barrier cell) l h =
 object_at_place code s (object.Slot k) l h =
     let lt = ltb-true k s.slots h in
     let few = l.few_slots in
-    behind_cells (cells_of code s) k ∙ below k 16 _ _ (omega arith)
-object_at_place code s object.Threads l h = behind_cells (cells_of code s) 16
-object_at_place code s object.Halt l h = behind_cells (cells_of code s) 17
-object_at_place code s object.Input l h = behind_cells (cells_of code s) 18
-object_at_place code s object.Output l h = behind_cells (cells_of code s) 19
+    after_cells (cells_of code s) k ∙ below k 16 _ _ (omega arith)
+object_at_place code s object.Threads l h = after_cells (cells_of code s) 16
+object_at_place code s object.Halt l h = after_cells (cells_of code s) 17
+object_at_place code s object.Input l h = after_cells (cells_of code s) 18
+object_at_place code s object.Output l h = after_cells (cells_of code s) 19
 object_at_place code s (object.Weak lock stripe) l h =
     let lt = ltb-true stripe 8 (and_parts (nat_lt lock (length code.locks)) (nat_lt stripe 8) h).1 in
     let n = 20 + 8 * lock + stripe in
-    ap (object_at (cells_of code s)) (omega arith) ∙ behind_cells (cells_of code s) n ∙ above n 16 _ _ (omega arith) ∙ above n 20 _ _ (omega arith)
+    ap (object_at (cells_of code s)) (omega arith) ∙ after_cells (cells_of code s) n ∙ above n 16 _ _ (omega arith) ∙ above n 20 _ _ (omega arith)
     ∙ ap (λ k. object.Weak k ((n - 20) % 8)) (omega arith) ∙ ap (object.Weak lock) (omega arith)
 
 -- equal places are those of one object

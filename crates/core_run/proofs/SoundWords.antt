@@ -19,14 +19,14 @@ use Rattle.flow_code.specs.declared.code.Code.{Code}
 use Rattle.abstract_machine.specs.declared.event.Action.{Action}
 use Rattle.abstract_machine.specs.declared.event.Action.TheVariants as action
 use Rattle.flow_code.specs.Threads.{Thread}
-use Rattle.flow_code.specs.Next.{stepped as thread_stepped, action_at, gave_up, stopped, shut}
+use Rattle.flow_code.specs.Next.{stepped as thread_stepped, action_at, gave_up, stopped, slot_closed}
 use Rattle.flow_code.specs.Settle.{settled, IsRunnable}
 use Rattle.flow_code.proofs.Asked.{own_action}
 use Rattle.core_run.specs.Words.{cells_of, has_object, place_of, start_words}
 use Rattle.core_run.specs.Pieces.{piece_next}
 use Rattle.core_run.specs.Machine.{Told, entry_of, operation, action_effect, may_revoke, may_stop, may_close, effect_of, machine}
 use Rattle.core_run.specs.Kept.{AreSound}
-use Rattle.core_run.proofs.Places.{place_behind, place_apart}
+use Rattle.core_run.proofs.Places.{place_past, place_apart}
 use Rattle.core_run.proofs.Beginnings.{start_word_at, start_number}
 use Rattle.core_run.proofs.Lawful.{effect_go, effect_revoke, effect_stop, effect_close, change_is}
 use Rattle.runs.specs.Labels.{Label, Go, Revoke, Stop, Close, label_thread}
@@ -55,7 +55,7 @@ module _ (code : Code) (s : SetupView) where
   pub sound_store : (n : ℕ) (words : List ℕ) (c w : ℕ) → c < cells_of code s → AreSound code s n words → AreSound code s n (slice_set words c w)
   sound_store n words c w lt h = record {
     each = λ o v has at.
-        let behind = place_behind (cells_of code s) o in
+        let following = place_past (cells_of code s) o in
         h.each o v has (sym (slice_get-set_other words c (place o) w (λ e. absurd (omega arith))) ∙ at);
   }
 
@@ -139,7 +139,7 @@ module _ (code : Code) (s : SetupView) where
   effect_is_sound runnable limits (Stop t) told small =
       subst IsSoundEffect (sym (effect_stop code s t told)) (if_sound (may_stop told.thread) _ (λ m. operation_is_sound t told op.Stop object.Halt [] (λ answer. stopped told.thread) small refl tt))
   effect_is_sound runnable limits (Close t) told small =
-      subst IsSoundEffect (sym (effect_close code s t told)) (if_sound (may_close told.thread) _ (λ m. operation_is_sound t told op.Close (object.Slot t) [] (λ answer. shut told.thread) small refl tt))
+      subst IsSoundEffect (sym (effect_close code s t told)) (if_sound (may_close told.thread) _ (λ m. operation_is_sound t told op.Close (object.Slot t) [] (λ answer. slot_closed told.thread) small refl tt))
 
   -- an operation is one more, and nothing else is
   outcome_sound : IsWithinLimits s → (n : ℕ) (words after : List ℕ) (e : Effect Told) (told : Told) → n < 2 ^ 32 - 1 → IsSoundEffect e → outcome (machine code s) words e ≡ Leaves after told → AreSound code s n words → AreSound code s (n + length (effect_entry (machine code s) words e)) after

@@ -16,7 +16,7 @@ use Rattle.abstract_machine.specs.declared.event.Action.{Action}
 use Rattle.abstract_machine.specs.declared.event.Action.TheVariants as action
 use Rattle.abstract_machine.specs.Values.{number}
 use Rattle.flow_code.specs.Threads.{Thread}
-use Rattle.flow_code.specs.Next.{holds, stepped as thread_stepped, action_at, gave_up, stopped, shut, has_ended, has_begun}
+use Rattle.flow_code.specs.Next.{holds, stepped as thread_stepped, action_at, gave_up, stopped, slot_closed, has_ended, has_begun}
 use Rattle.abstract_machine.specs.Limits.{most_entries, most_revokes}
 use Rattle.flow_code.specs.Settle.{settled}
 use Rattle.flow_code.specs.Ranges.{InRange, within}
@@ -111,7 +111,7 @@ module _ (code : Code) (s : SetupView) where
   effect_keeps (Stop t) told h =
       subst (KeepsRange t) (sym (effect_stop code s t told)) (if_keeps t (may_stop told.thread) _ (λ m. operation_keeps t told op.Stop object.Halt [] (λ answer. stopped told.thread) (λ answer. stopped_in_range code s 0 t told.thread (stop_lives told.thread m) h)))
   effect_keeps (Close t) told h =
-      subst (KeepsRange t) (sym (effect_close code s t told)) (if_keeps t (may_close told.thread) _ (λ m. operation_keeps t told op.Close (object.Slot t) [] (λ answer. shut told.thread) (λ answer. shut_in_range code s 0 t told.thread (close_lives told.thread m) h)))
+      subst (KeepsRange t) (sym (effect_close code s t told)) (if_keeps t (may_close told.thread) _ (λ m. operation_keeps t told op.Close (object.Slot t) [] (λ answer. slot_closed told.thread) (λ answer. shut_in_range code s 0 t told.thread (close_lives told.thread m) h)))
 
   outcome_keeps : (t : ℕ) (words after : List ℕ) (e : Effect Told) (told : Told) → KeepsRange t e → outcome (machine code s) words e ≡ Leaves after told → InRange code s 0 t told.thread
   outcome_keeps t words after Refused told h e = cc

@@ -17,7 +17,7 @@ use Rattle.flow_code.specs.declared.code.Code.{Code}
 use Rattle.abstract_machine.specs.declared.event.Action.{Action}
 use Rattle.abstract_machine.specs.declared.event.Action.TheVariants as action
 use Rattle.flow_code.specs.Threads.{Thread}
-use Rattle.flow_code.specs.Next.{stepped as thread_stepped, action_at, gave_up, stopped, shut}
+use Rattle.flow_code.specs.Next.{stepped as thread_stepped, action_at, gave_up, stopped, slot_closed}
 use Rattle.flow_code.specs.Settle.{settled}
 use Rattle.core_run.specs.Words.{cells_of, has_object}
 use Rattle.core_run.specs.Pieces.{piece_next}
@@ -65,7 +65,7 @@ module _ (code : Code) (s : SetupView) where
   effect_tells (Go t) told = subst (Tells t told) (sym (effect_go code s t told)) (action_tells t told (settled code s t told.thread) (action_at code s t (settled code s t told.thread)))
   effect_tells (Revoke t lock stripe) told = subst (Tells t told) (sym (effect_revoke code s t lock stripe told)) (if_tells t told (may_revoke told.thread lock stripe) _ (operation_tells t told told op.Revoke (object.Weak lock stripe) [] (λ answer. gave_up told.thread lock stripe) refl))
   effect_tells (Stop t) told = subst (Tells t told) (sym (effect_stop code s t told)) (if_tells t told (may_stop told.thread) _ (operation_tells t told told op.Stop object.Halt [] (λ answer. stopped told.thread) refl))
-  effect_tells (Close t) told = subst (Tells t told) (sym (effect_close code s t told)) (if_tells t told (may_close told.thread) _ (operation_tells t told told op.Close (object.Slot t) [] (λ answer. shut told.thread) refl))
+  effect_tells (Close t) told = subst (Tells t told) (sym (effect_close code s t told)) (if_tells t told (may_close told.thread) _ (operation_tells t told told op.Close (object.Slot t) [] (λ answer. slot_closed told.thread) refl))
 
   -- the entries that are added are the thread's, and are appended to its list
   pub outcome_tells : (t : ℕ) (words after : List ℕ) (e : Effect Told) (told q : Told) → Tells t told e → outcome (machine code s) words e ≡ Leaves after q →

@@ -41,7 +41,7 @@ reaches_solo code s (e ∷ es) s0 s1 s2 r h =
 
 -- ---- the walk between two entries
 
--- the entries before the rest are walked, and this is shown of the state behind them
+-- the entries before the rest are walked, and this is shown of the state after them
 pub record Walked (code : Code) (s : SetupView) (es : List Entry) (f : Formula) (at : ℕ) (rest : List Entry) (flows : List Running) (words : List ℕ) (reads : List (List Access)) (out : List ℕ) : Type 0 where
   pub front : List Entry
   pub split : es ≡ front ++ rest

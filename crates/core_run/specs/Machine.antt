@@ -18,7 +18,7 @@ use Rattle.abstract_machine.specs.declared.event.Action.{Action}
 use Rattle.abstract_machine.specs.declared.event.Action.TheVariants as action
 use Rattle.abstract_machine.specs.Values.{number}
 use Rattle.flow_code.specs.Threads.{Frame, Thread, arena_start, is_main_in}
-use Rattle.flow_code.specs.Next.{stepped, action_at, holds, gave_up, stopped, shut, has_ended, has_begun}
+use Rattle.flow_code.specs.Next.{stepped, action_at, holds, gave_up, stopped, slot_closed, has_ended, has_begun}
 use Rattle.abstract_machine.specs.Limits.{most_entries, most_revokes}
 use Rattle.flow_code.specs.Settle.{settled}
 use Rattle.core_run.specs.declared.access.Access.{Access}
@@ -90,7 +90,7 @@ unfoldable pub effect_of : Code → SetupView → Label → Told → Effect Told
 effect_of code s (Go t) told = action_effect code s t told (settled code s t told.thread) (action_at code s t (settled code s t told.thread))
 effect_of code s (Revoke t lock stripe) told = if may_revoke told.thread lock stripe then operation code s t told op.Revoke (object.Weak lock stripe) [] (λ answer. gave_up told.thread lock stripe) else Refused
 effect_of code s (Stop t) told = if may_stop told.thread then operation code s t told op.Stop object.Halt [] (λ answer. stopped told.thread) else Refused
-effect_of code s (Close t) told = if may_close told.thread then operation code s t told op.Close (object.Slot t) [] (λ answer. shut told.thread) else Refused
+effect_of code s (Close t) told = if may_close told.thread then operation code s t told op.Close (object.Slot t) [] (λ answer. slot_closed told.thread) else Refused
 
 -- the machine of a code and a setup
 abbrev pub machine : Code → SetupView → Machine Told

@@ -14,7 +14,7 @@ pub record StepsIf (b : Bool) (code : Code) (s : SetupView) (th q : Thread) : Ty
   pub thread : b ≡ true → (t : ℕ) → q ≡ phase_after code s t th th.phase (pos 0)
   pub same : b ≡ false → q ≡ th
 
--- q is th behind some of its quiet steps: it stays sound, comes to the same by all of them, and has no more of them left
+-- q is th after some of its quiet steps: it stays sound, comes to the same by all of them, and has no more of them left
 pub record Passes (code : Code) (s : SetupView) (th q : Thread) : Type 0 where
   pub sound : (t : ℕ) → IsSoundFlow code s t th → IsSoundFlow code s t q
   pub same : IsRunnable code → (t : ℕ) → settled code s t q ≡ settled code s t th

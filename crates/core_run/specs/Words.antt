@@ -1,4 +1,4 @@
--- The words of a machine: those of its cells, and behind them those of its objects.
+-- The words of a machine: those of its cells, and after them those of its objects.
 use Rattle.std.specs.Prelude.{ℕ, ◌+◌, ◌*◌, ◌==◌, nat_lt, ◌&&◌, Bool, true, if◌then◌else◌, List, [], ◌∷◌, ◌++◌, length, replicate}
 use Rattle.sync_objects.specs.Setup.{SetupView}
 use Rattle.sync_objects.specs.Start.{start_word}

@@ -38,11 +38,11 @@ pub(crate) fn first_owed(stripes: &[Stripe]) -> Option<Stripe>
     ensures { result ≡ first_owed_of stripes.now }
 {
     let mut rest = stripes;
-    while let [first, behind @ ..] = rest {
+    while let [first, following @ ..] = rest {
         if first.owed {
             return Some(*first);
         }
-        rest = behind;
+        rest = following;
     }
     None
 }

@@ -56,7 +56,7 @@ pub(crate) fn first_trap(flows: &[Flow]) -> Option<(u8, Trap, u32)>
     None
 }
 
-// All lists, one behind the other.
+// All lists, one after the other.
 pub(crate) fn joined(alloc: Global, lists: &[List<Access>]) -> Result<List<Access>, AllocError>
     ensures { IfOk result (λ it. it ≡ flat_map (λ xs. xs) lists.now) }
 {

@@ -1,6 +1,6 @@
 // The interpreter of one thread.
 ghost use Rattle.std.specs.Prelude.{◌≡◌, ◌<◌, ◌≤◌, ◌^◌, ◌+◌, true, false, OnOk, IfOk, ◌≢◌, length};
-ghost use Rattle.flow_code.specs.Next.{action_at, due_of, stepped, gave_up, stopped, shut, has_ended, has_begun, holds as holds_stripe};
+ghost use Rattle.flow_code.specs.Next.{action_at, due_of, stepped, gave_up, stopped, slot_closed, has_ended, has_begun, holds as holds_stripe};
 ghost use Rattle.abstract_machine.specs.Limits.{most_entries, most_revokes};
 ghost use Rattle.flow_code.specs.Settle.{IsRunnable, weight, settled};
 ghost use Rattle.core_run.specs.Flows.{is_ready, needs};
@@ -200,7 +200,7 @@ impl<'a> Flow<'a> {
         self.state.pass_alone(self.code, self.setup);
     }
 
-    /// All quiet steps, and what comes next behind them. After an Err some of the quiet steps are made, and the others are still to
+    /// All quiet steps, and what comes next after them. After an Err some of the quiet steps are made, and the others are still to
     /// come.
     #[inline(always)]
     pub fn settle_to_next(&mut self) -> Result<Action, AllocError>
@@ -261,14 +261,14 @@ impl<'a> Flow<'a> {
     }
 
     /// What a close of the thread's slot does to it.
-    pub fn shut(&mut self)
+    pub fn close_slot(&mut self)
         requires { has_ended self.old.kept.thread.phase ≡ false }
         ensures code { self.new.code ≡ self.old.code }
         ensures setup { self.new.setup ≡ self.old.setup }
         ensures number { self.new.number ≡ self.old.number }
-        ensures thread { self.new.kept.thread ≡ shut self.old.kept.thread }
+        ensures thread { self.new.kept.thread ≡ slot_closed self.old.kept.thread }
     {
-        self.state.shut();
+        self.state.close_slot();
     }
 
     /// The functions on the thread's stack, the running one last: none before it enters its first function, and none once it

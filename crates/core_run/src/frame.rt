@@ -48,7 +48,7 @@ impl Frame {
         }
     }
 
-    // Goes on behind the instruction.
+    // Goes on after the instruction.
     pub(crate) fn pass(&mut self)
         requires { self.old.instr + 1 < 2 ^ 64 }
         ensures { self.new ≡ past_of self.old }

@@ -9,7 +9,7 @@ use crate::place::instr_at;
 use crate::region::OpenRegion;
 use crate::state::ThreadState;
 use crate::stripes::{
-    forget_owed, has_stripe, keep_behind, keep_listed, number_of_pair, owes, release,
+    forget_owed, has_stripe, keep_after, keep_listed, number_of_pair, owes, release,
 };
 use abstract_machine::{Due, LibraryCall};
 use flow_code::{Act, Code, Instr, Stripe};
@@ -37,11 +37,11 @@ fn first_alone(regions: &[OpenRegion], pairs: &[(u16, u8)]) -> Option<(u16, u8)>
     ensures { result ≡ first_alone_of regions.now pairs.now }
 {
     let mut rest = pairs;
-    while let [first, behind @ ..] = rest {
+    while let [first, following @ ..] = rest {
         if is_alone(regions, *first) {
             return Some(*first);
         }
-        rest = behind;
+        rest = following;
     }
     None
 }
@@ -76,13 +76,13 @@ fn keep_in_all(regions: &mut Vec<OpenRegion>, stripes: &[Stripe])
     }
 }
 
-// The stripes of a region behind one of them, or none.
+// The stripes of a region after one of them, or none.
 fn cut_at(regions: &mut Vec<OpenRegion>, at: usize, given: Option<(u16, u8)>)
     requires { at < length regions.old.items }
     ensures { regions.new.items ≡ cut regions.old.items at (left_by given (pairs_of (slice_get regions.old.items at))) }
 {
     match given {
-        Some(pair) => keep_behind(&mut regions[at].stripes, number_of_pair(pair)),
+        Some(pair) => keep_after(&mut regions[at].stripes, number_of_pair(pair)),
         None => regions[at].stripes.clear(),
     }
     drop_empty(regions);

@@ -16,7 +16,7 @@ ghost use Rattle.runs.specs.Steps.{State};
 
 /// Law: the machine of a runnable code keeps to the laws of runs. A thread's own steps are loads and stores of cells,
 /// marks, and operations of which each draws the next number of its object. Revokes, stops and closes are made of it
-/// by others. Each object's word has a place of its own behind the cells.
+/// by others. Each object's word has a place of its own after the cells.
 pub fn law_machine()
     ensures { (code : Code) (setup : SetupView) →
         IsRunnable code →

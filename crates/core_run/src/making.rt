@@ -226,7 +226,7 @@ fn close(flow: &mut Flow, words: &mut Vec<u64>, cells: u32, entry: Entry) -> Mad
     ) else {
         return Made::Refused;
     };
-    flow.shut();
+    flow.close_slot();
     set_word(words, place_of(cells, ObjId::Slot(entry.thread)), next);
     Made::Silent
 }

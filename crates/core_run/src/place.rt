@@ -87,7 +87,7 @@ pub(crate) fn line_at(code: &Code, function: u32, instr: usize) -> u32
     }
 }
 
-// The first cell behind the arena of a thread.
+// The first cell after the arena of a thread.
 pub(crate) fn arena_end(code: &Code, setup: &Setup, thread: u8) -> u32
     requires globals { length code.now.globals ≤ 2 ^ 20 }
     requires thread { thread < setup.now.slots }

@@ -74,7 +74,7 @@ fn push_objects(words: &mut Vec<u64>, cells: usize, locks: usize) -> Result<(), 
     Ok(())
 }
 
-/// The words at the start: those of the cells, and behind them those of the objects.
+/// The words at the start: those of the cells, and after them those of the objects.
 pub fn start_words(alloc: Global, code: &Code, setup: &Setup) -> Result<Vec<u64>, AllocError>
     requires runnable { IsRunnable code.now }
     ensures { IfOk result (λ it. it.items ≡ start_words_of code.now setup.now) }

@@ -2,7 +2,7 @@
 ghost use Rattle.std.specs.Prelude.{◌≡◌, ◌<◌, ◌≤◌, ◌^◌, ◌+◌, ◌-◌, ◌∷◌, [], ◌++◌, true, Some, None, length, pos, position, slice_get};
 ghost use Rattle.std.specs.Vec.{vec_len, vec_capacity};
 ghost use Rattle.sync_objects.specs.Names.{name_of};
-ghost use Rattle.flow_code.specs.Next.{computed, allocated, end_onward, back_in, went_on, counted, in_frame, past as past_of, result_of, gave_up, stopped, shut, lost, repaid, with_owed, same_stripe, act_in, holds as holds_stripe};
+ghost use Rattle.flow_code.specs.Next.{computed, allocated, end_onward, back_in, resumed, counted, in_frame, past as past_of, result_of, gave_up, stopped, slot_closed, lost, repaid, with_owed, same_stripe, act_in, holds as holds_stripe};
 ghost use Rattle.flow_code.specs.Threads.{Frame as FrameView, instrs_in};
 ghost use Rattle.std.specs.Option.{option_copied};
 ghost use Rattle.core_run.specs.Flows.{Kept, is_ready, needs, needs_pairs};
@@ -229,7 +229,7 @@ impl ThreadState {
         }
     }
 
-    // Goes on behind the instruction.
+    // Goes on after the instruction.
     pub(crate) fn pass(&mut self)
         requires { self.old.thread.top.instr + 1 < 2 ^ 64 }
         ensures { self.new.thread ≡ in_frame self.old.thread (past_of self.old.thread.top) }
@@ -254,9 +254,9 @@ impl ThreadState {
 
     // What an answer to the event of a call leads to.
     pub(crate) fn go_onward(&mut self, into: Option<u32>, onward: Onward)
-        requires made { (went_on self.old.thread into onward).top.made < 2 ^ 8 }
+        requires made { (resumed self.old.thread into onward).top.made < 2 ^ 8 }
         requires instr { self.old.thread.top.instr + 1 < 2 ^ 64 }
-        ensures { self.new.thread ≡ went_on self.old.thread into onward }
+        ensures { self.new.thread ≡ resumed self.old.thread into onward }
     {
         match onward {
             Onward::Stays { kept } => self.top.count_event(kept),
@@ -294,7 +294,7 @@ impl ThreadState {
         self.arena += cells;
     }
 
-    // Goes back to the frame below, behind its call.
+    // Goes back to the frame below, after its call.
     pub(crate) fn back(&mut self, code: &Code, value: u64)
         requires { (f : FrameView) → slice_get self.old.thread.below (length self.old.thread.below - 1) ≡ Some f → f.instr < length (instrs_in (slice_get code.now.functions f.function)) }
         ensures { self.new.thread ≡ back_in code.now self.old.thread value (slice_get self.old.thread.below (length self.old.thread.below - 1)) }
@@ -346,9 +346,9 @@ impl ThreadState {
     }
 
     // The thread was closed before it began.
-    pub(crate) fn shut(&mut self)
+    pub(crate) fn close_slot(&mut self)
         requires { self.old.thread.count + 1 < 2 ^ 32 }
-        ensures { self.new.thread ≡ shut self.old.thread }
+        ensures { self.new.thread ≡ slot_closed self.old.thread }
     {
         self.phase = Phase::Closed;
         self.count += 1;
@@ -393,11 +393,11 @@ fn holds(stripes: &[Stripe], lock: u16, stripe: u8) -> bool
     ensures { result ≡ holds_stripe stripes.now lock stripe }
 {
     let mut rest = stripes;
-    while let [first, behind @ ..] = rest {
+    while let [first, following @ ..] = rest {
         if is_of(*first, lock, stripe) && !first.owed {
             return true;
         }
-        rest = behind;
+        rest = following;
     }
     false
 }

@@ -2,7 +2,7 @@
 ghost use Rattle.std.specs.Prelude.{◌≡◌, ◌<◌, ◌≤◌, ◌^◌, ◌+◌, length, filter, not, ◌-◌, ◌++◌, ◌∷◌, [], ◌&&◌, IfSome, nat_lt, position};
 ghost use Rattle.std.specs.Vec.{vec_len, vec_capacity};
 ghost use Rattle.flow_code.specs.Stripes.{wants_number as wants_number_of, stripe_of as stripe_of_number, first_from, and_stripe, stripes_from};
-ghost use Rattle.flow_code.specs.Holding.{number_of_stripe as number_of, number_of_pair as number_of_a_pair, is_listed as is_listed_in, has_stripe as has_stripe_in, place_for as place_for_number, with_stripe, without_stripe, behind_pairs as behind_all, pairs_behind, owes as owes_any, held};
+ghost use Rattle.flow_code.specs.Holding.{number_of_stripe as number_of, number_of_pair as number_of_a_pair, is_listed as is_listed_in, has_stripe as has_stripe_in, place_for as place_for_number, with_stripe, without_stripe, after_pairs as after_all, pairs_after, owes as owes_any, held};
 
 use flow_code::{Code, Region, Stripe, wants_number};
 
@@ -95,9 +95,9 @@ pub(crate) fn forget_owed(stripes: &mut Vec<Stripe>)
     stripes.retain(|x| !x.owed);
 }
 
-// Keeps those of ascending stripes that are behind one of them.
-pub(crate) fn keep_behind(pairs: &mut Vec<(u16, u8)>, number: u32)
-    ensures { pairs.new.items ≡ pairs_behind number pairs.old.items }
+// Keeps those of ascending stripes that are after one of them.
+pub(crate) fn keep_after(pairs: &mut Vec<(u16, u8)>, number: u32)
+    ensures { pairs.new.items ≡ pairs_after number pairs.old.items }
 {
     pairs.retain(|x| number < number_of_pair(*x));
 }
@@ -109,9 +109,9 @@ pub(crate) fn keep_listed(pairs: &mut Vec<(u16, u8)>, stripes: &[Stripe])
     pairs.retain(|x| is_listed(stripes, number_of_pair(*x)));
 }
 
-// The number behind the last of ascending stripes.
-pub(crate) fn behind_pairs(pairs: &[(u16, u8)]) -> u32
-    ensures value { result ≡ behind_all pairs.now }
+// The number after the last of ascending stripes.
+pub(crate) fn after_pairs(pairs: &[(u16, u8)]) -> u32
+    ensures value { result ≡ after_all pairs.now }
     ensures within { result ≤ 2 ^ 20 }
 {
     match pairs.last() {
@@ -181,7 +181,7 @@ fn copied(taken: &[(u16, u8)], mut into: Vec<(u16, u8)>) -> Vec<(u16, u8)>
     into
 }
 
-// These stripes, and behind them those with a number from one to before another that the region takes, in memory that is
+// These stripes, and after them those with a number from one to before another that the region takes, in memory that is
 // at hand.
 pub(crate) fn pairs_before(
     code: &Code,

@@ -11,7 +11,7 @@ ghost use Rattle.flow_code.specs.declared.act.Act.TheVariants as act;
 use crate::place::region_at;
 use crate::region::OpenRegion;
 use crate::state::ThreadState;
-use crate::stripes::{behind_pairs, first_lacked, hold, pairs_before};
+use crate::stripes::{after_pairs, first_lacked, hold, pairs_before};
 use abstract_machine::Due;
 use flow_code::{Code, Region, end_lock, first_lock};
 use std::alloc::Global;
@@ -83,7 +83,7 @@ impl ThreadState {
         ensures value { result ≡ left_from_of self.now.thread region.now }
         ensures within { result ≤ 2 ^ 20 }
     {
-        (8 * first_lock(region)).max(behind_pairs(self.taken_pairs()))
+        (8 * first_lock(region)).max(after_pairs(self.taken_pairs()))
     }
 
     // How many stripes the region may have after the next step.

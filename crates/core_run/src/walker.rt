@@ -93,7 +93,7 @@ fn own_steps_in(
     Ok(true)
 }
 
-// The operation that makes an entry, in its thread; what it prints is put behind the bytes that are there.
+// The operation that makes an entry, in its thread; what it prints is put after the bytes that are there.
 fn make_in(
     code: &Code,
     setup: &Setup,
@@ -138,7 +138,7 @@ fn count_in(flows: &[Flow], thread: u8) -> u32
 
 /// The part of one entry in a walk: its thread goes alone up to the entry's count, and then makes the entry. `words`
 /// are those of all cells and objects, and `reads` are the accesses that were kept of each thread. What is printed is
-/// put behind `out`. The answer is false exactly where the part isn't allowed.
+/// put after `out`. The answer is false exactly where the part isn't allowed.
 pub fn make_part(
     code: &Code,
     setup: &Setup,

@@ -11,15 +11,15 @@ use Rattle.crew.specs.Schedule.{PlayState, begin, whose, Chance, passes, gives, 
 use Rattle.crew.specs.declared.job.Job as Job
 use Rattle.crew.proofs.Zips.{zip_same, zip_set, zip_set_both}
 
--- the order's numbers, and those of the rounds behind it
+-- the order's numbers, and those of the rounds after it
 pub whose_order : (order : List ℕ) (jobs k : ℕ) → k < length order → (d : ℕ) → whose order jobs k ≡ get_or order k d
 whose_order order jobs k low d = ap (λ o. unwrap_or o ((k - length order) % jobs)) (slice_get-get_or order k d low)
 
 pub whose_round : (order : List ℕ) (jobs rounds at : ℕ) → at < jobs → whose order jobs ((length order + rounds * jobs) + at) ≡ at
 whose_round order jobs rounds at low =
     let k = (length order + rounds * jobs) + at in
-    let behind : k - length order ≡ rounds * jobs + at = omega arith in
-    ap (λ o. unwrap_or o ((k - length order) % jobs)) (slice_get_past order k (omega arith)) ∙ (ap (λ n. n % jobs) behind ∙ mod-mul-add rounds jobs at low)
+    let following : k - length order ≡ rounds * jobs + at = omega arith in
+    ap (λ o. unwrap_or o ((k - length order) % jobs)) (slice_get_past order k (omega arith)) ∙ (ap (λ n. n % jobs) following ∙ mod-mul-add rounds jobs at low)
 
 module _ {J : Type 0} (g : Job.Ghosts J) where
   -- a job was led on, and has no fewer turns
@@ -134,7 +134,7 @@ module _ {J : Type 0} (g : Job.Ghosts J) where
       let P : PlayState J → Type 0 = λ s. MatchBool b (Ends g (whose order (length s.jobs)) s IsOver t) (Ends g (whose order (length s.jobs)) s IsSpent t) in
       rises_total jobs t.jobs (led_to same on (whose order (length jobs)) (begin jobs most) t b (subst P is ends))
 
-  -- a round behind whole rounds
+  -- a round after whole rounds
   pub rounds_on : (order : List ℕ) (start s t : PlayState J) (rounds : ℕ) → Reached g (whose order (length start.jobs)) start (length order + rounds * length start.jobs) s
       → ((k : ℕ) → ((at : ℕ) → at < length s.jobs → whose order (length start.jobs) (k + at) ≡ at) → Reached g (whose order (length start.jobs)) start k s
       → Reached g (whose order (length start.jobs)) start (k + length s.jobs) t)
@@ -146,7 +146,7 @@ module _ {J : Type 0} (g : Job.Ghosts J) where
       let count : k + length s.jobs ≡ length order + (rounds + 1) * length start.jobs = omega arith in
       subst (λ n. Reached g number start n t) count on
 
-  -- a whole number of rounds behind the order the next one begins
+  -- a whole number of rounds after the order the next one begins
   pub is_round : (order : List ℕ) (start s : PlayState J) (rounds : ℕ) → Reached g (whose order (length start.jobs)) start (length order + rounds * length start.jobs) s
       → (at : ℕ) → at < length s.jobs → whose order (length start.jobs) ((length order + rounds * length start.jobs) + at) ≡ at
   is_round order start s rounds reached at low =

@@ -33,7 +33,7 @@ drop_next [] (suc n) x ys is = cc
 drop_next (z ∷ xs) zero x ys is = (let e : z ≡ x = cc in ap Some e, let e : xs ≡ ys = cc in sym e)
 drop_next (z ∷ xs) (suc n) x ys is = drop_next xs n x ys is
 
--- the next pair, and those behind it
+-- the next pair, and those after it
 pub zip_next : {A B : Type 0} (R : A → B → Type 0) (xs : List A) (n : ℕ) (y : B) (ys : List B) → AllZip R (drop n xs) (y ∷ ys)
     → (x : A) × (slice_get xs n ≡ Some x) × R x y × AllZip R (drop (suc n) xs) ys
 zip_next R [] zero y ys all = absurd all

@@ -6,7 +6,7 @@ use Rattle.crew.specs.Counts.{RoseBy, rises}
 use Rattle.crew.specs.Turns.{Turned}
 use Rattle.crew.specs.declared.job.Job as Job
 
--- chances are counted from 0: that of this number is that of the job that the order names there; behind the order they go
+-- chances are counted from 0: that of this number is that of the job that the order names there; after the order they go
 -- round all jobs, from the first one on
 abbrev pub whose : (order : List ℕ) → (jobs chance : ℕ) → ℕ
 whose order jobs chance = unwrap_or (slice_get order chance) ((chance - length order) % jobs)

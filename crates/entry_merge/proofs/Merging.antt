@@ -5,35 +5,35 @@ use Rattle.sync_objects.specs.declared.entry.Entry.{Entry}
 use Rattle.sync_objects.specs.declared.entry.Noted.{Noted}
 use Rattle.sync_objects.specs.declared.object.ObjId.{ObjId}
 use Rattle.runs.specs.Same.{same_object}
-use Rattle.runs.specs.Merge.{entries_at, Taken, Stuck, Takes, behind_list, next_entry, merged_on, merged_behind, total_length, written_merge}
+use Rattle.runs.specs.Merge.{entries_at, Taken, Stuck, Takes, after_list, next_entry, merged_on, merged_after, total_length, written_merge}
 use Rattle.runs.proofs.Written.{entries_at-append}
 use Rattle.entry_merge.specs.Counts.{next_by}
 
 -- only the counts matter
 pub next_by_counts : (taken : ObjId → ℕ) (before : List Noted) (lists : List (List Noted)) → ((o : ObjId) → taken o ≡ entries_at o before) → next_entry before lists ≡ next_by taken lists
 next_by_counts taken before [] same = refl
-next_by_counts taken before ([] ∷ lists) same = ap (behind_list []) (next_by_counts taken before lists same)
+next_by_counts taken before ([] ∷ lists) same = ap (after_list []) (next_by_counts taken before lists same)
 next_by_counts taken before ((x ∷ xs) ∷ lists) same =
-    ap (λ n. if x.number == n then Takes x (xs ∷ lists) else behind_list (x ∷ xs) (next_entry before lists)) (sym (same x.entry.obj))
-    ∙ ap (λ z. if x.number == taken x.entry.obj then Takes x (xs ∷ lists) else behind_list (x ∷ xs) z) (next_by_counts taken before lists same)
+    ap (λ n. if x.number == n then Takes x (xs ∷ lists) else after_list (x ∷ xs) (next_entry before lists)) (sym (same x.entry.obj))
+    ∙ ap (λ z. if x.number == taken x.entry.obj then Takes x (xs ∷ lists) else after_list (x ∷ xs) z) (next_by_counts taken before lists same)
 
 -- whatever is taken, its list is one shorter
 abbrev IsShorter : ℕ → Taken → Type 0
 IsShorter n Stuck = Unit {0}
 IsShorter n (Takes x rest) = n ≡ suc (total_length rest)
 
-behind_is_shorter : (xs : List Noted) (n : ℕ) (t : Taken) → IsShorter n t → IsShorter (length xs + n) (behind_list xs t)
-behind_is_shorter xs n Stuck h = tt
-behind_is_shorter xs n (Takes x rest) h = omega (arith, h)
+after_is_shorter : (xs : List Noted) (n : ℕ) (t : Taken) → IsShorter n t → IsShorter (length xs + n) (after_list xs t)
+after_is_shorter xs n Stuck h = tt
+after_is_shorter xs n (Takes x rest) h = omega (arith, h)
 
 next_is_shorter : (taken : ObjId → ℕ) (lists : List (List Noted)) → IsShorter (total_length lists) (next_by taken lists)
 next_is_shorter taken [] = tt
-next_is_shorter taken ([] ∷ lists) = behind_is_shorter [] (total_length lists) (next_by taken lists) (next_is_shorter taken lists)
+next_is_shorter taken ([] ∷ lists) = after_is_shorter [] (total_length lists) (next_by taken lists) (next_is_shorter taken lists)
 next_is_shorter taken ((x ∷ xs) ∷ lists) = go (x.number == taken x.entry.obj) (next_is_shorter taken lists)
   where
-    go : (b : Bool) → IsShorter (total_length lists) (next_by taken lists) → IsShorter (total_length ((x ∷ xs) ∷ lists)) (if b then Takes x (xs ∷ lists) else behind_list (x ∷ xs) (next_by taken lists))
+    go : (b : Bool) → IsShorter (total_length lists) (next_by taken lists) → IsShorter (total_length ((x ∷ xs) ∷ lists)) (if b then Takes x (xs ∷ lists) else after_list (x ∷ xs) (next_by taken lists))
     go true h = omega arith
-    go false h = behind_is_shorter (x ∷ xs) (total_length lists) (next_by taken lists) h
+    go false h = after_is_shorter (x ∷ xs) (total_length lists) (next_by taken lists) h
 
 pub taken_is_shorter : (taken : ObjId → ℕ) (lists rest : List (List Noted)) (x : Noted) → next_by taken lists ≡ Takes x rest → total_length lists ≡ suc (total_length rest)
 taken_is_shorter taken lists rest x e = subst (IsShorter (total_length lists)) e (next_is_shorter taken lists)
@@ -43,7 +43,7 @@ pub record IsBetween (lists : List (List Noted)) (taken : ObjId → ℕ) (merged
   pub before : List Noted
   pub entries : merged ≡ map (λ (x : Noted). x.entry) before
   pub counts : (o : ObjId) → taken o ≡ entries_at o before
-  pub written : written_merge lists ≡ before ++ merged_behind (total_length rest) before rest
+  pub written : written_merge lists ≡ before ++ merged_after (total_length rest) before rest
 
 map_append : {X Y : Type 0} (f : X → Y) (xs ys : List X) → map f (xs ++ ys) ≡ map f xs ++ map f ys
 map_append f [] ys = refl
@@ -66,9 +66,9 @@ module _ (lists : List (List Noted)) (taken : ObjId → ℕ) (merged : List Entr
     counts = λ o. counts o ∙ one_more o (same_object x.entry.obj o) ∙ sym (entries_at-append o b.before (x ∷ []));
     written =
         b.written
-        ∙ ap (λ n. b.before ++ merged_behind n b.before rest) (taken_is_shorter taken rest left x next)
-        ∙ ap (λ z. b.before ++ merged_on (merged_behind (total_length left)) b.before z) (next_by_counts taken b.before rest b.counts ∙ next)
-        ∙ sym (append_assoc b.before (x ∷ []) (merged_behind (total_length left) (b.before ++ x ∷ []) left));
+        ∙ ap (λ n. b.before ++ merged_after n b.before rest) (taken_is_shorter taken rest left x next)
+        ∙ ap (λ z. b.before ++ merged_on (merged_after (total_length left)) b.before z) (next_by_counts taken b.before rest b.counts ∙ next)
+        ∙ sym (append_assoc b.before (x ∷ []) (merged_after (total_length left) (b.before ++ x ∷ []) left));
   }
     where
       one_more : (o : ObjId) (same : Bool) → (if same then suc (taken o) else taken o) ≡ entries_at o b.before + (if same then 1 else 0)
@@ -79,6 +79,6 @@ module _ (lists : List (List Noted)) (taken : ObjId → ℕ) (merged : List Entr
   pub ends : next_by taken rest ≡ Stuck → merged ≡ map (λ (x : Noted). x.entry) (written_merge lists)
   ends next = b.entries ∙ ap (map (λ (x : Noted). x.entry)) (sym (b.written ∙ ap (λ ys. b.before ++ ys) (none_left (total_length rest)) ∙ append_nil b.before))
     where
-      none_left : (n : ℕ) → merged_behind n b.before rest ≡ []
+      none_left : (n : ℕ) → merged_after n b.before rest ≡ []
       none_left zero = refl
-      none_left (suc n) = ap (merged_on (merged_behind n) b.before) (next_by_counts taken b.before rest b.counts ∙ next)
+      none_left (suc n) = ap (merged_on (merged_after n) b.before) (next_by_counts taken b.before rest b.counts ∙ next)

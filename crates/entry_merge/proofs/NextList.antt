@@ -7,7 +7,7 @@ use Rattle.std.proofs.lemmas.Option.{same_Some}
 use Rattle.std.proofs.lemmas.Iterator.Adapters.{position_from-zero}
 use Rattle.sync_objects.specs.declared.entry.Noted.{Noted}
 use Rattle.sync_objects.specs.declared.object.ObjId.{ObjId}
-use Rattle.runs.specs.Merge.{Stuck, Takes, behind_list}
+use Rattle.runs.specs.Merge.{Stuck, Takes, after_list}
 use Rattle.entry_merge.specs.Counts.{is_next, next_by, lists_of}
 
 some_is_not_none : {X : Type 0} {x : X} → Some x ≡ None → ⊥
@@ -46,12 +46,12 @@ module _ (taken : ObjId → ℕ) where
   none_from i [] h = refl
   none_from i (l ∷ ls) h = go (none_from (i + 1) ls) l.now h
     where
-      by_test : (position_from goes_on (i + 1) ls ≡ None → next_by taken (lists_of ls) ≡ Stuck) → (b : Bool) (x : Noted) (xs : List Noted) → cond b (Some i) (position_from goes_on (i + 1) ls) ≡ None → (if b then Takes x (xs ∷ lists_of ls) else behind_list (x ∷ xs) (next_by taken (lists_of ls))) ≡ Stuck
+      by_test : (position_from goes_on (i + 1) ls ≡ None → next_by taken (lists_of ls) ≡ Stuck) → (b : Bool) (x : Noted) (xs : List Noted) → cond b (Some i) (position_from goes_on (i + 1) ls) ≡ None → (if b then Takes x (xs ∷ lists_of ls) else after_list (x ∷ xs) (next_by taken (lists_of ls))) ≡ Stuck
       by_test more true x xs h = absurd (some_is_not_none h)
-      by_test more false x xs h = ap (behind_list (x ∷ xs)) (more h)
+      by_test more false x xs h = ap (after_list (x ∷ xs)) (more h)
 
       go : (position_from goes_on (i + 1) ls ≡ None → next_by taken (lists_of ls) ≡ Stuck) → (ys : List Noted) → cond (is_next taken ys) (Some i) (position_from goes_on (i + 1) ls) ≡ None → next_by taken (ys ∷ lists_of ls) ≡ Stuck
-      go more [] h = ap (behind_list []) (more h)
+      go more [] h = ap (after_list []) (more h)
       go more (x ∷ xs) h = by_test more (x.number == taken x.entry.obj) x xs h
 
   from_above : (i k : ℕ) (ls : List (Bor (List Noted))) → position_from goes_on i ls ≡ Some k → i ≤ k
@@ -74,18 +74,18 @@ module _ (taken : ObjId → ℕ) where
       shown : l.now ≡ x ∷ xs
       shown = ap (λ z. z.now) (same_Some _ _ there) ∙ is
 
-      go : (b : Bool) → cond b (Some i) (position_from goes_on (i + 1) ls) ≡ Some (i + 0) → (if b then Takes x (xs ∷ lists_of ls) else behind_list (x ∷ xs) (next_by taken (lists_of ls))) ≡ Takes x (xs ∷ lists_of ls)
+      go : (b : Bool) → cond b (Some i) (position_from goes_on (i + 1) ls) ≡ Some (i + 0) → (if b then Takes x (xs ∷ lists_of ls) else after_list (x ∷ xs) (next_by taken (lists_of ls))) ≡ Takes x (xs ∷ lists_of ls)
       go true h = refl
       go false h = absurd (above_itself i (from_above (i + 1) (i + 0) ls h))
   some_from i (suc j) (l ∷ ls) list new x xs h there is news =
       go (λ e. some_from (i + 1) j ls list new x xs (e ∙ ap Some (omega arith)) there is news) l.now h
     where
-      by_test : (position_from goes_on (i + 1) ls ≡ Some (i + suc j) → next_by taken (lists_of ls) ≡ Takes x (lists_of (slice_set ls j new))) → (b : Bool) (y : Noted) (ys : List Noted) → cond b (Some i) (position_from goes_on (i + 1) ls) ≡ Some (i + suc j) → (if b then Takes y (ys ∷ lists_of ls) else behind_list (y ∷ ys) (next_by taken (lists_of ls))) ≡ Takes x ((y ∷ ys) ∷ lists_of (slice_set ls j new))
+      by_test : (position_from goes_on (i + 1) ls ≡ Some (i + suc j) → next_by taken (lists_of ls) ≡ Takes x (lists_of (slice_set ls j new))) → (b : Bool) (y : Noted) (ys : List Noted) → cond b (Some i) (position_from goes_on (i + 1) ls) ≡ Some (i + suc j) → (if b then Takes y (ys ∷ lists_of ls) else after_list (y ∷ ys) (next_by taken (lists_of ls))) ≡ Takes x ((y ∷ ys) ∷ lists_of (slice_set ls j new))
       by_test more true y ys h = absurd (not_itself i j (same_Some _ _ h))
-      by_test more false y ys h = ap (behind_list (y ∷ ys)) (more h)
+      by_test more false y ys h = ap (after_list (y ∷ ys)) (more h)
 
       go : (position_from goes_on (i + 1) ls ≡ Some (i + suc j) → next_by taken (lists_of ls) ≡ Takes x (lists_of (slice_set ls j new))) → (ys : List Noted) → cond (is_next taken ys) (Some i) (position_from goes_on (i + 1) ls) ≡ Some (i + suc j) → next_by taken (ys ∷ lists_of ls) ≡ Takes x (ys ∷ lists_of (slice_set ls j new))
-      go more [] h = ap (behind_list []) (more h)
+      go more [] h = ap (after_list []) (more h)
       go more (y ∷ ys) h = by_test more (y.number == taken y.entry.obj) y ys h
 
   some_is_next : (i j : ℕ) (ls : List (Bor (List Noted))) (list : Bor (List Noted)) → position_from goes_on i ls ≡ Some (i + j) → slice_get ls j ≡ Some list → goes_on list ≡ true

@@ -5,7 +5,7 @@ use Rattle.std.specs.Option.{option_map_or}
 use Rattle.indexmap.specs.IndexMap.{IndexMap, get}
 use Rattle.sync_objects.specs.declared.entry.Noted.{Noted}
 use Rattle.sync_objects.specs.declared.object.ObjId.{ObjId}
-use Rattle.runs.specs.Merge.{Taken, Stuck, Takes, behind_list}
+use Rattle.runs.specs.Merge.{Taken, Stuck, Takes, after_list}
 use Rattle.runs.specs.Same.{same_object}
 
 -- the number that the map has for the object; 0 where it has none
@@ -24,8 +24,8 @@ is_next taken (x ∷ xs) = x.number == taken x.entry.obj
 -- the entry that is taken next, with what is left of the lists; or there is none
 abbrev pub next_by : (ObjId → ℕ) → List (List Noted) → Taken
 next_by taken [] = Stuck
-next_by taken ([] ∷ lists) = behind_list [] (next_by taken lists)
-next_by taken ((x ∷ xs) ∷ lists) = if x.number == taken x.entry.obj then Takes x (xs ∷ lists) else behind_list (x ∷ xs) (next_by taken lists)
+next_by taken ([] ∷ lists) = after_list [] (next_by taken lists)
+next_by taken ((x ∷ xs) ∷ lists) = if x.number == taken x.entry.obj then Takes x (xs ∷ lists) else after_list (x ∷ xs) (next_by taken lists)
 
 -- the lists that slices show
 abbrev pub lists_of : List (Bor (List Noted)) → List (List Noted)

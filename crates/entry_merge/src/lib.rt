@@ -76,7 +76,7 @@ fn slices_of<'a>(alloc: Global, lists: &'a [List<Noted>]) -> Result<List<&'a [No
 
 /// All entries of the lists, one list a thread, in the written order: always that of the lowest thread whose next entry's
 /// number is how many entries of its object were taken before. It ends where no thread has such an entry, which on the
-/// lists of a run is behind the last entry.
+/// lists of a run is after the last entry.
 pub fn merge(alloc: Global, lists: &[List<Noted>]) -> Result<List<Entry>, AllocError>
     ensures { IfOk result (λ merged. merged ≡ map (λ (x : Noted). x.entry) (written_merge lists.now)) }
 {

@@ -19,10 +19,10 @@ use Rattle.abstract_machine.specs.Library.{library_onward, piece_of}
 use Rattle.abstract_machine.specs.Pointers.{pointer_at}
 use Rattle.abstract_machine.specs.Registers.{register, words_of}
 use Rattle.abstract_machine.specs.Values.{number, word}
-use Rattle.flow_code.specs.Holding.{parting, left_behind}
+use Rattle.flow_code.specs.Holding.{parting, left_after}
 use Rattle.flow_code.specs.Works.{work_of}
 use Rattle.flow_code.specs.Threads.{Frame, Thread, arena_end, is_main, objects_in, fitted, first_frame}
-use Rattle.flow_code.specs.Next.{past, given, result_of, act_at, pointers_of, caller, value_of, in_frame, computed, or_else, entered, one_made, back_in, end_onward, returned, went_on, call_after, act_after, begun_after, phase_after}
+use Rattle.flow_code.specs.Next.{past, given, result_of, act_at, pointers_of, caller, value_of, in_frame, computed, or_else, entered, one_made, back_in, end_onward, returned, resumed, call_after, act_after, begun_after, phase_after}
 use Rattle.weak_code.specs.Weakened.{retarget}
 use Rattle.weak_code.specs.Stripped.{is_weak, plain_of, strip}
 use Rattle.erasure.proofs.Kept.{weak_at}
@@ -50,22 +50,22 @@ module _ (w : Code) (objects : HasObjects w) (e : ℕ) (th : Thread) where
   abbrev place : ℕ → ℕ
   place k = plain_of (instrs_of w th.top.function) k
 
-  -- it stands behind its instruction, with these registers
-  abbrev behind : ℕ → List ℕ → Frame
-  behind k registers = frame_with th.top.function k 0 (pos 0) registers
+  -- it stands after its instruction, with these registers
+  abbrev following : ℕ → List ℕ → Frame
+  following k registers = frame_with th.top.function k 0 (pos 0) registers
 
-  goes_on : (q : Thread) (registers : List ℕ) (a : Act) → act_at w th.top ≡ Some a → is_weak a ≡ false → in_frame (bare w e q) (behind (place th.top.instr + 1) registers) ≡ bare w e (in_frame q (behind (th.top.instr + 1) registers))
-  goes_on q registers a at strong = ap (λ k. in_frame (bare w e q) (behind k registers)) (sym (next_place w th.top a at strong))
+  goes_on : (q : Thread) (registers : List ℕ) (a : Act) → act_at w th.top ≡ Some a → is_weak a ≡ false → in_frame (bare w e q) (following (place th.top.instr + 1) registers) ≡ bare w e (in_frame q (following (th.top.instr + 1) registers))
+  goes_on q registers a at strong = ap (λ k. in_frame (bare w e q) (following k registers)) (sym (next_place w th.top a at strong))
 
   computed_bare : (into : ℕ) (r : Result ℕ Trap) (a : Act) → act_at w th.top ≡ Some a → is_weak a ≡ false → computed (bare w e th) into r ≡ bare w e (computed th into r)
   computed_bare into (Ok v) a at strong = goes_on th (slice_set th.top.registers into v) a at strong
   computed_bare into (Err k) a at strong = refl
 
-  jumped_bare : (b : Bool) (then_at else_at : ℕ) → in_frame (bare w e th) (behind (if b then place else_at else place then_at) th.top.registers) ≡ bare w e (in_frame th (behind (if b then else_at else then_at) th.top.registers))
+  jumped_bare : (b : Bool) (then_at else_at : ℕ) → in_frame (bare w e th) (following (if b then place else_at else place then_at) th.top.registers) ≡ bare w e (in_frame th (following (if b then else_at else then_at) th.top.registers))
   jumped_bare true then_at else_at = refl
   jumped_bare false then_at else_at = refl
 
-  went_on_bare : (n : ℕ) (into : Option ℕ) (o : Onward) (a : Act) → act_at w th.top ≡ Some a → is_weak a ≡ false → went_on (record (bare w e th) { printed = n }) into o ≡ bare w e (went_on (record th { printed = n }) into o)
+  went_on_bare : (n : ℕ) (into : Option ℕ) (o : Onward) (a : Act) → act_at w th.top ≡ Some a → is_weak a ≡ false → resumed (record (bare w e th) { printed = n }) into o ≡ bare w e (resumed (record th { printed = n }) into o)
   went_on_bare n into (onward.Stays kept) a at strong = refl
   went_on_bare n None (onward.Gives v) a at strong = goes_on (record th { printed = n }) th.top.registers a at strong
   went_on_bare n (Some r) (onward.Gives v) a at strong = goes_on (record th { printed = n }) (slice_set th.top.registers r v) a at strong
@@ -129,11 +129,11 @@ module _ (w : Code) (objects : HasObjects w) (e : ℕ) (th : Thread) where
         ∙ entered_bare (th.below ++ one_made th.top (pos 0) ∷ []) f arguments
 
     library_bare : (c : LibraryCall) (arguments : List ℕ) (into : Option ℕ) (answer : ℤ) → act_at w th.top ≡ Some (act.Library c arguments into) → parting c th.top.made th.stripes ≡ [] →
-        left_behind (bare w e th) (parting c th.top.made []) (call_after (strip w) s t (bare w e th) c arguments into answer) ≡ bare w e (left_behind th (parting c th.top.made th.stripes) (call_after w s t th c arguments into answer))
+        left_after (bare w e th) (parting c th.top.made []) (call_after (strip w) s t (bare w e th) c arguments into answer) ≡ bare w e (left_after th (parting c th.top.made th.stripes) (call_after w s t th c arguments into answer))
     library_bare c arguments into answer at none =
-        ap (λ xs. left_behind (bare w e th) xs (call_after (strip w) s t (bare w e th) c arguments into answer)) (no_parting c th.top.made)
+        ap (λ xs. left_after (bare w e th) xs (call_after (strip w) s t (bare w e th) c arguments into answer)) (no_parting c th.top.made)
         ∙ went_on_bare (th.printed + length (piece_of c (words_of th.top.registers arguments))) into (library_onward (caller w s t th) c (words_of th.top.registers arguments) th.top.made th.top.kept answer) (act.Library c arguments into) at refl
-        ∙ sym (ap (λ xs. bare w e (left_behind th xs (call_after w s t th c arguments into answer))) none)
+        ∙ sym (ap (λ xs. bare w e (left_after th xs (call_after w s t th c arguments into answer))) none)
 
     -- ---- a step of the instruction
 

@@ -14,7 +14,7 @@ use Rattle.flow_code.specs.declared.thread.Stripe.{Stripe}
 use Rattle.abstract_machine.specs.declared.event.Due.{Due}
 use Rattle.abstract_machine.specs.declared.event.Due.TheVariants as due
 use Rattle.flow_code.specs.Stripes.{stripe_of}
-use Rattle.flow_code.specs.Holding.{region_of, lacked, take_or_quiet, taken, open_place, to_give, give_or_quiet, gives_at, parting, parting_due, owes, left_behind}
+use Rattle.flow_code.specs.Holding.{region_of, lacked, take_or_quiet, taken, open_place, to_give, give_or_quiet, gives_at, parting, parting_due, owes, left_after}
 use Rattle.flow_code.specs.Threads.{Thread, OpenRegion}
 use Rattle.flow_code.specs.Next.{past, act_at, on_unless, act_due, act_after, phase_due, phase_after}
 use Rattle.weak_code.specs.Stripped.{plain_of}
@@ -94,7 +94,7 @@ module _ (w : Code) where
     give_beside (Some i) None h = past_weak _ h
     give_beside (Some i) (Some x) h = with_stripes _ _
 
-    part_beside : (xs : List Stripe) (q : Thread) → has_some xs ≡ true → IsBeside th (left_behind th xs q)
+    part_beside : (xs : List Stripe) (q : Thread) → has_some xs ≡ true → IsBeside th (left_after th xs q)
     part_beside [] q h = absurd (true≢false (sym h))
     part_beside (x ∷ xs) q h = with_stripes _ _
 

@@ -34,28 +34,28 @@ use Rattle.erasure.proofs.Kept.{same_object}
 use Rattle.erasure.proofs.Seats.{block_then}
 use Rattle.erasure.proofs.WeakRuns.{weakened_at}
 
--- ---- stretches behind a place
+-- ---- stretches after a place
 
 -- the region begins at no place before, nor does it end before such a place
-abbrev pub IsBehind : ℕ → Stretch → Type 0
-IsBehind m s = (m ≤ s.first) × (m ≤ s.last + 1)
+abbrev pub IsAfter : ℕ → Stretch → Type 0
+IsAfter m s = (m ≤ s.first) × (m ≤ s.last + 1)
 
-abbrev pub AreBehind : ℕ → List Stretch → Type 0
-AreBehind m [] = Unit {0}
-AreBehind m (s ∷ ss) = IsBehind m s × AreBehind m ss
+abbrev pub AreAfter : ℕ → List Stretch → Type 0
+AreAfter m [] = Unit {0}
+AreAfter m (s ∷ ss) = IsAfter m s × AreAfter m ss
 
-joined : (m : ℕ) (xs ys : List Stretch) → AreBehind m xs → AreBehind m ys → AreBehind m (xs ++ ys)
+joined : (m : ℕ) (xs ys : List Stretch) → AreAfter m xs → AreAfter m ys → AreAfter m (xs ++ ys)
 joined m [] ys h k = k
 joined m (x ∷ xs) ys h k = (h.0, joined m xs ys h.1 k)
 
-none_begin : (m k n : ℕ) (ss : List Stretch) → k < m → AreBehind m ss → numbers_from n (begins_at k) ss ≡ []
+none_begin : (m k n : ℕ) (ss : List Stretch) → k < m → AreAfter m ss → numbers_from n (begins_at k) ss ≡ []
 none_begin m k n [] lt h = refl
 none_begin m k n (s ∷ ss) lt h =
     let le = h.0.0 in
     let apart : (s.first == k) ≡ false = grind (arith, nat_tests, lt, le) in
     ap (λ b. if b then n ∷ numbers_from (n + 1) (begins_at k) ss else numbers_from (n + 1) (begins_at k) ss) apart ∙ none_begin m k (n + 1) ss lt h.1
 
-none_end : (m k n : ℕ) (ss : List Stretch) → k < m → AreBehind m ss → numbers_from n (ends_before k) ss ≡ []
+none_end : (m k n : ℕ) (ss : List Stretch) → k < m → AreAfter m ss → numbers_from n (ends_before k) ss ≡ []
 none_end m k n [] lt h = refl
 none_end m k n (s ∷ ss) lt h =
     let le = h.0.1 in
@@ -63,7 +63,7 @@ none_end m k n (s ∷ ss) lt h =
     ap (λ b. if b then n ∷ numbers_from (n + 1) (ends_before k) ss else numbers_from (n + 1) (ends_before k) ss) apart ∙ none_end m k (n + 1) ss lt h.1
 
 -- so nothing is put before the instruction there, if it is no return
-none_turned : (m k : ℕ) (ss : List Stretch) → k < m → AreBehind m ss → turned ss k ≡ []
+none_turned : (m k : ℕ) (ss : List Stretch) → k < m → AreAfter m ss → turned ss k ≡ []
 none_turned m k ss lt h =
     ap (λ ns. gives ns ++ takes (beginning ss k)) (none_end m k 0 ss lt h) ∙ ap takes (none_begin m k 0 ss lt h)
 
@@ -75,7 +75,7 @@ weak_object (act.Give r) h = refl
 weak_object (act.Alloc into site size) h = absurd (true≢false (sym h))
 weak_object _ h = refl
 
-module _ (m : ℕ) (ss : List Stretch) (all : List Instr) (behind : AreBehind m ss) where
+module _ (m : ℕ) (ss : List Stretch) (all : List Instr) (following : AreAfter m ss) where
   no_more : (i y : Instr) (bs : List Act) (rest : List Instr) → AreWeak bs → object_of y.act ≡ None → objects_of (map (at_instr i) bs ++ y ∷ rest) ≡ []
   no_more i y [] rest weak none = ap (λ o. and_objects o (objects_of rest)) none
   no_more i y (b ∷ bs) rest weak none = ap (λ o. and_objects o (objects_of (map (at_instr i) bs ++ y ∷ rest))) (weak_object b weak.0)
@@ -89,7 +89,7 @@ module _ (m : ℕ) (ss : List Stretch) (all : List Instr) (behind : AreBehind m 
       by (act.Alloc into site None) ys rest le =
           let j = at_instr i (act.Alloc into site None) in
           ap objects_of (block_then ss all n j ys)
-          ∙ ap (λ bs. objects_of (map (at_instr i) (bs ++ []) ++ j ∷ ys)) (none_turned m n ss (omega (arith, le)) behind)
+          ∙ ap (λ bs. objects_of (map (at_instr i) (bs ++ []) ++ j ∷ ys)) (none_turned m n ss (omega (arith, le)) following)
           ∙ ap (λ os. object into site ∷ os) (rest (omega (arith, le)))
       by a ys rest le =
           let j = at_instr i a in
@@ -115,18 +115,18 @@ few_objects (i ∷ is) = by (object_of i.act) (few_objects is)
     by None le = omega arith
     by (Some o) le = omega (arith, le)
 
--- ---- accesses behind a place
+-- ---- accesses after a place
 
-abbrev pub AccessesBehind : ℕ → List RacyAccess → Type 0
-AccessesBehind m [] = Unit {0}
-AccessesBehind m (a ∷ more) = (m ≤ a.instr) × AccessesBehind m more
+abbrev pub AccessesAfter : ℕ → List RacyAccess → Type 0
+AccessesAfter m [] = Unit {0}
+AccessesAfter m (a ∷ more) = (m ≤ a.instr) × AccessesAfter m more
 
 module _ (code : Code) (t : Tables) (locked : List Place) (rs : List Range) (f : ℕ) where
   abbrev objects_end : ℕ
   objects_end = length (objects_of (instrs_in (slice_get code.functions f)))
 
-  access_behind : (g : Grained) (a : Access) → g.access.function ≡ f → access_in (act_of code g.access) ≡ Some a → objects_end ≤ g.access.instr
-  access_behind g a same e = by (nat_le objects_end g.access.instr) refl
+  access_past : (g : Grained) (a : Access) → g.access.function ≡ f → access_in (act_of code g.access) ≡ Some a → objects_end ≤ g.access.instr
+  access_past g a same e = by (nat_le objects_end g.access.instr) refl
     where
       by : (b : Bool) → nat_le objects_end g.access.instr ≡ b → objects_end ≤ g.access.instr
       by true h = leb-true objects_end g.access.instr h
@@ -136,79 +136,79 @@ module _ (code : Code) (t : Tables) (locked : List Place) (rs : List Range) (f :
           let both : None ≡ Some a = sym none ∙ e in
           cc
 
-  rows_behind : (rows : List Grained) → AccessesBehind objects_end (racy_accesses code t locked rs rows f)
-  rows_behind [] = tt
-  rows_behind (g ∷ rows) = by (g.access.function == f) refl (rows_behind rows)
+  rows_past : (rows : List Grained) → AccessesAfter objects_end (racy_accesses code t locked rs rows f)
+  rows_past [] = tt
+  rows_past (g ∷ rows) = by (g.access.function == f) refl (rows_past rows)
     where
-      one : (o : Option Access) → access_in (act_of code g.access) ≡ o → g.access.function ≡ f → AccessesBehind objects_end (racy_accesses code t locked rs rows f) → AccessesBehind objects_end (cons_option (option_map (racy_through code t locked rs g) o) (racy_accesses code t locked rs rows f))
+      one : (o : Option Access) → access_in (act_of code g.access) ≡ o → g.access.function ≡ f → AccessesAfter objects_end (racy_accesses code t locked rs rows f) → AccessesAfter objects_end (cons_option (option_map (racy_through code t locked rs g) o) (racy_accesses code t locked rs rows f))
       one None e same rest = rest
-      one (Some a) e same rest = (access_behind g a same e, rest)
+      one (Some a) e same rest = (access_past g a same e, rest)
 
-      by : (b : Bool) → (g.access.function == f) ≡ b → AccessesBehind objects_end (racy_accesses code t locked rs rows f) →
-          AccessesBehind objects_end (filter_map (racy_access code t locked rs) (cond b (g ∷ filter (λ h. h.access.function == f) rows) (filter (λ h. h.access.function == f) rows)))
+      by : (b : Bool) → (g.access.function == f) ≡ b → AccessesAfter objects_end (racy_accesses code t locked rs rows f) →
+          AccessesAfter objects_end (filter_map (racy_access code t locked rs) (cond b (g ∷ filter (λ h. h.access.function == f) rows) (filter (λ h. h.access.function == f) rows)))
       by true e rest = one (access_in (act_of code g.access)) refl (eqb-true g.access.function f e) rest
       by false e rest = rest
 
 module _ (m : ℕ) where
-  some_behind : (x : Grain) (accesses : List RacyAccess) → AccessesBehind m accesses → AccessesBehind m (with_grain x accesses)
-  some_behind x [] h = tt
-  some_behind x (a ∷ more) h = by (same_grain x a.grain) (some_behind x more h.1)
+  some_after : (x : Grain) (accesses : List RacyAccess) → AccessesAfter m accesses → AccessesAfter m (with_grain x accesses)
+  some_after x [] h = tt
+  some_after x (a ∷ more) h = by (same_grain x a.grain) (some_after x more h.1)
     where
-      by : (b : Bool) → AccessesBehind m (with_grain x more) → AccessesBehind m (cond b (a ∷ with_grain x more) (with_grain x more))
+      by : (b : Bool) → AccessesAfter m (with_grain x more) → AccessesAfter m (cond b (a ∷ with_grain x more) (with_grain x more))
       by true rest = (h.0, rest)
       by false rest = rest
 
-  last_behind : (at : ℕ) (accesses : List RacyAccess) → m ≤ at → AccessesBehind m accesses → m ≤ last_of at accesses
-  last_behind at [] le h = le
-  last_behind at (a ∷ more) le h = last_behind a.instr more h.0 h.1
+  last_after : (at : ℕ) (accesses : List RacyAccess) → m ≤ at → AccessesAfter m accesses → m ≤ last_of at accesses
+  last_after at [] le h = le
+  last_after at (a ∷ more) le h = last_after a.instr more h.0 h.1
 
   -- ---- the stretches of a function
 
-  abbrev pub LoopsBehind : List LoopInfo → Type 0
-  LoopsBehind [] = Unit {0}
-  LoopsBehind (l ∷ ls) = ((m ≤ l.at) × (m ≤ l.last + 1)) × LoopsBehind ls
+  abbrev pub LoopsAfter : List LoopInfo → Type 0
+  LoopsAfter [] = Unit {0}
+  LoopsAfter (l ∷ ls) = ((m ≤ l.at) × (m ≤ l.last + 1)) × LoopsAfter ls
 
-  loops_behind : (is : List Instr) (accesses : List RacyAccess) (ls : List LoopInfo) → LoopsBehind ls → AreBehind m (filter_map (λ l. loop_stretch l (spans_of is l.at accesses)) ls)
-  loops_behind is accesses [] h = tt
-  loops_behind is accesses (l ∷ ls) h = by (spans_of is l.at accesses) (loops_behind is accesses ls h.1)
+  loops_after : (is : List Instr) (accesses : List RacyAccess) (ls : List LoopInfo) → LoopsAfter ls → AreAfter m (filter_map (λ l. loop_stretch l (spans_of is l.at accesses)) ls)
+  loops_after is accesses [] h = tt
+  loops_after is accesses (l ∷ ls) h = by (spans_of is l.at accesses) (loops_after is accesses ls h.1)
     where
-      by : (spans : List Span) → AreBehind m (filter_map (λ l. loop_stretch l (spans_of is l.at accesses)) ls) → AreBehind m (cons_option (loop_stretch l spans) (filter_map (λ l. loop_stretch l (spans_of is l.at accesses)) ls))
+      by : (spans : List Span) → AreAfter m (filter_map (λ l. loop_stretch l (spans_of is l.at accesses)) ls) → AreAfter m (cons_option (loop_stretch l spans) (filter_map (λ l. loop_stretch l (spans_of is l.at accesses)) ls))
       by [] rest = rest
       by (s ∷ spans) rest = let le = h.0.1 in ((h.0.0, omega (arith, le)), rest)
 
-  blocks_behind : (accesses some : List RacyAccess) → AccessesBehind m accesses → AccessesBehind m some → AreBehind m (filter_map (block_from accesses) some)
-  blocks_behind accesses [] all h = tt
-  blocks_behind accesses (a ∷ more) all h = by (same_grain (grain.Block a.instr) a.grain) (blocks_behind accesses more all h.1)
+  blocks_after : (accesses some : List RacyAccess) → AccessesAfter m accesses → AccessesAfter m some → AreAfter m (filter_map (block_from accesses) some)
+  blocks_after accesses [] all h = tt
+  blocks_after accesses (a ∷ more) all h = by (same_grain (grain.Block a.instr) a.grain) (blocks_after accesses more all h.1)
     where
-      by : (b : Bool) → AreBehind m (filter_map (block_from accesses) more) →
-          AreBehind m (cons_option (if b then Some (block_stretch a.instr (with_grain (grain.Block a.instr) accesses)) else None) (filter_map (block_from accesses) more))
-      by true rest = let le = last_behind a.instr (with_grain (grain.Block a.instr) accesses) h.0 (some_behind (grain.Block a.instr) accesses all) in ((h.0, omega (arith, le)), rest)
+      by : (b : Bool) → AreAfter m (filter_map (block_from accesses) more) →
+          AreAfter m (cons_option (if b then Some (block_stretch a.instr (with_grain (grain.Block a.instr) accesses)) else None) (filter_map (block_from accesses) more))
+      by true rest = let le = last_after a.instr (with_grain (grain.Block a.instr) accesses) h.0 (some_after (grain.Block a.instr) accesses all) in ((h.0, omega (arith, le)), rest)
       by false rest = rest
 
-  single_behind : (accesses : List RacyAccess) → AccessesBehind m accesses → AreBehind m (map access_stretch accesses)
-  single_behind [] h = tt
-  single_behind (a ∷ more) h = let le = h.0 in ((le, omega (arith, le)), single_behind more h.1)
+  single_after : (accesses : List RacyAccess) → AccessesAfter m accesses → AreAfter m (map access_stretch accesses)
+  single_after [] h = tt
+  single_after (a ∷ more) h = let le = h.0 in ((le, omega (arith, le)), single_after more h.1)
 
-whole_behind : (fn : Function) (accesses : List RacyAccess) → AreBehind (length (objects_of fn.instrs)) (function_stretch fn accesses)
-whole_behind fn [] = tt
-whole_behind fn (a ∷ more) = let few = few_objects fn.instrs in ((omega arith, omega (arith, few)), tt)
+whole_after : (fn : Function) (accesses : List RacyAccess) → AreAfter (length (objects_of fn.instrs)) (function_stretch fn accesses)
+whole_after fn [] = tt
+whole_after fn (a ∷ more) = let few = few_objects fn.instrs in ((omega arith, omega (arith, few)), tt)
 
-stretches_behind : (fn : Function) (accesses : List RacyAccess) → AccessesBehind (length (objects_of fn.instrs)) accesses → LoopsBehind (length (objects_of fn.instrs)) fn.loops → AreBehind (length (objects_of fn.instrs)) (stretches_of fn accesses)
-stretches_behind fn accesses h loops =
+stretches_after : (fn : Function) (accesses : List RacyAccess) → AccessesAfter (length (objects_of fn.instrs)) accesses → LoopsAfter (length (objects_of fn.instrs)) fn.loops → AreAfter (length (objects_of fn.instrs)) (stretches_of fn accesses)
+stretches_after fn accesses h loops =
     let m = length (objects_of fn.instrs) in
-    joined m (function_stretch fn (with_grain grain.Function accesses)) _ (whole_behind fn (with_grain grain.Function accesses))
-    (joined m (loop_stretches fn accesses) _ (loops_behind m fn.instrs accesses fn.loops loops)
-    (joined m (block_stretches accesses) (access_stretches accesses) (blocks_behind m accesses accesses h h) (single_behind m (with_grain grain.Instruction accesses) (some_behind m grain.Instruction accesses h))))
+    joined m (function_stretch fn (with_grain grain.Function accesses)) _ (whole_after fn (with_grain grain.Function accesses))
+    (joined m (loop_stretches fn accesses) _ (loops_after m fn.instrs accesses fn.loops loops)
+    (joined m (block_stretches accesses) (access_stretches accesses) (blocks_after m accesses accesses h h) (single_after m (with_grain grain.Instruction accesses) (some_after m grain.Instruction accesses h))))
 
 -- ---- the functions of weakened code
 
-module _ (code : Code) (t : Tables) (vs : List Pair) (rs : List Range) (rows : List Grained) (loops : (f : ℕ) (fn : Function) → slice_get code.functions f ≡ Some fn → LoopsBehind (length (objects_of fn.instrs)) fn.loops) where
+module _ (code : Code) (t : Tables) (vs : List Pair) (rs : List Range) (rows : List Grained) (loops : (f : ℕ) (fn : Function) → slice_get code.functions f ≡ Some fn → LoopsAfter (length (objects_of fn.instrs)) fn.loops) where
   function_objects : (f : ℕ) (o : Option Function) → slice_get code.functions f ≡ o → objects_of (instrs_in (option_map (weakened_function code t (places_in vs) rs rows f) o)) ≡ objects_of (instrs_in o)
   function_objects f None e = refl
   function_objects f (Some fn) e =
       let accesses = racy_accesses code t (places_in vs) rs rows f in
-      let front = subst (λ (o : Option Function). AccessesBehind (length (objects_of (instrs_in o))) accesses) e (rows_behind code t (places_in vs) rs f rows) in
-      same_objects (length (objects_of fn.instrs)) (stretches_of fn accesses) fn.instrs (stretches_behind fn accesses front (loops f fn e)) 0 fn.instrs (omega arith)
+      let front = subst (λ (o : Option Function). AccessesAfter (length (objects_of (instrs_in o))) accesses) e (rows_past code t (places_in vs) rs f rows) in
+      same_objects (length (objects_of fn.instrs)) (stretches_of fn accesses) fn.instrs (stretches_after fn accesses front (loops f fn e)) 0 fn.instrs (omega arith)
 
   -- each function's objects are those of the plain code
   pub weakened_objects : (f : ℕ) → objects_in (weakened code t vs rs rows) f ≡ objects_in code f

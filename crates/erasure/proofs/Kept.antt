@@ -20,17 +20,17 @@ weak_at (Some a) = is_weak a
 abbrev pub moved_instr : (ℕ → ℕ) → Instr → Instr
 moved_instr to i = at_instr i (retarget to i.act)
 
-kept_behind : (b : Bool) (y : Instr) (xs : List Instr) (n : ℕ) → slice_get (if b then xs else y ∷ xs) (if b then n else suc n) ≡ slice_get xs n
-kept_behind true y xs n = refl
-kept_behind false y xs n = refl
+kept_after : (b : Bool) (y : Instr) (xs : List Instr) (n : ℕ) → slice_get (if b then xs else y ∷ xs) (if b then n else suc n) ≡ slice_get xs n
+kept_after true y xs n = refl
+kept_after false y xs n = refl
 
--- an instruction that isn't weak stays, and what is behind the last one has nothing there
+-- an instruction that isn't weak stays, and what is after the last one has nothing there
 pub kept_at : (to : ℕ → ℕ) (is : List Instr) (k : ℕ) → weak_at (act_in (slice_get is k)) ≡ false → slice_get (stripped to is) (plain_of is k) ≡ option_map (moved_instr to) (slice_get is k)
 kept_at to [] k h = refl
 kept_at to (i ∷ is) zero h = ap (λ b. slice_get (if b then stripped to is else moved_instr to i ∷ stripped to is) 0) h
-kept_at to (i ∷ is) (suc k) h = kept_behind (is_weak i.act) (moved_instr to i) (stripped to is) (plain_of is k) ∙ kept_at to is k h
+kept_at to (i ∷ is) (suc k) h = kept_after (is_weak i.act) (moved_instr to i) (stripped to is) (plain_of is k) ∙ kept_at to is k h
 
--- behind it the next place is one further
+-- after it the next place is one further
 pub plain_next : (is : List Instr) (k : ℕ) (i : Instr) → slice_get is k ≡ Some i → is_weak i.act ≡ false → plain_of is (suc k) ≡ suc (plain_of is k)
 plain_next [] k i e h = cc
 plain_next (x ∷ is) zero i e h =
@@ -42,7 +42,7 @@ plain_next (x ∷ is) (suc k) i e h = by (is_weak x.act) (plain_next is k i e h)
     by true r = r
     by false r = ap suc r
 
--- behind a weak one it is the same
+-- after a weak one it is the same
 pub plain_stays : (is : List Instr) (k : ℕ) → weak_at (act_in (slice_get is k)) ≡ true → plain_of is (suc k) ≡ plain_of is k
 plain_stays [] k h = refl
 plain_stays (x ∷ is) zero h = ap (λ b. if b then plain_of is 0 else suc (plain_of is 0)) h ∙ plain_zero is

@@ -14,10 +14,10 @@ use Rattle.abstract_machine.specs.declared.event.Onward.TheVariants as onward
 use Rattle.abstract_machine.specs.declared.library_call.LibraryCall.{LibraryCall}
 use Rattle.abstract_machine.specs.Library.{library_onward, piece_of}
 use Rattle.abstract_machine.specs.Registers.{words_of}
-use Rattle.flow_code.specs.Holding.{parting, left_behind}
+use Rattle.flow_code.specs.Holding.{parting, left_after}
 use Rattle.flow_code.specs.Works.{work_of}
 use Rattle.flow_code.specs.Threads.{Frame, Thread, is_main}
-use Rattle.flow_code.specs.Next.{act_at, pointers_of, caller, value_of, in_frame, computed, one_made, back_in, end_onward, returned, went_on, call_after, act_after, begun_after, phase_after}
+use Rattle.flow_code.specs.Next.{act_at, pointers_of, caller, value_of, in_frame, computed, one_made, back_in, end_onward, returned, resumed, call_after, act_after, begun_after, phase_after}
 use Rattle.flow_code.proofs.Shapes.{each_more, each_less}
 use Rattle.weak_code.specs.Stripped.{is_weak}
 use Rattle.erasure.proofs.Kept.{weak_at}
@@ -54,7 +54,7 @@ module _ (w : Code) where
     in_phase : (p : Phase) → IsPlaced (record th { phase = p })
     in_phase p = record { fresh = placed.fresh; callers = placed.callers }
 
-    went_on_placed : (a : Act) (n : ℕ) (into : Option ℕ) (o : Onward) → act_at w th.top ≡ Some a → is_weak a ≡ false → IsPlaced (went_on (record th { printed = n }) into o)
+    went_on_placed : (a : Act) (n : ℕ) (into : Option ℕ) (o : Onward) → act_at w th.top ≡ Some a → is_weak a ≡ false → IsPlaced (resumed (record th { printed = n }) into o)
     went_on_placed a n into (onward.Stays kept) at strong = stays_placed (record th { printed = n }) a kept at strong refl
     went_on_placed a n None (onward.Gives v) at strong = anew (record th { printed = n }) _ refl refl refl
     went_on_placed a n (Some r) (onward.Gives v) at strong = anew (record th { printed = n }) _ refl refl refl
@@ -78,9 +78,9 @@ module _ (w : Code) where
         by false = back_placed value (slice_get th.below (length th.below - 1))
 
     call_placed : (s : SetupView) (t : ℕ) (c : LibraryCall) (arguments : List ℕ) (into : Option ℕ) (answer : ℤ) → act_at w th.top ≡ Some (act.Library c arguments into) → parting c th.top.made th.stripes ≡ [] →
-        IsPlaced (left_behind th (parting c th.top.made th.stripes) (call_after w s t th c arguments into answer))
+        IsPlaced (left_after th (parting c th.top.made th.stripes) (call_after w s t th c arguments into answer))
     call_placed s t c arguments into answer at none =
-        subst (λ xs. IsPlaced (left_behind th xs (call_after w s t th c arguments into answer))) (sym none)
+        subst (λ xs. IsPlaced (left_after th xs (call_after w s t th c arguments into answer))) (sym none)
         (went_on_placed (act.Library c arguments into) (th.printed + length (piece_of c (words_of th.top.registers arguments))) into (library_onward (caller w s t th) c (words_of th.top.registers arguments) th.top.made th.top.kept answer) at refl)
 
     act_placed : (s : SetupView) (t : ℕ) (o : Option Act) (answer : ℤ) → act_at w th.top ≡ o → is_aside th o ≡ false → IsPlaced (act_after w s t th o answer)

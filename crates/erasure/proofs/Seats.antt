@@ -13,7 +13,7 @@ use Rattle.weak_code.proofs.Stripping.{AreWeak, weak_before}
 
 -- ---- one block
 
--- what stands at a place of a block and of what is behind it: a weak instruction, the block's own one, or one behind it
+-- what stands at a place of a block and of what is after it: a weak instruction, the block's own one, or one after it
 in_block : (i : Instr) (bs : List Act) (y : Instr) (rest : List Instr) (x : ℕ) (j : Instr) → AreWeak bs → slice_get (map (at_instr i) bs ++ y ∷ rest) x ≡ Some j →
     (is_weak j.act ≡ true) ⊎ (((x ≡ length bs) × (y ≡ j)) ⊎ ((k : ℕ) × (x ≡ length bs + 1 + k) × (slice_get rest k ≡ Some j)))
 in_block i [] y rest zero j weak e = inr (inl (refl, cc))
@@ -53,9 +53,9 @@ module _ (ss : List Stretch) (all : List Instr) where
       none : n + 0 ≡ n
       none = omega arith
 
-      behind : (k : ℕ) → x ≡ length (before ss n i.act) + 1 + k → (is_weak j.act ≡ true) ⊎ IsSeated (n + 1) is k j → (is_weak j.act ≡ true) ⊎ IsSeated n (i ∷ is) x j
-      behind k far (inl h) = inl h
-      behind k far (inr h) =
+      following : (k : ℕ) → x ≡ length (before ss n i.act) + 1 + k → (is_weak j.act ≡ true) ⊎ IsSeated (n + 1) is k j → (is_weak j.act ≡ true) ⊎ IsSeated n (i ∷ is) x j
+      following k far (inl h) = inl h
+      following k far (inr h) =
           let same : (n + 1) + h.number ≡ n + suc h.number = omega arith in
           let seat : k ≡ place_from ss (n + 1) is h.number + length (before ss (n + suc h.number) h.instr.act) = h.seat ∙ ap (λ m. place_from ss (n + 1) is h.number + length (before ss m h.instr.act)) same in
           inr (record { number = suc h.number; instr = h.instr; here = h.here; seat = omega (arith, far, seat); moved = h.moved ∙ ap (λ m. moved_at m h.instr) same })
@@ -68,7 +68,7 @@ module _ (ss : List Stretch) (all : List Instr) where
           let seat : length (before ss n i.act) ≡ length (before ss (n + 0) i.act) = ap (λ m. length (before ss m i.act)) (sym none) in
           let at = h.0 in
           inr (record { number = 0; instr = i; here = refl; seat = omega (arith, at, seat); moved = sym h.1 ∙ ap (λ m. moved_at m i) (sym none) })
-      by rest (inr (inr h)) = behind h.0 h.1 (rest h.0 h.2)
+      by rest (inr (inr h)) = following h.0 h.1 (rest h.0 h.2)
 
   pub seats_from : (n : ℕ) (is : List Instr) (k : ℕ) (i : Instr) → slice_get is k ≡ Some i → slice_get (blocks ss all n is) (place_from ss n is k + length (before ss (n + k) i.act)) ≡ Some (moved_at (n + k) i)
   seats_from n [] k i e = cc

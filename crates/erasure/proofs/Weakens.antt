@@ -32,7 +32,7 @@ use Rattle.source_runs.proofs.Starts.{starts_run}
 use Rattle.erasure.specs.Erased.{erased_events, erased_walk, IsAnywhere}
 use Rattle.erasure.proofs.Bare.{HasObjects}
 use Rattle.erasure.proofs.Fronts.{weakened_objects}
-use Rattle.erasure.proofs.LowerFronts.{loops_are_behind, lowered_plain}
+use Rattle.erasure.proofs.LowerFronts.{loops_are_after, lowered_plain}
 use Rattle.erasure.proofs.Printing.{erased_prints}
 use Rattle.erasure.proofs.Starts.{erased_run, erased_walk_run}
 use Rattle.erasure.proofs.ValidFronts.{valid_objects}
@@ -64,7 +64,7 @@ module _ (p : Program) (t : Tables) (vs : List Pair) (rs : List Range) (rows : L
   strips = strip-weakened (lowered p) t vs rs rows (valid p sound) (lowered_plain p)
 
   objects : HasObjects (weakened (lowered p) t vs rs rows)
-  objects f = ap (λ c. objects_in c f) strips ∙ sym (weakened_objects (lowered p) t vs rs rows (loops_are_behind p) f)
+  objects f = ap (λ c. objects_in c f) strips ∙ sym (weakened_objects (lowered p) t vs rs rows (loops_are_after p) f)
 
   runnable : IsRunnable (weakened (lowered p) t vs rs rows)
   runnable = weakened_runnable (lowered p) t vs rs rows (valid_runnable (lowered p) (valid p sound))

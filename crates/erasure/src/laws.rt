@@ -46,7 +46,7 @@ pub fn law_erased_walk()
         × (out_of (weakened (lowered p) t vs rs rows) setup entries (start_state (weakened (lowered p) t vs rs rows) setup) ≡ bytes_of (erased_walk (weakened (lowered p) t vs rs rows) setup entries)) }
 {}
 
-/// In such a run of the source each thread's own events are the first ones of its run, on the answers that they got; behind
+/// In such a run of the source each thread's own events are the first ones of its run, on the answers that they got; after
 /// them it may have trapped since its list in the log was full.
 pub fn law_thread_events()
     ensures { (p : Program) (setup : SetupView) (transitions : List ThreadTransition) (t : ℕ) →

@@ -23,9 +23,9 @@ start_is is starts k d all lt long = sym (same_Some (begins_block is k) (slice_i
 pub constants_entered : (is : List Instr) (k : ℕ) (b : Bool) (brought held : ℕ → Option ℤ) → b ≡ begins_block is k → ((r : ℕ) → held r ≡ (if b then None else brought r)) → ((r : ℕ) → (if begins_block is k then None else brought r) ≡ constant_at is k r) → (r : ℕ) → held r ≡ constant_at is k r
 constants_entered is k b brought held same enters was r = enters r ∙ ap (λ x. if x then None else brought r) same ∙ was r
 
-pub constants_next : (is : List Instr) (k : ℕ) (i : Instr) (held behind : ℕ → Option ℤ) → slice_get is k ≡ Some i → ((r : ℕ) → held r ≡ constant_at is k r) → ((r : ℕ) → behind r ≡ (if assigns r (Some i.act) then constant_of (Some i.act) else held r)) → (r : ℕ) → (if begins_block is (k + 1) then None else behind r) ≡ constant_at is (k + 1) r
-constants_next is k i held behind there was passed r =
-    subst (λ n. (if begins_block is n then None else behind r) ≡ constant_at is n r) (sym (add-one k))
+pub constants_next : (is : List Instr) (k : ℕ) (i : Instr) (held following : ℕ → Option ℤ) → slice_get is k ≡ Some i → ((r : ℕ) → held r ≡ constant_at is k r) → ((r : ℕ) → following r ≡ (if assigns r (Some i.act) then constant_of (Some i.act) else held r)) → (r : ℕ) → (if begins_block is (k + 1) then None else following r) ≡ constant_at is (k + 1) r
+constants_next is k i held following there was passed r =
+    subst (λ n. (if begins_block is n then None else following r) ≡ constant_at is n r) (sym (add-one k))
     (ap (λ x. if begins_block is (suc k) then None else x)
     (passed r ∙ ap (λ x. if assigns r (Some i.act) then constant_of (Some i.act) else x) (was r) ∙ ap (λ o. if assigns r (act_in o) then constant_of (act_in o) else constant_at is k r) (sym there)))
 
@@ -77,9 +77,9 @@ known_of_same f g h c (Some a) = refl
 pub known_entered : (f : Function) (fixed : List Bool) (k : ℕ) (b : Bool) (brought held : ℕ → Option Known) → AreFixed f fixed → b ≡ begins_block f.instrs k → ((r : ℕ) → held r ≡ (if b then formal_in fixed r else brought r)) → ((r : ℕ) → (if begins_block f.instrs k then known_formal f.formals f.instrs r else brought r) ≡ known_at f.formals f.instrs k r) → (r : ℕ) → held r ≡ known_at f.formals f.instrs k r
 known_entered f fixed k b brought held h same enters was r = enters r ∙ ap (λ x. if x then formal_in fixed r else brought r) same ∙ ap (λ o. if begins_block f.instrs k then o else brought r) (fixed_formal f fixed h r) ∙ was r
 
-pub known_next : (f : Function) (k : ℕ) (i : Instr) (held behind : ℕ → Option Known) → slice_get f.instrs k ≡ Some i → ((r : ℕ) → held r ≡ known_at f.formals f.instrs k r) → ((r : ℕ) → behind r ≡ (if assigns r (Some i.act) then known_of held (constant_at f.instrs k) (Some i.act) else held r)) → (r : ℕ) → (if begins_block f.instrs (k + 1) then known_formal f.formals f.instrs r else behind r) ≡ known_at f.formals f.instrs (k + 1) r
-known_next f k i held behind there was passed r =
-    subst (λ n. (if begins_block f.instrs n then known_formal f.formals f.instrs r else behind r) ≡ known_at f.formals f.instrs n r) (sym (add-one k))
+pub known_next : (f : Function) (k : ℕ) (i : Instr) (held following : ℕ → Option Known) → slice_get f.instrs k ≡ Some i → ((r : ℕ) → held r ≡ known_at f.formals f.instrs k r) → ((r : ℕ) → following r ≡ (if assigns r (Some i.act) then known_of held (constant_at f.instrs k) (Some i.act) else held r)) → (r : ℕ) → (if begins_block f.instrs (k + 1) then known_formal f.formals f.instrs r else following r) ≡ known_at f.formals f.instrs (k + 1) r
+known_next f k i held following there was passed r =
+    subst (λ n. (if begins_block f.instrs n then known_formal f.formals f.instrs r else following r) ≡ known_at f.formals f.instrs n r) (sym (add-one k))
     (ap (λ x. if begins_block f.instrs (suc k) then known_formal f.formals f.instrs r else x)
     (passed r
     ∙ ap (λ x. if assigns r (Some i.act) then x else held r) (known_of_same held (known_at f.formals f.instrs k) was (constant_at f.instrs k) (Some i.act))

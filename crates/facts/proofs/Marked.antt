@@ -24,20 +24,20 @@ or_none : (a : Bool) → (a || false) ≡ a
 or_none true = refl
 or_none false = refl
 
-or_behind : (a b c : Bool) → ((a || b) || c) ≡ (a || (b || c))
-or_behind true b c = refl
-or_behind false b c = refl
+or_after : (a b c : Bool) → ((a || b) || c) ≡ (a || (b || c))
+or_after true b c = refl
+or_after false b c = refl
 
 target_next : (is : List Instr) (n k : ℕ) (i : Instr) → n < length is → slice_get is n ≡ Some i → is_target (take (n + 1) is) k ≡ (is_target (take n is) k || goes_to k i.act)
 target_next [] n k i lt h = absurd (omega arith)
 target_next (j ∷ is) zero k i lt h = or_none (goes_to k j.act) ∙ ap (λ (o : Instr). goes_to k o.act) (same_Some j i h)
 target_next (j ∷ is) (suc n) k i lt h =
     let e : suc n + 1 ≡ suc (n + 1) = omega arith in
-    ap (λ m. is_target (take m (j ∷ is)) k) e ∙ ap (λ b. goes_to k j.act || b) (target_next is n k i (omega arith) h) ∙ sym (or_behind (goes_to k j.act) (is_target (take n is) k) (goes_to k i.act))
+    ap (λ m. is_target (take m (j ∷ is)) k) e ∙ ap (λ b. goes_to k j.act || b) (target_next is n k i (omega arith) h) ∙ sym (or_after (goes_to k j.act) (is_target (take n is) k) (goes_to k i.act))
 
 -- one instruction more has been looked at
 pub target_marked : (is : List Instr) (n k : ℕ) (i : Instr) (old new first : Bool) → n < length is → slice_get is n ≡ Some i → new ≡ (old || goes_to k i.act) → old ≡ (first || is_target (take n is) k) → new ≡ (first || is_target (take (n + 1) is) k)
-target_marked is n k i old new first lt h marked was = marked ∙ ap (λ b. b || goes_to k i.act) was ∙ or_behind first (is_target (take n is) k) (goes_to k i.act) ∙ ap (λ b. first || b) (sym (target_next is n k i lt h))
+target_marked is n k i old new first lt h marked was = marked ∙ ap (λ b. b || goes_to k i.act) was ∙ or_after first (is_target (take n is) k) (goes_to k i.act) ∙ ap (λ b. first || b) (sym (target_next is n k i lt h))
 
 pub are_starts : (is : List Instr) (starts : List Bool) → length starts ≡ length is → ((k : ℕ) → k < length is → slice_index_or starts k false ≡ begins_block is k) → AreStarts is starts
 are_starts is starts long each k lt = slice_get-get_or starts k false (omega arith) ∙ ap Some (each k lt)

@@ -5,7 +5,7 @@ use Rattle.std.proofs.lemmas.Bool.{true≢false}
 use Rattle.std.proofs.lemmas.List.{drop_all}
 use Rattle.facts.specs.declared.locks.LockPath.{LockPath}
 use Rattle.facts.specs.Locks.{is_less, is_same, with, union, are_ascending}
-use Rattle.facts.specs.Merges.{comes_first, before_path, behind_path, merge}
+use Rattle.facts.specs.Merges.{comes_first, before_path, after_path, merge}
 use Rattle.facts.proofs.PathSets.{same_is, same_self, less_trans, less_other}
 use Rattle.facts.proofs.Orders.{path_irr}
 
@@ -34,12 +34,12 @@ not_same p q h = by (is_same q p) refl
     by true e = absurd (path_irr p (subst (λ z. is_less p z ≡ true) (same_is q p e) h))
     by false e = e
 
--- none of what comes behind a path comes before it
-none_before : (p : LockPath) (qs : List LockPath) → comes_first p qs ≡ true → (before_path p qs ≡ []) × (behind_path p qs ≡ qs)
+-- none of what comes after a path comes before it
+none_before : (p : LockPath) (qs : List LockPath) → comes_first p qs ≡ true → (before_path p qs ≡ []) × (after_path p qs ≡ qs)
 none_before p [] h = (refl, refl)
 none_before p (q ∷ qs) h = (
   ap (λ b. if b then q ∷ before_path p qs else []) (not_back p q h),
-  ap (λ b. if b then behind_path p qs else if is_same q p then qs else q ∷ qs) (not_back p q h) ∙ ap (λ b. if b then qs else q ∷ qs) (not_same p q h),
+  ap (λ b. if b then after_path p qs else if is_same q p then qs else q ∷ qs) (not_back p q h) ∙ ap (λ b. if b then qs else q ∷ qs) (not_same p q h),
 )
 
 first_with : (q : LockPath) (rs : List LockPath) → comes_first q rs ≡ true → with q rs ≡ q ∷ rs
@@ -50,7 +50,7 @@ first_merge : (q p : LockPath) (ps qs : List LockPath) → is_less q p ≡ true 
 first_merge q p ps [] lt h = lt
 first_merge q p ps (x ∷ qs) lt h = by (is_less x p)
   where
-    by : (b : Bool) → comes_first q ((if b then x ∷ before_path p qs else []) ++ p ∷ merge ps (behind_path p (x ∷ qs))) ≡ true
+    by : (b : Bool) → comes_first q ((if b then x ∷ before_path p qs else []) ++ p ∷ merge ps (after_path p (x ∷ qs))) ≡ true
     by true = h
     by false = lt
 
@@ -66,13 +66,13 @@ with_merge (p ∷ ps) q qs h = by (with_merge ps q qs h) (is_less q p) refl (is_
     joined rest true n e =
         let same = same_is q p e in
         let none = none_before p qs (subst (λ z. comes_first z qs ≡ true) same h) in
-        ap (with q) (ap (λ z. z ++ p ∷ merge ps (behind_path p qs)) none.0 ∙ ap (λ z. p ∷ merge ps z) none.1)
+        ap (with q) (ap (λ z. z ++ p ∷ merge ps (after_path p qs)) none.0 ∙ ap (λ z. p ∷ merge ps z) none.1)
         ∙ ap (λ b. if b then q ∷ p ∷ merge ps qs else if is_same q p then p ∷ merge ps qs else p ∷ with q (merge ps qs)) n
         ∙ ap (λ b. if b then p ∷ merge ps qs else p ∷ with q (merge ps qs)) e
     joined rest false n e =
         let lt = less_other q p n e in
         let none = none_before p qs (trans_first p q qs lt h) in
-        ap (with q) (ap (λ z. z ++ p ∷ merge ps (behind_path p qs)) none.0 ∙ ap (λ z. p ∷ merge ps z) none.1)
+        ap (with q) (ap (λ z. z ++ p ∷ merge ps (after_path p qs)) none.0 ∙ ap (λ z. p ∷ merge ps z) none.1)
         ∙ ap (λ b. if b then q ∷ p ∷ merge ps qs else if is_same q p then p ∷ merge ps qs else p ∷ with q (merge ps qs)) n
         ∙ ap (λ b. if b then p ∷ merge ps qs else p ∷ with q (merge ps qs)) e
         ∙ ap (λ z. p ∷ z) rest
@@ -80,10 +80,10 @@ with_merge (p ∷ ps) q qs h = by (with_merge ps q qs h) (is_less q p) refl (is_
     by : with q (merge ps qs) ≡ merge ps (q ∷ qs) → (l : Bool) → is_less q p ≡ l → (s : Bool) → is_same q p ≡ s → with q (merge (p ∷ ps) qs) ≡ merge (p ∷ ps) (q ∷ qs)
     by rest true e s g =
         first_with q (merge (p ∷ ps) qs) (first_merge q p ps qs e h)
-        ∙ sym (ap (λ b. (if b then q ∷ before_path p qs else []) ++ p ∷ merge ps (if b then behind_path p qs else if is_same q p then qs else q ∷ qs)) e)
+        ∙ sym (ap (λ b. (if b then q ∷ before_path p qs else []) ++ p ∷ merge ps (if b then after_path p qs else if is_same q p then qs else q ∷ qs)) e)
     by rest false e s g =
         joined rest s e g
-        ∙ sym (ap (λ b. (if b then q ∷ before_path p qs else []) ++ p ∷ merge ps (if b then behind_path p qs else if is_same q p then qs else q ∷ qs)) e ∙ ap (λ b. p ∷ merge ps (if b then qs else q ∷ qs)) g)
+        ∙ sym (ap (λ b. (if b then q ∷ before_path p qs else []) ++ p ∷ merge ps (if b then after_path p qs else if is_same q p then qs else q ∷ qs)) e ∙ ap (λ b. p ∷ merge ps (if b then qs else q ∷ qs)) g)
 
 no_others : (ps : List LockPath) → merge ps [] ≡ ps
 no_others [] = refl

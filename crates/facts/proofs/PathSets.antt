@@ -109,25 +109,25 @@ filter_has t p (q ∷ qs) h k = go (t q) refl (λ j. filter_has t p qs j k)
 
 -- ---- order
 
-abbrev starts_behind : LockPath → List LockPath → Bool
-starts_behind p [] = true
-starts_behind p (q ∷ qs) = is_less p q
+abbrev starts_after : LockPath → List LockPath → Bool
+starts_after p [] = true
+starts_after p (q ∷ qs) = is_less p q
 
-ascending-cons : (p : LockPath) (ps : List LockPath) → are_ascending (p ∷ ps) ≡ (starts_behind p ps && are_ascending ps)
+ascending-cons : (p : LockPath) (ps : List LockPath) → are_ascending (p ∷ ps) ≡ (starts_after p ps && are_ascending ps)
 ascending-cons p [] = refl
 ascending-cons p (q ∷ qs) = refl
 
-ascending_parts : (p : LockPath) (ps : List LockPath) → are_ascending (p ∷ ps) ≡ true → (starts_behind p ps ≡ true) × (are_ascending ps ≡ true)
-ascending_parts p ps h = and_both (starts_behind p ps) (are_ascending ps) (sym (ascending-cons p ps) ∙ h)
+ascending_parts : (p : LockPath) (ps : List LockPath) → are_ascending (p ∷ ps) ≡ true → (starts_after p ps ≡ true) × (are_ascending ps ≡ true)
+ascending_parts p ps h = and_both (starts_after p ps) (are_ascending ps) (sym (ascending-cons p ps) ∙ h)
 
-ascending_of : (p : LockPath) (ps : List LockPath) → starts_behind p ps ≡ true → are_ascending ps ≡ true → are_ascending (p ∷ ps) ≡ true
-ascending_of p ps h k = ascending-cons p ps ∙ both_and (starts_behind p ps) (are_ascending ps) h k
+ascending_of : (p : LockPath) (ps : List LockPath) → starts_after p ps ≡ true → are_ascending ps ≡ true → are_ascending (p ∷ ps) ≡ true
+ascending_of p ps h k = ascending-cons p ps ∙ both_and (starts_after p ps) (are_ascending ps) h k
 
-behind_with : (x p : LockPath) (ps : List LockPath) → is_less x p ≡ true → starts_behind x ps ≡ true → starts_behind x (with p ps) ≡ true
-behind_with x p [] h k = h
-behind_with x p (q ∷ qs) h k = go (is_less p q) (is_same p q)
+after_with : (x p : LockPath) (ps : List LockPath) → is_less x p ≡ true → starts_after x ps ≡ true → starts_after x (with p ps) ≡ true
+after_with x p [] h k = h
+after_with x p (q ∷ qs) h k = go (is_less p q) (is_same p q)
   where
-    go : (l s : Bool) → starts_behind x (if l then p ∷ q ∷ qs else if s then q ∷ qs else q ∷ with p qs) ≡ true
+    go : (l s : Bool) → starts_after x (if l then p ∷ q ∷ qs else if s then q ∷ qs else q ∷ with p qs) ≡ true
     go true s = h
     go false true = k
     go false false = k
@@ -139,21 +139,21 @@ ascending_with p (q ∷ qs) h = go (is_less p q) (is_same p q) refl refl (ascend
     go : (l s : Bool) → is_less p q ≡ l → is_same p q ≡ s → are_ascending (with p qs) ≡ true → are_ascending (if l then p ∷ q ∷ qs else if s then q ∷ qs else q ∷ with p qs) ≡ true
     go true s e f k = both_and (is_less p q) (are_ascending (q ∷ qs)) e h
     go false true e f k = h
-    go false false e f k = ascending_of q (with p qs) (behind_with q p qs (less_other p q e f) (ascending_parts q qs h).0) k
+    go false false e f k = ascending_of q (with p qs) (after_with q p qs (less_other p q e f) (ascending_parts q qs h).0) k
 
 pub ascending_union : (ps qs : List LockPath) → are_ascending ps ≡ true → are_ascending (union ps qs) ≡ true
 ascending_union ps [] h = h
 ascending_union ps (q ∷ qs) h = ascending_with q (union ps qs) (ascending_union ps qs h)
 
-behind_less : (x q : LockPath) (qs : List LockPath) → is_less x q ≡ true → starts_behind q qs ≡ true → starts_behind x qs ≡ true
-behind_less x q [] h k = refl
-behind_less x q (r ∷ rs) h k = less_trans x q r h k
+past_less : (x q : LockPath) (qs : List LockPath) → is_less x q ≡ true → starts_after q qs ≡ true → starts_after x qs ≡ true
+past_less x q [] h k = refl
+past_less x q (r ∷ rs) h k = less_trans x q r h k
 
-behind_filter : (t : LockPath → Bool) (x : LockPath) (ps : List LockPath) → starts_behind x ps ≡ true → are_ascending ps ≡ true → starts_behind x (filter t ps) ≡ true
-behind_filter t x [] h k = refl
-behind_filter t x (q ∷ qs) h k = go (t q) (behind_filter t x qs (behind_less x q qs h (ascending_parts q qs k).0) (ascending_parts q qs k).1)
+after_filter : (t : LockPath → Bool) (x : LockPath) (ps : List LockPath) → starts_after x ps ≡ true → are_ascending ps ≡ true → starts_after x (filter t ps) ≡ true
+after_filter t x [] h k = refl
+after_filter t x (q ∷ qs) h k = go (t q) (after_filter t x qs (past_less x q qs h (ascending_parts q qs k).0) (ascending_parts q qs k).1)
   where
-    go : (b : Bool) → starts_behind x (filter t qs) ≡ true → starts_behind x (if b then q ∷ filter t qs else filter t qs) ≡ true
+    go : (b : Bool) → starts_after x (filter t qs) ≡ true → starts_after x (if b then q ∷ filter t qs else filter t qs) ≡ true
     go true f = h
     go false f = f
 
@@ -162,5 +162,5 @@ ascending_filter t [] h = refl
 ascending_filter t (q ∷ qs) h = go (t q) (ascending_filter t qs (ascending_parts q qs h).1)
   where
     go : (b : Bool) → are_ascending (filter t qs) ≡ true → are_ascending (if b then q ∷ filter t qs else filter t qs) ≡ true
-    go true f = ascending_of q (filter t qs) (behind_filter t q qs (ascending_parts q qs h).0 (ascending_parts q qs h).1) f
+    go true f = ascending_of q (filter t qs) (after_filter t q qs (ascending_parts q qs h).0 (ascending_parts q qs h).1) f
     go false f = f

@@ -1,5 +1,5 @@
 -- Blocks of a function's instructions, and the constants in them. A block begins at the first instruction, where a jump or
--- branch goes, and behind each jump, branch, call, library call and return.
+-- branch goes, and after each jump, branch, call, library call and return.
 use Rattle.std.specs.Prelude.{◌≡◌, ℕ, zero, suc, ◌<◌, ◌==◌, ◌||◌, Bool, true, false, if◌then◌else◌, ℤ, List, length, Option, Some, None, slice_get}
 use Rattle.std.specs.List.{list_any}
 use Rattle.flow_code.specs.declared.act.Act.{Act}

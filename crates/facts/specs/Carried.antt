@@ -17,9 +17,9 @@ module _ {S : Type 0} where
   constant_in held r = last_put (get nat_eq held r) None
 
 -- so many cells behind a root
-abbrev pub known_behind : Root → Option ℕ → Option Known
-known_behind root None = None
-known_behind root (Some n) = Some (record { root = root; cells = n })
+abbrev pub known_after : Root → Option ℕ → Option Known
+known_after root None = None
+known_after root (Some n) = Some (record { root = root; cells = n })
 
 -- what is known, as the definition has it
 abbrev pub known_by : Option Reach → Option Known

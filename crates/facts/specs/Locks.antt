@@ -47,7 +47,7 @@ are_ascending [] = true
 are_ascending (p ∷ []) = true
 are_ascending (p ∷ q ∷ ps) = is_less p q && are_ascending (q ∷ ps)
 
--- ---- what holds behind an instruction
+-- ---- what holds after an instruction
 
 -- the path is none of these, whatever they lead to
 abbrev pub is_clear : List LockPath → LockPath → Bool
@@ -141,7 +141,7 @@ abbrev pub after_call : List (Option LockPath) → Option RelLocks → RelLocks 
 after_call actuals None l = l
 after_call actuals (Some exit) l = through actuals exit l
 
--- the locks behind the k-th instruction of f, where the functions of the code have these exits
+-- the locks after the k-th instruction of f, where the functions of the code have these exits
 abbrev pub after : List RelLocks → Function → ℕ → Act → RelLocks → RelLocks
 after exits f k (act.Library c arguments into) l = after_library f k c arguments l
 after exits f k (act.Call g arguments into) l = after_call (actuals_at f k arguments) (slice_get exits g) l

@@ -13,11 +13,11 @@ abbrev pub before_path : LockPath → List LockPath → List LockPath
 before_path p [] = []
 before_path p (q ∷ qs) = if is_less q p then q ∷ before_path p qs else []
 
--- those from the first on that comes behind p
-abbrev pub behind_path : LockPath → List LockPath → List LockPath
-behind_path p [] = []
-behind_path p (q ∷ qs) = if is_less q p then behind_path p qs else if is_same q p then qs else q ∷ qs
+-- those from the first on that comes after p
+abbrev pub after_path : LockPath → List LockPath → List LockPath
+after_path p [] = []
+after_path p (q ∷ qs) = if is_less q p then after_path p qs else if is_same q p then qs else q ∷ qs
 
 abbrev pub merge : List LockPath → List LockPath → List LockPath
 merge [] qs = qs
-merge (p ∷ ps) qs = before_path p qs ++ p ∷ merge ps (behind_path p qs)
+merge (p ∷ ps) qs = before_path p qs ++ p ∷ merge ps (after_path p qs)

@@ -1,4 +1,4 @@
--- Which locks a function knows by name. A path is a global cell, or so many cells behind that to which a formal points
+-- Which locks a function knows by name. A path is a global cell, or so many cells after that to which a formal points
 -- which the function never assigns.
 use Rattle.std.specs.Prelude.{ℕ, zero, suc, ◌+◌, ◌^◌, ◌==◌, nat_lt, nat_le, ◌&&◌, ◌||◌, Bool, true, not, if◌then◌else◌, ℤ, pos, negsuc, ◌+ℤ◌, ◌*ℤ◌, List, [], ◌∷◌, map, Option, Some, None, slice_get}
 use Rattle.std.specs.List.{list_all}
@@ -25,7 +25,7 @@ pub data Root : Type 0 where
 
 pub record Known : Type 0 where
   pub root : Root
-  -- how many cells behind it
+  -- how many cells after it
   pub cells : ℕ
 
 abbrev pub is_never_assigned : List Instr → ℕ → Bool
@@ -108,15 +108,15 @@ actual_of Unknown = None
 actual_of Nowhere = Some (Formal 0 (most_cells + 1))
 actual_of (Named p) = Some p
 
-abbrev pub behind : ℕ → Option (Option LockPath) → Option LockPath
-behind n (Some (Some (Cell c))) = Some (Cell (c + n))
-behind n (Some (Some (Formal i m))) = Some (Formal i (m + n))
-behind n _ = None
+abbrev pub following : ℕ → Option (Option LockPath) → Option LockPath
+following n (Some (Some (Cell c))) = Some (Cell (c + n))
+following n (Some (Some (Formal i m))) = Some (Formal i (m + n))
+following n _ = None
 
 -- a path of the called function, where these are known of its arguments; none where the argument isn't known
 abbrev pub substituted : LockPath → List (Option LockPath) → Option LockPath
 substituted (Cell c) actuals = Some (Cell c)
-substituted (Formal i n) actuals = behind n (slice_get actuals i)
+substituted (Formal i n) actuals = following n (slice_get actuals i)
 
 -- ---- sizes
 

@@ -51,7 +51,7 @@ fn mark_targets(starts: &mut Vec<bool>, act: &Act)
 }
 
 // Where nothing stands before an instruction, or a block ends there.
-fn behind_ends(alloc: Global, instrs: &[Instr]) -> Result<Vec<bool>, AllocError>
+fn after_ends(alloc: Global, instrs: &[Instr]) -> Result<Vec<bool>, AllocError>
     ensures length { IfOk result (λ v. length v.items ≡ length instrs.now) }
     ensures each { IfOk result (λ v. (k : ℕ) → k < length instrs.now → slice_index_or v.items k false ≡ spec.follows_end instrs.now k) }
 {
@@ -69,7 +69,7 @@ pub fn block_starts(alloc: Global, instrs: &[Instr]) -> Result<Vec<bool>, AllocE
     ensures length { IfOk result (λ v. length v.items ≡ length instrs.now) }
     ensures each { IfOk result (λ v. AreStarts instrs.now v.items) }
 {
-    let mut starts = behind_ends(alloc, instrs)?;
+    let mut starts = after_ends(alloc, instrs)?;
     for instr in instrs {
         mark_targets(&mut starts, &instr.act);
     }

@@ -2,7 +2,7 @@
 ghost use Rattle.std.specs.Prelude.{◌≡◌, ℕ, ℤ, List as Items, Option, Bool, Some, None, if◌then◌else◌, IfOk, OnOk};
 ghost use Rattle.abstract_machine.specs.Pointers.{directed as directed_of};
 ghost use Rattle.facts.specs.Blocks.{amount_by, assigns as assigns_of};
-ghost use Rattle.facts.specs.Carried.{known_by, known_behind, known_in, formal_in};
+ghost use Rattle.facts.specs.Carried.{known_by, known_after, known_in, formal_in};
 ghost use Rattle.facts.specs.Paths.{Root, known_of, known_on, known_on_by, naming_of as naming_by};
 
 use crate::blocks::assigned;
@@ -15,7 +15,7 @@ use std::collections::HashMap;
 // No object has more cells.
 const MOST_CELLS: u128 = 65_535;
 
-/// What is known of a pointer: so many cells behind the first one of a global object, or behind that to which a formal
+/// What is known of a pointer: so many cells after the first one of a global object, or after that to which a formal
 /// points.
 #[derive(Clone, Copy)]
 pub enum Reach {
@@ -40,7 +40,7 @@ fn directed(back: bool, elements: i64) -> i128
 // So many cells on, unless that is in front of the first. Beyond 128 bits, to which no function comes, it counts as want
 // of memory.
 fn cells_on(cells: u128, by: i128) -> Result<Option<u128>, AllocError>
-    ensures { IfOk result (λ on. (root : Root) → known_behind root on ≡ known_on (Some (record { root = root; cells = cells })) by) }
+    ensures { IfOk result (λ on. (root : Root) → known_after root on ≡ known_on (Some (record { root = root; cells = cells })) by) }
 {
     let way = by.unsigned_abs();
     if by < 0 {

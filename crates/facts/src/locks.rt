@@ -1,7 +1,7 @@
 //! The locks that a function holds, as it knows them.
 use rr_base::List;
 
-/// A lock that a function knows by name: a global cell, or the cell so many cells behind that to which a formal points.
+/// A lock that a function knows by name: a global cell, or the cell so many cells after that to which a formal points.
 #[derive(Clone, Copy, Debug, PartialEq, Eq)]
 pub enum LockPath {
     Cell(u32),

@@ -9,7 +9,7 @@ pub struct AccessAt {
 }
 
 /// Two accesses of one place that may be at work at once, on two threads, one of them a store. The first isn't
-/// behind the second by function and instruction.
+/// after the second by function and instruction.
 #[derive(Clone, Copy, Debug, PartialEq, Eq)]
 pub struct Pair {
     pub place: Place,

@@ -163,9 +163,9 @@ fn push_before(
     Ok(())
 }
 
-// Those from the first on that comes behind the path.
-fn behind_path(others: &[LockPath], path: LockPath) -> &[LockPath]
-    ensures { result.now ≡ merges.behind_path path others.now }
+// Those from the first on that comes after the path.
+fn after_path(others: &[LockPath], path: LockPath) -> &[LockPath]
+    ensures { result.now ≡ merges.after_path path others.now }
 {
     let mut rest = others;
     while let [first, more @ ..] = rest {
@@ -200,7 +200,7 @@ pub fn merged(
     for path in paths {
         push_before(&mut merged, rest, *path)?;
         merged.push(*path)?;
-        rest = behind_path(rest, *path);
+        rest = after_path(rest, *path);
     }
     push_all(&mut merged, rest)?;
     Ok(merged)
@@ -218,11 +218,11 @@ pub fn add_paths(paths: &mut List<LockPath>, others: &[LockPath]) -> Result<(), 
     Ok(())
 }
 
-// The path so many cells behind what is known of an argument.
-fn behind(actual: Option<LockPath>, offset: u32) -> Option<LockPath>
+// The path so many cells after what is known of an argument.
+fn following(actual: Option<LockPath>, offset: u32) -> Option<LockPath>
     requires small { spec.is_small_actual actual ≡ true }
     requires offset { offset < 2 ^ 31 }
-    ensures { result ≡ spec.behind offset (Some actual) }
+    ensures { result ≡ spec.following offset (Some actual) }
 {
     match actual {
         Some(LockPath::Cell(cell)) => Some(LockPath::Cell(cell + offset)),
@@ -248,7 +248,7 @@ pub fn substitute(path: LockPath, actuals: &[Option<LockPath>]) -> Option<LockPa
     match path {
         LockPath::Cell(_) => Some(path),
         LockPath::Formal { index, offset } => match actuals.get(index as usize) {
-            Some(actual) => behind(*actual, offset),
+            Some(actual) => following(*actual, offset),
             None => None,
         },
     }

@@ -197,7 +197,7 @@ impl RelLocks {
         }
     }
 
-    /// The locks behind a call, where these were held before it, the called function's are `callee` at its exit, and
+    /// The locks after a call, where these were held before it, the called function's are `callee` at its exit, and
     /// its arguments are known so.
     pub fn through(
         &self,

@@ -24,9 +24,9 @@ use Rattle.abstract_machine.specs.declared.event.Onward.TheVariants as onward
 use Rattle.flow_code.specs.Works.{work_of}
 use Rattle.abstract_machine.specs.Library.{piece_of, library_onward}
 use Rattle.flow_code.specs.Threads.{Frame, Thread, is_main}
-use Rattle.flow_code.specs.Next.{value_of, act_at, pointers_of, caller, phase_due, due_of, computed, went_on, returned, end_onward, back_in, on_unless, act_after, begun_after, phase_after, counted, repaid, one_more, after_due, has_ended, action_of, action_at, stepped}
+use Rattle.flow_code.specs.Next.{value_of, act_at, pointers_of, caller, phase_due, due_of, computed, resumed, returned, end_onward, back_in, on_unless, act_after, begun_after, phase_after, counted, repaid, one_more, after_due, has_ended, action_of, action_at, stepped}
 use Rattle.abstract_machine.specs.Registers.{words_of}
-use Rattle.flow_code.specs.Holding.{region_of, lacked, taken, open_place, to_give, gives_at, parting, left_behind}
+use Rattle.flow_code.specs.Holding.{region_of, lacked, taken, open_place, to_give, gives_at, parting, left_after}
 use Rattle.flow_code.specs.Settle.{settled}
 use Rattle.abstract_machine.proofs.Calls.{is_retake}
 use Rattle.flow_code.proofs.Dues.{quiet_by_code, nothing_by_code, nothing_due, IsAccess, access_by_code}
@@ -46,7 +46,7 @@ computed_keeps : (th : Thread) (into : ℕ) (r : Result ℕ Trap) → KeepsRest 
 computed_keeps th into (Ok w) = rest th _ refl refl refl
 computed_keeps th into (Err k) = rest th _ refl refl refl
 
-went_on_keeps : (th : Thread) (n : ℕ) (into : Option ℕ) (o : Onward) → KeepsRest th (went_on (record th { printed = n }) into o)
+went_on_keeps : (th : Thread) (n : ℕ) (into : Option ℕ) (o : Onward) → KeepsRest th (resumed (record th { printed = n }) into o)
 went_on_keeps th n into (onward.Stays kept) = rest th _ refl refl refl
 went_on_keeps th n into (onward.Gives w) = rest th _ refl refl refl
 went_on_keeps th n into onward.Ends = rest th _ refl refl refl
@@ -80,7 +80,7 @@ give_keeps th None (Some n) = rest th _ refl refl refl
 give_keeps th (Some i) None = rest th _ refl refl refl
 give_keeps th (Some i) (Some n) = rest th _ refl refl refl
 
-parting_keeps : (th : Thread) (xs : List Stripe) (q : Thread) → KeepsRest th q → KeepsRest th (left_behind th xs q)
+parting_keeps : (th : Thread) (xs : List Stripe) (q : Thread) → KeepsRest th q → KeepsRest th (left_after th xs q)
 parting_keeps th [] q h = h
 parting_keeps th (x ∷ xs) q h = rest th _ refl refl refl
 
@@ -212,7 +212,7 @@ due_grows code s t th (due.Trap kind) answer = omega arith
 pub step_grows : (code : Code) (s : SetupView) (t : ℕ) (th : Thread) (answer : ℤ) → th.count ≤ (stepped code s t th answer).count
 step_grows code s t th answer = subst (λ z. th.count ≤ z.count) (sym (stepped_is code s t th (due_of code s t th) answer refl)) (due_grows code s t th (due_of code s t th) answer)
 
--- nothing is due in a thread that has ended, and else only behind the last instruction of a function
+-- nothing is due in a thread that has ended, and else only after the last instruction of a function
 
 ended_phase : (code : Code) (s : SetupView) (t : ℕ) (th : Thread) (p : Phase) → has_ended p ≡ true → phase_due code s t th p ≡ due.Nothing
 ended_phase code s t th phase.Fresh e = absurd (true≢false (sym e))

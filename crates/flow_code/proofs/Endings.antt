@@ -14,7 +14,7 @@ use Rattle.abstract_machine.specs.declared.event.Due.TheVariants as due
 use Rattle.abstract_machine.specs.declared.event.Action.{Action}
 use Rattle.abstract_machine.specs.declared.event.Action.TheVariants as action
 use Rattle.flow_code.specs.Threads.{Thread}
-use Rattle.flow_code.specs.Next.{phase_due, due_of, action_of, action_at, phase_after, counted, after_due, gave_up, stopped, shut, has_ended, stepped}
+use Rattle.flow_code.specs.Next.{phase_due, due_of, action_of, action_at, phase_after, counted, after_due, gave_up, stopped, slot_closed, has_ended, stepped}
 use Rattle.flow_code.specs.Settle.{settled}
 use Rattle.abstract_machine.specs.Limits.{is_free_of_limit}
 use Rattle.flow_code.proofs.Dues.{operate_by_code, leave_due}
@@ -138,5 +138,5 @@ module _ (code : Code) (s : SetupView) (t : ℕ) where
   pub stopped_ends : (th : Thread) (n : ℕ) → has_ended th.phase ≡ false → EndsSo th n → EndsSo (stopped th) (n + 1)
   stopped_ends th n lives h = let few = one_at_most th n h (λ e. true≢false (sym e ∙ lives)) in all_over (omega arith) refl
 
-  pub shut_ends : (th : Thread) (n : ℕ) → has_ended th.phase ≡ false → EndsSo th n → EndsSo (shut th) (n + 1)
+  pub shut_ends : (th : Thread) (n : ℕ) → has_ended th.phase ≡ false → EndsSo th n → EndsSo (slot_closed th) (n + 1)
   shut_ends th n lives h = let few = one_at_most th n h (λ e. true≢false (sym e ∙ lives)) in all_over (omega arith) refl

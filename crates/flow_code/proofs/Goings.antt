@@ -16,7 +16,7 @@ use Rattle.abstract_machine.specs.declared.library_call.LibraryCall.{LibraryCall
 use Rattle.abstract_machine.specs.declared.library_call.LibraryCall.TheVariants as call
 use Rattle.flow_code.specs.declared.region.Region.{Region}
 use Rattle.flow_code.specs.declared.thread.Stripe.{Stripe}
-use Rattle.flow_code.specs.Holding.{region_of, lacked, take_or_quiet, give_or_quiet, taken, open_place, to_give, gives_at, parting, owes, parting_due, held, keeping, left_behind}
+use Rattle.flow_code.specs.Holding.{region_of, lacked, take_or_quiet, give_or_quiet, taken, open_place, to_give, gives_at, parting, owes, parting_due, held, keeping, left_after}
 use Rattle.flow_code.specs.declared.code.Code.{Code}
 use Rattle.flow_code.specs.declared.thread.Phase.{Phase}
 use Rattle.flow_code.specs.declared.thread.Phase.TheVariants as phase
@@ -31,7 +31,7 @@ use Rattle.abstract_machine.specs.Registers.{register}
 use Rattle.abstract_machine.specs.Library.{Caller, piece_of, library_due, library_onward, most_printed, count_in}
 use Rattle.flow_code.specs.Threads.{Frame, Thread, OpenRegion, arena_end, is_main, objects_in, fitted}
 use Rattle.abstract_machine.specs.Cells.{size_of}
-use Rattle.flow_code.specs.Next.{past, jumped, with_register, value_of, act_at, pointers_of, quiet_unless, load_due, store_due, malloc_due, mark_if, enter_due, end_due, return_due, caller, act_due, begun_due, phase_due, in_frame, computed, entered, one_made, end_onward, returned, back_in, went_on, branch_to, allocated, on_unless, act_after, begun_after, phase_after, counted, has_ended}
+use Rattle.flow_code.specs.Next.{past, jumped, with_register, value_of, act_at, pointers_of, quiet_unless, load_due, store_due, malloc_due, mark_if, enter_due, end_due, return_due, caller, act_due, begun_due, phase_due, in_frame, computed, entered, one_made, end_onward, returned, back_in, resumed, branch_to, allocated, on_unless, act_after, begun_after, phase_after, counted, has_ended}
 use Rattle.abstract_machine.specs.Limits.{most_frames}
 use Rattle.flow_code.specs.Ranges.{most_made}
 use Rattle.abstract_machine.specs.Registers.{words_of}
@@ -161,7 +161,7 @@ module _ (code : Code) (s : SetupView) (t : ℕ) (th : Thread) where
       by false e = back_quiet (value_of th.top.registers v) (slice_get th.below (length th.below - 1))
 
   -- a call of the library, which has printed so far
-  call_runs : (into : Option ℕ) (n made : ℕ) (o : Onward) → th.phase ≡ phase.Running → th.top.made ≡ made → (th.printed ≤ most_printed → n ≤ most_printed) → GoesOn made o → Runs (went_on (record th { printed = n }) into o)
+  call_runs : (into : Option ℕ) (n made : ℕ) (o : Onward) → th.phase ≡ phase.Running → th.top.made ≡ made → (th.printed ≤ most_printed → n ≤ most_printed) → GoesOn made o → Runs (resumed (record th { printed = n }) into o)
   call_runs into n made (onward.Stays kept) run is p g = record {
     lives = ap has_ended run;
     shaped = λ h. goes_shaped code s t (record th { printed = n }) into (onward.Stays kept) (subst (λ z. z ≤ 2) (sym is) g) (printed_more code s t th n (p h.few_printed) h);
@@ -172,7 +172,7 @@ module _ (code : Code) (s : SetupView) (t : ℕ) (th : Thread) where
   }
   call_runs into n made onward.Ends run is p g = absurd g
 
-  call_quiet : (into : Option ℕ) (n w : ℕ) → n ≡ th.printed → StaysQuiet (went_on (record th { printed = n }) into (onward.Gives w))
+  call_quiet : (into : Option ℕ) (n w : ℕ) → n ≡ th.printed → StaysQuiet (resumed (record th { printed = n }) into (onward.Gives w))
   call_quiet into n w e = record {
     same_phase = refl;
     same_printed = e;
@@ -188,7 +188,7 @@ module _ (code : Code) (s : SetupView) (t : ℕ) (th : Thread) where
     leads_to = library_onward (caller code s t th) c given_words th.top.made th.top.kept answer
 
     abbrev after_call : Onward → Thread
-    after_call o = went_on (record th { printed = th.printed + length (piece_of c given_words) }) into o
+    after_call o = resumed (record th { printed = th.printed + length (piece_of c given_words) }) into o
 
     leave_next : (kept : ℤ) → th.phase ≡ phase.Running → act_at code th.top ≡ Some (act.Library c arguments into) →
         ((v : Caller) (k : ℤ) → library_due v c given_words (th.top.made + 1) k ≡ due.Operate op.Leave object.Threads) →
@@ -244,7 +244,7 @@ module _ (code : Code) (s : SetupView) (t : ℕ) (th : Thread) where
   give_goes (Some i) (Some n) run = weak_goes op.Give _ _ _ (record { fits = refl; own = refl; first = refl }) refl tt (held_runs _ _ run)
 
   -- before its first event pthread_exit forgets what is owed and gives what is held
-  parting_goes : (xs : List Stripe) (q : Thread) (d : Due) → th.phase ≡ phase.Running → ThreadGoes q d → ThreadGoes (left_behind th xs q) (parting_due xs d)
+  parting_goes : (xs : List Stripe) (q : Thread) (d : Due) → th.phase ≡ phase.Running → ThreadGoes q d → ThreadGoes (left_after th xs q) (parting_due xs d)
   parting_goes [] q d run h = h
   parting_goes (x ∷ xs) q d run h = by (owes (x ∷ xs))
     where

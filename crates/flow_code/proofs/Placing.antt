@@ -7,7 +7,7 @@ use Rattle.abstract_machine.specs.Pointers.{pointer_at}
 use Rattle.flow_code.specs.Threads.{Object, object, object_of, and_objects, objects_of, placed}
 use Rattle.abstract_machine.specs.Cells.{size_of}
 
--- what stands at a place, and what comes behind it
+-- what stands at a place, and what comes after it
 objects_from : (is : List Instr) (k : ℕ) (i : Instr) → i ≡ get_or is k i → k < length is → objects_of (drop k is) ≡ and_objects (object_of i.act) (objects_of (drop (k + 1) is))
 objects_from is k i e h = rw (add-one, drop-cons is k i) (rw (← e) refl)
 

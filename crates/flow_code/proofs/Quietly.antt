@@ -12,7 +12,7 @@ use Rattle.abstract_machine.specs.declared.library_call.LibraryCall.{LibraryCall
 use Rattle.abstract_machine.specs.declared.library_call.LibraryCall.TheVariants as call
 use Rattle.flow_code.specs.declared.region.Region.{Region}
 use Rattle.flow_code.specs.declared.thread.Stripe.{Stripe}
-use Rattle.flow_code.specs.Holding.{region_of, lacked, take_or_quiet, give_or_quiet, taken, open_place, to_give, gives_at, parting, owes, parting_due, held, keeping, left_behind}
+use Rattle.flow_code.specs.Holding.{region_of, lacked, take_or_quiet, give_or_quiet, taken, open_place, to_give, gives_at, parting, owes, parting_due, held, keeping, left_after}
 use Rattle.sync_objects.specs.declared.object.ObjId.TheVariants as object
 use Rattle.sync_objects.specs.declared.operation.Op.TheVariants as op
 use Rattle.flow_code.specs.declared.code.Code.{Code}
@@ -27,7 +27,7 @@ use Rattle.flow_code.specs.Works.{is_pointer, work_of}
 use Rattle.abstract_machine.specs.Registers.{register}
 use Rattle.abstract_machine.specs.Library.{piece_of, library_due}
 use Rattle.flow_code.specs.Threads.{Frame, Thread, arena_end, is_main, objects_in, fitted, instr_in, instrs_in}
-use Rattle.flow_code.specs.Next.{given, result_of, value_of, act_in, act_at, pointers_of, quiet_unless, load_due, store_due, mark_if, enter_due, end_due, return_due, caller, act_due, begun_due, phase_due, due_of, computed, went_on, jumped, returned, end_onward, back_in, on_unless, act_after, phase_after, after_due, stepped}
+use Rattle.flow_code.specs.Next.{given, result_of, value_of, act_in, act_at, pointers_of, quiet_unless, load_due, store_due, mark_if, enter_due, end_due, return_due, caller, act_due, begun_due, phase_due, due_of, computed, resumed, jumped, returned, end_onward, back_in, on_unless, act_after, phase_after, after_due, stepped}
 use Rattle.abstract_machine.specs.Limits.{most_frames}
 use Rattle.abstract_machine.specs.Registers.{words_of}
 use Rattle.abstract_machine.specs.Cells.{access_kind}
@@ -103,7 +103,7 @@ call_without_events code s t th c arguments e =
     subst (CallGoes (caller code s t th) c (words_of th.top.registers arguments) th.top.made th.top.kept (pos 0)) e (call_goes (caller code s t th) c (words_of th.top.registers arguments) th.top.made th.top.kept (pos 0))
 
 -- what becomes of a thread that leaves depends on its call only where this has nothing more to give
-parting_same : (th : Thread) (xs : List Stripe) (d : Due) (q p : Thread) → parting_due xs d ≡ due.Quiet → (d ≡ due.Quiet → q ≡ p) → left_behind th xs q ≡ left_behind th xs p
+parting_same : (th : Thread) (xs : List Stripe) (d : Due) (q p : Thread) → parting_due xs d ≡ due.Quiet → (d ≡ due.Quiet → q ≡ p) → left_after th xs q ≡ left_after th xs p
 parting_same th [] d q p e h = h e
 parting_same th (x ∷ xs) d q p e h = refl
 
@@ -119,7 +119,7 @@ act_same code s t th (Some (act.Call function arguments into)) answer e = refl
 act_same code s t th (Some (act.Library call arguments into)) answer e =
     parting_same th (parting call th.top.made th.stripes) (library_due (caller code s t th) call (words_of th.top.registers arguments) th.top.made th.top.kept) _ _ e (λ d.
     let h = call_without_events code s t th call arguments d in
-    ap (went_on (record th { printed = th.printed + length (piece_of call (words_of th.top.registers arguments)) }) into) (h.gives answer ∙ sym (h.gives (pos 0))))
+    ap (resumed (record th { printed = th.printed + length (piece_of call (words_of th.top.registers arguments)) }) into) (h.gives answer ∙ sym (h.gives (pos 0))))
 act_same code s t th (Some (act.Jump to)) answer e = refl
 act_same code s t th (Some (act.Branch on then_at else_at)) answer e = refl
 act_same code s t th (Some (act.Return value)) answer e = refl
@@ -180,7 +180,7 @@ return_moves code t th value = by (length th.below == 0) refl
     by true e h = absurd (end_not_quiet (is_main code th.top.function) t th.top.made value h)
     by false e h = back_moves code th value (slice_get th.below (length th.below - 1)) refl (eqb-false (length th.below) 0 e)
 
-call_moves : (code : Code) (th : Thread) (into : Option ℕ) (n w : ℕ) → Moves code th (went_on (record th { printed = n }) into (onward.Gives w))
+call_moves : (code : Code) (th : Thread) (into : Option ℕ) (n w : ℕ) → Moves code th (resumed (record th { printed = n }) into (onward.Gives w))
 call_moves code th into n w = on refl (given_function th.top into w) (let same = given_instr th.top into w in omega arith) refl
 
 take_moves : (code : Code) (th : Thread) (r : Option Region) (next : Option ℕ) → take_or_quiet next ≡ due.Quiet → Moves code th (on_unless next (taken code th r next))
@@ -216,7 +216,7 @@ parting_or_none call.Exit zero xs = inl refl
 parting_or_none call.Exit (suc n) xs = inr refl
 parting_or_none _ made xs = inr refl
 
-parting_moves : (code : Code) (th : Thread) (xs : List Stripe) (d : Due) (q : Thread) → (xs ≡ th.stripes) ⊎ (xs ≡ []) → parting_due xs d ≡ due.Quiet → (d ≡ due.Quiet → Moves code th q) → Moves code th (left_behind th xs q)
+parting_moves : (code : Code) (th : Thread) (xs : List Stripe) (d : Due) (q : Thread) → (xs ≡ th.stripes) ⊎ (xs ≡ []) → parting_due xs d ≡ due.Quiet → (d ≡ due.Quiet → Moves code th q) → Moves code th (left_after th xs q)
 parting_moves code th [] d q are e h = h e
 parting_moves code th (x ∷ xs) d q (inr none) e h = cc
 parting_moves code th (x ∷ xs) d q (inl all) e h = by (owes (x ∷ xs)) refl e
@@ -237,7 +237,7 @@ act_moves code s t th (Some (act.Call function arguments into)) answer run at e 
 act_moves code s t th (Some (act.Library call arguments into)) answer run at e =
     parting_moves code th (parting call th.top.made th.stripes) (library_due (caller code s t th) call (words_of th.top.registers arguments) th.top.made th.top.kept) _ (parting_or_none call th.top.made th.stripes) e (λ d.
     let h = call_without_events code s t th call arguments d in
-    subst (λ z. Moves code th (went_on (record th { printed = th.printed + length (piece_of call (words_of th.top.registers arguments)) }) into z)) (sym (h.gives answer)) (call_moves code th into (th.printed + length (piece_of call (words_of th.top.registers arguments))) h.value))
+    subst (λ z. Moves code th (resumed (record th { printed = th.printed + length (piece_of call (words_of th.top.registers arguments)) }) into z)) (sym (h.gives answer)) (call_moves code th into (th.printed + length (piece_of call (words_of th.top.registers arguments))) h.value))
 act_moves code s t th (Some (act.Jump to)) answer run at e = jump_moves code th to (sound_here code run th.top (Some (act.Jump to)) at)
 act_moves code s t th (Some (act.Branch c then_at else_at)) answer run at e =
     let h = sound_here code run th.top (Some (act.Branch c then_at else_at)) at in

@@ -22,7 +22,7 @@ use Rattle.abstract_machine.specs.declared.library_call.LibraryCall.TheVariants 
 use Rattle.abstract_machine.specs.Library.{library_due}
 use Rattle.flow_code.specs.Holding.{region_of, lacked, take_or_quiet, give_or_quiet, to_give, parting, owes, parting_due}
 use Rattle.flow_code.specs.Threads.{Thread, arena_end}
-use Rattle.flow_code.specs.Next.{act_at, act_due, begun_due, phase_due, due_of, caller, lost, phase_after, counted, repaid, one_more, after_due, gave_up, stopped, shut, has_ended, action_of, action_at, stepped}
+use Rattle.flow_code.specs.Next.{act_at, act_due, begun_due, phase_due, due_of, caller, lost, phase_after, counted, repaid, one_more, after_due, gave_up, stopped, slot_closed, has_ended, action_of, action_at, stepped}
 use Rattle.abstract_machine.specs.Limits.{most_entries, most_revokes, is_free_of_limit}
 use Rattle.abstract_machine.specs.Registers.{words_of}
 use Rattle.flow_code.specs.Settle.{settled, IsRunnable}
@@ -256,10 +256,10 @@ module _ (code : Code) (s : SetupView) (extra t : ℕ) where
       let here = not_ended th h.counted (λ e. true≢false (sym e ∙ lives)) in
       in_range (stopped th) (over (omega arith) refl) h.few_entries h.few_revokes (counted_shaped op.Stop _ (in_phase code s t th phase.Stopped (shape_of th h)))
 
-  pub shut_in_range : (th : Thread) → has_ended th.phase ≡ false → InRange code s extra t th → InRange code s extra t (shut th)
+  pub shut_in_range : (th : Thread) → has_ended th.phase ≡ false → InRange code s extra t th → InRange code s extra t (slot_closed th)
   shut_in_range th lives h =
       let here = not_ended th h.counted (λ e. true≢false (sym e ∙ lives)) in
-      in_range (shut th) (over (omega arith) refl) h.few_entries h.few_revokes (counted_shaped op.Close _ (in_phase code s t th phase.Closed (shape_of th h)))
+      in_range (slot_closed th) (over (omega arith) refl) h.few_entries h.few_revokes (counted_shaped op.Close _ (in_phase code s t th phase.Closed (shape_of th h)))
 
 -- how great the numbers of a thread in range can be
 

@@ -15,7 +15,7 @@ use Rattle.abstract_machine.specs.declared.event.Onward.TheVariants as onward
 use Rattle.abstract_machine.specs.Library.{most_printed}
 use Rattle.flow_code.specs.Threads.{Frame, Thread, Object, object, arena_end, objects_in, fitted, instr_in, instr_at, instrs_in}
 use Rattle.abstract_machine.specs.Cells.{size_of}
-use Rattle.flow_code.specs.Next.{past, given, act_in, act_at, in_frame, or_else, entered, one_made, went_on, back_in}
+use Rattle.flow_code.specs.Next.{past, given, act_in, act_at, in_frame, or_else, entered, one_made, resumed, back_in}
 use Rattle.abstract_machine.specs.Limits.{most_frames}
 use Rattle.flow_code.specs.Ranges.{most_made}
 use Rattle.abstract_machine.proofs.Calls.{GoesOn}
@@ -66,7 +66,7 @@ module _ (code : Code) (s : SetupView) (t : ℕ) (th : Thread) where
   pub in_phase : (p : Phase) → IsShaped code s t th → IsShaped code s t (record th { phase = p })
   in_phase p h = record { few_printed = h.few_printed; few_made = h.few_made; few_frames = h.few_frames; room = h.room; callers = h.callers }
 
-  pub goes_shaped : (into : Option ℕ) (o : Onward) → GoesOn th.top.made o → IsShaped code s t th → IsShaped code s t (went_on th into o)
+  pub goes_shaped : (into : Option ℕ) (o : Onward) → GoesOn th.top.made o → IsShaped code s t th → IsShaped code s t (resumed th into o)
   goes_shaped into (onward.Stays kept) g h = framed (one_made th.top kept) (omega arith) h
   goes_shaped into (onward.Gives w) g h = framed (past (given th.top into w)) (omega arith) h
   goes_shaped into onward.Ends g h = absurd g

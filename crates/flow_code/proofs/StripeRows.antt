@@ -19,7 +19,7 @@ use Rattle.flow_code.specs.declared.thread.Phase.TheVariants as phase
 use Rattle.flow_code.specs.declared.thread.Stripe.{Stripe}
 use Rattle.abstract_machine.specs.declared.event.Due.TheVariants as due
 use Rattle.flow_code.specs.Stripes.{wanted}
-use Rattle.flow_code.specs.Holding.{take_due, taken, give_due, gave, parting, parting_due, left_behind}
+use Rattle.flow_code.specs.Holding.{take_due, taken, give_due, gave, parting, parting_due, left_after}
 use Rattle.flow_code.specs.Threads.{Thread, OpenRegion}
 
 -- an array of eight numbers, whose lock has eight stripes, and a number, whose lock has one
@@ -85,7 +85,7 @@ of_array = refl
 of_alone : wanted plain (pack 2 8 1 0 ∷ []) (region.Cell (base.Register 0) (0 ∷ 1 ∷ [])) ≡ (1, 0) ∷ []
 of_alone = refl
 
--- no stripe: the null pointer, a pointer right behind the array, a lock that isn't listed
+-- no stripe: the null pointer, a pointer right after the array, a lock that isn't listed
 of_null : wanted plain (0 ∷ []) (region.Cell (base.Register 0) (0 ∷ 1 ∷ [])) ≡ []
 of_null = refl
 
@@ -198,13 +198,13 @@ not_open = refl
 forgets : parting_due (parting call.Exit 0 (held_one 0 3 ∷ owed_one 1 0 ∷ [])) due.Nothing ≡ due.Quiet
 forgets = refl
 
-forgot : left_behind (at 3 0 (held_one 0 3 ∷ owed_one 1 0 ∷ []) (outside ∷ open_at 1 ((0, 3) ∷ (1, 0) ∷ []) ∷ [])) (held_one 0 3 ∷ owed_one 1 0 ∷ []) (at 3 0 [] []) ≡ at 3 0 (held_one 0 3 ∷ []) (open_at 1 ((0, 3) ∷ []) ∷ [])
+forgot : left_after (at 3 0 (held_one 0 3 ∷ owed_one 1 0 ∷ []) (outside ∷ open_at 1 ((0, 3) ∷ (1, 0) ∷ []) ∷ [])) (held_one 0 3 ∷ owed_one 1 0 ∷ []) (at 3 0 [] []) ≡ at 3 0 (held_one 0 3 ∷ []) (open_at 1 ((0, 3) ∷ []) ∷ [])
 forgot = refl
 
 parts_first : parting_due (parting call.Exit 0 (held_one 0 3 ∷ held_one 1 0 ∷ [])) due.Nothing ≡ due.Operate op.Give (object.Weak 0 3)
 parts_first = refl
 
-parted_first : left_behind (at 3 0 (held_one 0 3 ∷ held_one 1 0 ∷ []) (outside ∷ open_at 1 ((0, 3) ∷ (1, 0) ∷ []) ∷ [])) (held_one 0 3 ∷ held_one 1 0 ∷ []) (at 3 0 [] []) ≡ at 3 0 (held_one 1 0 ∷ []) (outside ∷ open_at 1 ((1, 0) ∷ []) ∷ [])
+parted_first : left_after (at 3 0 (held_one 0 3 ∷ held_one 1 0 ∷ []) (outside ∷ open_at 1 ((0, 3) ∷ (1, 0) ∷ []) ∷ [])) (held_one 0 3 ∷ held_one 1 0 ∷ []) (at 3 0 [] []) ≡ at 3 0 (held_one 1 0 ∷ []) (outside ∷ open_at 1 ((1, 0) ∷ []) ∷ [])
 parted_first = refl
 
 parts_no_more : parting_due (parting call.Exit 0 []) due.Nothing ≡ due.Nothing

@@ -71,13 +71,13 @@ region_in (Some f) r = slice_get f.regions r
 abbrev pub region_of : Code → Frame → ℕ → Option Region
 region_of code frame r = region_in (slice_get code.functions frame.function) r
 
--- the number behind the last of ascending stripes
-abbrev pub behind_pair : Option (ℕ × ℕ) → ℕ
-behind_pair None = 0
-behind_pair (Some x) = number_of_pair x + 1
+-- the number after the last of ascending stripes
+abbrev pub after_pair : Option (ℕ × ℕ) → ℕ
+after_pair None = 0
+after_pair (Some x) = number_of_pair x + 1
 
-abbrev pub behind_pairs : List (ℕ × ℕ) → ℕ
-behind_pairs xs = behind_pair (slice_get xs (length xs - 1))
+abbrev pub after_pairs : List (ℕ × ℕ) → ℕ
+after_pairs xs = after_pair (slice_get xs (length xs - 1))
 
 -- the open region is the one that the instruction opens at which the thread stands
 abbrev pub is_opened_here : Thread → Option OpenRegion → Bool
@@ -97,7 +97,7 @@ taken_pairs th = if is_opened_here th (latest th) then pairs_at (latest th) else
 
 -- the number from which on stripes are left to it
 abbrev pub left_from : Thread → Region → ℕ
-left_from th r = max (8 * first_lock r) (behind_pairs (taken_pairs th))
+left_from th r = max (8 * first_lock r) (after_pairs (taken_pairs th))
 
 -- a stripe that the region takes and that the thread has in no region yet
 abbrev pub is_lacked : Code → Thread → Region → ℕ → Bool
@@ -180,9 +180,9 @@ give_or_quiet (Some x) = due.Operate op.Give (object.Weak x.0 x.1)
 abbrev pub give_due : Code → Thread → ℕ → Due
 give_due code th r = give_or_quiet (to_give code th r)
 
--- those of ascending stripes that are behind one of them
-abbrev pub pairs_behind : ℕ → List (ℕ × ℕ) → List (ℕ × ℕ)
-pairs_behind n xs = filter (λ x. nat_lt n (number_of_pair x)) xs
+-- those of ascending stripes that are after one of them
+abbrev pub pairs_after : ℕ → List (ℕ × ℕ) → List (ℕ × ℕ)
+pairs_after n xs = filter (λ x. nat_lt n (number_of_pair x)) xs
 
 abbrev pub region_with : Option OpenRegion → List (ℕ × ℕ) → List OpenRegion → ℕ → List OpenRegion
 region_with None xs rs i = rs
@@ -195,7 +195,7 @@ cut rs i xs = open_ones (region_with (slice_get rs i) xs rs i)
 -- what a region has left once it has given this stripe, or counted all down
 abbrev pub left_by : Option (ℕ × ℕ) → List (ℕ × ℕ) → List (ℕ × ℕ)
 left_by None xs = []
-left_by (Some x) xs = pairs_behind (number_of_pair x) xs
+left_by (Some x) xs = pairs_after (number_of_pair x) xs
 
 abbrev pub released : Option (ℕ × ℕ) → List Stripe → List Stripe
 released None xs = xs
@@ -234,6 +234,6 @@ keeping th xs = record th { stripes = xs; regions = open_ones (map (λ r. with_p
 abbrev pub left_of : List Stripe → List Stripe
 left_of xs = if owes xs then held xs else drop 1 xs
 
-abbrev pub left_behind : Thread → List Stripe → Thread → Thread
-left_behind th [] q = q
-left_behind th (x ∷ xs) q = keeping th (left_of (x ∷ xs))
+abbrev pub left_after : Thread → List Stripe → Thread → Thread
+left_after th [] q = q
+left_after th (x ∷ xs) q = keeping th (left_of (x ∷ xs))

@@ -30,14 +30,14 @@ use Rattle.abstract_machine.specs.Pointers.{resolved, pointer_at}
 use Rattle.flow_code.specs.Works.{is_pointer, work_of}
 use Rattle.abstract_machine.specs.Registers.{register, words_of}
 use Rattle.abstract_machine.specs.Library.{Caller, count_in, library_due, library_onward, piece_of}
-use Rattle.flow_code.specs.Holding.{region_of, lacked, take_due, taken, to_give, give_due, gave, parting, parting_due, left_behind}
+use Rattle.flow_code.specs.Holding.{region_of, lacked, take_due, taken, to_give, give_due, gave, parting, parting_due, left_after}
 use Rattle.flow_code.specs.Threads.{Frame, Thread, arena_end, instr_at, line_of, is_main, objects_in, fitted, first_frame}
 use Rattle.abstract_machine.specs.Cells.{argument_cell, result_cell, size_of, access_kind, cells_in, is_size}
 use Rattle.abstract_machine.specs.Limits.{is_free_of_limit, most_entries, most_frames}
 
 -- ---- frames
 
--- the frame behind its instruction
+-- the frame after its instruction
 abbrev pub past : Frame → Frame
 past f = record f { instr = f.instr + 1; made = 0; kept = pos 0 }
 
@@ -216,7 +216,7 @@ abbrev pub result_of : Option Act → Option ℕ
 result_of (Some (act.Call function arguments into)) = into
 result_of _ = None
 
--- back in the frame below, behind its call
+-- back in the frame below, after its call
 abbrev pub back_in : Code → Thread → ℕ → Option Frame → Thread
 back_in code th value None = th
 back_in code th value (Some f) = record th { top = past (given f (result_of (act_at code f)) value); below = take (length th.below - 1) th.below }
@@ -233,10 +233,10 @@ end_onward false th (suc (suc n)) = record th { phase = phase.Ended }
 abbrev pub returned : Code → Thread → ℕ → Thread
 returned code th value = if length th.below == 0 then end_onward (is_main code th.top.function) th th.top.made else back_in code th value (slice_get th.below (length th.below - 1))
 
-abbrev pub went_on : Thread → Option ℕ → Onward → Thread
-went_on th into (onward.Stays kept) = in_frame th (one_made th.top kept)
-went_on th into (onward.Gives w) = in_frame th (past (given th.top into w))
-went_on th into onward.Ends = record th { phase = phase.Ended }
+abbrev pub resumed : Thread → Option ℕ → Onward → Thread
+resumed th into (onward.Stays kept) = in_frame th (one_made th.top kept)
+resumed th into (onward.Gives w) = in_frame th (past (given th.top into w))
+resumed th into onward.Ends = record th { phase = phase.Ended }
 
 abbrev pub branch_to : ℕ → ℕ → ℕ → ℕ
 branch_to w then_at else_at = if w == 0 then else_at else then_at
@@ -246,7 +246,7 @@ allocated th into site cells = record th { top = past (with_register th.top into
 
 -- a call of the library, with the answer to its event
 abbrev pub call_after : Code → SetupView → ℕ → Thread → LibraryCall → List ℕ → Option ℕ → ℤ → Thread
-call_after code s t th call arguments into answer = went_on (record th { printed = th.printed + length (piece_of call (words_of th.top.registers arguments)) }) into (library_onward (caller code s t th) call (words_of th.top.registers arguments) th.top.made th.top.kept answer)
+call_after code s t th call arguments into answer = resumed (record th { printed = th.printed + length (piece_of call (words_of th.top.registers arguments)) }) into (library_onward (caller code s t th) call (words_of th.top.registers arguments) th.top.made th.top.kept answer)
 
 -- a Take or Give goes on once it has no operation left
 abbrev pub on_unless : {A : Type 0} → Option A → Thread → Thread
@@ -262,7 +262,7 @@ act_after code s t th (Some (act.LoadCell into through)) answer = in_frame th (p
 act_after code s t th (Some (act.StoreCell through from)) answer = in_frame th (past th.top)
 act_after code s t th (Some act.Mark) answer = in_frame th (past th.top)
 act_after code s t th (Some (act.Call function arguments into)) answer = entered code s t th (th.below ++ one_made th.top (pos 0) ∷ []) function (words_of th.top.registers arguments)
-act_after code s t th (Some (act.Library call arguments into)) answer = left_behind th (parting call th.top.made th.stripes) (call_after code s t th call arguments into answer)
+act_after code s t th (Some (act.Library call arguments into)) answer = left_after th (parting call th.top.made th.stripes) (call_after code s t th call arguments into answer)
 act_after code s t th (Some (act.Jump to)) answer = in_frame th (jumped th.top to)
 act_after code s t th (Some (act.Branch on then_at else_at)) answer = in_frame th (jumped th.top (branch_to (register th.top.registers on) then_at else_at))
 act_after code s t th (Some (act.Return value)) answer = returned code th (value_of th.top.registers value)
@@ -336,8 +336,8 @@ gave_up th lock stripe = counted op.Revoke (record th { stripes = lost th.stripe
 abbrev pub stopped : Thread → Thread
 stopped th = counted op.Stop (record th { phase = phase.Stopped })
 
-abbrev pub shut : Thread → Thread
-shut th = counted op.Close (record th { phase = phase.Closed })
+abbrev pub slot_closed : Thread → Thread
+slot_closed th = counted op.Close (record th { phase = phase.Closed })
 
 abbrev pub has_ended : Phase → Bool
 has_ended phase.Fresh = false

@@ -10,7 +10,7 @@ use Rattle.flow_code.specs.Threads.{Frame, Thread, arena_end, instrs_in}
 use Rattle.flow_code.specs.Next.{due_of, has_ended}
 use Rattle.abstract_machine.specs.Limits.{most_frames, most_entries, most_revokes}
 
--- a thread makes no more events than the limit says, but for those with which it ends: it has one more behind it where it
+-- a thread makes no more events than the limit says, but for those with which it ends: it has one more after it where it
 -- is about to leave the live threads, and at most two more once it has ended. A thread that didn't start with the run may
 -- have begun with some events beyond the limit: `extra` is how many at most
 pub data IsCounted (code : Code) (s : SetupView) (extra t : ℕ) (th : Thread) : Type 0 where

@@ -67,9 +67,9 @@ clamped most (pos n) = min n most
 clamped most (negsuc n) = 0
 
 -- a cell of the word's object from one offset to before another is guarded by the stripe
-abbrev pub cells_want : Code → (word : ℕ) → (first behind : ℤ) → (lock stripe : ℕ) → Bool
-cells_want code w first behind lock stripe =
-    not (site_of w == 0) && any_from (λ offset. guards code w offset lock stripe) (clamped (length_of w) behind - clamped (length_of w) first) (clamped (length_of w) first)
+abbrev pub cells_want : Code → (word : ℕ) → (first following : ℤ) → (lock stripe : ℕ) → Bool
+cells_want code w first following lock stripe =
+    not (site_of w == 0) && any_from (λ offset. guards code w offset lock stripe) (clamped (length_of w) following - clamped (length_of w) first) (clamped (length_of w) first)
 
 abbrev pub among : List ℕ → ℕ → Bool
 among locks lock = list_any (λ l. l == lock) locks
@@ -106,20 +106,20 @@ abbrev pub or_zero : Option ℕ → ℕ
 or_zero None = 0
 or_zero (Some l) = l
 
-abbrev pub behind_lock : Option ℕ → ℕ
-behind_lock None = 0
-behind_lock (Some l) = l + 1
+abbrev pub after_lock : Option ℕ → ℕ
+after_lock None = 0
+after_lock (Some l) = l + 1
 
--- its first lock, and the lock behind its last one: its list of locks ascends
+-- its first lock, and the lock after its last one: its list of locks ascends
 abbrev pub first_lock : Region → ℕ
 first_lock (region.Whole locks) = or_zero (slice_get locks 0)
 first_lock (region.Ranged counter bound spans) = 0
 first_lock (region.Cell base locks) = or_zero (slice_get locks 0)
 
 abbrev pub end_lock : Code → Region → ℕ
-end_lock code (region.Whole locks) = behind_lock (slice_get locks (length locks - 1))
+end_lock code (region.Whole locks) = after_lock (slice_get locks (length locks - 1))
 end_lock code (region.Ranged counter bound spans) = min (length code.locks) 65536
-end_lock code (region.Cell base locks) = behind_lock (slice_get locks (length locks - 1))
+end_lock code (region.Cell base locks) = after_lock (slice_get locks (length locks - 1))
 
 -- ---- lists of stripes
 

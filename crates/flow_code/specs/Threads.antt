@@ -46,7 +46,7 @@ pub record Thread : Type 0 where
 
 -- cells: two hand-off cells for each slot, then the globals, then one arena for each slot
 
--- the first cell of the arena of thread k, and the first behind it
+-- the first cell of the arena of thread k, and the first after it
 abbrev pub arena_start : Code → SetupView → ℕ → ℕ
 arena_start code s k = 2 * s.slots + length code.globals + k * s.cells
 
@@ -131,7 +131,7 @@ registers_in (Some f) = f.registers
 abbrev pub objects_in : Code → ℕ → List Object
 objects_in code f = objects_of (instrs_in (slice_get code.functions f))
 
--- the frame with which a function begins, at the first instruction behind those of its objects
+-- the frame with which a function begins, at the first instruction after those of its objects
 abbrev pub first_frame : Code → ℕ → List ℕ → ℕ → Frame
 first_frame code f arguments arena = record {
   function = f;

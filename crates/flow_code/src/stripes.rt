@@ -91,11 +91,18 @@ fn cell_wants(code: &Code, word: PtrWord, lock: u32, stripe: u32) -> bool
 
 #[tactic(auto, using(crate::proofs::Counting::any_step))]
 // Whether the stripe guards a cell of the word's object from one offset to before another.
-fn guards_any(code: &Code, word: PtrWord, first: u16, behind: u16, lock: u32, stripe: u32) -> bool
-    requires { behind ≤ length_of word }
-    ensures { result ≡ any_from (λ offset. spec.guards code.now word offset lock stripe) (behind - first) first }
+fn guards_any(
+    code: &Code,
+    word: PtrWord,
+    first: u16,
+    following: u16,
+    lock: u32,
+    stripe: u32,
+) -> bool
+    requires { following ≤ length_of word }
+    ensures { result ≡ any_from (λ offset. spec.guards code.now word offset lock stripe) (following - first) first }
 {
-    for offset in first..behind {
+    for offset in first..following {
         if guards(code, word, offset, lock, stripe) {
             return true;
         }
@@ -117,8 +124,15 @@ fn clamped(most: u16, number: i128) -> u16
     }
 }
 
-fn cells_want(code: &Code, word: PtrWord, first: i128, behind: i128, lock: u32, stripe: u32) -> bool
-    ensures { result ≡ spec.cells_want code.now word first behind lock stripe }
+fn cells_want(
+    code: &Code,
+    word: PtrWord,
+    first: i128,
+    following: i128,
+    lock: u32,
+    stripe: u32,
+) -> bool
+    ensures { result ≡ spec.cells_want code.now word first following lock stripe }
 {
     if word.site() == 0 {
         return false;
@@ -128,7 +142,7 @@ fn cells_want(code: &Code, word: PtrWord, first: i128, behind: i128, lock: u32, 
         code,
         word,
         clamped(most, first),
-        clamped(most, behind),
+        clamped(most, following),
         lock,
         stripe,
     )
@@ -140,7 +154,7 @@ fn among(locks: &[u16], lock: u32) -> bool
     locks.iter().any(|l| u32::from(*l) == lock)
 }
 
-// How many cells behind the object's first one an element lies, which may be outside.
+// How many cells after the object's first one an element lies, which may be outside.
 fn offset_at(offset: u16, element: i64, shift: i64) -> i128
     ensures { result ≡ pos offset +ℤ element +ℤ shift }
 {
@@ -160,8 +174,8 @@ fn range_wants(
     ensures { result ≡ spec.range_wants code.now word counter bound shift lock stripe }
 {
     let first = offset_at(word.offset(), counter, shift);
-    let behind = offset_at(word.offset(), bound, shift);
-    cells_want(code, word, first, behind, lock, stripe)
+    let following = offset_at(word.offset(), bound, shift);
+    cells_want(code, word, first, following, lock, stripe)
 }
 
 fn span_wants(
@@ -260,9 +274,9 @@ fn first_of(locks: &[u16]) -> u32
     }
 }
 
-// The lock behind the last one, or 0.
+// The lock after the last one, or 0.
 fn end_of(locks: &[u16]) -> u32
-    ensures value { result ≡ spec.behind_lock (slice_get locks.now (length locks.now - 1)) }
+    ensures value { result ≡ spec.after_lock (slice_get locks.now (length locks.now - 1)) }
     ensures within { result ≤ 65536 }
 {
     match locks.last() {
@@ -282,7 +296,7 @@ pub fn first_lock(region: &Region) -> u32
     }
 }
 
-/// The lock behind the last one of which the region can take a stripe.
+/// The lock after the last one of which the region can take a stripe.
 pub fn end_lock(code: &Code, region: &Region) -> u32
     ensures value { result ≡ spec.end_lock code.now region.now }
     ensures within { result ≤ 65536 }

@@ -132,7 +132,7 @@ module _ (p : Program) (s : SetupView) (t : ℕ) (i : ℕ) (f : Function) (is : 
     enough = h.enough;
   }
 
-  -- a value comes into register r, with those of its parts behind it
+  -- a value comes into register r, with those of its parts after it
   pub puts : (m n : Thread) (σ : State) (r v : ℕ) (assigned : ℕ → Bool) (pc : ℕ) → top ≤ r → r < length (function_kinds f) → Shows p s t i f is callers budget n σ → Keeps m n r assigned → m.count ≤ n.count → n.top.instr + 1 ≡ pc → Arrives m (sets n r v) σ r r v assigned pc
   puts m n σ r v assigned pc le lt h keeps later place = record {
     place = place;

@@ -12,7 +12,7 @@ use Rattle.c_core.specs.Meaning.{Calls}
 use Rattle.flow_lower.specs.Lowered.{lowered}
 use Rattle.flow_lower.specs.Follows.{Follows}
 
--- n is m behind its call, with the value v
+-- n is m after its call, with the value v
 pub record Returns (limit budget : ℕ) (m n : Thread) (σ σ' : State) (into v : ℕ) : Type 0 where
   pub top : n.top ≡ past (given m.top (Some into) v)
   pub phase : n.phase ≡ phase.Running

@@ -37,7 +37,7 @@ module _ (p : Program) (s : SetupView) (t : ℕ) (i : ℕ) (f : Function) (is : 
   main_here : threads.is_main (lowered p) o.top.function ≡ meaning.is_main f
   main_here = ap (threads.is_main (lowered p)) shown.function ∙ ap threads.is_main_in (in_code p s t i f is)
 
-  -- n is at the same return, behind so many of its events
+  -- n is at the same return, after so many of its events
   pub record AtReturn (n : Thread) (made : ℕ) : Type 0 where
     frame : n.top ≡ record o.top { made = made; kept = pos 0 }
     phase : n.phase ≡ phase.Running

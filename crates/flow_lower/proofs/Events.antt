@@ -27,7 +27,7 @@ use Rattle.flow_lower.specs.Lowered.{instr, lowered, function_kinds, body_code}
 use Rattle.flow_lower.specs.Follows.{here, Prints, Follows}
 use Rattle.flow_lower.proofs.Machine.{Shows, act_of, kinds_of, due_at, by_quiet, by_trap, line_at}
 
--- the thread behind an instruction that gave a register a value
+-- the thread after an instruction that gave a register a value
 abbrev pub sets : Thread → ℕ → ℕ → Thread
 sets m r v = in_frame m (past (with_register m.top r v))
 

@@ -83,8 +83,8 @@ module _ (p : Program) (s : SetupView) (t : ℕ) (i : ℕ) (f : Function) (is : 
 
   -- ---- calls
 
-  behind_all : (es : Exps) (r pc : ℕ) (rest : List Instr) → HasAt (body_code f) pc (exps_code first es r pc ++ rest) → HasAt (body_code f) (pc + exps_size es) rest
-  behind_all es r pc rest h = has_at (body_code f) (pc + length (exps_code first es r pc)) (pc + exps_size es) rest (ap (λ n. pc + n) (exps_length first es r pc)) (has_back (body_code f) pc (exps_code first es r pc) rest h)
+  after_all : (es : Exps) (r pc : ℕ) (rest : List Instr) → HasAt (body_code f) pc (exps_code first es r pc ++ rest) → HasAt (body_code f) (pc + exps_size es) rest
+  after_all es r pc rest h = has_at (body_code f) (pc + length (exps_code first es r pc)) (pc + exps_size es) rest (ap (λ n. pc + n) (exps_length first es r pc)) (has_back (body_code f) pc (exps_code first es r pc) rest h)
 
   within : (r : ℕ) (b : Bool) → slice_get kinds r ≡ Some b → r < length kinds
   within r b h = slice_get_within kinds r b h
@@ -93,7 +93,7 @@ module _ (p : Program) (s : SetupView) (t : ℕ) (i : ℕ) (f : Function) (is : 
   library_follows' c es at all r pc m σ k code ks le e h go =
       all (r + 1) pc m σ _ (has_front (body_code f) pc (exps_code first es (r + 1) pc) _ code) ks.1 (omega (arith, le)) e h (λ n ws σ' x.
       library_follows p s t i f is callers budget c n at (value_registers first (r + 1) es) r ws σ' k
-      (has_at (body_code f) (pc + exps_size es) n.top.instr (library_code at r c (value_registers first (r + 1) es)) (sym x.place) (behind_all es (r + 1) pc _ code)) x.words x.shows le (within r false ks.0) (λ o v σ'' place shows is_v others later.
+      (has_at (body_code f) (pc + exps_size es) n.top.instr (library_code at r c (value_registers first (r + 1) es)) (sym x.place) (after_all es (r + 1) pc _ code)) x.words x.shows le (within r false ks.0) (λ o v σ'' place shows is_v others later.
       go o v σ'' (record {
         place = place ∙ omega (arith, x.place);
         shows = shows;
@@ -163,7 +163,7 @@ module _ (p : Program) (s : SetupView) (t : ℕ) (i : ℕ) (f : Function) (is : 
   call_follows : (g : ℕ) (es : Exps) (pointer : Bool) (at : Position) → g < length p.functions → FollowAll es → Follow (call g es pointer at)
   call_follows g es pointer at there all r pc m σ k code ks le e h go =
       all (r + 1) pc m σ _ (has_front (body_code f) pc (exps_code first es (r + 1) pc) _ code) ks.1 (omega (arith, le)) e h (λ n ws σ' x.
-      let fetched = ap (slice_get (body_code f)) x.place ∙ (behind_all es (r + 1) pc _ code).0 in
+      let fetched = ap (slice_get (body_code f)) x.place ∙ (after_all es (r + 1) pc _ code).0 in
       subst (λ z. Follows (lowered p) s t (calls g z at.line σ' k) n) x.words
       (serves g r (value_registers first (r + 1) es) at.line n σ' k there (act_of p s t i f is callers budget n σ' at (act.Call g (value_registers first (r + 1) es) (Some r)) x.shows fetched)
       (line_at p s t i f is callers budget n σ' at (act.Call g (value_registers first (r + 1) es) (Some r)) x.shows fetched) x.shows.phase x.shows.stripes x.shows.count x.shows.arena x.shows.printed

@@ -28,7 +28,7 @@ use Rattle.flow_lower.specs.Lowered.{body_kept, one, lowered, function_code, fun
 use Rattle.c_core.specs.Within.{IsWithin, IsWithinFunction, AreWithinArrivals}
 use Rattle.flow_lower.specs.Follows.{Follows, here}
 use Rattle.flow_lower.proofs.Machine.{Shows, by_quiet}
-use Rattle.flow_lower.proofs.Places.{HasAt, has_front, first_of, start_of, body_at, end_at, statement_part, behind_objects, has_arrivals, has_body, has_end, has_kinds}
+use Rattle.flow_lower.proofs.Places.{HasAt, has_front, first_of, start_of, body_at, end_at, statement_part, from_arrivals, has_arrivals, has_body, has_end, has_kinds}
 use Rattle.flow_lower.proofs.Events.{by_store}
 use Rattle.flow_lower.proofs.Arriving.{shows_counted, shows_past}
 use Rattle.flow_lower.proofs.Calling.{Returns, Serves}
@@ -39,7 +39,7 @@ use Rattle.flow_lower.proofs.Objects.{statement_begins, arrivals_begin, objects_
 
 pub its_objects : (f : Function) → objects_of (body_code f) ≡ objects_from (first_of f) f.objects
 its_objects f =
-    objects_are f.place (first_of f) f.objects (behind_objects f)
+    objects_are f.place (first_of f) f.objects (from_arrivals f)
     (arrivals_begin (first_of f) f.arrivals _ (statement_begins (first_of f) (body_kept f) (first_of f + length f.objects) (body_at f) (end_at f) (end_at f) (one f.place (act.Return None)) refl))
 
 pub enough_registers : (f : Function) → first_of f + length f.objects ≤ length (function_kinds f)
@@ -215,7 +215,7 @@ module _ (p : Program) (s : SetupView) (t : ℕ) where
       passes true = refl
       passes false = refl
 
-  -- the caller goes on behind its call
+  -- the caller goes on after its call
   resumes : (g : ℕ) (f : Function) (is : slice_get p.functions g ≡ Some f) (budget : ℕ) (m o : Thread) (σ' : State) (into w line : ℕ) (arguments : List ℕ) (r : Run) → act_at (lowered p) m.top ≡ Some (act.Call g arguments (Some into))
       → Shows p s t g f is (m.below ++ one_made m.top (pos 0) ∷ []) budget o σ' → ReturnsHere p s t g f is (m.below ++ one_made m.top (pos 0) ∷ []) budget o w line
       → Follows (lowered p) s t r (record o { top = past (given m.top (Some into) w); below = m.below }) → Follows (lowered p) s t r o

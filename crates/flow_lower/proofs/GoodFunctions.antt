@@ -19,7 +19,7 @@ use Rattle.flow_lower.specs.Lowered.{body_kept, instr, one, lowered, function_co
 use Rattle.flow_lower.specs.Loops.{statement_loops}
 use Rattle.c_core.specs.Sound.{HasSite, IsCallable, IsAddress, IsSoundArrival, IsSoundFunction}
 use Rattle.flow_lower.proofs.Lengths.{statement_length, arrivals_length}
-use Rattle.flow_lower.proofs.Places.{HasAt, has_front, start_of, body_at, end_at, statement_part, behind_objects, has_body, has_end, has_kinds}
+use Rattle.flow_lower.proofs.Places.{HasAt, has_front, start_of, body_at, end_at, statement_part, from_arrivals, has_body, has_end, has_kinds}
 use Rattle.flow_lower.proofs.Fitting.{pointer}
 use Rattle.flow_lower.proofs.Good.{AreGood, good_append, good_acts, good_jumps, good_plain}
 use Rattle.flow_lower.proofs.Images.{IsImage, IsCallee}
@@ -58,8 +58,8 @@ last_ends is i h =
     let place : length (is ++ i ∷ []) - 1 ≡ length is = omega (arith, length-append is (i ∷ [])) in
     ap (λ n. is_end (act_in (slice_get (is ++ i ∷ []) n))) place ∙ ap (λ o. is_end (act_in o)) (slice_get-append_at is i [] (length is) refl) ∙ h
 
-behind_ends : (is js ks : List Instr) (i : Instr) → is_end (Some i.act) ≡ true → ends_in_itself (is ++ (js ++ (ks ++ i ∷ []))) ≡ true
-behind_ends is js ks i h =
+after_ends : (is js ks : List Instr) (i : Instr) → is_end (Some i.act) ≡ true → ends_in_itself (is ++ (js ++ (ks ++ i ∷ []))) ≡ true
+after_ends is js ks i h =
     let same : is ++ js ++ ks ++ i ∷ [] ≡ is ++ (js ++ (ks ++ i ∷ [])) = append_assoc (is ++ js) ks (i ∷ []) ∙ append_assoc is js (ks ++ i ∷ []) in
     subst (λ l. ends_in_itself l ≡ true) same (last_ends (is ++ js ++ ks) i h)
 
@@ -97,23 +97,23 @@ module _ (p : Program) (home : ℕ → Option ℕ) (f : Function) (code : Code) 
       (subst (λ l. HasAt l (body_at f) (statement_part f)) (sym instrs) (has_front (body_code f) (body_at f) (statement_part f) (one f.place (act.Return None)) (has_body f)))
       (omega arith) in_code (omega arith) in_code
 
-  rest_good : Good (start_of f) (behind_objects f)
+  rest_good : Good (start_of f) (from_arrivals f)
   rest_good =
       good_append code g (start_of f) (length f.arrivals) (arrivals_code first f.arrivals) (statement_part f ++ one f.place (act.Return None)) (arrivals_length first f.arrivals) (arrivals_good f.arrivals (start_of f) sound.arrivals)
       (good_append code g (body_at f) (statement_size (body_kept f)) (statement_part f) (one f.place (act.Return None)) (statement_length first (body_kept f) (first + length f.objects) (body_at f) (end_at f) (end_at f)) body_good
       (record { fits = refl; jumps = refl; plain = refl }, tt))
 
   pub acts_are : acts_fit code g (body_code f) ≡ true
-  acts_are = acts_append code g (objects_code f.place first f.objects) (behind_objects f) (objects_fit f.place first f.objects image.objects sound.objects) (good_acts code g (start_of f) (behind_objects f) rest_good)
+  acts_are = acts_append code g (objects_code f.place first f.objects) (from_arrivals f) (objects_fit f.place first f.objects image.objects sound.objects) (good_acts code g (start_of f) (from_arrivals f) rest_good)
 
   pub jumps_are : jumps_fit g.instrs 0 (body_code f) ≡ true
-  jumps_are = objects_jump g.instrs f.place first 0 f.objects (behind_objects f) (subst (λ n. jumps_fit g.instrs n (behind_objects f) ≡ true) (omega arith) (good_jumps code g (start_of f) (behind_objects f) rest_good))
+  jumps_are = objects_jump g.instrs f.place first 0 f.objects (from_arrivals f) (subst (λ n. jumps_fit g.instrs n (from_arrivals f) ≡ true) (omega arith) (good_jumps code g (start_of f) (from_arrivals f) rest_good))
 
   pub objects_are : objects_are_first (body_code f) ≡ true
-  objects_are = objects_first f.place first f.objects (behind_objects f) (good_plain code g (start_of f) (behind_objects f) rest_good)
+  objects_are = objects_first f.place first f.objects (from_arrivals f) (good_plain code g (start_of f) (from_arrivals f) rest_good)
 
   pub ends_are : ends_in_itself (body_code f) ≡ true
-  ends_are = behind_ends (objects_code f.place first f.objects) (arrivals_code first f.arrivals) (statement_part f) (instr f.place (act.Return None)) refl
+  ends_are = after_ends (objects_code f.place first f.objects) (arrivals_code first f.arrivals) (statement_part f) (instr f.place (act.Return None)) refl
 
 -- ---- functions of a program
 

@@ -15,7 +15,7 @@ use Rattle.flow_lower.proofs.Places.{HasAt, has_at, has_front, has_back}
 use Rattle.flow_lower.proofs.Fitting.{registered, kinded}
 use Rattle.flow_lower.proofs.Good.{AreGood, good_append, jumps_on, jumps_back, branches_on, branches_back}
 use Rattle.flow_lower.proofs.Images.{IsImage}
-use Rattle.flow_lower.proofs.GoodExpressions.{exp_good, behind_exp, held_kind}
+use Rattle.flow_lower.proofs.GoodExpressions.{exp_good, past_exp, held_kind}
 
 module _ (p : Program) (home : ℕ → Option ℕ) (f : Function) (code : Code) (g : FlowFunction) (first : ℕ) (image : IsImage p home f code g first) where
   abbrev total : ℕ
@@ -27,8 +27,8 @@ module _ (p : Program) (home : ℕ → Option ℕ) (f : Function) (code : Code) 
   abbrev Good : ℕ → List Instr → Type 0
   Good at is = AreGood code g at is
 
-  behind_statement : (a : Statement) (r pc out on : ℕ) (rest : List Instr) → Good pc (statement_code first a r pc out on) → Good (pc + statement_size a) rest → Good pc (statement_code first a r pc out on ++ rest)
-  behind_statement a r pc out on rest h k = good_append code g pc (statement_size a) (statement_code first a r pc out on) rest (statement_length first a r pc out on) h k
+  past_statement : (a : Statement) (r pc out on : ℕ) (rest : List Instr) → Good pc (statement_code first a r pc out on) → Good (pc + statement_size a) rest → Good pc (statement_code first a r pc out on ++ rest)
+  past_statement a r pc out on rest h k = good_append code g pc (statement_size a) (statement_code first a r pc out on) rest (statement_length first a r pc out on) h k
 
   -- ---- what stands where in the whole code
 
@@ -48,7 +48,7 @@ module _ (p : Program) (home : ℕ → Option ℕ) (f : Function) (code : Code) 
 
   maybe_good : (e : Option Exp) (r pc : ℕ) (rest : List Instr) → IsSoundMaybe p home f e → HasAt ks r (maybe_kinds e) → pc + maybe_size e < total → Good (pc + maybe_size e) rest → Good pc (maybe_code first e r pc ++ rest)
   maybe_good None r pc rest s h lt k = good_append code g pc 0 [] rest refl tt k
-  maybe_good (Some e) r pc rest s h lt k = behind_exp p home f code g first image e r pc rest (exp_good p home f code g first image e r pc s h lt) k
+  maybe_good (Some e) r pc rest s h lt k = past_exp p home f code g first image e r pc rest (exp_good p home f code g first image e r pc s h lt) k
 
   -- a register that is tested
   tested : (e : Exp) (r : ℕ) → IsSoundExp p home f e → HasAt ks r (exp_kinds e) → has_register g (held first e r) ≡ true
@@ -58,13 +58,13 @@ module _ (p : Program) (home : ℕ → Option ℕ) (f : Function) (code : Code) 
   test_good at None r pc out rest s h lt in' k = good_append code g pc 0 [] rest refl tt k
   test_good at (Some e) r pc out rest s h lt in' k =
       good_append code g pc (exp_size e + 1) (test_code first at (Some e) r pc out) rest (test_length first at (Some e) r pc out)
-      (behind_exp p home f code g first image e r pc (one at (act.Branch (held first e r) (pc + exp_size e + 1) out)) (exp_good p home f code g first image e r pc s h (omega (arith, lt, in')))
+      (past_exp p home f code g first image e r pc (one at (act.Branch (held first e r) (pc + exp_size e + 1) out)) (exp_good p home f code g first image e r pc s h (omega (arith, lt, in')))
       (branches_on code g (pc + exp_size e) (held first e r) (pc + exp_size e + 1) out (tested e r s h) (omega arith) (omega (arith, lt)) (omega (arith, lt, in')) in', tt)) k
 
   return_good : (at : Position) (e : Option Exp) (r pc : ℕ) → IsSoundResult p home f e → HasAt ks r (maybe_kinds e) → pc + maybe_size e < total → Good pc (return_code first at e r pc)
   return_good at None r pc s h lt = (record { fits = refl; jumps = refl; plain = refl }, tt)
   return_good at (Some e) r pc s h lt =
-      behind_exp p home f code g first image e r pc (one at (act.Return (Some (held first e r)))) (exp_good p home f code g first image e r pc s.1 h lt)
+      past_exp p home f code g first image e r pc (one at (act.Return (Some (held first e r)))) (exp_good p home f code g first image e r pc s.1 h lt)
       (record { fits = ap (λ k. has_kind g k (held first e r)) image.gives ∙ kinded g image.sized (held first e r) f.gives_pointer (held_kind p home f code g first image e r s.1 h ∙ ap Some s.0); jumps = refl; plain = refl }, tt)
 
   -- ---- statements
@@ -78,11 +78,11 @@ module _ (p : Program) (home : ℕ → Option ℕ) (f : Function) (code : Code) 
         let yes' = pc + exp_size e + 1 in
         let end = yes' + statement_size a in
         let x = r + width e in
-        let behind_e = instr at (act.Branch (held first e r) yes' end) ∷ statement_code first a x yes' out on in
+        let after_e = instr at (act.Branch (held first e r) yes' end) ∷ statement_code first a x yes' out on in
         let ke = has_front ks r (exp_kinds e) (statement_kinds a) h in
         let ka = has_back ks r (exp_kinds e) (statement_kinds a) h in
-        let ca = (after_exp e r pc behind_e c).1 in
-        behind_exp p home f code g first image e r pc behind_e (exp_good p home f code g first image e r pc s.0 ke (omega (arith, le, in_out))) (
+        let ca = (after_exp e r pc after_e c).1 in
+        past_exp p home f code g first image e r pc after_e (exp_good p home f code g first image e r pc s.0 ke (omega (arith, le, in_out))) (
           branches_on code g (pc + exp_size e) (held first e r) yes' end (tested e r s.0 ke) (omega arith) (omega arith) (omega (arith, le, in_out)) (omega (arith, le, in_out)),
           statement_good a x yes' out on s.1 ka ca (omega (arith, le)) in_out (omega (arith, le')) in_on,
         )
@@ -92,19 +92,19 @@ module _ (p : Program) (home : ℕ → Option ℕ) (f : Function) (code : Code) 
         let x = r + width e in
         let y = x + length (statement_kinds a) in
         let code_b = statement_code first b y no' out on in
-        let behind_a = instr at (act.Jump (no' + statement_size b)) ∷ code_b in
+        let after_a = instr at (act.Jump (no' + statement_size b)) ∷ code_b in
         let code_a = statement_code first a x yes' out on in
-        let behind_e = instr at (act.Branch (held first e r) yes' no') ∷ (code_a ++ behind_a) in
+        let after_e = instr at (act.Branch (held first e r) yes' no') ∷ (code_a ++ after_a) in
         let ke = has_front ks r (exp_kinds e) (statement_kinds a ++ statement_kinds b) h in
         let kab = has_back ks r (exp_kinds e) (statement_kinds a ++ statement_kinds b) h in
         let ka = has_front ks x (statement_kinds a) (statement_kinds b) kab in
         let kb = has_back ks x (statement_kinds a) (statement_kinds b) kab in
-        let ce = after_exp e r pc behind_e c in
-        let ca = before a x yes' out on behind_a ce.1 in
-        let cb = (after_statement a x yes' out on behind_a ce.1).1 in
-        behind_exp p home f code g first image e r pc behind_e (exp_good p home f code g first image e r pc s.0 ke (omega (arith, le, in_out))) (
+        let ce = after_exp e r pc after_e c in
+        let ca = before a x yes' out on after_a ce.1 in
+        let cb = (after_statement a x yes' out on after_a ce.1).1 in
+        past_exp p home f code g first image e r pc after_e (exp_good p home f code g first image e r pc s.0 ke (omega (arith, le, in_out))) (
           branches_on code g (pc + exp_size e) (held first e r) yes' no' (tested e r s.0 ke) (omega arith) (omega arith) (omega (arith, le, in_out)) (omega (arith, le, in_out)),
-          behind_statement a x yes' out on behind_a (statement_good a x yes' out on s.1 ka ca (omega (arith, le)) in_out (omega (arith, le')) in_on) (
+          past_statement a x yes' out on after_a (statement_good a x yes' out on s.1 ka ca (omega (arith, le)) in_out (omega (arith, le')) in_on) (
             jumps_on code g (yes' + statement_size a) (no' + statement_size b) (omega arith) (omega (arith, le, in_out)),
             statement_good b y no' out on s.2 kb cb (omega (arith, le)) in_out (omega (arith, le')) in_on,
           ),
@@ -113,18 +113,18 @@ module _ (p : Program) (home : ℕ → Option ℕ) (f : Function) (code : Code) 
         let body = pc + 1 + exp_size e + 1 in
         let end = body + statement_size a + 1 in
         let x = r + width e in
-        let behind_a = one at (act.Jump pc) in
+        let after_a = one at (act.Jump pc) in
         let code_a = statement_code first a x body end (body + statement_size a) in
-        let behind_e = instr at (act.Branch (held first e r) body end) ∷ (code_a ++ behind_a) in
+        let after_e = instr at (act.Branch (held first e r) body end) ∷ (code_a ++ after_a) in
         let ke = has_front ks r (exp_kinds e) (statement_kinds a) h in
         let ka = has_back ks r (exp_kinds e) (statement_kinds a) h in
-        let ce = after_exp e r (pc + 1) behind_e c.1 in
-        let ca = before a x body end (body + statement_size a) behind_a ce.1 in
+        let ce = after_exp e r (pc + 1) after_e c.1 in
+        let ca = before a x body end (body + statement_size a) after_a ce.1 in
         let in_end : end < total = omega (arith, le, in_out) in (
           record { fits = refl; jumps = refl; plain = refl },
-          behind_exp p home f code g first image e r (pc + 1) behind_e (exp_good p home f code g first image e r (pc + 1) s.0 ke (omega (arith, in_end))) (
+          past_exp p home f code g first image e r (pc + 1) after_e (exp_good p home f code g first image e r (pc + 1) s.0 ke (omega (arith, in_end))) (
             branches_on code g (pc + 1 + exp_size e) (held first e r) body end (tested e r s.0 ke) (omega arith) (omega arith) (omega (arith, in_end)) in_end,
-            behind_statement a x body end (body + statement_size a) behind_a (statement_good a x body end (body + statement_size a) s.1 ka ca (omega arith) in_end (omega arith) (omega (arith, in_end)))
+            past_statement a x body end (body + statement_size a) after_a (statement_good a x body end (body + statement_size a) s.1 ka ca (omega arith) in_end (omega arith) (omega (arith, in_end)))
                 (jumps_back code g (body + statement_size a) pc at c.0 (omega (arith, in_end)), tt),
           ),
         )
@@ -132,15 +132,15 @@ module _ (p : Program) (home : ℕ → Option ℕ) (f : Function) (code : Code) 
         let test = pc + 1 + statement_size a in
         let end = test + exp_size e + 1 in
         let x = r + length (statement_kinds a) in
-        let behind_e = one at (act.Branch (held first e x) pc end) in
-        let behind_a = exp_code first e x test ++ behind_e in
+        let after_e = one at (act.Branch (held first e x) pc end) in
+        let after_a = exp_code first e x test ++ after_e in
         let ka = has_front ks r (statement_kinds a) (exp_kinds e) h in
         let ke = has_back ks r (statement_kinds a) (exp_kinds e) h in
-        let ca = before a r (pc + 1) end test behind_a c.1 in
+        let ca = before a r (pc + 1) end test after_a c.1 in
         let in_end : end < total = omega (arith, le, in_out) in (
           record { fits = refl; jumps = refl; plain = refl },
-          behind_statement a r (pc + 1) end test behind_a (statement_good a r (pc + 1) end test s.0 ka ca (omega arith) in_end (omega arith) (omega (arith, in_end)))
-              (behind_exp p home f code g first image e x test behind_e (exp_good p home f code g first image e x test s.1 ke (omega (arith, in_end)))
+          past_statement a r (pc + 1) end test after_a (statement_good a r (pc + 1) end test s.0 ka ca (omega arith) in_end (omega arith) (omega (arith, in_end)))
+              (past_exp p home f code g first image e x test after_e (exp_good p home f code g first image e x test s.1 ke (omega (arith, in_end)))
               (branches_back code g (test + exp_size e) (held first e x) pc end at (tested e x s.1 ke) c.0 (omega arith) (omega (arith, in_end)) in_end, tt)),
         )
     statement_good (for_loop start test step a at) r pc out on s h c le in_out le' in_on =
@@ -151,25 +151,25 @@ module _ (p : Program) (home : ℕ → Option ℕ) (f : Function) (code : Code) 
         let tested' = r + length (statement_kinds start) in
         let inner = tested' + length (maybe_kinds test) in
         let stepped = inner + length (statement_kinds a) in
-        let behind_step = one at (act.Jump mark) in
-        let behind_a = maybe_code first step stepped last ++ behind_step in
-        let behind_test = statement_code first a inner body end last ++ behind_a in
-        let behind_start = instr at act.Mark ∷ (test_code first at test tested' (mark + 1) end ++ behind_test) in
+        let past_step = one at (act.Jump mark) in
+        let after_a = maybe_code first step stepped last ++ past_step in
+        let past_test = statement_code first a inner body end last ++ after_a in
+        let past_start = instr at act.Mark ∷ (test_code first at test tested' (mark + 1) end ++ past_test) in
         let k_start = has_front ks r (statement_kinds start) (maybe_kinds test ++ (statement_kinds a ++ maybe_kinds step)) h in
         let k1 = has_back ks r (statement_kinds start) (maybe_kinds test ++ (statement_kinds a ++ maybe_kinds step)) h in
         let k_test = has_front ks tested' (maybe_kinds test) (statement_kinds a ++ maybe_kinds step) k1 in
         let k2 = has_back ks tested' (maybe_kinds test) (statement_kinds a ++ maybe_kinds step) k1 in
         let ka = has_front ks inner (statement_kinds a) (maybe_kinds step) k2 in
         let k_step = has_back ks inner (statement_kinds a) (maybe_kinds step) k2 in
-        let c_start = before start r pc out on behind_start c in
-        let c_mark = after_statement start r pc out on behind_start c in
-        let ca = before a inner body end last behind_a (after_test at test tested' (mark + 1) end behind_test c_mark.1) in
+        let c_start = before start r pc out on past_start c in
+        let c_mark = after_statement start r pc out on past_start c in
+        let ca = before a inner body end last after_a (after_test at test tested' (mark + 1) end past_test c_mark.1) in
         let in_end : end < total = omega (arith, le, in_out) in
-        behind_statement start r pc out on behind_start (statement_good start r pc out on s.0 k_start c_start (omega (arith, le)) in_out (omega (arith, le')) in_on) (
+        past_statement start r pc out on past_start (statement_good start r pc out on s.0 k_start c_start (omega (arith, le)) in_out (omega (arith, le')) in_on) (
           record { fits = refl; jumps = refl; plain = refl },
-          test_good at test tested' (mark + 1) end behind_test s.1 k_test (omega arith) in_end (
-              behind_statement a inner body end last behind_a (statement_good a inner body end last s.3 ka ca (omega arith) in_end (omega arith) (omega (arith, in_end)))
-              (maybe_good step stepped last behind_step s.2 k_step (omega (arith, in_end)) (jumps_back code g (last + maybe_size step) mark at c_mark.0 (omega (arith, in_end)), tt))
+          test_good at test tested' (mark + 1) end past_test s.1 k_test (omega arith) in_end (
+              past_statement a inner body end last after_a (statement_good a inner body end last s.3 ka ca (omega arith) in_end (omega arith) (omega (arith, in_end)))
+              (maybe_good step stepped last past_step s.2 k_step (omega (arith, in_end)) (jumps_back code g (last + maybe_size step) mark at c_mark.0 (omega (arith, in_end)), tt))
               ),
         )
     statement_good (break_at at) r pc out on s h c le in_out le' in_on = (jumps_on code g pc out (omega (arith, le)) in_out, tt)
@@ -183,6 +183,6 @@ module _ (p : Program) (home : ℕ → Option ℕ) (f : Function) (code : Code) 
         let x = r + length (statement_kinds a) in
         let next = pc + statement_size a in
         let rest = statements_code first ss x next out on in
-        behind_statement a r pc out on rest
+        past_statement a r pc out on rest
         (statement_good a r pc out on s.0 (has_front ks r (statement_kinds a) (statements_kinds ss) h) (before a r pc out on rest c) (omega (arith, le)) in_out (omega (arith, le')) in_on)
         (statements_good ss x next out on s.1 (has_back ks r (statement_kinds a) (statements_kinds ss) h) (after_statement a r pc out on rest c) (omega (arith, le)) in_out (omega (arith, le')) in_on)

@@ -7,7 +7,7 @@ use Rattle.rr_base.specs.declared.position.Position.{Position}
 use Rattle.c_core.specs.Core.{Exp, conditional}
 use Rattle.flow_lower.specs.Lowered.{held, instr, one, computes, width, exp_size, exp_code}
 
--- six pieces, one behind another
+-- six pieces, one after another
 pub six : (old a b c d e f o1 o2 o3 o4 o5 o6 : List Instr) → o1 ≡ old ++ a → o2 ≡ o1 ++ b → o3 ≡ o2 ++ c → o4 ≡ o3 ++ d → o5 ≡ o4 ++ e → o6 ≡ o5 ++ f → o6 ≡ old ++ (a ++ (b ++ (c ++ (d ++ (e ++ f)))))
 six old a b c d e f o1 o2 o3 o4 o5 o6 p1 p2 p3 p4 p5 p6 =
     p6 ∙ ap (λ l. l ++ f) (p5 ∙ ap (λ l. l ++ e) (p4 ∙ ap (λ l. l ++ d) (p3 ∙ ap (λ l. l ++ c) (p2 ∙ ap (λ l. l ++ b) p1))))
@@ -17,7 +17,7 @@ six old a b c d e f o1 o2 o3 o4 o5 o6 p1 p2 p3 p4 p5 p6 =
     ∙ append_assoc (old ++ a) b (c ++ (d ++ (e ++ f)))
     ∙ append_assoc old a (b ++ (c ++ (d ++ (e ++ f))))
 
--- the registers behind those of a choice
+-- the registers after those of a choice
 pub choice_registers : (k : Bool) (a b c : List Bool) (r r2 r3 r4 r5 : ℕ) → r2 ≡ r + 1 + length a → r3 ≡ r2 → r4 ≡ r3 + length b → r5 ≡ r4 + length c → r5 ≡ r + length (k ∷ (a ++ (b ++ c)))
 choice_registers k a b c r r2 r3 r4 r5 e2 e3 e4 e5 = omega (arith, length-append a (b ++ c), length-append b c, e2, e3, e4, e5)
 

@@ -198,7 +198,7 @@ module _ (p : Program) (s : SetupView) (t : ℕ) (calls : Calls) where
         alike (λ (m : M ℕ) (n : M Completion). m >>= (λ w. choose w n (meaning.meaning p s t calls (statement_kept b)))) (value_kept e) (meaning_kept a)
         ∙ ap (λ (n : M Completion). value p s t calls e >>= (λ w. choose w (meaning.meaning p s t calls a) n)) (meaning_kept b)
     meaning_kept (while_loop e a at) = alike (λ (m : M ℕ) (n : M Completion). meaning.turns p s t s.limit at.line m n (pure 0)) (value_kept e) (meaning_kept a)
-    meaning_kept (do_loop a e at) = alike (λ (n : M Completion) (m : M ℕ). meaning.turns_behind p s t s.limit at.line n m) (meaning_kept a) (value_kept e)
+    meaning_kept (do_loop a e at) = alike (λ (n : M Completion) (m : M ℕ). meaning.turns_after p s t s.limit at.line n m) (meaning_kept a) (value_kept e)
     meaning_kept (for_loop start test step a at) =
         alike (λ (n : M Completion) (m : M ℕ). n >>= (λ f. if_goes f (meaning.turns p s t s.limit at.line m (meaning.meaning p s t calls (statement_kept a)) (step_value p s t calls (maybe_kept step))))) (meaning_kept start) (test_kept test)
         ∙ alike (λ (n : M Completion) (m : M ℕ). meaning.meaning p s t calls start >>= (λ f. if_goes f (meaning.turns p s t s.limit at.line (test_value p s t calls test) n m))) (meaning_kept a) (step_kept step)

@@ -11,8 +11,8 @@ use Rattle.flow_lower.specs.Lowered.{held, instr, one, computes, gives_nothing, 
 pub joined : {X : Type 0} (xs ys : List X) (m n : ℕ) → length xs ≡ m → length ys ≡ n → length (xs ++ ys) ≡ m + n
 joined xs ys m n d e = omega (arith, length-append xs ys, d, e)
 
-pub behind : {X : Type 0} (x : X) (xs : List X) (n : ℕ) → length xs ≡ n → length (x ∷ xs) ≡ 1 + n
-behind x xs n e = omega (arith, e)
+pub following : {X : Type 0} (x : X) (xs : List X) (n : ℕ) → length xs ≡ n → length (x ∷ xs) ≡ 1 + n
+following x xs n e = omega (arith, e)
 
 pub library_length : (at : Position) (r : ℕ) (c : LibraryCall) (args : List ℕ) → length (library_code at r c args) ≡ library_size c
 library_length at r c args = by (gives_nothing c)
@@ -42,8 +42,8 @@ mutual
   exp_length first (between a b element at) r pc = joined _ _ _ _ (exp_length first a (r + 1) pc) (joined _ _ _ _ (exp_length first b (r + 1 + width a) (pc + exp_size a)) refl)
   exp_length first (comma a b at) r pc = joined _ _ _ _ (exp_length first a (r + 1) pc) (joined _ _ _ _ (exp_length first b (r + 1 + width a) (pc + exp_size a)) refl)
   exp_length first (store a b at) r pc = joined _ _ _ _ (exp_length first a (r + 1) pc) (joined _ _ _ _ (exp_length first b (r + 1 + width a) (pc + exp_size a)) refl)
-  exp_length first (both a b at) r pc = joined _ _ _ _ (exp_length first a (r + 1) pc) (behind (instr at (act.Branch (held first a (r + 1)) (pc + exp_size a + 1) (pc + exp_size a + 1 + exp_size b + 3))) _ _ (joined _ _ _ _ (exp_length first b (r + 1 + width a) (pc + exp_size a + 1)) refl))
-  exp_length first (either a b at) r pc = joined _ _ _ _ (exp_length first a (r + 1) pc) (behind (instr at (act.Branch (held first a (r + 1)) (pc + exp_size a + 1 + exp_size b + 1) (pc + exp_size a + 1))) _ _ (joined _ _ _ _ (exp_length first b (r + 1 + width a) (pc + exp_size a + 1)) refl))
+  exp_length first (both a b at) r pc = joined _ _ _ _ (exp_length first a (r + 1) pc) (following (instr at (act.Branch (held first a (r + 1)) (pc + exp_size a + 1) (pc + exp_size a + 1 + exp_size b + 3))) _ _ (joined _ _ _ _ (exp_length first b (r + 1 + width a) (pc + exp_size a + 1)) refl))
+  exp_length first (either a b at) r pc = joined _ _ _ _ (exp_length first a (r + 1) pc) (following (instr at (act.Branch (held first a (r + 1)) (pc + exp_size a + 1 + exp_size b + 1) (pc + exp_size a + 1))) _ _ (joined _ _ _ _ (exp_length first b (r + 1 + width a) (pc + exp_size a + 1)) refl))
   exp_length first (conditional a b c at) r pc =
       let yes' = pc + exp_size a + 1 in
       let no' = yes' + exp_size b + 2 in
@@ -51,10 +51,10 @@ mutual
       let last = exp_code first c (r + 1 + width a + width b) no' ++ copied in
       let jumped = instr at (act.Jump (no' + exp_size c + 1)) ∷ last in
       let e_last : length last ≡ exp_size c + 1 = joined (exp_code first c (r + 1 + width a + width b) no') copied _ _ (exp_length first c (r + 1 + width a + width b) no') refl in
-      let e_jumped : length jumped ≡ 1 + (exp_size c + 1) = behind (instr at (act.Jump (no' + exp_size c + 1))) last _ e_last in
-      joined _ _ _ _ (exp_length first a (r + 1) pc) (behind (instr at (act.Branch (held first a (r + 1)) yes' no')) _ _ (joined _ _ _ _ (exp_length first b (r + 1 + width a) yes') (behind (instr at (act.Compute r (work.Copy (held first b (r + 1 + width a))))) jumped _ e_jumped)))
-  exp_length first (change_register n c b old at) r pc = behind (instr at (act.Compute (r + 1) (work.Copy n))) _ _ (joined _ _ _ _ (exp_length first b (r + 3) (pc + 1)) refl)
-  exp_length first (change_cell a loaded c b old at) r pc = joined _ _ _ _ (exp_length first a (r + 3) pc) (behind (instr loaded (act.LoadCell (r + 1) (held first a (r + 3)))) _ _ (joined _ _ _ _ (exp_length first b (r + 3 + width a) (pc + exp_size a + 1)) refl))
+      let e_jumped : length jumped ≡ 1 + (exp_size c + 1) = following (instr at (act.Jump (no' + exp_size c + 1))) last _ e_last in
+      joined _ _ _ _ (exp_length first a (r + 1) pc) (following (instr at (act.Branch (held first a (r + 1)) yes' no')) _ _ (joined _ _ _ _ (exp_length first b (r + 1 + width a) yes') (following (instr at (act.Compute r (work.Copy (held first b (r + 1 + width a))))) jumped _ e_jumped)))
+  exp_length first (change_register n c b old at) r pc = following (instr at (act.Compute (r + 1) (work.Copy n))) _ _ (joined _ _ _ _ (exp_length first b (r + 3) (pc + 1)) refl)
+  exp_length first (change_cell a loaded c b old at) r pc = joined _ _ _ _ (exp_length first a (r + 3) pc) (following (instr loaded (act.LoadCell (r + 1) (held first a (r + 3)))) _ _ (joined _ _ _ _ (exp_length first b (r + 3 + width a) (pc + exp_size a + 1)) refl))
   exp_length first (call f es pointer at) r pc = joined _ _ _ _ (exps_length first es (r + 1) pc) refl
   exp_length first (library c es at) r pc = joined _ _ _ _ (exps_length first es (r + 1) pc) (library_length at r c (value_registers first (r + 1) es))
 
@@ -78,30 +78,30 @@ mutual
       let yes' = pc + exp_size e + 1 in
       let code_a = statement_code first a (r + width e) yes' out on in
       joined (exp_code first e r pc) (instr at (act.Branch (held first e r) yes' (yes' + statement_size a)) ∷ code_a) _ _ (exp_length first e r pc)
-      (behind (instr at (act.Branch (held first e r) yes' (yes' + statement_size a))) code_a _ (statement_length first a (r + width e) yes' out on))
+      (following (instr at (act.Branch (held first e r) yes' (yes' + statement_size a))) code_a _ (statement_length first a (r + width e) yes' out on))
   statement_length first (branch_else e a b at) r pc out on =
       let yes' = pc + exp_size e + 1 in
       let no' = yes' + statement_size a + 1 in
       let code_b = statement_code first b (r + width e + length (statement_kinds a)) no' out on in
       let code_a = statement_code first a (r + width e) yes' out on ++ (instr at (act.Jump (no' + statement_size b)) ∷ code_b) in
       joined (exp_code first e r pc) (instr at (act.Branch (held first e r) yes' no') ∷ code_a) _ _ (exp_length first e r pc)
-      (behind (instr at (act.Branch (held first e r) yes' no')) code_a _
+      (following (instr at (act.Branch (held first e r) yes' no')) code_a _
       (joined (statement_code first a (r + width e) yes' out on) (instr at (act.Jump (no' + statement_size b)) ∷ code_b) _ _ (statement_length first a (r + width e) yes' out on)
-      (behind (instr at (act.Jump (no' + statement_size b))) code_b _ (statement_length first b (r + width e + length (statement_kinds a)) no' out on))))
+      (following (instr at (act.Jump (no' + statement_size b))) code_b _ (statement_length first b (r + width e + length (statement_kinds a)) no' out on))))
   statement_length first (while_loop e a at) r pc out on =
       let body = pc + 1 + exp_size e + 1 in
       let end = body + statement_size a + 1 in
       let code_a = statement_code first a (r + width e) body end (body + statement_size a) ++ one at (act.Jump pc) in
-      behind (instr at act.Mark) (exp_code first e r (pc + 1) ++ (instr at (act.Branch (held first e r) body end) ∷ code_a)) _
+      following (instr at act.Mark) (exp_code first e r (pc + 1) ++ (instr at (act.Branch (held first e r) body end) ∷ code_a)) _
       (joined (exp_code first e r (pc + 1)) (instr at (act.Branch (held first e r) body end) ∷ code_a) _ _ (exp_length first e r (pc + 1))
-      (behind (instr at (act.Branch (held first e r) body end)) code_a _
+      (following (instr at (act.Branch (held first e r) body end)) code_a _
       (joined (statement_code first a (r + width e) body end (body + statement_size a)) (one at (act.Jump pc)) _ _ (statement_length first a (r + width e) body end (body + statement_size a)) refl)))
   statement_length first (do_loop a e at) r pc out on =
       let test = pc + 1 + statement_size a in
       let end = test + exp_size e + 1 in
       let x = r + length (statement_kinds a) in
       let code_e = exp_code first e x test ++ one at (act.Branch (held first e x) pc end) in
-      behind (instr at act.Mark) (statement_code first a r (pc + 1) end test ++ code_e) _
+      following (instr at act.Mark) (statement_code first a r (pc + 1) end test ++ code_e) _
       (joined (statement_code first a r (pc + 1) end test) code_e _ _ (statement_length first a r (pc + 1) end test)
       (joined (exp_code first e x test) (one at (act.Branch (held first e x) pc end)) _ _ (exp_length first e x test) refl))
   statement_length first (for_loop start test step a at) r pc out on =
@@ -116,7 +116,7 @@ mutual
       let code_a = statement_code first a inner body end last ++ code_s in
       let code_t = test_code first at test tested (mark + 1) end ++ code_a in
       joined (statement_code first start r pc out on) (instr at act.Mark ∷ code_t) _ _ (statement_length first start r pc out on)
-      (behind (instr at act.Mark) code_t _
+      (following (instr at act.Mark) code_t _
       (joined (test_code first at test tested (mark + 1) end) code_a _ _ (test_length first at test tested (mark + 1) end)
       (joined (statement_code first a inner body end last) code_s _ _ (statement_length first a inner body end last)
       (joined (maybe_code first step stepped last) (one at (act.Jump mark)) _ _ (maybe_length first step stepped last) refl))))

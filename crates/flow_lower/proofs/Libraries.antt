@@ -25,8 +25,8 @@ use Rattle.abstract_machine.specs.Library.{Caller, argument, printed_piece, most
 use Rattle.flow_code.specs.Threads.{Frame, Thread, line_of, line_in, instr_at}
 use Rattle.abstract_machine.specs.Cells.{result_cell}
 use Rattle.flow_code.specs.declared.thread.Stripe.{Stripe}
-use Rattle.flow_code.specs.Holding.{parting, parting_due, left_behind}
-use Rattle.flow_code.specs.Next.{act_in, act_at, act_due, act_after, due_of, action_of, stepped, limited, listed, owing, first_owed, phase_due, phase_after, after_due, one_more, went_on, call_after, caller, past}
+use Rattle.flow_code.specs.Holding.{parting, parting_due, left_after}
+use Rattle.flow_code.specs.Next.{act_in, act_at, act_due, act_after, due_of, action_of, stepped, limited, listed, owing, first_owed, phase_due, phase_after, after_due, one_more, resumed, call_after, caller, past}
 use Rattle.abstract_machine.specs.Limits.{most_entries, is_free_of_limit}
 use Rattle.abstract_machine.specs.Registers.{words_of}
 use Rattle.rr_base.specs.declared.position.Position.{Position}
@@ -123,7 +123,7 @@ IsEndOrLeave op.Leave = Unit {0}
 IsEndOrLeave _ = ⊥
 
 module _ (p : Program) (s : SetupView) (t : ℕ) (i : ℕ) (f : Function) (is : slice_get p.functions i ≡ Some f) (callers : List Frame) (budget : ℕ) where
-  -- n is in the call to which m has come, behind so many of its events
+  -- n is in the call to which m has come, after so many of its events
   record InCall (m n : Thread) (σ : State) (made : ℕ) (kept : ℤ) : Type 0 where
     frame : n.top ≡ record m.top { made = made; kept = kept }
     function : m.top.function ≡ i
@@ -189,44 +189,44 @@ module _ (p : Program) (s : SetupView) (t : ℕ) (i : ℕ) (f : Function) (is : 
         ∙ ap (λ x. listed (nat_le most_entries n.entries) (owing None (limited (nat_le s.limit n.count) (act_due (lowered p) s t n x)))) (here_act n σ made kept h)
         ∙ ap (λ x. listed (nat_le most_entries n.entries) (owing None (limited (nat_le s.limit n.count) x))) (same_due n σ made kept h)
 
-    -- the thread behind what is due
+    -- the thread after what is due
     abbrev goes_on : Thread → State → ℕ → ℤ → ℤ → Thread
-    goes_on n σ made kept answer = went_on (record n { printed = n.printed + length (piece_of c ws) }) into (library_onward (meaning.caller p s t σ) c ws made kept answer)
+    goes_on n σ made kept answer = resumed (record n { printed = n.printed + length (piece_of c ws) }) into (library_onward (meaning.caller p s t σ) c ws made kept answer)
 
     same_onward : (n : Thread) (σ : State) (made : ℕ) (kept answer : ℤ) → InCall m n σ made kept → phase_after (lowered p) s t n n.phase answer ≡ goes_on n σ made kept answer
     same_onward n σ made kept answer h =
         ap (λ x. phase_after (lowered p) s t n x answer) h.phase
         ∙ ap (λ x. act_after (lowered p) s t n x answer) (here_act n σ made kept h)
-        ∙ ap (λ x. left_behind n x (call_after (lowered p) s t n c args into answer)) (parting_empty c n.top.made n.stripes h.stripes)
-        ∙ ap (λ x. went_on (record n { printed = n.printed + length (piece_of c (words_of x.registers args)) }) into (library_onward (caller (lowered p) s t n) c (words_of x.registers args) x.made x.kept answer)) h.frame
-        ∙ ap (λ x. went_on (record n { printed = n.printed + length (piece_of c x) }) into (library_onward (caller (lowered p) s t n) c x made kept answer)) are
-        ∙ ap (λ x. went_on (record n { printed = n.printed + length (piece_of c ws) }) into (library_onward (record { sites = p.sites; setup = s; thread = t; printed = x }) c ws made kept answer)) h.printed
+        ∙ ap (λ x. left_after n x (call_after (lowered p) s t n c args into answer)) (parting_empty c n.top.made n.stripes h.stripes)
+        ∙ ap (λ x. resumed (record n { printed = n.printed + length (piece_of c (words_of x.registers args)) }) into (library_onward (caller (lowered p) s t n) c (words_of x.registers args) x.made x.kept answer)) h.frame
+        ∙ ap (λ x. resumed (record n { printed = n.printed + length (piece_of c x) }) into (library_onward (caller (lowered p) s t n) c x made kept answer)) are
+        ∙ ap (λ x. resumed (record n { printed = n.printed + length (piece_of c ws) }) into (library_onward (record { sites = p.sites; setup = s; thread = t; printed = x }) c ws made kept answer)) h.printed
 
     -- ---- where an answer leads to
 
     abbrev bytes : ℕ
     bytes = length (piece_of c ws)
 
-    -- the thread behind an event, with its count and the length of its list of entries
+    -- the thread after an event, with its count and the length of its list of entries
     abbrev landed : Thread → Onward → (count entries : ℕ) → Thread
-    landed n o count entries = record (went_on (record n { printed = n.printed + bytes }) into o) { count = count; entries = entries }
+    landed n o count entries = record (resumed (record n { printed = n.printed + bytes }) into o) { count = count; entries = entries }
 
-    quiet_lands : (n : Thread) (o : Onward) → went_on (record n { printed = n.printed + bytes }) into o ≡ landed n o n.count n.entries
+    quiet_lands : (n : Thread) (o : Onward) → resumed (record n { printed = n.printed + bytes }) into o ≡ landed n o n.count n.entries
     quiet_lands n (onward.Stays kept) = refl
     quiet_lands n (onward.Gives w) = refl
     quiet_lands n onward.Ends = refl
 
-    more_lands : (n : Thread) (o : Onward) → one_more (went_on (record n { printed = n.printed + bytes }) into o) ≡ landed n o (n.count + 1) n.entries
+    more_lands : (n : Thread) (o : Onward) → one_more (resumed (record n { printed = n.printed + bytes }) into o) ≡ landed n o (n.count + 1) n.entries
     more_lands n (onward.Stays kept) = refl
     more_lands n (onward.Gives w) = refl
     more_lands n onward.Ends = refl
 
-    entry_lands : (n : Thread) (o : Onward) → one_entry (went_on (record n { printed = n.printed + bytes }) into o) ≡ landed n o (n.count + 1) (n.entries + 1)
+    entry_lands : (n : Thread) (o : Onward) → one_entry (resumed (record n { printed = n.printed + bytes }) into o) ≡ landed n o (n.count + 1) (n.entries + 1)
     entry_lands n (onward.Stays kept) = refl
     entry_lands n (onward.Gives w) = refl
     entry_lands n onward.Ends = refl
 
-    -- the state behind it
+    -- the state after it
     abbrev state_after : State → ℕ → State
     state_after σ count = record σ { count = count; printed = σ.printed + bytes }
 
@@ -342,8 +342,8 @@ module _ (p : Program) (s : SetupView) (t : ℕ) (i : ℕ) (f : Function) (is : 
       lands fuel n σ made kept count entries (onward.Stays kept') h le low again =
           again kept' refl (stays_in n σ made kept kept' count entries h le)
       lands fuel n σ made kept count entries (onward.Gives w) h le low again =
-          subst (λ x. Follows (lowered p) s t (k w (state_after σ count)) (record (went_on (record n { printed = n.printed + bytes }) x (onward.Gives w)) { count = count; entries = entries })) (sym asks)
-          (go (record (went_on (record n { printed = n.printed + bytes }) (Some r) (onward.Gives w)) { count = count; entries = entries }) w (state_after σ count) (ap (λ x. x.instr + 1) h.frame) (record {
+          subst (λ x. Follows (lowered p) s t (k w (state_after σ count)) (record (resumed (record n { printed = n.printed + bytes }) x (onward.Gives w)) { count = count; entries = entries })) (sym asks)
+          (go (record (resumed (record n { printed = n.printed + bytes }) (Some r) (onward.Gives w)) { count = count; entries = entries }) w (state_after σ count) (ap (λ x. x.instr + 1) h.frame) (record {
             function = ap (λ x. x.function) h.frame ∙ h.function;
             made = refl;
             kept = refl;
@@ -381,26 +381,26 @@ module _ (p : Program) (s : SetupView) (t : ℕ) (i : ℕ) (f : Function) (is : 
       abbrev Whole : ℕ → Type 0
       Whole fuel = (n : Thread) (σ : State) (made : ℕ) (kept : ℤ) → InCall m n σ made kept → n.count ≤ s.limit → fuel + made ≡ 5 → made ≤ 3 → Follows (lowered p) s t (meaning.library_from p s t fuel at.line c ws made kept σ k) n
 
-      -- behind an event
-      behind_event : (fuel : ℕ) → Whole fuel → (n : Thread) (σ : State) (made : ℕ) (kept answer : ℤ) (entries : ℕ) → InCall m n σ made kept → suc fuel + made ≡ 5 → made ≤ 3 → IsNotExit c → (IsTrap (due_now σ made kept) → ⊥) → n.count < s.limit
+      -- after an event
+      past_event : (fuel : ℕ) → Whole fuel → (n : Thread) (σ : State) (made : ℕ) (kept answer : ℤ) (entries : ℕ) → InCall m n σ made kept → suc fuel + made ≡ 5 → made ≤ 3 → IsNotExit c → (IsTrap (due_now σ made kept) → ⊥) → n.count < s.limit
           → Follows (lowered p) s t (meaning.onwards p s t (meaning.library_from p s t fuel at.line c ws (made + 1)) (library_onward (meaning.caller p s t σ) c ws made kept answer) (state_after σ (σ.count + 1)) k)
           (landed n (library_onward (meaning.caller p s t σ) c ws made kept answer) (n.count + 1) entries)
-      behind_event fuel whole n σ made kept answer entries h left few not_exit no_trap low =
+      past_event fuel whole n σ made kept answer entries h left few not_exit no_trap low =
           subst (λ x. Follows (lowered p) s t (meaning.onwards p s t (meaning.library_from p s t fuel at.line c ws (made + 1)) (library_onward (meaning.caller p s t σ) c ws made kept answer) (state_after σ x) k)
           (landed n (library_onward (meaning.caller p s t σ) c ws made kept answer) (n.count + 1) entries)) (ap (λ x. x + 1) h.count)
           (lands fuel n σ made kept (n.count + 1) entries (library_onward (meaning.caller p s t σ) c ws made kept answer) h (omega arith) (omega (arith, low))
           (λ kept' stays inside. whole _ _ (made + 1) kept' inside (omega (arith, low)) (omega (arith, left)) (goes_on_early σ made kept answer kept' few not_exit no_trap stays)))
 
-      behind_quiet : (fuel : ℕ) → Whole fuel → (n : Thread) (σ : State) (made : ℕ) (kept : ℤ) → InCall m n σ made kept → n.count ≤ s.limit → suc fuel + made ≡ 5 → made ≤ 3 → IsNotExit c → (IsTrap (due_now σ made kept) → ⊥)
+      past_quiet : (fuel : ℕ) → Whole fuel → (n : Thread) (σ : State) (made : ℕ) (kept : ℤ) → InCall m n σ made kept → n.count ≤ s.limit → suc fuel + made ≡ 5 → made ≤ 3 → IsNotExit c → (IsTrap (due_now σ made kept) → ⊥)
           → Follows (lowered p) s t (meaning.onwards p s t (meaning.library_from p s t fuel at.line c ws (made + 1)) (library_onward (meaning.caller p s t σ) c ws made kept (pos 0)) (state_after σ σ.count) k)
           (landed n (library_onward (meaning.caller p s t σ) c ws made kept (pos 0)) n.count n.entries)
-      behind_quiet fuel whole n σ made kept h small left few not_exit no_trap =
+      past_quiet fuel whole n σ made kept h small left few not_exit no_trap =
           subst (λ x. Follows (lowered p) s t (meaning.onwards p s t (meaning.library_from p s t fuel at.line c ws (made + 1)) (library_onward (meaning.caller p s t σ) c ws made kept (pos 0)) (state_after σ x) k)
           (landed n (library_onward (meaning.caller p s t σ) c ws made kept (pos 0)) n.count n.entries)) h.count
           (lands fuel n σ made kept n.count n.entries (library_onward (meaning.caller p s t σ) c ws made kept (pos 0)) h (omega arith) small
           (λ kept' stays inside. whole _ _ (made + 1) kept' inside small (omega (arith, left)) (goes_on_early σ made kept (pos 0) kept' few not_exit no_trap stays)))
 
-      -- the run behind an answer
+      -- the run after an answer
       abbrev rest : ℕ → State → ℕ → ℤ → ℤ → Run
       rest fuel σ made kept answer = meaning.onwards p s t (meaning.library_from p s t fuel at.line c ws (made + 1)) (library_onward (meaning.caller p s t σ) c ws made kept answer) (state_after σ (σ.count + 1)) k
 
@@ -409,19 +409,19 @@ module _ (p : Program) (s : SetupView) (t : ℕ) (i : ℕ) (f : Function) (is : 
       by_what_is_due fuel whole n σ made kept due.Nothing is_d plain h small left few not_exit = absurd plain
       by_what_is_due fuel whole n σ made kept due.Quiet is_d plain h small left few not_exit =
           let quiet = all_due n σ made kept h ∙ ap (λ x. listed (nat_le most_entries n.entries) (owing None (limited (nat_le s.limit n.count) x))) is_d ∙ quiet_passes (nat_le most_entries n.entries) (nat_le s.limit n.count) in
-          goes_quietly (lowered p) s t _ n _ quiet (step_quiet n σ made kept h quiet) (behind_quiet fuel whole n σ made kept h small left few not_exit (λ tr. subst IsTrap is_d tr))
+          goes_quietly (lowered p) s t _ n _ quiet (step_quiet n σ made kept h quiet) (past_quiet fuel whole n σ made kept h small left few not_exit (λ tr. subst IsTrap is_d tr))
       by_what_is_due fuel whole n σ made kept (due.Load cell) is_d plain h small left few not_exit =
           plain_event n σ made kept (due.Load cell) _ h is_d (load_passes p s t i f is callers budget cell) refl refl (λ low e answer.
-          subst (λ x. Follows (lowered p) s t (rest fuel σ made kept answer) x) (sym (step_load n σ made kept cell answer h e)) (behind_event fuel whole n σ made kept answer n.entries h left few not_exit (λ tr. subst IsTrap is_d tr) low))
+          subst (λ x. Follows (lowered p) s t (rest fuel σ made kept answer) x) (sym (step_load n σ made kept cell answer h e)) (past_event fuel whole n σ made kept answer n.entries h left few not_exit (λ tr. subst IsTrap is_d tr) low))
       by_what_is_due fuel whole n σ made kept (due.Store cell w) is_d plain h small left few not_exit =
           plain_event n σ made kept (due.Store cell w) _ h is_d (store_passes p s t i f is callers budget cell w) refl refl (λ low e answer.
-          subst (λ x. Follows (lowered p) s t (rest fuel σ made kept answer) x) (sym (step_store n σ made kept cell w answer h e)) (behind_event fuel whole n σ made kept answer n.entries h left few not_exit (λ tr. subst IsTrap is_d tr) low))
+          subst (λ x. Follows (lowered p) s t (rest fuel σ made kept answer) x) (sym (step_store n σ made kept cell w answer h e)) (past_event fuel whole n σ made kept answer n.entries h left few not_exit (λ tr. subst IsTrap is_d tr) low))
       by_what_is_due fuel whole n σ made kept due.Mark is_d plain h small left few not_exit =
           plain_event n σ made kept due.Mark _ h is_d (mark_passes p s t i f is callers budget) refl refl (λ low e answer.
-          subst (λ x. Follows (lowered p) s t (rest fuel σ made kept answer) x) (sym (step_mark n σ made kept answer h e)) (behind_event fuel whole n σ made kept answer n.entries h left few not_exit (λ tr. subst IsTrap is_d tr) low))
+          subst (λ x. Follows (lowered p) s t (rest fuel σ made kept answer) x) (sym (step_mark n σ made kept answer h e)) (past_event fuel whole n σ made kept answer n.entries h left few not_exit (λ tr. subst IsTrap is_d tr) low))
       by_what_is_due fuel whole n σ made kept (due.Operate o obj) is_d plain h small left few not_exit =
           operate_event n σ made kept o obj _ h is_d plain (λ low e answer.
-          subst (λ x. Follows (lowered p) s t (rest fuel σ made kept answer) x) (sym (step_operate n σ made kept o obj answer h plain e)) (behind_event fuel whole n σ made kept answer (n.entries + 1) h left few not_exit (λ tr. subst IsTrap is_d tr) low))
+          subst (λ x. Follows (lowered p) s t (rest fuel σ made kept answer) x) (sym (step_operate n σ made kept o obj answer h plain e)) (past_event fuel whole n σ made kept answer (n.entries + 1) h left few not_exit (λ tr. subst IsTrap is_d tr) low))
       by_what_is_due fuel whole n σ made kept (due.Trap kind) is_d plain h small left few not_exit = (
         n,
         here,
@@ -514,7 +514,7 @@ module _ (p : Program) (s : SetupView) (t : ℕ) (i : ℕ) (f : Function) (is : 
           (sym (step_store m at call.Exit args None ws stands are m σ 0 (pos 0) (result_cell t) (argument ws 0) answer first_stands e))
           (subst (λ x. Follows (lowered p) s t (meaning.library_from p s t 4 at.line call.Exit ws 1 (pos 0) (state_after m at call.Exit args None ws stands are σ x) k) m1) (ap (λ x. x + 1) h.count) ended))
 
-  -- `free`: the word 0 comes into its register behind the call
+  -- `free`: the word 0 comes into its register after the call
   free_call : (m : Thread) (at : Position) (args : List ℕ) (r : ℕ) (ws : List ℕ) (σ : State) (k : ℕ → State → Run) → HasAt (body_code f) m.top.instr (library_code at r call.Free args) → Shows p s t i f is callers budget m σ
       → length f.pointers + length f.objects ≤ r → r < length (function_kinds f)
       → ((n : Thread) (v : ℕ) (σ' : State) → n.top.instr ≡ m.top.instr + 2 → Shows p s t i f is callers budget n σ' → register n.top.registers r ≡ v → ((q : ℕ) → q ≢ r → register n.top.registers q ≡ register m.top.registers q) → m.count ≤ n.count → Follows (lowered p) s t (k v σ') n)

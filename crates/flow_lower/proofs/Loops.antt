@@ -28,7 +28,7 @@ module _ (p : Program) (s : SetupView) (t : ℕ) (i : ℕ) (f : Function) (is : 
     pub gives : value_of n.top.registers value ≡ w
     pub same_line : at.line ≡ line
 
-  -- where a statement ends: behind it, where its loop is left or continued, or at a return
+  -- where a statement ends: after it, where its loop is left or continued, or at a return
   abbrev pub Reached : Thread → Completion → (end out on : ℕ) → Type 0
   Reached n goes end out on = n.top.instr ≡ end
   Reached n breaks end out on = n.top.instr ≡ out
@@ -75,7 +75,7 @@ module _ (p : Program) (s : SetupView) (t : ℕ) (i : ℕ) (f : Function) (is : 
       (tests : TestFollows test (mark + 1) body end) (does_body : BodyFollows inside body last end last) (steps : StepFollows step last mark)
       (k : Completion → State → Run) (start : Thread) (done : (n : Thread) (σ : State) → n.top.instr ≡ end → Shows p s t i f is callers budget n σ → start.count ≤ n.count → Follows (lowered p) s t (k goes σ) n)
       (leaves : (n : Thread) (w line : ℕ) (σ : State) → ReturnsHere n w line → Shows p s t i f is callers budget n σ → start.count ≤ n.count → Follows (lowered p) s t (k (returns w line) σ) n) where
-    -- behind the body
+    -- after the body
     turned : (turns : ℕ) → ((m : Thread) (σ : State) → m.top.instr ≡ mark → Shows p s t i f is callers budget m σ → s.limit ≤ m.count + turns → start.count ≤ m.count → Follows (lowered p) s t (meaning.turns p s t turns at.line test inside step σ k) m) → (q : Thread) (fl : Completion) (σ2 : State) → Reached q fl last end last → Shows p s t i f is callers budget q σ2 → s.limit ≤ q.count + turns → start.count ≤ q.count → Follows (lowered p) s t (if_turns fl (step >> meaning.turns p s t turns at.line test inside step) σ2 k) q
     turned turns ih q goes σ2 reached shows left later = steps (meaning.turns p s t turns at.line test inside step) k q σ2 reached shows (λ o σ3 place shows' more. ih o σ3 place shows' (omega (arith, left, more)) (omega (arith, later, more)))
     turned turns ih q breaks σ2 reached shows left later = done q σ2 reached shows later
@@ -96,7 +96,7 @@ module _ (p : Program) (s : SetupView) (t : ℕ) (i : ℕ) (f : Function) (is : 
       (does_body : BodyFollows inside (mark + 1) last end last) (tests : TestFollows test last mark end)
       (k : Completion → State → Run) (start : Thread) (done : (n : Thread) (σ : State) → n.top.instr ≡ end → Shows p s t i f is callers budget n σ → start.count ≤ n.count → Follows (lowered p) s t (k goes σ) n)
       (leaves : (n : Thread) (w line : ℕ) (σ : State) → ReturnsHere n w line → Shows p s t i f is callers budget n σ → start.count ≤ n.count → Follows (lowered p) s t (k (returns w line) σ) n) where
-    tested : (turns : ℕ) → ((m : Thread) (σ : State) → m.top.instr ≡ mark → Shows p s t i f is callers budget m σ → s.limit ≤ m.count + turns → start.count ≤ m.count → Follows (lowered p) s t (meaning.turns_behind p s t turns at.line inside test σ k) m) → (q : Thread) (fl : Completion) (σ2 : State) → Reached q fl last end last → Shows p s t i f is callers budget q σ2 → s.limit ≤ q.count + turns → start.count ≤ q.count → Follows (lowered p) s t (if_turns fl (test >>= λ w. choose w (meaning.turns_behind p s t turns at.line inside test) (pure goes)) σ2 k) q
+    tested : (turns : ℕ) → ((m : Thread) (σ : State) → m.top.instr ≡ mark → Shows p s t i f is callers budget m σ → s.limit ≤ m.count + turns → start.count ≤ m.count → Follows (lowered p) s t (meaning.turns_after p s t turns at.line inside test σ k) m) → (q : Thread) (fl : Completion) (σ2 : State) → Reached q fl last end last → Shows p s t i f is callers budget q σ2 → s.limit ≤ q.count + turns → start.count ≤ q.count → Follows (lowered p) s t (if_turns fl (test >>= λ w. choose w (meaning.turns_after p s t turns at.line inside test) (pure goes)) σ2 k) q
     tested turns ih q goes σ2 reached shows left later =
         tests _ (pure goes) k q σ2 reached shows (λ o σ3 place shows' more. ih o σ3 place shows' (omega (arith, left, more)) (omega (arith, later, more)))
         (λ o σ3 place shows' more. done o σ3 place shows' (omega (arith, later, more)))
@@ -106,11 +106,11 @@ module _ (p : Program) (s : SetupView) (t : ℕ) (i : ℕ) (f : Function) (is : 
         (λ o σ3 place shows' more. done o σ3 place shows' (omega (arith, later, more)))
     tested turns ih q (returns w line) σ2 reached shows left later = leaves q w line σ2 reached shows later
 
-    -- the same with the condition behind the body
-    pub rounds_behind : (turns : ℕ) → (m : Thread) (σ : State) → m.top.instr ≡ mark → Shows p s t i f is callers budget m σ → s.limit ≤ m.count + turns → start.count ≤ m.count → Follows (lowered p) s t (meaning.turns_behind p s t turns at.line inside test σ k) m
-    rounds_behind zero m σ e h left later = at_limit m σ at h (ap (slice_get (body_code f)) e ∙ code_mark) (omega (arith, left))
-    rounds_behind (suc turns) m σ e h left later =
-        by_mark p s t i f is callers budget m σ at (λ answer σ'. (inside >>= λ fl. if_turns fl (test >>= λ w. choose w (meaning.turns_behind p s t turns at.line inside test) (pure goes))) σ' k) h (ap (slice_get (body_code f)) e ∙ code_mark) (λ low answer.
+    -- the same with the condition after the body
+    pub rounds_after : (turns : ℕ) → (m : Thread) (σ : State) → m.top.instr ≡ mark → Shows p s t i f is callers budget m σ → s.limit ≤ m.count + turns → start.count ≤ m.count → Follows (lowered p) s t (meaning.turns_after p s t turns at.line inside test σ k) m
+    rounds_after zero m σ e h left later = at_limit m σ at h (ap (slice_get (body_code f)) e ∙ code_mark) (omega (arith, left))
+    rounds_after (suc turns) m σ e h left later =
+        by_mark p s t i f is callers budget m σ at (λ answer σ'. (inside >>= λ fl. if_turns fl (test >>= λ w. choose w (meaning.turns_after p s t turns at.line inside test) (pure goes))) σ' k) h (ap (slice_get (body_code f)) e ∙ code_mark) (λ low answer.
         let m1 = one_more (in_frame m (past m.top)) in
         does_body _ m1 (counted σ) (ap (λ z. z + 1) e) (shows_counted p s t i f is callers budget (in_frame m (past m.top)) σ low (shows_past p s t i f is callers budget m σ h))
-        (λ q fl σ2 x. tested turns (rounds_behind turns) q fl σ2 x.reached x.shows (omega (arith, left, x.later)) (omega (arith, later, x.later))))
+        (λ q fl σ2 x. tested turns (rounds_after turns) q fl σ2 x.reached x.shows (omega (arith, left, x.later)) (omega (arith, later, x.later))))

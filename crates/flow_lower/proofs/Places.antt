@@ -29,7 +29,7 @@ pub has_back : {X : Type 0} (code : List X) (pc : ℕ) (is js : List X) → HasA
 has_back code pc [] js h = has_at code pc (pc + 0) js (omega arith) h
 has_back code pc (i ∷ is) js h = has_at code (pc + 1 + length is) (pc + length (i ∷ is)) js (omega arith) (has_back code (pc + 1) is js h.1)
 
--- what stands behind other things stands there
+-- what stands after other things stands there
 pub has_all : {X : Type 0} (is pre : List X) → HasAt (pre ++ is) (length pre) is
 has_all [] pre = tt
 has_all (i ∷ is) pre =
@@ -107,11 +107,11 @@ end_at f = body_at f + statement_size (body_kept f)
 abbrev pub statement_part : Function → List Instr
 statement_part f = statement_code (first_of f) (body_kept f) (first_of f + length f.objects) (body_at f) (end_at f) (end_at f)
 
-abbrev pub behind_objects : Function → List Instr
-behind_objects f = arrivals_code (first_of f) f.arrivals ++ (statement_part f ++ one f.place (act.Return None))
+abbrev pub from_arrivals : Function → List Instr
+from_arrivals f = arrivals_code (first_of f) f.arrivals ++ (statement_part f ++ one f.place (act.Return None))
 
 pub has_arrivals : (f : Function) → HasAt (body_code f) (start_of f) (arrivals_code (first_of f) f.arrivals ++ (statement_part f ++ one f.place (act.Return None)))
-has_arrivals f = has_at (body_code f) (length (objects_code f.place (first_of f) f.objects)) (start_of f) (behind_objects f) (objects_length f.place (first_of f) f.objects) (has_all (behind_objects f) (objects_code f.place (first_of f) f.objects))
+has_arrivals f = has_at (body_code f) (length (objects_code f.place (first_of f) f.objects)) (start_of f) (from_arrivals f) (objects_length f.place (first_of f) f.objects) (has_all (from_arrivals f) (objects_code f.place (first_of f) f.objects))
 
 pub has_body : (f : Function) → HasAt (body_code f) (body_at f) (statement_part f ++ one f.place (act.Return None))
 has_body f = has_at (body_code f) (start_of f + length (arrivals_code (first_of f) f.arrivals)) (body_at f) _ (ap (λ n. start_of f + n) (arrivals_length (first_of f) f.arrivals)) (has_back (body_code f) (start_of f) (arrivals_code (first_of f) f.arrivals) _ (has_arrivals f))
@@ -121,6 +121,6 @@ has_end f = (has_at (body_code f) (body_at f + length (statement_part f)) (end_a
 
 pub has_kinds : (f : Function) → HasAt (function_kinds f) (first_of f + length f.objects) (statement_kinds (body_kept f))
 has_kinds f =
-    let behind = has_all (replicate (length f.objects) true ++ statement_kinds (body_kept f)) f.pointers in
+    let following = has_all (replicate (length f.objects) true ++ statement_kinds (body_kept f)) f.pointers in
     has_at (function_kinds f) (first_of f + length (replicate (length f.objects) true)) (first_of f + length f.objects) (statement_kinds (body_kept f)) (ap (λ n. first_of f + n) (length-replicate (length f.objects) true))
-    (has_back (function_kinds f) (first_of f) (replicate (length f.objects) true) (statement_kinds (body_kept f)) behind)
+    (has_back (function_kinds f) (first_of f) (replicate (length f.objects) true) (statement_kinds (body_kept f)) following)

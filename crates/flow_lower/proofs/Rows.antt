@@ -107,7 +107,7 @@ pub loop_code : acts_of (while_loop (both (register 0 false (at 3)) (number (pos
     ∷ []
 loop_code = refl
 
--- if (n) n = 1; the branch goes right behind the first part
+-- if (n) n = 1; the branch goes right after the first part
 pub if_code : acts_of (branch (register 0 false (at 3)) (compute (set_register 0 (number (pos 1) (at 3)) (at 3))) (at 3)) ≡
     act.Branch 0 1 4
     ∷ act.Compute 2 (work.Constant (pos 1))

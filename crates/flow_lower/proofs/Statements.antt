@@ -21,7 +21,7 @@ use Rattle.flow_lower.proofs.Lengths.{exp_length, test_length, statement_length}
 use Rattle.flow_lower.proofs.Calling.{Serves}
 use Rattle.flow_lower.proofs.Values.{ExpFollows}
 use Rattle.flow_lower.proofs.Expressions.{exp_follows}
-use Rattle.flow_lower.proofs.Loops.{Reached, Lands, TestFollows, StepFollows, BodyFollows, rounds, rounds_behind}
+use Rattle.flow_lower.proofs.Loops.{Reached, Lands, TestFollows, StepFollows, BodyFollows, rounds, rounds_after}
 
 module _ (p : Program) (s : SetupView) (t : ℕ) (i : ℕ) (f : Function) (is : slice_get p.functions i ≡ Some f) (callers : List Frame) (budget : ℕ) (calls : Calls) (serves : Serves p s t calls budget) where
   abbrev first : ℕ
@@ -50,11 +50,11 @@ module _ (p : Program) (s : SetupView) (t : ℕ) (i : ℕ) (f : Function) (is : 
   here : (m : Thread) (pc : ℕ) (x : Instr) → m.top.instr ≡ pc → slice_get (body_code f) pc ≡ Some x → slice_get (body_code f) m.top.instr ≡ Some x
   here m pc x e h = ap (slice_get (body_code f)) e ∙ h
 
-  behind_exp : (e : Exp) (r pc : ℕ) (rest : List Instr) → HasAt (body_code f) pc (exp_code first e r pc ++ rest) → HasAt (body_code f) (pc + exp_size e) rest
-  behind_exp e r pc rest h = has_at (body_code f) (pc + length (exp_code first e r pc)) (pc + exp_size e) rest (ap (λ n. pc + n) (exp_length first e r pc)) (has_back (body_code f) pc (exp_code first e r pc) rest h)
+  past_exp : (e : Exp) (r pc : ℕ) (rest : List Instr) → HasAt (body_code f) pc (exp_code first e r pc ++ rest) → HasAt (body_code f) (pc + exp_size e) rest
+  past_exp e r pc rest h = has_at (body_code f) (pc + length (exp_code first e r pc)) (pc + exp_size e) rest (ap (λ n. pc + n) (exp_length first e r pc)) (has_back (body_code f) pc (exp_code first e r pc) rest h)
 
-  behind_statement : (a : Statement) (r pc out on : ℕ) (rest : List Instr) → HasAt (body_code f) pc (statement_code first a r pc out on ++ rest) → HasAt (body_code f) (pc + statement_size a) rest
-  behind_statement a r pc out on rest h = has_at (body_code f) (pc + length (statement_code first a r pc out on)) (pc + statement_size a) rest (ap (λ n. pc + n) (statement_length first a r pc out on)) (has_back (body_code f) pc (statement_code first a r pc out on) rest h)
+  past_statement : (a : Statement) (r pc out on : ℕ) (rest : List Instr) → HasAt (body_code f) pc (statement_code first a r pc out on ++ rest) → HasAt (body_code f) (pc + statement_size a) rest
+  past_statement a r pc out on rest h = has_at (body_code f) (pc + length (statement_code first a r pc out on)) (pc + statement_size a) rest (ap (λ n. pc + n) (statement_length first a r pc out on)) (has_back (body_code f) pc (statement_code first a r pc out on) rest h)
 
   -- a statement ends where the one that holds it does, or farther on
   ends_on : (m n o : Thread) (σ : State) (fl : Completion) (end end' out on : ℕ) → end ≡ end' → m.count ≤ n.count → Lands p s t i f is callers budget n o σ fl end out on → Lands p s t i f is callers budget m o σ fl end' out on
@@ -71,7 +71,7 @@ module _ (p : Program) (s : SetupView) (t : ℕ) (i : ℕ) (f : Function) (is : 
       → TestFollows p s t i f is callers budget (value p s t calls e) pc (pc + exp_size e + 1) out
   test_follows e at r pc out rest w code ks le Y N k m σ place h yes' no' =
       w r pc m σ _ (has_front (body_code f) pc (exp_code first e r pc) _ code) ks le place h (λ n v σ' x.
-      by_branch p s t i f is callers budget n σ' at (held first e r) (pc + exp_size e + 1) out v Y N σ' k x.shows (here n (pc + exp_size e) _ x.place (behind_exp e r pc _ code).0) x.value
+      by_branch p s t i f is callers budget n σ' at (held first e r) (pc + exp_size e + 1) out v Y N σ' k x.shows (here n (pc + exp_size e) _ x.place (past_exp e r pc _ code).0) x.value
       (λ some. yes' (goes_to n (pc + exp_size e + 1)) σ' refl (shows_at p s t i f is callers budget n σ' (pc + exp_size e + 1) x.shows) x.later)
       (λ none. no' (goes_to n out) σ' refl (shows_at p s t i f is callers budget n σ' out x.shows) x.later))
 
@@ -92,7 +92,7 @@ module _ (p : Program) (s : SetupView) (t : ℕ) (i : ℕ) (f : Function) (is : 
       go m (returns 0 at.line) σ (record { reached = record { at = at; value = None; stands = here m pc _ place code.0; gives = refl; same_line = refl }; shows = h; later = omega arith })
   gives_leads (Some e) at w r pc out on code ks le k m σ place h go =
       w r pc m σ _ (has_front (body_code f) pc (exp_code first e r pc) _ code) ks le place h (λ n v σ' x.
-      go n (returns v at.line) σ' (record { reached = record { at = at; value = Some (held first e r); stands = here n (pc + exp_size e) _ x.place (behind_exp e r pc _ code).0; gives = x.value; same_line = refl }; shows = x.shows; later = x.later }))
+      go n (returns v at.line) σ' (record { reached = record { at = at; value = Some (held first e r); stands = here n (pc + exp_size e) _ x.place (past_exp e r pc _ code).0; gives = x.value; same_line = refl }; shows = x.shows; later = x.later }))
 
   -- one statement after another
   both_lead : (a : Statement) (ss : Statements) (r pc out on : ℕ) (rest : M Completion) (k : Completion → State → Run) (m : Thread) (end : ℕ)
@@ -114,7 +114,7 @@ module _ (p : Program) (s : SetupView) (t : ℕ) (i : ℕ) (f : Function) (is : 
   and_statement_leads a ss leads lead_all r pc out on code ks le k m σ place h go =
       leads r pc out on (has_front (body_code f) pc (statement_code first a r pc out on) _ code) (has_front kinds r (statement_kinds a) (statements_kinds ss) ks) le _ m σ place h
       (both_lead a ss r pc out on (meaning.meanings p s t calls ss) k m (pc + (statement_size a + statements_size ss)) (λ o σ' place' shows later.
-      lead_all (r + length (statement_kinds a)) (pc + statement_size a) out on (behind_statement a r pc out on _ code) (has_back kinds r (statement_kinds a) (statements_kinds ss) ks) (omega (arith, le)) k o σ' place' shows (λ q fl σ'' x.
+      lead_all (r + length (statement_kinds a)) (pc + statement_size a) out on (past_statement a r pc out on _ code) (has_back kinds r (statement_kinds a) (statements_kinds ss) ks) (omega (arith, le)) k o σ' place' shows (λ q fl σ'' x.
       go q fl σ'' (ends_on m o q σ'' fl (pc + statement_size a + statements_size ss) (pc + (statement_size a + statements_size ss)) out on (omega arith) later x))) go)
 
   branch_leads : (e : Exp) (a : Statement) (at : Position) → Follow e → Leads a → Leads (branch e a at)
@@ -125,7 +125,7 @@ module _ (p : Program) (s : SetupView) (t : ℕ) (i : ℕ) (f : Function) (is : 
       let is_end : no' ≡ end = omega arith in
       test_follows e at r pc no' _ w code (has_front kinds r (exp_kinds e) _ ks) le _ _ k m σ place h
       (λ o σ' place' shows later.
-      leads (r + width e) yes' out on (behind_exp e r pc _ code).1 (has_back kinds r (exp_kinds e) (statement_kinds a) ks) (omega (arith, le)) _ o σ' place' shows
+      leads (r + width e) yes' out on (past_exp e r pc _ code).1 (has_back kinds r (exp_kinds e) (statement_kinds a) ks) (omega (arith, le)) _ o σ' place' shows
       (λ q fl σ'' x. go q fl σ'' (ends_on m o q σ'' fl no' end out on is_end later x)))
       (λ o σ' place' shows later. go o goes σ' (record { reached = place' ∙ is_end; shows = shows; later = later }))
 
@@ -136,9 +136,9 @@ module _ (p : Program) (s : SetupView) (t : ℕ) (i : ℕ) (f : Function) (is : 
       let x_a = r + width e in
       let x_b = x_a + length (statement_kinds a) in
       let end = pc + (exp_size e + (1 + (statement_size a + (1 + statement_size b)))) in
-      let code_e = behind_exp e r pc _ code in
+      let code_e = past_exp e r pc _ code in
       let code_a = code_e.1 in
-      let code_j = behind_statement a x_a yes' out on _ code_a in
+      let code_j = past_statement a x_a yes' out on _ code_a in
       let kinds_ab = has_back kinds r (exp_kinds e) (statement_kinds a ++ statement_kinds b) ks in
       test_follows e at r pc no' _ w code (has_front kinds r (exp_kinds e) _ ks) le _ _ k m σ place h
       (λ o σ' place' shows later.
@@ -148,7 +148,7 @@ module _ (p : Program) (s : SetupView) (t : ℕ) (i : ℕ) (f : Function) (is : 
       leads_b x_b no' out on code_j.1 (has_back kinds x_a (statement_kinds a) (statement_kinds b) kinds_ab) (omega (arith, le)) _ o σ' place' shows
       (λ q fl σ'' x. go q fl σ'' (ends_on m o q σ'' fl (no' + statement_size b) end out on (omega arith) later x)))
     where
-      -- behind the first of the two the second is jumped over
+      -- after the first of the two the second is jumped over
       jumped : (m o q : Thread) (fl : Completion) (σ'' : State) (stop end out on : ℕ) (k : Completion → State → Run) (to : ℕ) (at : Position) → to ≡ end → m.count ≤ o.count → slice_get (body_code f) stop ≡ Some (instr at (act.Jump to))
           → ((o : Thread) (fl : Completion) (σ : State) → Lands p s t i f is callers budget m o σ fl end out on → Follows (lowered p) s t (k fl σ) o)
           → Lands p s t i f is callers budget o q σ'' fl stop out on → Follows (lowered p) s t (k fl σ'') q
@@ -166,8 +166,8 @@ module _ (p : Program) (s : SetupView) (t : ℕ) (i : ℕ) (f : Function) (is : 
       let last = body + statement_size a in
       let end = last + 1 in
       let is_end : end ≡ pc + (1 + (exp_size e + (1 + (statement_size a + 1)))) = omega arith in
-      let code_a = (behind_exp e r (pc + 1) _ code.1).1 in
-      let code_j = behind_statement a (r + width e) body end last _ code_a in
+      let code_a = (past_exp e r (pc + 1) _ code.1).1 in
+      let code_j = past_statement a (r + width e) body end last _ code_a in
       rounds p s t i f is callers budget at pc body last end code.0 (value p s t calls e) (meaning.meaning p s t calls a) (pure 0)
       (test_follows e at r (pc + 1) end _ w code.1 (has_front kinds r (exp_kinds e) (statement_kinds a) ks) le)
       (leads (r + width e) body end last (has_front (body_code f) body (statement_code first a (r + width e) body end last) _ code_a) (has_back kinds r (exp_kinds e) (statement_kinds a) ks) (omega (arith, le)))
@@ -183,12 +183,12 @@ module _ (p : Program) (s : SetupView) (t : ℕ) (i : ℕ) (f : Function) (is : 
       let end = test + exp_size e + 1 in
       let is_end : end ≡ pc + (1 + (statement_size a + (exp_size e + 1))) = omega arith in
       let x = r + length (statement_kinds a) in
-      let code_t = behind_statement a r (pc + 1) end test _ code.1 in
-      rounds_behind p s t i f is callers budget at pc test end code.0 (value p s t calls e) (meaning.meaning p s t calls a)
+      let code_t = past_statement a r (pc + 1) end test _ code.1 in
+      rounds_after p s t i f is callers budget at pc test end code.0 (value p s t calls e) (meaning.meaning p s t calls a)
       (leads r (pc + 1) end test (has_front (body_code f) (pc + 1) (statement_code first a r (pc + 1) end test) _ code.1) (has_front kinds r (statement_kinds a) (exp_kinds e) ks) le)
       (λ Y N k' n σ' place' shows yes' no'.
       w x test n σ' _ (has_front (body_code f) test (exp_code first e x test) _ code_t) (has_back kinds r (statement_kinds a) (exp_kinds e) ks) (omega (arith, le)) place' shows (λ o v σ'' y.
-      by_branch p s t i f is callers budget o σ'' at (held first e x) pc end v Y N σ'' k' y.shows (here o (test + exp_size e) _ y.place (behind_exp e x test _ code_t).0) y.value
+      by_branch p s t i f is callers budget o σ'' at (held first e x) pc end v Y N σ'' k' y.shows (here o (test + exp_size e) _ y.place (past_exp e x test _ code_t).0) y.value
       (λ some. yes' (goes_to o pc) σ'' refl (shows_at p s t i f is callers budget o σ'' pc y.shows) y.later)
       (λ none. no' (goes_to o end) σ'' refl (shows_at p s t i f is callers budget o σ'' end y.shows) y.later)))
       k m
@@ -209,7 +209,7 @@ module _ (p : Program) (s : SetupView) (t : ℕ) (i : ℕ) (f : Function) (is : 
   maybe_step_follows None at r pc to w code ks le R k m σ place h next = by_jump p s t i f is callers budget _ m σ at to h (here m pc _ place code.0) (next (goes_to m to) σ refl (shows_at p s t i f is callers budget m σ to h) (omega arith))
   maybe_step_follows (Some e) at r pc to w code ks le R k m σ place h next =
       w r pc m σ _ (has_front (body_code f) pc (exp_code first e r pc) _ code) ks le place h (λ n v σ' x.
-      by_jump p s t i f is callers budget _ n σ' at to x.shows (here n (pc + exp_size e) _ x.place (behind_exp e r pc _ code).0) (next (goes_to n to) σ' refl (shows_at p s t i f is callers budget n σ' to x.shows) x.later))
+      by_jump p s t i f is callers budget _ n σ' at to x.shows (here n (pc + exp_size e) _ x.place (past_exp e r pc _ code).0) (next (goes_to n to) σ' refl (shows_at p s t i f is callers budget n σ' to x.shows) x.later))
 
   for_leads : (start : Statement) (test step : Option Exp) (a : Statement) (at : Position) → MayFollow test → MayFollow step → Leads start → Leads a → Leads (for_loop start test step a at)
   for_leads start test step a at w_test w_step leads_start leads r pc out on code ks le k m σ place h go =
@@ -221,10 +221,10 @@ module _ (p : Program) (s : SetupView) (t : ℕ) (i : ℕ) (f : Function) (is : 
       let inner = tested + length (maybe_kinds test) in
       let stepped = inner + length (statement_kinds a) in
       let is_end : end ≡ pc + (statement_size start + (1 + (test_size test + (statement_size a + (maybe_size step + 1))))) = omega arith in
-      let code_m = behind_statement start r pc out on _ code in
+      let code_m = past_statement start r pc out on _ code in
       let code_t = code_m.1 in
       let code_a = has_at (body_code f) (mark + 1 + length (test_code first at test tested (mark + 1) end)) body _ (ap (λ n. mark + 1 + n) (test_length first at test tested (mark + 1) end)) (has_back (body_code f) (mark + 1) (test_code first at test tested (mark + 1) end) _ code_t) in
-      let code_s = behind_statement a inner body end last _ code_a in
+      let code_s = past_statement a inner body end last _ code_a in
       let kinds_t = has_back kinds r (statement_kinds start) (maybe_kinds test ++ (statement_kinds a ++ maybe_kinds step)) ks in
       let kinds_a = has_back kinds tested (maybe_kinds test) (statement_kinds a ++ maybe_kinds step) kinds_t in
       leads_start r pc out on (has_front (body_code f) pc (statement_code first start r pc out on) _ code) (has_front kinds r (statement_kinds start) _ ks) le _ m σ place h

@@ -74,9 +74,9 @@ module _ (p : Program) (s : SetupView) (t : ℕ) (i : ℕ) (f : Function) (is : 
   IsThere (object n at) = n < length f.objects
   IsThere _ = Unit {0}
 
-  -- what stands behind the code of an expression
-  behind : (e : Exp) (r pc : ℕ) (rest : List Instr) → HasAt (body_code f) pc (exp_code first e r pc ++ rest) → HasAt (body_code f) (pc + exp_size e) rest
-  behind e r pc rest h = has_at (body_code f) (pc + length (exp_code first e r pc)) (pc + exp_size e) rest (ap (λ n. pc + n) (exp_length first e r pc)) (has_back (body_code f) pc (exp_code first e r pc) rest h)
+  -- what stands after the code of an expression
+  following : (e : Exp) (r pc : ℕ) (rest : List Instr) → HasAt (body_code f) pc (exp_code first e r pc ++ rest) → HasAt (body_code f) (pc + exp_size e) rest
+  following e r pc rest h = has_at (body_code f) (pc + length (exp_code first e r pc)) (pc + exp_size e) rest (ap (λ n. pc + n) (exp_length first e r pc)) (has_back (body_code f) pc (exp_code first e r pc) rest h)
 
   ahead : (e : Exp) (r pc : ℕ) (rest : List Instr) → HasAt (body_code f) pc (exp_code first e r pc ++ rest) → HasAt (body_code f) pc (exp_code first e r pc)
   ahead e r pc rest h = has_front (body_code f) pc (exp_code first e r pc) rest h
@@ -85,8 +85,8 @@ module _ (p : Program) (s : SetupView) (t : ℕ) (i : ℕ) (f : Function) (is : 
   kinds_ahead : (r : ℕ) (ks ls : List Bool) → HasAt kinds r (ks ++ ls) → HasAt kinds r ks
   kinds_ahead r ks ls h = has_front kinds r ks ls h
 
-  kinds_behind : (r : ℕ) (ks ls : List Bool) → HasAt kinds r (ks ++ ls) → HasAt kinds (r + length ks) ls
-  kinds_behind r ks ls h = has_back kinds r ks ls h
+  kinds_past : (r : ℕ) (ks ls : List Bool) → HasAt kinds r (ks ++ ls) → HasAt kinds (r + length ks) ls
+  kinds_past r ks ls h = has_back kinds r ks ls h
 
   within : (r : ℕ) (b : Bool) → slice_get kinds r ≡ Some b → r < length kinds
   within r b h = slice_get_within kinds r b h
@@ -207,7 +207,7 @@ module _ (p : Program) (s : SetupView) (t : ℕ) (i : ℕ) (f : Function) (is : 
       → Follows (lowered p) s t ((value p s t calls a >>= λ v. result_at at.line (result v)) σ k) m
   one_operand a follows at w result b r pc m σ k gives code ks le e h go =
       follows (r + 1) pc m σ _ (ahead a (r + 1) pc _ code) ks.1 (omega (arith, le)) e h (λ n v σ' x.
-      by_compute p s t i f is callers budget n σ' at r w (result v) k x.shows (here n (pc + exp_size a) _ x.place (behind a (r + 1) pc _ code).0) (gives n.top.registers v x.value) (λ w' same.
+      by_compute p s t i f is callers budget n σ' at r w (result v) k x.shows (here n (pc + exp_size a) _ x.place (following a (r + 1) pc _ code).0) (gives n.top.registers v x.value) (λ w' same.
       go (sets n r w') w' σ' (puts p s t i f is callers budget m n σ' r w' (Sets a) (pc + (exp_size a + 1)) le (within r b ks.0) x.shows (λ q lt free. x.lower q (omega (arith, lt)) free) x.later (omega (arith, x.place)))))
 
   pub unary_follows : (o : UnaryOp) (a : Exp) (at : Position) → ExpFollows a → ExpFollows (unary o a at)
@@ -242,7 +242,7 @@ module _ (p : Program) (s : SetupView) (t : ℕ) (i : ℕ) (f : Function) (is : 
   pub load_follows : (a : Exp) (pointer : Bool) (at : Position) → ExpFollows a → ExpFollows (load a pointer at)
   load_follows a pointer at follows r pc m σ k code ks le e h go =
       follows (r + 1) pc m σ _ (ahead a (r + 1) pc _ code) ks.1 (omega (arith, le)) e h (λ n v σ' x.
-      by_load p s t i f is callers budget n σ' at r (held first a (r + 1)) v (access_kind pointer) k x.shows (here n (pc + exp_size a) _ x.place (behind a (r + 1) pc _ code).0) x.value (ap access_kind (is_kind kinds r pointer ks.0)) (λ low w.
+      by_load p s t i f is callers budget n σ' at r (held first a (r + 1)) v (access_kind pointer) k x.shows (here n (pc + exp_size a) _ x.place (following a (r + 1) pc _ code).0) x.value (ap access_kind (is_kind kinds r pointer ks.0)) (λ low w.
       go (one_more (sets n r w)) w (counted σ') (puts_counted p s t i f is callers budget m n σ' r w (Sets a) (pc + (exp_size a + 1)) le (within r pointer ks.0) x.shows (λ q lt free. x.lower q (omega (arith, lt)) free) x.later (omega (arith, x.place)) low)))
 
   -- ---- two operands
@@ -254,7 +254,7 @@ module _ (p : Program) (s : SetupView) (t : ℕ) (i : ℕ) (f : Function) (is : 
       → Follows (lowered p) s t (value p s t calls a σ (λ v σ1. value p s t calls b σ1 (λ w σ2. k v w σ2))) m
   two_values a b follows_a follows_b there calm r pc rest m σ k code ks le e h go =
       follows_a r pc m σ _ (ahead a r pc _ code) (kinds_ahead r (exp_kinds a) (exp_kinds b) ks) le e h (λ n v σ' x.
-      follows_b (r + width a) (pc + exp_size a) n σ' _ (ahead b (r + width a) (pc + exp_size a) _ (behind a r pc _ code)) (kinds_behind r (exp_kinds a) (exp_kinds b) ks) (omega (arith, le)) x.place x.shows (λ o w σ'' y.
+      follows_b (r + width a) (pc + exp_size a) n σ' _ (ahead b (r + width a) (pc + exp_size a) _ (following a r pc _ code)) (kinds_past r (exp_kinds a) (exp_kinds b) ks) (omega (arith, le)) x.place x.shows (λ o w σ'' y.
       go o v w σ'' y.place y.shows (held_stays a r n o (Sets b) there calm le y.lower ∙ x.value) y.value (keeps_both m n o r r (r + width a) (Sets a) (Sets b) (omega arith) (omega arith) x.lower y.lower) (omega (arith, x.later, y.later))))
 
   -- two operands, and an instruction that computes
@@ -266,7 +266,7 @@ module _ (p : Program) (s : SetupView) (t : ℕ) (i : ℕ) (f : Function) (is : 
   two_operands a b follows_a follows_b there calm at w result kind r pc m σ k gives code ks le e h go =
       two_values a b follows_a follows_b there calm (r + 1) pc (computes at r w) m σ _ code ks.1 (omega (arith, le)) e h (λ n v u σ' place shows is_v is_u keeps later.
       by_compute p s t i f is callers budget n σ' at r w (result v u) k shows
-      (here n (pc + exp_size a + exp_size b) _ place (behind b (r + 1 + width a) (pc + exp_size a) _ (behind a (r + 1) pc _ code)).0) (gives n.top.registers v u is_v is_u) (λ w' same.
+      (here n (pc + exp_size a + exp_size b) _ place (following b (r + 1 + width a) (pc + exp_size a) _ (following a (r + 1) pc _ code)).0) (gives n.top.registers v u is_v is_u) (λ w' same.
       go (sets n r w') w' σ' (puts p s t i f is callers budget m n σ' r w' (λ q. assigns q a || assigns q b) (pc + (exp_size a + (exp_size b + 1))) le (within r kind ks.0) shows (λ q lt free. keeps q (omega (arith, lt)) free) later (omega (arith, place)))))
 
   pub binary_follows : (o : BinaryOp) (a b : Exp) (at : Position) → ExpFollows a → ExpFollows b → IsThere a → loses a (Sets b) ≡ false → ExpFollows (binary o a b at)
@@ -308,16 +308,16 @@ module _ (p : Program) (s : SetupView) (t : ℕ) (i : ℕ) (f : Function) (is : 
 
   pub comma_follows : (a b : Exp) (at : Position) → ExpFollows a → ExpFollows b → ExpFollows (comma a b at)
   comma_follows a b at follows_a follows_b r pc m σ k code ks le e h go =
-      let code_b = behind a (r + 1) pc _ code in
+      let code_b = following a (r + 1) pc _ code in
       follows_a (r + 1) pc m σ _ (ahead a (r + 1) pc _ code) (kinds_ahead (r + 1) (exp_kinds a) (exp_kinds b) ks.1) (omega (arith, le)) e h (λ n v σ' x.
-      follows_b (r + 1 + width a) (pc + exp_size a) n σ' _ (ahead b (r + 1 + width a) (pc + exp_size a) _ code_b) (kinds_behind (r + 1) (exp_kinds a) (exp_kinds b) ks.1) (omega (arith, le)) x.place x.shows (λ o w σ'' y.
-      by_compute p s t i f is callers budget o σ'' at r (work.Copy (held first b (r + 1 + width a))) (Ok w) k y.shows (here o (pc + exp_size a + exp_size b) _ y.place (behind b (r + 1 + width a) (pc + exp_size a) _ code_b).0) (ap Ok y.value) (λ w' same.
+      follows_b (r + 1 + width a) (pc + exp_size a) n σ' _ (ahead b (r + 1 + width a) (pc + exp_size a) _ code_b) (kinds_past (r + 1) (exp_kinds a) (exp_kinds b) ks.1) (omega (arith, le)) x.place x.shows (λ o w σ'' y.
+      by_compute p s t i f is callers budget o σ'' at r (work.Copy (held first b (r + 1 + width a))) (Ok w) k y.shows (here o (pc + exp_size a + exp_size b) _ y.place (following b (r + 1 + width a) (pc + exp_size a) _ code_b).0) (ap Ok y.value) (λ w' same.
       go (sets o r w') w' σ'' (puts p s t i f is callers budget m o σ'' r w' (λ q. assigns q a || assigns q b) (pc + (exp_size a + (exp_size b + 1))) le (within r (meaning.is_pointer b) ks.0) y.shows
       (keeps_both m n o r (r + 1) (r + 1 + width a) (Sets a) (Sets b) (omega arith) (omega arith) x.lower y.lower) (omega (arith, x.later, y.later)) (omega (arith, y.place))))))
 
   -- ---- assignments
 
-  -- a register that holds a word still does so behind an assignment of that word
+  -- a register that holds a word still does so after an assignment of that word
   still : (regs : List ℕ) (n x v : ℕ) → n < length regs → register regs x ≡ v → register (slice_set regs n v) x ≡ v
   still regs n x v lt holds = by (nat_eq x n) refl
     where
@@ -329,7 +329,7 @@ module _ (p : Program) (s : SetupView) (t : ℕ) (i : ℕ) (f : Function) (is : 
   pub set_register_follows : (n : ℕ) (a : Exp) (at : Position) → n < first → ExpFollows a → ExpFollows (set_register n a at)
   set_register_follows n a at lt follows r pc m σ k code ks le e h go =
       let x = held first a (r + 1) in
-      let code' = behind a (r + 1) pc _ code in
+      let code' = following a (r + 1) pc _ code in
       let in_range = within r (meaning.is_pointer a) ks.0 in
       follows (r + 1) pc m σ _ (ahead a (r + 1) pc _ code) ks.1 (omega (arith, le)) e h (λ o v σ' y.
       let next = sets o n v in
@@ -349,10 +349,10 @@ module _ (p : Program) (s : SetupView) (t : ℕ) (i : ℕ) (f : Function) (is : 
       let x = held first a (r + 1) in
       let y = held first b (r + 1 + width a) in
       two_values a b follows_a follows_b there calm (r + 1) pc _ m σ _ code ks.1 (omega (arith, le)) e h (λ n v u σ' place shows is_v is_u keeps later.
-      let code' = behind b (r + 1 + width a) (pc + exp_size a) _ (behind a (r + 1) pc _ code) in
+      let code' = following b (r + 1 + width a) (pc + exp_size a) _ (following a (r + 1) pc _ code) in
       let next = one_more (in_frame n (past n.top)) in
       by_store p s t i f is callers budget n σ' at x y v u (access_kind (meaning.is_pointer b)) _ shows (here n (pc + exp_size a + exp_size b) _ place code'.0) is_v is_u
-      (ap access_kind (kind_of b (r + 1 + width a) there' (kinds_behind (r + 1) (exp_kinds a) (exp_kinds b) ks.1))) (λ low.
+      (ap access_kind (kind_of b (r + 1 + width a) there' (kinds_past (r + 1) (exp_kinds a) (exp_kinds b) ks.1))) (λ low.
       let shows' = shows_counted p s t i f is callers budget (in_frame n (past n.top)) σ' low (shows_past p s t i f is callers budget n σ' shows) in
       by_compute p s t i f is callers budget next (counted σ') at r (work.Copy y) (Ok u) k shows' (here next (pc + exp_size a + exp_size b + 1) _ (ap (λ z. z + 1) place) code'.1.0) (ap Ok is_u) (λ w same.
       go (sets next r w) w (counted σ') (puts p s t i f is callers budget m next (counted σ') r w (λ q. assigns q a || assigns q b) (pc + (exp_size a + (exp_size b + 2))) le (within r (meaning.is_pointer b) ks.0) shows' (λ q l free. keeps q (omega (arith, l)) free) (omega (arith, later)) (omega (arith, place))))))
@@ -411,12 +411,12 @@ module _ (p : Program) (s : SetupView) (t : ℕ) (i : ℕ) (f : Function) (is : 
       let x_b = held first b (r + 1 + width a) in
       let A : ℕ → Bool = λ q. assigns q a || assigns q b in
       let end : tested + 4 ≡ pc + (exp_size a + (1 + (exp_size b + 4))) = omega arith in
-      let code_b = (behind a (r + 1) pc _ code).1 in
-      let code_t = behind b (r + 1 + width a) second (truth_code at r x_b tested) code_b in
+      let code_b = (following a (r + 1) pc _ code).1 in
+      let code_t = following b (r + 1 + width a) second (truth_code at r x_b tested) code_b in
       follows_a (r + 1) pc m σ _ (ahead a (r + 1) pc _ code) (kinds_ahead (r + 1) (exp_kinds a) (exp_kinds b) ks.1) (omega (arith, le)) e h (λ n v σ' x.
-      by_branch p s t i f is callers budget n σ' at x_a second (tested + 3) v _ _ σ' k x.shows (here n (pc + exp_size a) _ x.place (behind a (r + 1) pc _ code).0) x.value
+      by_branch p s t i f is callers budget n σ' at x_a second (tested + 3) v _ _ σ' k x.shows (here n (pc + exp_size a) _ x.place (following a (r + 1) pc _ code).0) x.value
       (λ some.
-      follows_b (r + 1 + width a) second (goes_to n second) σ' _ (ahead b (r + 1 + width a) second _ code_b) (kinds_behind (r + 1) (exp_kinds a) (exp_kinds b) ks.1) (omega (arith, le)) refl (shows_at p s t i f is callers budget n σ' second x.shows) (λ o w σ'' y.
+      follows_b (r + 1 + width a) second (goes_to n second) σ' _ (ahead b (r + 1 + width a) second _ code_b) (kinds_past (r + 1) (exp_kinds a) (exp_kinds b) ks.1) (omega (arith, le)) refl (shows_at p s t i f is callers budget n σ' second x.shows) (λ o w σ'' y.
       truth_comes at r x_b A tested w m o σ'' k false code_t ks.0 le y.place y.shows y.value
       (keeps_both m (goes_to n second) o r (r + 1) (r + 1 + width a) (Sets a) (Sets b) (omega arith) (omega arith) x.lower y.lower) (omega (arith, x.later, y.later)) (λ z v' a'. go z v' σ'' (subst (λ z'. Arrived m z σ'' r r v' A z') end a'))))
       (λ none.
@@ -431,15 +431,15 @@ module _ (p : Program) (s : SetupView) (t : ℕ) (i : ℕ) (f : Function) (is : 
       let x_b = held first b (r + 1 + width a) in
       let A : ℕ → Bool = λ q. assigns q a || assigns q b in
       let end : tested + 4 ≡ pc + (exp_size a + (1 + (exp_size b + 4))) = omega arith in
-      let code_b = (behind a (r + 1) pc _ code).1 in
-      let code_t = behind b (r + 1 + width a) second (truth_code at r x_b tested) code_b in
+      let code_b = (following a (r + 1) pc _ code).1 in
+      let code_t = following b (r + 1 + width a) second (truth_code at r x_b tested) code_b in
       follows_a (r + 1) pc m σ _ (ahead a (r + 1) pc _ code) (kinds_ahead (r + 1) (exp_kinds a) (exp_kinds b) ks.1) (omega (arith, le)) e h (λ n v σ' x.
-      by_branch p s t i f is callers budget n σ' at x_a (tested + 1) second v _ _ σ' k x.shows (here n (pc + exp_size a) _ x.place (behind a (r + 1) pc _ code).0) x.value
+      by_branch p s t i f is callers budget n σ' at x_a (tested + 1) second v _ _ σ' k x.shows (here n (pc + exp_size a) _ x.place (following a (r + 1) pc _ code).0) x.value
       (λ some.
       one_comes at r x_b A tested m (goes_to n (tested + 1)) σ' k false code_t ks.0 le refl (shows_at p s t i f is callers budget n σ' (tested + 1) x.shows)
       (λ q l free. x.lower q (omega (arith, l)) (λ z. not_left (assigns q a) (assigns q b) (free z))) x.later (λ z a'. go z 1 σ' (subst (λ z'. Arrived m z σ' r r 1 A z') end a')))
       (λ none.
-      follows_b (r + 1 + width a) second (goes_to n second) σ' _ (ahead b (r + 1 + width a) second _ code_b) (kinds_behind (r + 1) (exp_kinds a) (exp_kinds b) ks.1) (omega (arith, le)) refl (shows_at p s t i f is callers budget n σ' second x.shows) (λ o w σ'' y.
+      follows_b (r + 1 + width a) second (goes_to n second) σ' _ (ahead b (r + 1 + width a) second _ code_b) (kinds_past (r + 1) (exp_kinds a) (exp_kinds b) ks.1) (omega (arith, le)) refl (shows_at p s t i f is callers budget n σ' second x.shows) (λ o w σ'' y.
       truth_comes at r x_b A tested w m o σ'' k false code_t ks.0 le y.place y.shows y.value
       (keeps_both m (goes_to n second) o r (r + 1) (r + 1 + width a) (Sets a) (Sets b) (omega arith) (omega arith) x.lower y.lower) (omega (arith, x.later, y.later)) (λ z v' a'. go z v' σ'' (subst (λ z'. Arrived m z σ'' r r v' A z') end a')))))
 
@@ -476,13 +476,13 @@ module _ (p : Program) (s : SetupView) (t : ℕ) (i : ℕ) (f : Function) (is : 
       let A : ℕ → Bool = λ q. assigns q a || (assigns q b || assigns q c) in
       let last = no' + exp_size c + 1 in
       let end : last ≡ pc + (exp_size a + (1 + (exp_size b + (1 + (1 + (exp_size c + 1)))))) = omega arith in
-      let code_a = behind a (r + 1) pc _ code in
-      let code_y = behind b x_b yes' _ code_a.1 in
+      let code_a = following a (r + 1) pc _ code in
+      let code_y = following b x_b yes' _ code_a.1 in
       let code_n = has_at (body_code f) (yes' + exp_size b + 1 + 1) no' _ (omega arith) code_y.1.1 in
-      let code_c = behind c x_c no' _ code_n in
-      let kinds_bc = kinds_behind (r + 1) (exp_kinds a) (exp_kinds b ++ exp_kinds c) ks.1 in
+      let code_c = following c x_c no' _ code_n in
+      let kinds_bc = kinds_past (r + 1) (exp_kinds a) (exp_kinds b ++ exp_kinds c) ks.1 in
       let kinds_b = kinds_ahead x_b (exp_kinds b) (exp_kinds c) kinds_bc in
-      let kinds_c = kinds_behind x_b (exp_kinds b) (exp_kinds c) kinds_bc in
+      let kinds_c = kinds_past x_b (exp_kinds b) (exp_kinds c) kinds_bc in
       follows_a (r + 1) pc m σ _ (ahead a (r + 1) pc _ code) (kinds_ahead (r + 1) (exp_kinds a) (exp_kinds b ++ exp_kinds c) ks.1) (omega (arith, le)) e h (λ n v σ' x.
       by_branch p s t i f is callers budget n σ' at (held first a (r + 1)) yes' no' v _ _ σ' k x.shows (here n (pc + exp_size a) _ x.place code_a.0) x.value
       (λ some.
@@ -506,7 +506,7 @@ module _ (p : Program) (s : SetupView) (t : ℕ) (i : ℕ) (f : Function) (is : 
   change_gives (change.Move element back) v w x y regs is_v is_w kind =
       ap (λ z. moved_by p.sites z (directed back (number (register regs y)) *ℤ pos element)) is_v ∙ ap (λ z. moved_by p.sites v (directed back (number z) *ℤ pos element)) is_w
 
-  -- the word before or the word behind
+  -- the word before or the word after
   old_or_new : (old : Bool) (regs : List ℕ) (x y v w : ℕ) → register regs x ≡ v → register regs y ≡ w → register regs (if old then x else y) ≡ (if old then v else w)
   old_or_new true regs x y v w is_v is_w = is_v
   old_or_new false regs x y v w is_v is_w = is_w
@@ -527,7 +527,7 @@ module _ (p : Program) (s : SetupView) (t : ℕ) (i : ℕ) (f : Function) (is : 
       let by' = held first b (r + 3) in
       let A : ℕ → Bool = λ q. n == q || assigns q b in
       let code_b = code.1 in
-      let code' = behind b (r + 3) (pc + 1) _ code_b in
+      let code' = following b (r + 3) (pc + 1) _ code_b in
       let v = σ.registers n in
       let m1 = sets m (r + 1) v in
       by_quiet p s t i f is callers budget _ m m1 σ at (act.Compute (r + 1) (work.Copy n)) h (here m pc _ e code.0) refl (ap (sets m (r + 1)) (h.registers n lt))
@@ -564,13 +564,13 @@ module _ (p : Program) (s : SetupView) (t : ℕ) (i : ℕ) (f : Function) (is : 
       let x_a = held first a (r + 3) in
       let x_b = held first b (r + 3 + width a) in
       let A : ℕ → Bool = λ q. assigns q a || assigns q b in
-      let code_l = behind a (r + 3) pc _ code in
-      let code' = behind b (r + 3 + width a) (pc + exp_size a + 1) _ code_l.1 in
+      let code_l = following a (r + 3) pc _ code in
+      let code' = following b (r + 3 + width a) (pc + exp_size a + 1) _ code_l.1 in
       follows_a (r + 3) pc m σ _ (ahead a (r + 3) pc _ code) (kinds_ahead (r + 3) (exp_kinds a) (exp_kinds b) kinds_ab) (omega (arith, le)) e h (λ n pointer σ' x.
       by_load p s t i f is callers budget n σ' loaded (r + 1) x_a pointer (access_kind kind) _ x.shows (here n (pc + exp_size a) _ x.place code_l.0) x.value (ap access_kind (is_kind kinds (r + 1) kind ks.1.0)) (λ low v.
       let n1 = one_more (sets n (r + 1) v) in
       let shows1 = shows_counted p s t i f is callers budget (sets n (r + 1) v) σ' low (shows_set p s t i f is callers budget n σ' (r + 1) v (omega (arith, le)) x.shows) in
-      follows_b (r + 3 + width a) (pc + exp_size a + 1) n1 (counted σ') _ (ahead b (r + 3 + width a) (pc + exp_size a + 1) _ code_l.1) (kinds_behind (r + 3) (exp_kinds a) (exp_kinds b) kinds_ab) (omega (arith, le)) (ap (λ z. z + 1) x.place) shows1 (λ o w σ'' y.
+      follows_b (r + 3 + width a) (pc + exp_size a + 1) n1 (counted σ') _ (ahead b (r + 3 + width a) (pc + exp_size a + 1) _ code_l.1) (kinds_past (r + 3) (exp_kinds a) (exp_kinds b) kinds_ab) (omega (arith, le)) (ap (λ z. z + 1) x.place) shows1 (λ o w σ'' y.
       let is_v = y.lower (r + 1) (omega arith) (unnamed (r + 1) (omega (arith, le))) ∙ same_register n.top.registers (r + 1) v (omega (arith, x.shows.size, in_1)) in
       let apart_a = held_apart a (r + 3) (r + 1) there (omega (arith, le)) (omega arith) in
       let apart_2 = held_apart a (r + 3) (r + 2) there (omega (arith, le)) (omega arith) in

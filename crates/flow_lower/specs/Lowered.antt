@@ -56,7 +56,7 @@ abbrev mutual
   exp_kinds (comma a b at) = is_pointer b ∷ (exp_kinds a ++ exp_kinds b)
   exp_kinds (set_register n a at) = is_pointer a ∷ exp_kinds a
   exp_kinds (store a b at) = is_pointer b ∷ (exp_kinds a ++ exp_kinds b)
-  -- the word before and the word behind have registers too
+  -- the word before and the word after have registers too
   exp_kinds (change_register n c b old at) = is_pointer_change c ∷ is_pointer_change c ∷ is_pointer_change c ∷ exp_kinds b
   exp_kinds (change_cell a loaded c b old at) = is_pointer_change c ∷ is_pointer_change c ∷ is_pointer_change c ∷ (exp_kinds a ++ exp_kinds b)
   exp_kinds (call f es pointer at) = pointer ∷ exps_kinds es
@@ -118,7 +118,7 @@ value_registers first r (and_exp e es) = held first e r ∷ value_registers firs
 abbrev pub truth_code : Position → ℕ → ℕ → ℕ → List Instr
 truth_code at r x pc = instr at (act.Branch x (pc + 1) (pc + 3)) ∷ instr at (act.Compute r (work.Constant (pos 1))) ∷ instr at (act.Jump (pc + 4)) ∷ instr at (act.Compute r (work.Constant (pos 0))) ∷ []
 
--- a call of the library; where it gives nothing, the register r gets 0 behind it
+-- a call of the library; where it gives nothing, the register r gets 0 after it
 abbrev pub library_code : Position → ℕ → LibraryCall → List ℕ → List Instr
 library_code at r c arguments = if gives_nothing c then instr at (act.Library c arguments None) ∷ computes at r (work.Constant (pos 0)) else one at (act.Library c arguments (Some r))
 
@@ -157,7 +157,7 @@ abbrev mutual
   exp_code first (comma a b at) r pc = exp_code first a (r + 1) pc ++ (exp_code first b (r + 1 + width a) (pc + exp_size a) ++ computes at r (work.Copy (held first b (r + 1 + width a))))
   exp_code first (set_register n a at) r pc = exp_code first a (r + 1) pc ++ (instr at (act.Compute n (work.Copy (held first a (r + 1)))) ∷ computes at r (work.Copy (held first a (r + 1))))
   exp_code first (store a b at) r pc = exp_code first a (r + 1) pc ++ (exp_code first b (r + 1 + width a) (pc + exp_size a) ++ (instr at (act.StoreCell (held first a (r + 1)) (held first b (r + 1 + width a))) ∷ computes at r (work.Copy (held first b (r + 1 + width a)))))
-  -- the register is read before the operand, and assigned behind it, so its word is copied
+  -- the register is read before the operand, and assigned after it, so its word is copied
   exp_code first (change_register n c b old at) r pc =
       instr at (act.Compute (r + 1) (work.Copy n)) ∷ (exp_code first b (r + 3) (pc + 1) ++
       (instr at (act.Compute (r + 2) (change_work c (r + 1) (held first b (r + 3)))) ∷ instr at (act.Compute n (work.Copy (r + 2))) ∷ computes at r (work.Copy (if old then r + 1 else r + 2))))
@@ -192,7 +192,7 @@ abbrev mutual
   pub statement_code : (first : ℕ) → Statement → (r pc out on : ℕ) → List Instr
   statement_code first (block ss) r pc out on = statements_code first ss r pc out on
   statement_code first (compute e) r pc out on = exp_code first e r pc
-  -- nothing is jumped over behind it
+  -- nothing is jumped over after it
   statement_code first (branch e a at) r pc out on =
       let yes' = pc + exp_size e + 1 in
       exp_code first e r pc ++ (instr at (act.Branch (held first e r) yes' (yes' + statement_size a)) ∷ statement_code first a (r + width e) yes' out on)

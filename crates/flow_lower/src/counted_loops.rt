@@ -138,15 +138,15 @@ fn loop_of(
     }
 }
 
-/// Behind a condition and its branch that begin at the place.
-fn behind_branch(place: u32, test: &Value) -> Result<u32, AllocError>
+/// After a condition and its branch that begin at the place.
+fn after_branch(place: u32, test: &Value) -> Result<u32, AllocError>
     ensures { IfOk result (λ n. n ≡ place + size.exp_size (kept (exp_of test.now)) + 1) }
 {
     sum(sum(place, value_size(test)?)?, 1)
 }
 
-/// Behind a `return` that begins at the place.
-fn behind_return(place: u32, value: &Option<Value>) -> Result<u32, AllocError>
+/// After a `return` that begins at the place.
+fn after_return(place: u32, value: &Option<Value>) -> Result<u32, AllocError>
     ensures { IfOk result (λ n. n ≡ place + size.maybe_size (maybe_kept (maybe_of value.now)) + 1) }
 {
     sum(sum(place, maybe_size(value)?)?, 1)
@@ -160,7 +160,7 @@ fn body_of_for(mark: u32, test: &Option<Value>) -> Result<u32, AllocError>
 }
 
 /// Where the jump back of a loop stands whose body begins at the place.
-fn back_behind(first: u32, body: &Statement, step: &Option<Value>) -> Result<u32, AllocError>
+fn back_after(first: u32, body: &Statement, step: &Option<Value>) -> Result<u32, AllocError>
     ensures { IfOk result (λ n. n ≡ first + size.statement_size (statement_kept (stmt_of body.now)) + size.maybe_size (maybe_kept (maybe_of step.now))) }
 {
     sum(sum(first, statement_size(body)?)?, maybe_size(step)?)
@@ -189,20 +189,20 @@ pub fn push_statement_loops(
         Statement::Block(stmts) => push_loops(stmts.as_slice(), place, out),
         Statement::Compute(value) => sum(place, value_size(value)?),
         Statement::If { test, yes, .. } => {
-            push_statement_loops(yes, behind_branch(place, test)?, out)
+            push_statement_loops(yes, after_branch(place, test)?, out)
         }
         Statement::IfElse { test, yes, no, .. } => {
-            let jump = push_statement_loops(yes, behind_branch(place, test)?, out)?;
+            let jump = push_statement_loops(yes, after_branch(place, test)?, out)?;
             push_statement_loops(no, sum(jump, 1)?, out)
         }
         Statement::While { test, body, .. } => {
-            let first = behind_branch(sum(place, 1)?, test)?;
+            let first = after_branch(sum(place, 1)?, test)?;
             let back = push_statement_loops(body, first, out)?;
             sum(back, 1)
         }
         Statement::Do { body, test, .. } => {
             let tested = push_statement_loops(body, sum(place, 1)?, out)?;
-            behind_branch(tested, test)
+            after_branch(tested, test)
         }
         Statement::For {
             start,
@@ -213,14 +213,14 @@ pub fn push_statement_loops(
         } => {
             let mark = push_statement_loops(start, place, out)?;
             let first = body_of_for(mark, test)?;
-            let back = back_behind(first, body, step)?;
+            let back = back_after(first, body, step)?;
             push_loop(loop_of(test, step, mark, first, back), out)?;
             push_statement_loops(body, first, out)?;
             sum(back, 1)
         }
         Statement::Break { .. } => sum(place, 1),
         Statement::Continue { .. } => sum(place, 1),
-        Statement::Return { value, .. } => behind_return(place, value),
+        Statement::Return { value, .. } => after_return(place, value),
     }
 }
 

@@ -26,8 +26,8 @@ impl Next {
         })
     }
 
-    /// Behind so many instructions.
-    pub fn behind(self, instrs: u32) -> Result<Next, AllocError>
+    /// After so many instructions.
+    pub fn following(self, instrs: u32) -> Result<Next, AllocError>
         ensures register { IfOk result (λ n. n.register ≡ self.register) }
         ensures place { IfOk result (λ n. n.place ≡ self.place + instrs) }
     {

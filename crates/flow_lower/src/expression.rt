@@ -31,8 +31,8 @@ pub fn push_value(
     out: &mut List<Instr>,
 ) -> Result<Operand, AllocError>
     ensures value { IfOk result (λ o. o.register ≡ spec.held first (kept (exp_of e.now)) from.register) }
-    ensures register { IfOk result (λ o. o.behind.register ≡ from.register + spec.width (kept (exp_of e.now))) }
-    ensures place { IfOk result (λ o. o.behind.place ≡ from.place + spec.exp_size (kept (exp_of e.now))) }
+    ensures register { IfOk result (λ o. o.following.register ≡ from.register + spec.width (kept (exp_of e.now))) }
+    ensures place { IfOk result (λ o. o.following.place ≡ from.place + spec.exp_size (kept (exp_of e.now))) }
     ensures out { OnOk result (out.new ≡ out.old ++ spec.exp_code first (kept (exp_of e.now)) from.register from.place) }
 {
     match e {
@@ -54,8 +54,8 @@ fn push_operand(
     out: &mut List<Instr>,
 ) -> Result<Operand, AllocError>
     ensures value { IfOk result (λ o. o.register ≡ spec.held first (kept (exp_of e.now)) (from.register + 1)) }
-    ensures register { IfOk result (λ o. o.behind.register ≡ from.register + 1 + spec.width (kept (exp_of e.now))) }
-    ensures place { IfOk result (λ o. o.behind.place ≡ from.place + spec.exp_size (kept (exp_of e.now))) }
+    ensures register { IfOk result (λ o. o.following.register ≡ from.register + 1 + spec.width (kept (exp_of e.now))) }
+    ensures place { IfOk result (λ o. o.following.place ≡ from.place + spec.exp_size (kept (exp_of e.now))) }
     ensures out { OnOk result (out.new ≡ out.old ++ spec.exp_code first (kept (exp_of e.now)) (from.register + 1) from.place) }
 {
     push_value(alloc, first, e, from.using(1)?, out)
@@ -72,13 +72,13 @@ fn push_copy(
     out: &mut List<Instr>,
 ) -> Result<Operand, AllocError>
     ensures value { IfOk result (λ o. o.register ≡ from.register) }
-    ensures register { IfOk result (λ o. o.behind.register ≡ from.register + 1 + spec.width (kept (exp_of e.now))) }
-    ensures place { IfOk result (λ o. o.behind.place ≡ from.place + (spec.exp_size (kept (exp_of e.now)) + 1)) }
+    ensures register { IfOk result (λ o. o.following.register ≡ from.register + 1 + spec.width (kept (exp_of e.now))) }
+    ensures place { IfOk result (λ o. o.following.place ≡ from.place + (spec.exp_size (kept (exp_of e.now)) + 1)) }
     ensures out { OnOk result (out.new ≡ out.old ++ (spec.exp_code first (kept (exp_of e.now)) (from.register + 1) from.place ++ spec.computes at from.register (work.Copy (spec.held first (kept (exp_of e.now)) (from.register + 1))))) }
 {
     let inner = push_operand(alloc, first, e, from, out)?;
     let work = Work::Copy(inner.register);
-    push_computed(out, at, from.register, inner.behind, work)
+    push_computed(out, at, from.register, inner.following, work)
 }
 
 /// An operand before another one, from the first free register on.
@@ -93,8 +93,8 @@ fn push_before(
     out: &mut List<Instr>,
 ) -> Result<Operand, AllocError>
     ensures value { IfOk result (λ o. o.register ≡ spec.held first (before at (exp_of e.now) (exp_of later.now)) from.register) }
-    ensures register { IfOk result (λ o. o.behind.register ≡ from.register + spec.width (before at (exp_of e.now) (exp_of later.now))) }
-    ensures place { IfOk result (λ o. o.behind.place ≡ from.place + spec.exp_size (before at (exp_of e.now) (exp_of later.now))) }
+    ensures register { IfOk result (λ o. o.following.register ≡ from.register + spec.width (before at (exp_of e.now) (exp_of later.now))) }
+    ensures place { IfOk result (λ o. o.following.place ≡ from.place + spec.exp_size (before at (exp_of e.now) (exp_of later.now))) }
     ensures out { OnOk result (out.new ≡ out.old ++ spec.exp_code first (before at (exp_of e.now) (exp_of later.now)) from.register from.place) }
 {
     if loses(e, later) {
@@ -116,8 +116,8 @@ fn push_before_all(
     out: &mut List<Instr>,
 ) -> Result<Operand, AllocError>
     ensures value { IfOk result (λ o. o.register ≡ spec.held first (before_all at (exp_of e.now) (listed (map exp_of later.now))) from.register) }
-    ensures register { IfOk result (λ o. o.behind.register ≡ from.register + spec.width (before_all at (exp_of e.now) (listed (map exp_of later.now)))) }
-    ensures place { IfOk result (λ o. o.behind.place ≡ from.place + spec.exp_size (before_all at (exp_of e.now) (listed (map exp_of later.now)))) }
+    ensures register { IfOk result (λ o. o.following.register ≡ from.register + spec.width (before_all at (exp_of e.now) (listed (map exp_of later.now)))) }
+    ensures place { IfOk result (λ o. o.following.place ≡ from.place + spec.exp_size (before_all at (exp_of e.now) (listed (map exp_of later.now)))) }
     ensures out { OnOk result (out.new ≡ out.old ++ spec.exp_code first (before_all at (exp_of e.now) (listed (map exp_of later.now))) from.register from.place) }
 {
     if loses_to(e, later) {
@@ -139,8 +139,8 @@ fn push_first(
     out: &mut List<Instr>,
 ) -> Result<Operand, AllocError>
     ensures value { IfOk result (λ o. o.register ≡ spec.held first (before at (exp_of e.now) (exp_of later.now)) (from.register + 1)) }
-    ensures register { IfOk result (λ o. o.behind.register ≡ from.register + 1 + spec.width (before at (exp_of e.now) (exp_of later.now))) }
-    ensures place { IfOk result (λ o. o.behind.place ≡ from.place + spec.exp_size (before at (exp_of e.now) (exp_of later.now))) }
+    ensures register { IfOk result (λ o. o.following.register ≡ from.register + 1 + spec.width (before at (exp_of e.now) (exp_of later.now))) }
+    ensures place { IfOk result (λ o. o.following.place ≡ from.place + spec.exp_size (before at (exp_of e.now) (exp_of later.now))) }
     ensures out { OnOk result (out.new ≡ out.old ++ spec.exp_code first (before at (exp_of e.now) (exp_of later.now)) (from.register + 1) from.place) }
 {
     push_before(alloc, first, e, later, at, from.using(1)?, out)
@@ -156,8 +156,8 @@ fn push_operation(
     out: &mut List<Instr>,
 ) -> Result<Operand, AllocError>
     ensures value { IfOk result (λ o. o.register ≡ spec.held first (kept (operation_of operation.now)) from.register) }
-    ensures register { IfOk result (λ o. o.behind.register ≡ from.register + spec.width (kept (operation_of operation.now))) }
-    ensures place { IfOk result (λ o. o.behind.place ≡ from.place + spec.exp_size (kept (operation_of operation.now))) }
+    ensures register { IfOk result (λ o. o.following.register ≡ from.register + spec.width (kept (operation_of operation.now))) }
+    ensures place { IfOk result (λ o. o.following.place ≡ from.place + spec.exp_size (kept (operation_of operation.now))) }
     ensures out { OnOk result (out.new ≡ out.old ++ spec.exp_code first (kept (operation_of operation.now)) from.register from.place) }
 {
     match operation {
@@ -172,7 +172,7 @@ fn push_operation(
             at,
         } => {
             let one = push_first(alloc, first, left, right, *at, from, out)?;
-            let other = push_value(alloc, first, right, one.behind, out)?;
+            let other = push_value(alloc, first, right, one.following, out)?;
             push_binary(out, *at, from.register, *op, one.register, other)
         }
         Operation::Move {
@@ -183,9 +183,9 @@ fn push_operation(
             at,
         } => {
             let one = push_first(alloc, first, pointer, by, *at, from, out)?;
-            let other = push_value(alloc, first, by, one.behind, out)?;
+            let other = push_value(alloc, first, by, one.following, out)?;
             let work = moved(one, other, *element, *back);
-            push_computed(out, *at, from.register, other.behind, work)
+            push_computed(out, *at, from.register, other.following, work)
         }
         Operation::Advance {
             by,
@@ -194,9 +194,9 @@ fn push_operation(
             at,
         } => {
             let one = push_first(alloc, first, by, pointer, *at, from, out)?;
-            let other = push_value(alloc, first, pointer, one.behind, out)?;
+            let other = push_value(alloc, first, pointer, one.following, out)?;
             let work = moved(other, one, *element, false);
-            push_computed(out, *at, from.register, other.behind, work)
+            push_computed(out, *at, from.register, other.following, work)
         }
         Operation::Member { pointer, by, at } => {
             push_member(alloc, first, pointer, *by, *at, from, out)
@@ -208,7 +208,7 @@ fn push_operation(
             at,
         } => {
             let one = push_first(alloc, first, left, right, *at, from, out)?;
-            let other = push_value(alloc, first, right, one.behind, out)?;
+            let other = push_value(alloc, first, right, one.following, out)?;
             push_between(out, *at, from.register, *element, one.register, other)
         }
         Operation::ToPointer { operand, at } => {
@@ -232,8 +232,8 @@ fn push_load(
     out: &mut List<Instr>,
 ) -> Result<Operand, AllocError>
     ensures value { IfOk result (λ o. o.register ≡ from.register) }
-    ensures register { IfOk result (λ o. o.behind.register ≡ from.register + 1 + spec.width (kept (exp_of through.now))) }
-    ensures place { IfOk result (λ o. o.behind.place ≡ from.place + (spec.exp_size (kept (exp_of through.now)) + 1)) }
+    ensures register { IfOk result (λ o. o.following.register ≡ from.register + 1 + spec.width (kept (exp_of through.now))) }
+    ensures place { IfOk result (λ o. o.following.place ≡ from.place + (spec.exp_size (kept (exp_of through.now)) + 1)) }
     ensures out { OnOk result (out.new ≡ out.old ++ (spec.exp_code first (kept (exp_of through.now)) (from.register + 1) from.place ++ spec.one at (act.LoadCell from.register (spec.held first (kept (exp_of through.now)) (from.register + 1))))) }
 {
     let inner = push_operand(alloc, first, through, from, out)?;
@@ -241,7 +241,7 @@ fn push_load(
         into: from.register,
         through: inner.register,
     };
-    push_given(out, at, from.register, inner.behind, act)
+    push_given(out, at, from.register, inner.following, act)
 }
 
 /// An operator on one number.
@@ -256,13 +256,13 @@ fn push_unary(
     out: &mut List<Instr>,
 ) -> Result<Operand, AllocError>
     ensures value { IfOk result (λ o. o.register ≡ from.register) }
-    ensures register { IfOk result (λ o. o.behind.register ≡ from.register + spec.width (core.unary op (kept (exp_of operand.now)) at)) }
-    ensures place { IfOk result (λ o. o.behind.place ≡ from.place + spec.exp_size (core.unary op (kept (exp_of operand.now)) at)) }
+    ensures register { IfOk result (λ o. o.following.register ≡ from.register + spec.width (core.unary op (kept (exp_of operand.now)) at)) }
+    ensures place { IfOk result (λ o. o.following.place ≡ from.place + spec.exp_size (core.unary op (kept (exp_of operand.now)) at)) }
     ensures out { OnOk result (out.new ≡ out.old ++ spec.exp_code first (core.unary op (kept (exp_of operand.now)) at) from.register from.place) }
 {
     let inner = push_operand(alloc, first, operand, from, out)?;
     let work = unary_work(op, inner.register);
-    push_computed(out, at, from.register, inner.behind, work)
+    push_computed(out, at, from.register, inner.following, work)
 }
 
 /// A pointer moved to a member.
@@ -277,8 +277,8 @@ fn push_member(
     out: &mut List<Instr>,
 ) -> Result<Operand, AllocError>
     ensures value { IfOk result (λ o. o.register ≡ from.register) }
-    ensures register { IfOk result (λ o. o.behind.register ≡ from.register + spec.width (core.member (kept (exp_of pointer.now)) by at)) }
-    ensures place { IfOk result (λ o. o.behind.place ≡ from.place + spec.exp_size (core.member (kept (exp_of pointer.now)) by at)) }
+    ensures register { IfOk result (λ o. o.following.register ≡ from.register + spec.width (core.member (kept (exp_of pointer.now)) by at)) }
+    ensures place { IfOk result (λ o. o.following.place ≡ from.place + spec.exp_size (core.member (kept (exp_of pointer.now)) by at)) }
     ensures out { OnOk result (out.new ≡ out.old ++ spec.exp_code first (core.member (kept (exp_of pointer.now)) by at) from.register from.place) }
 {
     let inner = push_operand(alloc, first, pointer, from, out)?;
@@ -286,7 +286,7 @@ fn push_member(
         pointer: inner.register,
         by,
     };
-    push_computed(out, at, from.register, inner.behind, work)
+    push_computed(out, at, from.register, inner.following, work)
 }
 
 /// A number cast to a pointer.
@@ -300,13 +300,13 @@ fn push_to_pointer(
     out: &mut List<Instr>,
 ) -> Result<Operand, AllocError>
     ensures value { IfOk result (λ o. o.register ≡ from.register) }
-    ensures register { IfOk result (λ o. o.behind.register ≡ from.register + spec.width (core.to_pointer (kept (exp_of operand.now)) at)) }
-    ensures place { IfOk result (λ o. o.behind.place ≡ from.place + spec.exp_size (core.to_pointer (kept (exp_of operand.now)) at)) }
+    ensures register { IfOk result (λ o. o.following.register ≡ from.register + spec.width (core.to_pointer (kept (exp_of operand.now)) at)) }
+    ensures place { IfOk result (λ o. o.following.place ≡ from.place + spec.exp_size (core.to_pointer (kept (exp_of operand.now)) at)) }
     ensures out { OnOk result (out.new ≡ out.old ++ spec.exp_code first (core.to_pointer (kept (exp_of operand.now)) at) from.register from.place) }
 {
     let inner = push_operand(alloc, first, operand, from, out)?;
     let work = Work::ToPointer(inner.register);
-    push_computed(out, at, from.register, inner.behind, work)
+    push_computed(out, at, from.register, inner.following, work)
 }
 
 /// A pointer cast to a number.
@@ -320,13 +320,13 @@ fn push_to_number(
     out: &mut List<Instr>,
 ) -> Result<Operand, AllocError>
     ensures value { IfOk result (λ o. o.register ≡ from.register) }
-    ensures register { IfOk result (λ o. o.behind.register ≡ from.register + spec.width (core.to_number (kept (exp_of operand.now)) at)) }
-    ensures place { IfOk result (λ o. o.behind.place ≡ from.place + spec.exp_size (core.to_number (kept (exp_of operand.now)) at)) }
+    ensures register { IfOk result (λ o. o.following.register ≡ from.register + spec.width (core.to_number (kept (exp_of operand.now)) at)) }
+    ensures place { IfOk result (λ o. o.following.place ≡ from.place + spec.exp_size (core.to_number (kept (exp_of operand.now)) at)) }
     ensures out { OnOk result (out.new ≡ out.old ++ spec.exp_code first (core.to_number (kept (exp_of operand.now)) at) from.register from.place) }
 {
     let inner = push_operand(alloc, first, operand, from, out)?;
     let work = Work::ToNumber(inner.register);
-    push_computed(out, at, from.register, inner.behind, work)
+    push_computed(out, at, from.register, inner.following, work)
 }
 
 /// Operands as they are needed.
@@ -339,8 +339,8 @@ fn push_choice(
     out: &mut List<Instr>,
 ) -> Result<Operand, AllocError>
     ensures value { IfOk result (λ o. o.register ≡ spec.held first (kept (choice_of choice.now)) from.register) }
-    ensures register { IfOk result (λ o. o.behind.register ≡ from.register + spec.width (kept (choice_of choice.now))) }
-    ensures place { IfOk result (λ o. o.behind.place ≡ from.place + spec.exp_size (kept (choice_of choice.now))) }
+    ensures register { IfOk result (λ o. o.following.register ≡ from.register + spec.width (kept (choice_of choice.now))) }
+    ensures place { IfOk result (λ o. o.following.place ≡ from.place + spec.exp_size (kept (choice_of choice.now))) }
     ensures out { OnOk result (out.new ≡ out.old ++ spec.exp_code first (kept (choice_of choice.now)) from.register from.place) }
 {
     match choice {
@@ -358,19 +358,19 @@ fn push_choice(
         }
         Choice::Conditional { test, yes, no, at } => {
             let tested = push_operand(alloc, first, test, from, out)?;
-            let (then_at, else_at, to) = places_of(tested.behind.place, yes, no)?;
+            let (then_at, else_at, to) = places_of(tested.following.place, yes, no)?;
             let second = push_chosen(out, *at, tested, then_at, else_at)?;
             let one = push_value(alloc, first, yes, second, out)?;
-            let third = push_left(out, *at, one.behind, from.register, one.register, to)?;
+            let third = push_left(out, *at, one.following, from.register, one.register, to)?;
             let other = push_value(alloc, first, no, third, out)?;
             let work = Work::Copy(other.register);
-            push_computed(out, *at, from.register, other.behind, work)
+            push_computed(out, *at, from.register, other.following, work)
         }
         Choice::Comma { before, value, at } => {
             let inner = push_operand(alloc, first, before, from, out)?;
-            let other = push_value(alloc, first, value, inner.behind, out)?;
+            let other = push_value(alloc, first, value, inner.following, out)?;
             let work = Work::Copy(other.register);
-            push_computed(out, *at, from.register, other.behind, work)
+            push_computed(out, *at, from.register, other.following, work)
         }
     }
 }
@@ -385,8 +385,8 @@ fn push_assignment(
     out: &mut List<Instr>,
 ) -> Result<Operand, AllocError>
     ensures value { IfOk result (λ o. o.register ≡ spec.held first (kept (assignment_of assignment.now)) from.register) }
-    ensures register { IfOk result (λ o. o.behind.register ≡ from.register + spec.width (kept (assignment_of assignment.now))) }
-    ensures place { IfOk result (λ o. o.behind.place ≡ from.place + spec.exp_size (kept (assignment_of assignment.now))) }
+    ensures register { IfOk result (λ o. o.following.register ≡ from.register + spec.width (kept (assignment_of assignment.now))) }
+    ensures place { IfOk result (λ o. o.following.place ≡ from.place + spec.exp_size (kept (assignment_of assignment.now))) }
     ensures out { OnOk result (out.new ≡ out.old ++ spec.exp_code first (kept (assignment_of assignment.now)) from.register from.place) }
 {
     match assignment {
@@ -397,13 +397,20 @@ fn push_assignment(
         } => {
             let inner = push_operand(alloc, first, value, from, out)?;
             let into = from.register;
-            push_set(out, *at, inner.behind, *register, inner.register, into)
+            push_set(out, *at, inner.following, *register, inner.register, into)
         }
         Assignment::Store { through, value, at } => {
             let cell = push_first(alloc, first, through, value, *at, from, out)?;
-            let given = push_value(alloc, first, value, cell.behind, out)?;
+            let given = push_value(alloc, first, value, cell.following, out)?;
             let into = from.register;
-            push_stored(out, *at, given.behind, cell.register, given.register, into)
+            push_stored(
+                out,
+                *at,
+                given.following,
+                cell.register,
+                given.register,
+                into,
+            )
         }
         Assignment::ChangeRegister {
             register,
@@ -426,7 +433,7 @@ fn push_assignment(
         } => {
             let inner = from.using(3)?;
             let cell = push_before(alloc, first, through, operand, *at, inner, out)?;
-            let second = push_loaded(out, *loaded_at, from, cell.behind, cell.register)?;
+            let second = push_loaded(out, *loaded_at, from, cell.following, cell.register)?;
             let by = push_value(alloc, first, operand, second, out)?;
             push_cell_changed(out, *at, from, *change, by, cell.register, *gives_old)
         }
@@ -443,8 +450,8 @@ fn push_call(
     out: &mut List<Instr>,
 ) -> Result<Operand, AllocError>
     ensures value { IfOk result (λ o. o.register ≡ spec.held first (kept (call_of call.now)) from.register) }
-    ensures register { IfOk result (λ o. o.behind.register ≡ from.register + spec.width (kept (call_of call.now))) }
-    ensures place { IfOk result (λ o. o.behind.place ≡ from.place + spec.exp_size (kept (call_of call.now))) }
+    ensures register { IfOk result (λ o. o.following.register ≡ from.register + spec.width (kept (call_of call.now))) }
+    ensures place { IfOk result (λ o. o.following.place ≡ from.place + spec.exp_size (kept (call_of call.now))) }
     ensures out { OnOk result (out.new ≡ out.old ++ spec.exp_code first (kept (call_of call.now)) from.register from.place) }
 {
     match call {
@@ -454,36 +461,28 @@ fn push_call(
             at,
             ..
         } => {
-            let Arguments { registers, behind } = push_values(
-                alloc,
-                first,
-                arguments.as_slice(),
-                *at,
-                from,
-                out,
-            )?;
+            let Arguments {
+                registers,
+                following,
+            } = push_values(alloc, first, arguments.as_slice(), *at, from, out)?;
             let act = Act::Call {
                 function: *function,
                 arguments: registers,
                 into: Some(from.register),
             };
-            push_given(out, *at, from.register, behind, act)
+            push_given(out, *at, from.register, following, act)
         }
         Call::Library {
             call: library,
             arguments,
             at,
         } => {
-            let Arguments { registers, behind } = push_values(
-                alloc,
-                first,
-                arguments.as_slice(),
-                *at,
-                from,
-                out,
-            )?;
+            let Arguments {
+                registers,
+                following,
+            } = push_values(alloc, first, arguments.as_slice(), *at, from, out)?;
             let copy = copy_of(alloc, library)?;
-            push_library(out, *at, behind, from.register, copy, registers)
+            push_library(out, *at, following, from.register, copy, registers)
         }
         Call::Allocate { site, size, at } => {
             let inner = push_operand(alloc, first, size, from, out)?;
@@ -492,16 +491,16 @@ fn push_call(
                 site: *site,
                 size: Some(inner.register),
             };
-            push_given(out, *at, from.register, inner.behind, act)
+            push_given(out, *at, from.register, inner.following, act)
         }
     }
 }
 
-/// The registers of the arguments of a call, and what is free behind them.
+/// The registers of the arguments of a call, and what is free after them.
 #[derive(Drop)]
 struct Arguments {
     registers: List<u32>,
-    behind: Next,
+    following: Next,
 }
 
 /// The arguments of a call, one after another.
@@ -515,17 +514,20 @@ fn push_values(
     out: &mut List<Instr>,
 ) -> Result<Arguments, AllocError>
     ensures values { IfOk result (λ a. a.registers ≡ spec.value_registers first (from.register + 1) (all_kept at (listed (map exp_of es.now)))) }
-    ensures register { IfOk result (λ a. a.behind.register ≡ from.register + 1 + length (spec.exps_kinds (all_kept at (listed (map exp_of es.now))))) }
-    ensures place { IfOk result (λ a. a.behind.place ≡ from.place + spec.exps_size (all_kept at (listed (map exp_of es.now)))) }
+    ensures register { IfOk result (λ a. a.following.register ≡ from.register + 1 + length (spec.exps_kinds (all_kept at (listed (map exp_of es.now))))) }
+    ensures place { IfOk result (λ a. a.following.place ≡ from.place + spec.exps_size (all_kept at (listed (map exp_of es.now)))) }
     ensures out { OnOk result (out.new ≡ out.old ++ spec.exps_code first (all_kept at (listed (map exp_of es.now))) (from.register + 1) from.place) }
 {
-    let mut behind = from.using(1)?;
+    let mut following = from.using(1)?;
     let mut registers = List::new(alloc);
     for index in 0..es.len() {
         let later = &es[index + 1..];
-        let given = push_before_all(alloc, first, &es[index], later, at, behind, out)?;
+        let given = push_before_all(alloc, first, &es[index], later, at, following, out)?;
         registers.push(given.register)?;
-        behind = given.behind;
+        following = given.following;
     }
-    Ok(Arguments { registers, behind })
+    Ok(Arguments {
+        registers,
+        following,
+    })
 }

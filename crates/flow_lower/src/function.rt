@@ -62,7 +62,7 @@ fn push_arrivals(first: u32, arrivals: &[Arrival], out: &mut List<Instr>) -> Res
     Ok(())
 }
 
-/// The code of the body, behind so many registers and instructions, and the last return.
+/// The code of the body, after so many registers and instructions, and the last return.
 fn push_body(
     alloc: Global,
     first: u32,

@@ -204,7 +204,7 @@ fn push_choice_kinds(choice: &Choice, out: &mut List<bool>) -> Result<(), AllocE
     }
 }
 
-/// The words before and behind a change have registers too.
+/// The words before and after a change have registers too.
 fn push_change_kinds(change: Change, out: &mut List<bool>) -> Result<(), AllocError>
     ensures { OnOk result (out.new ≡ out.old ++ (meaning.is_pointer_change change ∷ meaning.is_pointer_change change ∷ meaning.is_pointer_change change ∷ [])) }
 {

@@ -17,7 +17,7 @@ pub fn gives_nothing(call: &LibraryCall) -> bool
     }
 }
 
-/// The instructions of a call behind those of its arguments.
+/// The instructions of a call after those of its arguments.
 pub fn library_size(call: &LibraryCall) -> u32
     ensures { result ≡ spec.library_size call.now }
 {

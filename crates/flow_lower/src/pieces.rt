@@ -15,26 +15,26 @@ use flow_code::{Act, Instr, Work};
 use rr_base::{List, Position, sum};
 use std::alloc::AllocError;
 
-/// The register that has the value of an expression, and what is free behind its code.
+/// The register that has the value of an expression, and what is free after its code.
 #[derive(Clone, Copy, Debug)]
 pub struct Operand {
     pub register: u32,
-    pub behind: Next,
+    pub following: Next,
 }
 
-/// The last instruction of an expression, whose parts end where `behind` says.
+/// The last instruction of an expression, whose parts end where `following` says.
 pub fn push_last(
     out: &mut List<Instr>,
     at: Position,
-    behind: Next,
+    following: Next,
     act: Act,
 ) -> Result<Next, AllocError>
-    ensures register { IfOk result (λ n. n.register ≡ behind.register) }
-    ensures place { IfOk result (λ n. n.place ≡ behind.place + 1) }
+    ensures register { IfOk result (λ n. n.register ≡ following.register) }
+    ensures place { IfOk result (λ n. n.place ≡ following.place + 1) }
     ensures out { OnOk result (out.new ≡ out.old ++ spec.one at act) }
 {
     push(out, at, act)?;
-    behind.behind(1)
+    following.following(1)
 }
 
 /// The last instruction of an expression whose value it puts into a register.
@@ -42,17 +42,17 @@ pub fn push_given(
     out: &mut List<Instr>,
     at: Position,
     into: u32,
-    behind: Next,
+    following: Next,
     act: Act,
 ) -> Result<Operand, AllocError>
     ensures value { IfOk result (λ o. o.register ≡ into) }
-    ensures register { IfOk result (λ o. o.behind.register ≡ behind.register) }
-    ensures place { IfOk result (λ o. o.behind.place ≡ behind.place + 1) }
+    ensures register { IfOk result (λ o. o.following.register ≡ following.register) }
+    ensures place { IfOk result (λ o. o.following.place ≡ following.place + 1) }
     ensures out { OnOk result (out.new ≡ out.old ++ spec.one at act) }
 {
     Ok(Operand {
         register: into,
-        behind: push_last(out, at, behind, act)?,
+        following: push_last(out, at, following, act)?,
     })
 }
 
@@ -60,15 +60,15 @@ pub fn push_computed(
     out: &mut List<Instr>,
     at: Position,
     into: u32,
-    behind: Next,
+    following: Next,
     work: Work,
 ) -> Result<Operand, AllocError>
     ensures value { IfOk result (λ o. o.register ≡ into) }
-    ensures register { IfOk result (λ o. o.behind.register ≡ behind.register) }
-    ensures place { IfOk result (λ o. o.behind.place ≡ behind.place + 1) }
+    ensures register { IfOk result (λ o. o.following.register ≡ following.register) }
+    ensures place { IfOk result (λ o. o.following.place ≡ following.place + 1) }
     ensures out { OnOk result (out.new ≡ out.old ++ spec.computes at into work) }
 {
-    push_given(out, at, into, behind, Act::Compute { into, work })
+    push_given(out, at, into, following, Act::Compute { into, work })
 }
 
 /// An operator between the words of two registers.
@@ -81,8 +81,8 @@ pub fn push_binary(
     right: Operand,
 ) -> Result<Operand, AllocError>
     ensures value { IfOk result (λ o. o.register ≡ into) }
-    ensures register { IfOk result (λ o. o.behind.register ≡ right.behind.register) }
-    ensures place { IfOk result (λ o. o.behind.place ≡ right.behind.place + 1) }
+    ensures register { IfOk result (λ o. o.following.register ≡ right.following.register) }
+    ensures place { IfOk result (λ o. o.following.place ≡ right.following.place + 1) }
     ensures out { OnOk result (out.new ≡ out.old ++ spec.computes at into (work.Binary op left right.register)) }
 {
     let work = Work::Binary {
@@ -90,7 +90,7 @@ pub fn push_binary(
         left,
         right: right.register,
     };
-    push_computed(out, at, into, right.behind, work)
+    push_computed(out, at, into, right.following, work)
 }
 
 /// How many elements lie between the pointers of two registers.
@@ -103,8 +103,8 @@ pub fn push_between(
     right: Operand,
 ) -> Result<Operand, AllocError>
     ensures value { IfOk result (λ o. o.register ≡ into) }
-    ensures register { IfOk result (λ o. o.behind.register ≡ right.behind.register) }
-    ensures place { IfOk result (λ o. o.behind.place ≡ right.behind.place + 1) }
+    ensures register { IfOk result (λ o. o.following.register ≡ right.following.register) }
+    ensures place { IfOk result (λ o. o.following.place ≡ right.following.place + 1) }
     ensures out { OnOk result (out.new ≡ out.old ++ spec.computes at into (work.Between left right.register element)) }
 {
     let work = Work::Between {
@@ -112,7 +112,7 @@ pub fn push_between(
         right: right.register,
         element,
     };
-    push_computed(out, at, into, right.behind, work)
+    push_computed(out, at, into, right.following, work)
 }
 
 /// A pointer moved by a number.
@@ -135,8 +135,8 @@ pub fn push_chosen(
     then_at: u32,
     else_at: u32,
 ) -> Result<Next, AllocError>
-    ensures register { IfOk result (λ n. n.register ≡ tested.behind.register) }
-    ensures place { IfOk result (λ n. n.place ≡ tested.behind.place + 1) }
+    ensures register { IfOk result (λ n. n.register ≡ tested.following.register) }
+    ensures place { IfOk result (λ n. n.place ≡ tested.following.place + 1) }
     ensures out { OnOk result (out.new ≡ out.old ++ spec.one at (act.Branch tested.register then_at else_at)) }
 {
     let act = Act::Branch {
@@ -144,7 +144,7 @@ pub fn push_chosen(
         then_at,
         else_at,
     };
-    push_last(out, at, tested.behind, act)
+    push_last(out, at, tested.following, act)
 }
 
 /// A word without parts.
@@ -155,8 +155,8 @@ pub fn push_alone(
     work: Work,
 ) -> Result<Operand, AllocError>
     ensures value { IfOk result (λ o. o.register ≡ from.register) }
-    ensures register { IfOk result (λ o. o.behind.register ≡ from.register + 1) }
-    ensures place { IfOk result (λ o. o.behind.place ≡ from.place + 1) }
+    ensures register { IfOk result (λ o. o.following.register ≡ from.register + 1) }
+    ensures place { IfOk result (λ o. o.following.place ≡ from.place + 1) }
     ensures out { OnOk result (out.new ≡ out.old ++ spec.computes at from.register work) }
 {
     push_computed(out, at, from.register, from.using(1)?, work)
@@ -166,21 +166,21 @@ pub fn push_alone(
 pub fn push_set(
     out: &mut List<Instr>,
     at: Position,
-    behind: Next,
+    following: Next,
     register: u32,
     from: u32,
     into: u32,
 ) -> Result<Operand, AllocError>
     ensures value { IfOk result (λ o. o.register ≡ into) }
-    ensures register { IfOk result (λ o. o.behind.register ≡ behind.register) }
-    ensures place { IfOk result (λ o. o.behind.place ≡ behind.place + 2) }
+    ensures register { IfOk result (λ o. o.following.register ≡ following.register) }
+    ensures place { IfOk result (λ o. o.following.place ≡ following.place + 2) }
     ensures out { OnOk result (out.new ≡ out.old ++ (spec.instr at (act.Compute register (work.Copy from)) ∷ spec.computes at into (work.Copy from))) }
 {
     push_work(out, at, register, Work::Copy(from))?;
     push_work(out, at, into, Work::Copy(from))?;
     Ok(Operand {
         register: into,
-        behind: behind.behind(2)?,
+        following: following.following(2)?,
     })
 }
 
@@ -188,21 +188,21 @@ pub fn push_set(
 pub fn push_stored(
     out: &mut List<Instr>,
     at: Position,
-    behind: Next,
+    following: Next,
     through: u32,
     from: u32,
     into: u32,
 ) -> Result<Operand, AllocError>
     ensures value { IfOk result (λ o. o.register ≡ into) }
-    ensures register { IfOk result (λ o. o.behind.register ≡ behind.register) }
-    ensures place { IfOk result (λ o. o.behind.place ≡ behind.place + 2) }
+    ensures register { IfOk result (λ o. o.following.register ≡ following.register) }
+    ensures place { IfOk result (λ o. o.following.place ≡ following.place + 2) }
     ensures out { OnOk result (out.new ≡ out.old ++ (spec.instr at (act.StoreCell through from) ∷ spec.computes at into (work.Copy from))) }
 {
     push(out, at, Act::StoreCell { through, from })?;
     push_work(out, at, into, Work::Copy(from))?;
     Ok(Operand {
         register: into,
-        behind: behind.behind(2)?,
+        following: following.following(2)?,
     })
 }
 
@@ -210,18 +210,18 @@ pub fn push_stored(
 pub fn push_left(
     out: &mut List<Instr>,
     at: Position,
-    behind: Next,
+    following: Next,
     into: u32,
     from: u32,
     to: u32,
 ) -> Result<Next, AllocError>
-    ensures register { IfOk result (λ n. n.register ≡ behind.register) }
-    ensures place { IfOk result (λ n. n.place ≡ behind.place + 2) }
+    ensures register { IfOk result (λ n. n.register ≡ following.register) }
+    ensures place { IfOk result (λ n. n.place ≡ following.place + 2) }
     ensures out { OnOk result (out.new ≡ out.old ++ (spec.instr at (act.Compute into (work.Copy from)) ∷ spec.one at (act.Jump to))) }
 {
     push_work(out, at, into, Work::Copy(from))?;
     push(out, at, Act::Jump { to })?;
-    behind.behind(2)
+    following.following(2)
 }
 
 /// 1 or 0, by whether a register holds 0.
@@ -232,18 +232,18 @@ pub fn push_tested(
     tested: Operand,
 ) -> Result<Operand, AllocError>
     ensures value { IfOk result (λ o. o.register ≡ into) }
-    ensures register { IfOk result (λ o. o.behind.register ≡ tested.behind.register) }
-    ensures place { IfOk result (λ o. o.behind.place ≡ tested.behind.place + 4) }
-    ensures out { OnOk result (out.new ≡ out.old ++ spec.truth_code at into tested.register tested.behind.place) }
+    ensures register { IfOk result (λ o. o.following.register ≡ tested.following.register) }
+    ensures place { IfOk result (λ o. o.following.place ≡ tested.following.place + 4) }
+    ensures out { OnOk result (out.new ≡ out.old ++ spec.truth_code at into tested.register tested.following.place) }
 {
-    push_truth(out, at, into, tested.register, tested.behind.place)?;
+    push_truth(out, at, into, tested.register, tested.following.place)?;
     Ok(Operand {
         register: into,
-        behind: tested.behind.behind(4)?,
+        following: tested.following.following(4)?,
     })
 }
 
-/// The word before a change has its register right behind that of the expression, and the word behind it the next one.
+/// The word before a change has its register right after that of the expression, and the word after it the next one.
 fn push_changed(
     out: &mut List<Instr>,
     at: Position,
@@ -263,7 +263,7 @@ fn push_changed(
     push_work(out, at, from.register, Work::Copy(given))
 }
 
-/// The word that a register holds before it changes, and what is free behind it.
+/// The word that a register holds before it changes, and what is free after it.
 pub fn push_old(
     out: &mut List<Instr>,
     at: Position,
@@ -285,15 +285,15 @@ pub fn push_loaded(
     out: &mut List<Instr>,
     at: Position,
     from: Next,
-    behind: Next,
+    following: Next,
     through: u32,
 ) -> Result<Next, AllocError>
-    ensures register { IfOk result (λ n. n.register ≡ behind.register) }
-    ensures place { IfOk result (λ n. n.place ≡ behind.place + 1) }
+    ensures register { IfOk result (λ n. n.register ≡ following.register) }
+    ensures place { IfOk result (λ n. n.place ≡ following.place + 1) }
     ensures out { OnOk result (out.new ≡ out.old ++ spec.one at (act.LoadCell (from.register + 1) through)) }
 {
     let into = sum(from.register, 1)?;
-    push_last(out, at, behind, Act::LoadCell { into, through })
+    push_last(out, at, following, Act::LoadCell { into, through })
 }
 
 /// A register changes by an operand.
@@ -307,8 +307,8 @@ pub fn push_register_changed(
     gives_old: bool,
 ) -> Result<Operand, AllocError>
     ensures value { IfOk result (λ o. o.register ≡ from.register) }
-    ensures register { IfOk result (λ o. o.behind.register ≡ by.behind.register) }
-    ensures place { IfOk result (λ o. o.behind.place ≡ by.behind.place + 3) }
+    ensures register { IfOk result (λ o. o.following.register ≡ by.following.register) }
+    ensures place { IfOk result (λ o. o.following.place ≡ by.following.place + 3) }
     ensures out { OnOk result (out.new ≡ out.old ++ (spec.instr at (act.Compute (from.register + 2) (spec.change_work change (from.register + 1) by.register)) ∷ spec.instr at (act.Compute register (work.Copy (from.register + 2))) ∷ spec.computes at from.register (work.Copy (if gives_old then from.register + 1 else from.register + 2)))) }
 {
     let new = sum(from.register, 2)?;
@@ -319,7 +319,7 @@ pub fn push_register_changed(
     push_changed(out, at, from, change, by.register, last, gives_old)?;
     Ok(Operand {
         register: from.register,
-        behind: by.behind.behind(3)?,
+        following: by.following.following(3)?,
     })
 }
 
@@ -334,8 +334,8 @@ pub fn push_cell_changed(
     gives_old: bool,
 ) -> Result<Operand, AllocError>
     ensures value { IfOk result (λ o. o.register ≡ from.register) }
-    ensures register { IfOk result (λ o. o.behind.register ≡ by.behind.register) }
-    ensures place { IfOk result (λ o. o.behind.place ≡ by.behind.place + 3) }
+    ensures register { IfOk result (λ o. o.following.register ≡ by.following.register) }
+    ensures place { IfOk result (λ o. o.following.place ≡ by.following.place + 3) }
     ensures out { OnOk result (out.new ≡ out.old ++ (spec.instr at (act.Compute (from.register + 2) (spec.change_work change (from.register + 1) by.register)) ∷ spec.instr at (act.StoreCell through (from.register + 2)) ∷ spec.computes at from.register (work.Copy (if gives_old then from.register + 1 else from.register + 2)))) }
 {
     let new = sum(from.register, 2)?;
@@ -343,7 +343,7 @@ pub fn push_cell_changed(
     push_changed(out, at, from, change, by.register, last, gives_old)?;
     Ok(Operand {
         register: from.register,
-        behind: by.behind.behind(3)?,
+        following: by.following.following(3)?,
     })
 }
 
@@ -354,18 +354,18 @@ pub fn push_and(
     tested: Operand,
     right: &Value,
 ) -> Result<Next, AllocError>
-    ensures register { IfOk result (λ n. n.register ≡ tested.behind.register) }
-    ensures place { IfOk result (λ n. n.place ≡ tested.behind.place + 1) }
-    ensures out { OnOk result (out.new ≡ out.old ++ spec.one at (act.Branch tested.register (tested.behind.place + 1) (tested.behind.place + 1 + spec.exp_size (kept (exp_of right.now)) + 3))) }
+    ensures register { IfOk result (λ n. n.register ≡ tested.following.register) }
+    ensures place { IfOk result (λ n. n.place ≡ tested.following.place + 1) }
+    ensures out { OnOk result (out.new ≡ out.old ++ spec.one at (act.Branch tested.register (tested.following.place + 1) (tested.following.place + 1 + spec.exp_size (kept (exp_of right.now)) + 3))) }
 {
-    let then_at = sum(tested.behind.place, 1)?;
+    let then_at = sum(tested.following.place, 1)?;
     let else_at = sum(sum(then_at, value_size(right)?)?, 3)?;
     let act = Act::Branch {
         on: tested.register,
         then_at,
         else_at,
     };
-    push_last(out, at, tested.behind, act)
+    push_last(out, at, tested.following, act)
 }
 
 /// The branch of `||` on its first operand: to where 1 is given, or to the second operand.
@@ -375,32 +375,32 @@ pub fn push_or(
     tested: Operand,
     right: &Value,
 ) -> Result<Next, AllocError>
-    ensures register { IfOk result (λ n. n.register ≡ tested.behind.register) }
-    ensures place { IfOk result (λ n. n.place ≡ tested.behind.place + 1) }
-    ensures out { OnOk result (out.new ≡ out.old ++ spec.one at (act.Branch tested.register (tested.behind.place + 1 + spec.exp_size (kept (exp_of right.now)) + 1) (tested.behind.place + 1))) }
+    ensures register { IfOk result (λ n. n.register ≡ tested.following.register) }
+    ensures place { IfOk result (λ n. n.place ≡ tested.following.place + 1) }
+    ensures out { OnOk result (out.new ≡ out.old ++ spec.one at (act.Branch tested.register (tested.following.place + 1 + spec.exp_size (kept (exp_of right.now)) + 1) (tested.following.place + 1))) }
 {
-    let else_at = sum(tested.behind.place, 1)?;
+    let else_at = sum(tested.following.place, 1)?;
     let then_at = sum(sum(else_at, value_size(right)?)?, 1)?;
     let act = Act::Branch {
         on: tested.register,
         then_at,
         else_at,
     };
-    push_last(out, at, tested.behind, act)
+    push_last(out, at, tested.following, act)
 }
 
 /// A call of the library. Where it gives nothing, the register of the expression gets 0.
 pub fn push_library(
     out: &mut List<Instr>,
     at: Position,
-    behind: Next,
+    following: Next,
     into: u32,
     call: LibraryCall,
     arguments: List<u32>,
 ) -> Result<Operand, AllocError>
     ensures value { IfOk result (λ o. o.register ≡ into) }
-    ensures register { IfOk result (λ o. o.behind.register ≡ behind.register) }
-    ensures place { IfOk result (λ o. o.behind.place ≡ behind.place + spec.library_size call) }
+    ensures register { IfOk result (λ o. o.following.register ≡ following.register) }
+    ensures place { IfOk result (λ o. o.following.place ≡ following.place + spec.library_size call) }
     ensures out { OnOk result (out.new ≡ out.old ++ spec.library_code at into call arguments) }
 {
     if gives_nothing(&call) {
@@ -413,7 +413,7 @@ pub fn push_library(
         push_work(out, at, into, Work::Constant(0))?;
         Ok(Operand {
             register: into,
-            behind: behind.behind(2)?,
+            following: following.following(2)?,
         })
     } else {
         let act = Act::Library {
@@ -421,7 +421,7 @@ pub fn push_library(
             arguments,
             into: Some(into),
         };
-        push_given(out, at, into, behind, act)
+        push_given(out, at, into, following, act)
     }
 }
 
@@ -434,8 +434,8 @@ pub fn push_simple(
     out: &mut List<Instr>,
 ) -> Result<Operand, AllocError>
     ensures value { IfOk result (λ o. o.register ≡ spec.held first (kept (simple_of simple at)) from.register) }
-    ensures register { IfOk result (λ o. o.behind.register ≡ from.register + spec.width (kept (simple_of simple at))) }
-    ensures place { IfOk result (λ o. o.behind.place ≡ from.place + spec.exp_size (kept (simple_of simple at))) }
+    ensures register { IfOk result (λ o. o.following.register ≡ from.register + spec.width (kept (simple_of simple at))) }
+    ensures place { IfOk result (λ o. o.following.place ≡ from.place + spec.exp_size (kept (simple_of simple at))) }
     ensures out { OnOk result (out.new ≡ out.old ++ spec.exp_code first (kept (simple_of simple at)) from.register from.place) }
 {
     match simple {
@@ -443,11 +443,11 @@ pub fn push_simple(
         Simple::Null => push_alone(out, at, from, Work::Constant(0)),
         Simple::Register { number, .. } => Ok(Operand {
             register: number,
-            behind: from,
+            following: from,
         }),
         Simple::Object(number) => Ok(Operand {
             register: sum(first, number)?,
-            behind: from,
+            following: from,
         }),
         Simple::Global(address) => push_alone(out, at, from, Work::Address(address)),
     }

@@ -36,7 +36,7 @@ fn push_maybe(
 {
     match e {
         None => Ok(from),
-        Some(e) => Ok(push_value(alloc, first, e, from, out)?.behind),
+        Some(e) => Ok(push_value(alloc, first, e, from, out)?.following),
     }
 }
 
@@ -57,10 +57,10 @@ fn push_condition(
     let tested = push_value(alloc, first, e, from, out)?;
     let act = Act::Branch {
         on: tested.register,
-        then_at: sum(tested.behind.place, 1)?,
+        then_at: sum(tested.following.place, 1)?,
         else_at,
     };
-    push_last(out, at, tested.behind, act)
+    push_last(out, at, tested.following, act)
 }
 
 /// The Mark of a loop, and its condition.
@@ -118,7 +118,7 @@ fn push_return(
         Some(e) => {
             let given = push_value(alloc, first, e, from, out)?;
             let value = Some(given.register);
-            push_last(out, at, given.behind, Act::Return { value })
+            push_last(out, at, given.following, Act::Return { value })
         }
     }
 }
@@ -190,7 +190,7 @@ struct Head {
     inside: Around,
 }
 
-/// The condition of an `if` without `else`: its branch goes right behind the statement.
+/// The condition of an `if` without `else`: its branch goes right after the statement.
 fn push_if_head(
     alloc: Global,
     first: u32,
@@ -271,7 +271,7 @@ fn push_do_test(
         then_at: mark,
         else_at,
     };
-    push_last(out, at, tested.behind, act)
+    push_last(out, at, tested.following, act)
 }
 
 /// The Mark and the condition of a `for`.
@@ -311,8 +311,8 @@ fn push_step(
     ensures place { IfOk result (λ n. n.place ≡ from.place + spec.maybe_size (maybe_kept (maybe_of step.now)) + 1) }
     ensures out { OnOk result (out.new ≡ out.old ++ (spec.maybe_code first (maybe_kept (maybe_of step.now)) from.register from.place ++ spec.one at (act.Jump mark))) }
 {
-    let behind = push_maybe(alloc, first, step, from, out)?;
-    push_last(out, at, behind, Act::Jump { to: mark })
+    let following = push_maybe(alloc, first, step, from, out)?;
+    push_last(out, at, following, Act::Jump { to: mark })
 }
 
 /// The code of a statement.
@@ -333,21 +333,21 @@ pub fn push_statement(
         Statement::Block(stmts) => {
             push_statements(alloc, first, stmts.as_slice(), from, around, out)
         }
-        Statement::Compute(value) => Ok(push_value(alloc, first, value, from, out)?.behind),
+        Statement::Compute(value) => Ok(push_value(alloc, first, value, from, out)?.following),
         Statement::If { test, yes, at } => {
             let inner = push_if_head(alloc, first, test, yes, *at, from, out)?;
             push_statement(alloc, first, yes, inner, around, out)
         }
         Statement::IfElse { test, yes, no, at } => {
             let (inner, to) = push_if_else_head(alloc, first, test, yes, no, *at, from, out)?;
-            let behind = push_statement(alloc, first, yes, inner, around, out)?;
-            let behind = push_last(out, *at, behind, Act::Jump { to })?;
-            push_statement(alloc, first, no, behind, around, out)
+            let following = push_statement(alloc, first, yes, inner, around, out)?;
+            let following = push_last(out, *at, following, Act::Jump { to })?;
+            push_statement(alloc, first, no, following, around, out)
         }
         Statement::While { test, body, at } => {
             let head = push_while_head(alloc, first, test, body, *at, from, out)?;
-            let behind = push_statement(alloc, first, body, head.inner, head.inside, out)?;
-            push_last(out, *at, behind, Act::Jump { to: from.place })
+            let following = push_statement(alloc, first, body, head.inner, head.inside, out)?;
+            push_last(out, *at, following, Act::Jump { to: from.place })
         }
         Statement::Do { body, test, at } => {
             let inside = places_of_do(from.place, body, test)?;

@@ -17,9 +17,9 @@ use Rattle.runs.proofs.SameEntries.{object_cases}
 use Rattle.runs.proofs.Swap.{steps_of, adds_of, load_inv, change_inv}
 use Rattle.runs.proofs.Written.{entries_at-append, one_here}
 use Rattle.followed_logs.specs.Following.{Follows, IsFresh}
-use Rattle.followed_logs.specs.Numbered.{numbered, numbered_behind, with_number}
+use Rattle.followed_logs.specs.Numbered.{numbered, numbered_after, with_number}
 use Rattle.followed_logs.proofs.Fronts.{AllIn-prefix}
-use Rattle.followed_logs.proofs.Numbers.{IsBehind, are_behind, numbered-append}
+use Rattle.followed_logs.proofs.Numbers.{IsAfter, are_after, numbered-append}
 
 -- one of the entries
 abbrev pub IsIn : Noted → List Noted → Type 0
@@ -48,7 +48,7 @@ module _ {T : Type 0} (m : Machine T) (law : IsLawful m) where
   raised_by ws ws1 th t l (Loads c g) h on o known up = let r = load_inv ws g (slice_get ws c) ws1 t on in absurd (omega (arith, up, ap (λ z. number_at m z o) r.2))
   raised_by ws ws1 th t l (Stores c v x) h on o known up =
       let r = change_inv ws c (λ _. Becomes v (pos 0) x) (slice_get ws c) ws1 t on in
-      absurd (omega (arith, up, ap m.number (ap (λ z. slice_index z (m.place o)) r.5 ∙ get_or-set_other ws c (m.place o) r.1 0 (omega (arith, h.1, law.behind o known)))))
+      absurd (omega (arith, up, ap m.number (ap (λ z. slice_index z (m.place o)) r.5 ∙ get_or-set_other ws c (m.place o) r.1 0 (omega (arith, h.1, law.following o known)))))
   raised_by ws ws1 th t l (Operates e change) h on o known up =
       let r = change_inv ws (m.place e.obj) change (slice_get ws (m.place e.obj)) ws1 t on in
       ⊎_elim
@@ -86,11 +86,11 @@ IsBelow before y = y.number < entries_at y.entry.obj before
 below_more : (before more : List Noted) (y : Noted) → IsBelow before y → IsBelow (before ++ more) y
 below_more before more y h = omega (arith, h, entries_at-append y.entry.obj before more)
 
-pub are_below : (es : List Entry) (before : List Noted) → AllIn (IsBelow (before ++ numbered_behind before es)) (numbered_behind before es)
+pub are_below : (es : List Entry) (before : List Noted) → AllIn (IsBelow (before ++ numbered_after before es)) (numbered_after before es)
 are_below [] before = tt
 are_below (e ∷ es) before =
     let x = with_number before e in
-    let rest = numbered_behind (before ++ x ∷ []) es in
+    let rest = numbered_after (before ++ x ∷ []) es in
     let whole : before ++ x ∷ rest ≡ (before ++ x ∷ []) ++ rest = sym (append_assoc before (x ∷ []) rest) in
     let here : IsBelow (before ++ x ∷ []) x = omega (arith, entries_at-append e.obj before (x ∷ []), one_here x e.obj refl) in
     subst (λ z. AllIn (IsBelow z) (x ∷ rest)) (sym whole) (below_more (before ++ x ∷ []) rest x here, are_below es (before ++ x ∷ []))
@@ -107,16 +107,16 @@ in_parts y (x ∷ xs) ys (inl e) = inl (inl e)
 in_parts y (x ∷ xs) ys (inr h) = ⊎_elim (λ a. inl (inr a)) (λ b. inr b) (in_parts y xs ys h)
 
 is_next : (front back : List Entry) (e : Entry) (y : Noted) → IsIn y (numbered (front ++ e ∷ back)) → y.entry.obj ≡ e.obj → y.number ≡ entries_at e.obj (numbered front) → y ≡ with_number (numbered front) e
-is_next front back e y here same number = go (in_parts y (numbered front) (numbered_behind (numbered front) (e ∷ back)) (subst (IsIn y) (numbered-append [] front (e ∷ back)) here))
+is_next front back e y here same number = go (in_parts y (numbered front) (numbered_after (numbered front) (e ∷ back)) (subst (IsIn y) (numbered-append [] front (e ∷ back)) here))
   where
     x : Noted
     x = with_number (numbered front) e
 
-    go : IsIn y (numbered front) ⊎ IsIn y (numbered_behind (numbered front) (e ∷ back)) → y ≡ x
+    go : IsIn y (numbered front) ⊎ IsIn y (numbered_after (numbered front) (e ∷ back)) → y ≡ x
     go (inl h) = absurd (not_in_front front e y h same number)
     go (inr (inl h)) = sym h
     go (inr (inr h)) =
-        let high = of_all (IsBehind (numbered front ++ x ∷ [])) y (numbered_behind (numbered front ++ x ∷ []) back) (are_behind (numbered front ++ x ∷ []) back) h in
+        let high = of_all (IsAfter (numbered front ++ x ∷ [])) y (numbered_after (numbered front ++ x ∷ []) back) (are_after (numbered front ++ x ∷ []) back) h in
         absurd (omega (arith, high, number, ap (λ o. entries_at o (numbered front ++ x ∷ [])) same, entries_at-append e.obj (numbered front) (x ∷ []), one_here x e.obj refl))
 
 -- an entry is in its thread's list

@@ -12,7 +12,7 @@ use Rattle.runs.specs.Walk.{walk}
 use Rattle.runs.proofs.Front.{Front, front}
 use Rattle.runs.proofs.Lists.{AllIn, AllIn-front, AllIn-entries_of, AllIn-of_threads, IsFirst, own_in, own_out}
 use Rattle.runs.proofs.Merges.{part_of_solo, free_solo}
-use Rattle.followed_logs.specs.Numbered.{with_number, numbered_behind}
+use Rattle.followed_logs.specs.Numbered.{with_number, numbered_after}
 use Rattle.followed_logs.proofs.Numbers.{next_is_first}
 
 -- what holds of all entries of a list holds of those of a front part
@@ -34,15 +34,15 @@ module _ {T : Type 0} (m : Machine T) (law : IsLawful m) where
     pub walked : walk m es s ≡ Some mid
     pub goes : run m after mid ≡ Some s1
     pub free : IsRaceFree m mid
-    pub lists : (t : ℕ) → entries_of t (numbered_behind before es) ++ entries_of t (trace m after mid) ≡ entries_of t (trace m R s)
+    pub lists : (t : ℕ) → entries_of t (numbered_after before es) ++ entries_of t (trace m after mid) ≡ entries_of t (trace m R s)
 
-  abbrev FollowsBehind : List Noted → List Entry → List Label → State T → Type 0
-  FollowsBehind before es R s = (t : ℕ) → IsPrefixOf (entries_of t (trace m R s)) (entries_of t (numbered_behind before es))
+  abbrev FollowsAfter : List Noted → List Entry → List Label → State T → Type 0
+  FollowsAfter before es R s = (t : ℕ) → IsPrefixOf (entries_of t (trace m R s)) (entries_of t (numbered_after before es))
 
-  abbrev MadeBehind : List Noted → List Entry → List Label → State T → Type 0
-  MadeBehind before es R s = (t : ℕ) → IsPrefixOf (entries_of t (numbered_behind before es)) (entries_of t (trace m R s))
+  abbrev MadeAfter : List Noted → List Entry → List Label → State T → Type 0
+  MadeAfter before es R s = (t : ℕ) → IsPrefixOf (entries_of t (numbered_after before es)) (entries_of t (trace m R s))
 
-  pub fronts : (es more : List Entry) (before : List Noted) (R : List Label) (s s1 : State T) → run m R s ≡ Some s1 → IsRaceFree m s → FollowsBehind before (es ++ more) R s → MadeBehind before es R s → Fronted before es R s s1
+  pub fronts : (es more : List Entry) (before : List Noted) (R : List Label) (s s1 : State T) → run m R s ≡ Some s1 → IsRaceFree m s → FollowsAfter before (es ++ more) R s → MadeAfter before es R s → Fronted before es R s s1
   fronts [] more before R s s1 h free follows made = record { mid = s; after = R; walked = refl; goes = h; free = free; lists = λ t. refl }
   fronts (e ∷ es) more before R s s1 h free follows made = go (fronts es more (before ++ x ∷ []) f.after f.mid s1 f.goes (free_solo m law f.turns f.label x s f.mid f.solo free) follows1 made1)
     where
@@ -50,36 +50,36 @@ module _ {T : Type 0} (m : Machine T) (law : IsLawful m) where
       x = with_number before e
 
       next : List Noted
-      next = entries_of e.thread (numbered_behind (before ++ x ∷ []) es) ++ (made e.thread).0
+      next = entries_of e.thread (numbered_after (before ++ x ∷ []) es) ++ (made e.thread).0
 
       own : entries_of e.thread (trace m R s) ≡ x ∷ next
-      own = sym (made e.thread).1 ∙ ap (λ z. z ++ (made e.thread).0) (own_in e.thread x (numbered_behind (before ++ x ∷ []) es) refl)
+      own = sym (made e.thread).1 ∙ ap (λ z. z ++ (made e.thread).0) (own_in e.thread x (numbered_after (before ++ x ∷ []) es) refl)
 
       first : AllIn (IsFirst x) (trace m R s)
-      first = AllIn-of_threads (IsFirst x) (trace m R s) (λ u. AllIn-prefix (IsFirst x) (entries_of u (trace m R s)) (entries_of u (numbered_behind before ((e ∷ es) ++ more))) (follows u) (AllIn-entries_of (IsFirst x) u (numbered_behind before ((e ∷ es) ++ more)) (next_is_first before e (es ++ more))))
+      first = AllIn-of_threads (IsFirst x) (trace m R s) (λ u. AllIn-prefix (IsFirst x) (entries_of u (trace m R s)) (entries_of u (numbered_after before ((e ∷ es) ++ more))) (follows u) (AllIn-entries_of (IsFirst x) u (numbered_after before ((e ∷ es) ++ more)) (next_is_first before e (es ++ more))))
 
       f : Front m law R s s1 x next
       f = front m law R s s1 x next h free own first
 
-      follows1 : FollowsBehind (before ++ x ∷ []) (es ++ more) f.after f.mid
+      follows1 : FollowsAfter (before ++ x ∷ []) (es ++ more) f.after f.mid
       follows1 u = ⊎_elim
           (λ (q : u ≡ e.thread).
-          let rest = numbered_behind (before ++ x ∷ []) (es ++ more) in
+          let rest = numbered_after (before ++ x ∷ []) (es ++ more) in
           let p = less_first x next (entries_of e.thread rest) (entries_of e.thread (trace m R s)) own (subst (IsPrefixOf (entries_of e.thread (trace m R s))) (own_in e.thread x rest refl) (follows e.thread)) in
           subst (λ z. IsPrefixOf (entries_of z (trace m f.after f.mid)) (entries_of z rest)) (sym q) (subst (λ z. IsPrefixOf z (entries_of e.thread rest)) (sym f.own_rest) p))
           (λ (ne : u ≡ e.thread → ⊥).
-          let rest = numbered_behind (before ++ x ∷ []) (es ++ more) in
+          let rest = numbered_after (before ++ x ∷ []) (es ++ more) in
           subst (λ z. IsPrefixOf z (entries_of u rest)) (sym (f.others u ne)) (subst (IsPrefixOf (entries_of u (trace m R s))) (own_out u x rest (λ q. ne (sym q))) (follows u)))
           (cases_eq u e.thread)
 
-      made1 : MadeBehind (before ++ x ∷ []) es f.after f.mid
+      made1 : MadeAfter (before ++ x ∷ []) es f.after f.mid
       made1 u = ⊎_elim
           (λ (q : u ≡ e.thread).
-          let rest = numbered_behind (before ++ x ∷ []) es in
+          let rest = numbered_after (before ++ x ∷ []) es in
           let p : IsPrefixOf (entries_of e.thread rest) next = ((made e.thread).0, refl) in
           subst (λ z. IsPrefixOf (entries_of z rest) (entries_of z (trace m f.after f.mid))) (sym q) (subst (IsPrefixOf (entries_of e.thread rest)) (sym f.own_rest) p))
           (λ (ne : u ≡ e.thread → ⊥).
-          let rest = numbered_behind (before ++ x ∷ []) es in
+          let rest = numbered_after (before ++ x ∷ []) es in
           subst (IsPrefixOf (entries_of u rest)) (sym (f.others u ne)) (subst (λ z. IsPrefixOf z (entries_of u (trace m R s))) (own_out u x rest (λ q. ne (sym q))) (made u)))
           (cases_eq u e.thread)
 
@@ -92,11 +92,11 @@ module _ {T : Type 0} (m : Machine T) (law : IsLawful m) where
         free = r.free;
         lists = λ u. ⊎_elim
             (λ (q : u ≡ e.thread).
-            let rest = numbered_behind (before ++ x ∷ []) es in
-            subst (λ z. entries_of z (numbered_behind before (e ∷ es)) ++ entries_of z (trace m r.after r.mid) ≡ entries_of z (trace m R s)) (sym q)
+            let rest = numbered_after (before ++ x ∷ []) es in
+            subst (λ z. entries_of z (numbered_after before (e ∷ es)) ++ entries_of z (trace m r.after r.mid) ≡ entries_of z (trace m R s)) (sym q)
             (ap (λ z. z ++ entries_of e.thread (trace m r.after r.mid)) (own_in e.thread x rest refl) ∙ ap (λ z. x ∷ z) (r.lists e.thread ∙ f.own_rest) ∙ sym own))
             (λ (ne : u ≡ e.thread → ⊥).
-            let rest = numbered_behind (before ++ x ∷ []) es in
+            let rest = numbered_after (before ++ x ∷ []) es in
             ap (λ z. z ++ entries_of u (trace m r.after r.mid)) (own_out u x rest (λ q. ne (sym q))) ∙ r.lists u ∙ f.others u ne)
             (cases_eq u e.thread);
       }

@@ -21,23 +21,23 @@ use Rattle.followed_logs.proofs.Fronts.{fronts}
 use Rattle.followed_logs.proofs.Refusals.{departs_none}
 use Rattle.followed_logs.proofs.Words.{walk_numbers, walk_floors}
 
--- what is behind a list that is the whole is nothing
-nothing_behind : {A : Type 0} (xs ys : List A) → xs ++ ys ≡ xs → ys ≡ []
-nothing_behind [] ys h = h
-nothing_behind (x ∷ xs) ys h = nothing_behind xs ys cc
+-- what is after a list that is the whole is nothing
+nothing_after : {A : Type 0} (xs ys : List A) → xs ++ ys ≡ xs → ys ≡ []
+nothing_after [] ys h = h
+nothing_after (x ∷ xs) ys h = nothing_after xs ys cc
 
 -- two lists of which each begins with the other
 both_fronts : {A : Type 0} (xs ys : List A) → IsPrefixOf xs ys → IsPrefixOf ys xs → xs ≡ ys
 both_fronts xs ys p q =
     let e : xs ++ p.0 ++ q.0 ≡ xs = cc (p.1, q.1) in
-    let none = nil_front p.0 q.0 (nothing_behind xs (p.0 ++ q.0) (sym (append_assoc xs p.0 q.0) ∙ e)) in
+    let none = nil_front p.0 q.0 (nothing_after xs (p.0 ++ q.0) (sym (append_assoc xs p.0 q.0) ∙ e)) in
     sym (append-nil xs) ∙ ap (λ z. xs ++ z) (sym none) ∙ p.1
 
 module _ {T : Type 0} (m : Machine T) (law : IsLawful m) where
   pub refused : (floor : Entry → ℕ) (start end : State T) (labels : List Label) (front back : List Entry) (e : Entry) (th : T) → LeavesAtLeast m floor → IsRaceFree m start → IsFresh m start → run m labels start ≡ Some end → Follows m (front ++ e ∷ back) labels start → HasMade m front labels start → entries_of e.thread (trace m labels start) ≡ entries_of e.thread (numbered front) → slice_get end.threads e.thread ≡ Some th → Departs m floor (entries_of e.thread (numbered front)) end.words th (with_number (numbered front) e) → (before : State T) × (walk m front start ≡ Some before) × (walk m (front ++ e ∷ []) start ≡ None)
   refused floor start end labels front back e th leaves free fresh h follows made no_more at_end departs =
       let f = fronts m law front (e ∷ back) [] labels start end h free follows made in
-      let none = nothing_behind (entries_of e.thread (numbered front)) (entries_of e.thread (trace m f.after f.mid)) (f.lists e.thread ∙ no_more) in
+      let none = nothing_after (entries_of e.thread (numbered front)) (entries_of e.thread (trace m f.after f.mid)) (f.lists e.thread ∙ no_more) in
       let leads = leading m law (length (path m e.thread f.after f.mid)) f.after f.mid end e.thread (omega arith) f.goes f.free none in
       let has = walk_numbers m law front start f.mid f.walked (λ o known. omega (arith, fresh o known)) in
       let floors = walk_floors m law floor leaves front start f.mid f.walked e.thread in
@@ -71,6 +71,6 @@ module _ {T : Type 0} (m : Machine T) (law : IsLawful m) where
   pub taken : (start end : State T) (labels : List Label) (entries : List Entry) → EndedRest m → IsRaceFree m start → run m labels start ≡ Some end → Follows m entries labels start → HasMade m entries labels start → (last : State T) × (walk m entries start ≡ Some last) × (AllEnded m last ↔ AllEnded m end) × (AllEnded m end → last ≡ end)
   taken start end labels entries rest free h follows made =
       let f = fronts m law entries [] [] labels start end h free (λ t. subst (λ z. IsPrefixOf (entries_of t (trace m labels start)) (entries_of t (numbered z))) (sym (append-nil entries)) (follows t)) made in
-      let none : trace m f.after f.mid ≡ [] = nil_of_threads (trace m f.after f.mid) (λ t. nothing_behind (entries_of t (numbered entries)) (entries_of t (trace m f.after f.mid)) (f.lists t ∙ both_fronts (entries_of t (trace m labels start)) (entries_of t (numbered entries)) (follows t) (made t))) in
+      let none : trace m f.after f.mid ≡ [] = nil_of_threads (trace m f.after f.mid) (λ t. nothing_after (entries_of t (numbered entries)) (entries_of t (trace m f.after f.mid)) (f.lists t ∙ both_fronts (entries_of t (trace m labels start)) (entries_of t (numbered entries)) (follows t) (made t))) in
       let back : AllEnded m end → f.mid ≡ end = (λ over. nothing_done f.after f.mid end f.goes none over) in
       (f.mid, f.walked, (λ over. subst (AllEnded m) (ended_stay rest f.after f.mid end f.goes over) over, λ over. subst (AllEnded m) (sym (back over)) over), back)

@@ -21,7 +21,7 @@ use Rattle.runs.proofs.Solo.{solo_of_walk}
 use Rattle.runs.proofs.Swap.{steps_of, adds_of, load_inv, change_inv}
 use Rattle.runs.proofs.Written.{entries_at-append, one_here, none_here}
 use Rattle.followed_logs.specs.Following.{LeavesAtLeast}
-use Rattle.followed_logs.specs.Numbered.{with_number, numbered_behind}
+use Rattle.followed_logs.specs.Numbered.{with_number, numbered_after}
 use Rattle.followed_logs.proofs.Alone.{run_rises, step_rises}
 
 -- the last of a list is one
@@ -42,7 +42,7 @@ module _ {T : Type 0} (m : Machine T) (law : IsLawful m) where
   word_step ws ws1 th t l (Loads c f) h on o known same = let r = load_inv ws f (slice_get ws c) ws1 t on in ap (λ z. slice_get z (m.place o)) r.2
   word_step ws ws1 th t l (Stores c v x) h on o known same =
       let r = change_inv ws c (λ _. Becomes v (pos 0) x) (slice_get ws c) ws1 t on in
-      ap (λ z. slice_get z (m.place o)) r.5 ∙ slice_get-set_other ws c (m.place o) r.1 (omega (arith, h.1, law.behind o known))
+      ap (λ z. slice_get z (m.place o)) r.5 ∙ slice_get-set_other ws c (m.place o) r.1 (omega (arith, h.1, law.following o known))
   word_step ws ws1 th t l (Operates e f) h on o known same =
       let r = change_inv ws (m.place e.obj) f (slice_get ws (m.place e.obj)) ws1 t on in
       ⊎_elim
@@ -90,14 +90,14 @@ module _ {T : Type 0} (m : Machine T) (law : IsLawful m) where
       (λ (ne : e.obj ≡ o → ⊥). omega (arith, entries_at-append o before (x ∷ []), none_here x o ne, has o known, up, up1))
       (object_cases e.obj o)
 
-  solo_numbers : (es : List Entry) (before : List Noted) (s s1 : State T) → IsSoloRun m es s s1 → HasNumbers before s → HasNumbers (before ++ numbered_behind before es) s1
+  solo_numbers : (es : List Entry) (before : List Noted) (s s1 : State T) → IsSoloRun m es s s1 → HasNumbers before s → HasNumbers (before ++ numbered_after before es) s1
   solo_numbers [] before s s1 h has = λ o known. omega (arith, has o known, ap (entries_at o) (append-nil before), ap (λ (z : State T). number_at m z.words o) h)
   solo_numbers (e ∷ es) before s s1 h has =
       let x = with_number before e in
-      subst (λ z. HasNumbers z s1) (append_assoc before (x ∷ []) (numbered_behind (before ++ x ∷ []) es))
+      subst (λ z. HasNumbers z s1) (append_assoc before (x ∷ []) (numbered_after (before ++ x ∷ []) es))
       (solo_numbers es (before ++ x ∷ []) h.0 s1 h.2 (part_numbers before e s h.0 h.1 has))
 
-  pub walk_numbers : (es : List Entry) (s s1 : State T) → walk m es s ≡ Some s1 → HasNumbers [] s → HasNumbers (numbered_behind [] es) s1
+  pub walk_numbers : (es : List Entry) (s s1 : State T) → walk m es s ≡ Some s1 → HasNumbers [] s → HasNumbers (numbered_after [] es) s1
   walk_numbers es s s1 h has = solo_numbers es [] s s1 (solo_of_walk m es s s1 h) has
 
   module _ (floor : Entry → ℕ) (leaves : LeavesAtLeast m floor) where
@@ -140,16 +140,16 @@ module _ {T : Type 0} (m : Machine T) (law : IsLawful m) where
         omega (arith, has t ys y before_is, ap (count_or_zero m) stay))
         (cases_eq e.thread t)
 
-    solo_floors : (es : List Entry) (before : List Noted) (s s1 : State T) → IsSoloRun m es s s1 → HasFloors before s → HasFloors (before ++ numbered_behind before es) s1
+    solo_floors : (es : List Entry) (before : List Noted) (s s1 : State T) → IsSoloRun m es s s1 → HasFloors before s → HasFloors (before ++ numbered_after before es) s1
     solo_floors [] before s s1 h has = subst (HasFloors (before ++ [])) h (subst (λ z. HasFloors z s) (sym (append-nil before)) has)
     solo_floors (e ∷ es) before s s1 h has =
         let x = with_number before e in
-        subst (λ z. HasFloors z s1) (append_assoc before (x ∷ []) (numbered_behind (before ++ x ∷ []) es))
+        subst (λ z. HasFloors z s1) (append_assoc before (x ∷ []) (numbered_after (before ++ x ∷ []) es))
         (solo_floors es (before ++ x ∷ []) h.0 s1 h.2 (part_floors before e s h.0 h.1 has))
 
     no_last : (ys : List Noted) (y : Noted) → [] ≡ ys ++ y ∷ [] → ⊥
     no_last [] y e = cc
     no_last (z ∷ ys) y e = cc
 
-    pub walk_floors : (es : List Entry) (s s1 : State T) → walk m es s ≡ Some s1 → HasFloors (numbered_behind [] es) s1
+    pub walk_floors : (es : List Entry) (s s1 : State T) → walk m es s ≡ Some s1 → HasFloors (numbered_after [] es) s1
     walk_floors es s s1 h = solo_floors es [] s s1 (solo_of_walk m es s s1 h) (λ t ys y is. absurd (no_last ys y is))

@@ -45,6 +45,6 @@ module _ {T : Type 0} (m : Machine T) where
     Early : m.count th < x.entry.count → IsNoStep (m.effect (Go x.entry.thread) th) → Departs floor made words th x
     -- at the count of x it makes something else
     Other : m.count th ≡ x.entry.count → ((change : ℕ → Change T) → m.effect (label_of x.entry) th ≢ Operates x.entry change) → Departs floor made words th x
-    -- a word that its object has had doesn't allow x, and had as many operations behind it as the log has before x. The object's
+    -- a word that its object has had doesn't allow x, and had as many operations after it as the log has before x. The object's
     -- word has had no fewer since then, and is the same if it has had as many
     Barred : m.count th ≡ x.entry.count → (change : ℕ → Change T) (seen now : ℕ) → m.effect (label_of x.entry) th ≡ Operates x.entry change → change seen ≡ NotAllowed → m.number seen ≡ x.number → slice_get words (m.place x.entry.obj) ≡ Some now → m.number seen ≤ m.number now → (m.number seen ≡ m.number now → seen ≡ now) → Departs floor made words th x

@@ -7,18 +7,18 @@ use Rattle.sync_objects.specs.declared.object.ObjId.TheVariants.{Mutex}
 use Rattle.sync_objects.specs.declared.operation.OpName.TheVariants.{Lock, Unlock}
 use Rattle.runs.specs.Merge.{entries_at}
 
--- an entry behind these has the number of those of its object
+-- an entry after these has the number of those of its object
 abbrev pub with_number : List Noted → Entry → Noted
 with_number before e = record { entry = e; number = entries_at e.obj before }
 
--- the last entries of a log, behind these
-abbrev pub numbered_behind : List Noted → List Entry → List Noted
-numbered_behind before [] = []
-numbered_behind before (e ∷ es) = with_number before e ∷ numbered_behind (before ++ with_number before e ∷ []) es
+-- the last entries of a log, after these
+abbrev pub numbered_after : List Noted → List Entry → List Noted
+numbered_after before [] = []
+numbered_after before (e ∷ es) = with_number before e ∷ numbered_after (before ++ with_number before e ∷ []) es
 
 -- all entries of a log
 abbrev pub numbered : List Entry → List Noted
-numbered es = numbered_behind [] es
+numbered es = numbered_after [] es
 
 -- two locks of one mutex with an unlock of another one between them
 row_two_mutexes : numbered (record { thread = 0; count = 1; op = Lock; obj = Mutex 5 } ∷ record { thread = 1; count = 3; op = Unlock; obj = Mutex 6 } ∷ record { thread = 1; count = 4; op = Lock; obj = Mutex 5 } ∷ [])

@@ -25,7 +25,7 @@ use Rattle.c_types.specs.declared.fault.Found.{Found as Refused}
 use Rattle.c_sites.specs.Whole.{first_fault}
 use Rattle.c_programs.specs.Programs.{after_outer, known_at_start, signature_of}
 use Rattle.c_sites.specs.Addresses.{count_of_outer, program_addressed}
-use Rattle.c_values.specs.Here.{Source}
+use Rattle.c_values.specs.Context.{Source}
 use Rattle.c_elaborate.specs.Whole.{code_functions, outer_functions, outers_functions, source_of, core_of_source}
 use Rattle.front.specs.declared.reading.SourceFault.{SourceFault}
 use Rattle.front.specs.Readings.{Reading as Read, sound, refused, by_first_fault, refusal_of, IsByTree, IsByTokens, IsReading}
@@ -62,13 +62,13 @@ few_tokens text = few_from 0 start text
 
 -- ---- no more declarations than tokens
 
-behind : {X : Type 0} (xs ys : List X) → 1 ≤ length ys → 1 ≤ length (xs ++ ys)
-behind xs ys h = omega (arith, h, length-append xs ys)
+following : {X : Type 0} (xs ys : List X) → 1 ≤ length ys → 1 ≤ length (xs ++ ys)
+following xs ys h = omega (arith, h, length-append xs ys)
 
 some_kinds : (o : Outer) → 1 ≤ length (outer_kinds o)
 some_kinds (structure name fs) = omega arith
-some_kinds (function is_static s stars name xs code) = behind (if_there is_static _) _ (behind (specifier_kinds s) _ (behind (stars_kinds stars) _ (omega arith)))
-some_kinds (objects is_static s os place) = behind (if_there is_static _) _ (behind (specifier_kinds s) _ (behind (objects_kinds os) _ (omega arith)))
+some_kinds (function is_static s stars name xs code) = following (if_there is_static _) _ (following (specifier_kinds s) _ (following (stars_kinds stars) _ (omega arith)))
+some_kinds (objects is_static s os place) = following (if_there is_static _) _ (following (specifier_kinds s) _ (following (objects_kinds os) _ (omega arith)))
 
 few_declarations : (os : List Outer) → length os ≤ length (kinds_of os)
 few_declarations [] = omega arith

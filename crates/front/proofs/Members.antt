@@ -10,7 +10,7 @@ use Rattle.c_grammar.specs.Marks.{Mark, Beginning, other, ◌>>◌, never}
 use Rattle.c_grammar.specs.Grammar.{OfName, OfSpecifier, OfFields, OfMoreFields, OfAllFields, OfOuter, OfProgram}
 use Rattle.source_sound.specs.Members.{HaveMembers, StructsHaveMembers}
 
--- the second and the first of two that stand one behind the other
+-- the second and the first of two that stand one after the other
 second : (r s : Beginning) (ms rest : List Mark) → (r >> s) ms rest → (mid : List Mark) × s mid rest
 second r s ms rest h = (h.0, h.2)
 

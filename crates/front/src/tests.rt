@@ -629,7 +629,7 @@ fn check_rows(rt: &impl Abort, alloc: Global, rows: &[(&[u8], &str)]) -> Result<
     Ok(())
 }
 
-// Statements, each in `main` behind the same declarations.
+// Statements, each in `main` after the same declarations.
 fn check_inner(rt: &impl Abort, alloc: Global, rows: &[(&[u8], &str)]) -> Result<(), Fail> {
     for row in rows {
         let mut text = Vec::new(alloc);

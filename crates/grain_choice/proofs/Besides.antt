@@ -109,12 +109,12 @@ two_below test m p (suc n) l lt is also none =
     more true j js e = (j, js ++ n ∷ [], ap (λ (ks : List ℕ). ks ++ n ∷ []) e)
     more false j js e = (j, js, e)
 
-    behind : (js : List ℕ) → (k : ℕ) × (ks : List ℕ) × (js ++ n ∷ [] ≡ k ∷ ks)
-    behind [] = (n, [], refl)
-    behind (j ∷ js) = (j, js ++ n ∷ [], refl)
+    following : (js : List ℕ) → (k : ℕ) × (ks : List ℕ) × (js ++ n ∷ [] ≡ k ∷ ks)
+    following [] = (n, [], refl)
+    following (j ∷ js) = (j, js ++ n ∷ [], refl)
 
     second : (js : List ℕ) → those_below test n ≡ m ∷ js → test n ≡ true → (k : ℕ) × (ks : List ℕ) × (cond (test n) (those_below test n ++ n ∷ []) (those_below test n) ≡ m ∷ k ∷ ks)
-    second js e q = let r = behind js in (r.0, r.1, ap (λ b. cond b (those_below test n ++ n ∷ []) (those_below test n)) q ∙ ap (λ (ks : List ℕ). ks ++ n ∷ []) e ∙ ap (λ (ks : List ℕ). m ∷ ks) r.2)
+    second js e q = let r = following js in (r.0, r.1, ap (λ b. cond b (those_below test n ++ n ∷ []) (those_below test n)) q ∙ ap (λ (ks : List ℕ). ks ++ n ∷ []) e ∙ ap (λ (ks : List ℕ). m ∷ ks) r.2)
 
 pub those_alike : (test like : ℕ → Bool) → ((k : ℕ) → test k ≡ like k) → (n : ℕ) → those_below test n ≡ those_below like n
 those_alike test like h zero = refl
@@ -156,8 +156,8 @@ module _ (bs : List AccessAt) (up : ascend bs ≡ true) where
       (cases_lt i r.0))
       (cases_lt r.0 i)
 
-  behind_place : (i : ℕ) (y z : AccessAt) → i < length bs → ((d : AccessAt) → get_or bs i d ≡ y) → is_listed bs z ≡ true → access_less y z ≡ true → (j : ℕ) × (i < j) × (j < length bs) × ((d : AccessAt) → get_or bs j d ≡ z)
-  behind_place i y z lt is listed less =
+  after_place : (i : ℕ) (y z : AccessAt) → i < length bs → ((d : AccessAt) → get_or bs i d ≡ y) → is_listed bs z ≡ true → access_less y z ≡ true → (j : ℕ) × (i < j) × (j < length bs) × ((d : AccessAt) → get_or bs j d ≡ z)
+  after_place i y z lt is listed less =
       let r = place_in bs z listed in
       ⊎_elim
       (λ (l : i < r.0). (r.0, l, r.1, r.2))
@@ -167,7 +167,7 @@ module _ (bs : List AccessAt) (up : ascend bs ≡ true) where
       (cases_lt r.0 i))
       (cases_lt i r.0)
 
-  -- an access behind that at a place isn't before the next one
+  -- an access after that at a place isn't before the next one
   next_least : (i j : ℕ) (z d : AccessAt) → i < j → j < length bs → ((d : AccessAt) → get_or bs j d ≡ z) → access_less z (get_or bs (i + 1) d) ≡ false
   next_least i j z d l lt is =
       ⊎_elim
@@ -207,8 +207,8 @@ module _ (narrow : List AccessAt) (up : ascend narrow ≡ true) (is : List Instr
       get_or-default (x ∷ xs) zero d e lt = refl
       get_or-default (x ∷ xs) (suc k) d e lt = get_or-default xs k d e (omega arith)
 
-  not_behind : access_less a first ≡ false
-  not_behind =
+  not_after : access_less a first ≡ false
+  not_after =
       let r = own in
       ⊎_elim
       (λ (m : at < r.0). not_back first a (ap (λ (v : AccessAt). access_less first v) (sym (r.3 a)) ∙ far narrow up at r.0 a m r.2))
@@ -216,13 +216,13 @@ module _ (narrow : List AccessAt) (up : ascend narrow ≡ true) (is : List Instr
       (cases_lt at r.0)
 
   function_is : first.function ≡ a.function
-  function_is = spread_function first a b a.instr (above at a (omega arith) there) not_behind
+  function_is = spread_function first a b a.instr (above at a (omega arith) there) not_after
 
   low : b ≤ first.instr
   low = spread_low first a b function_is (above at a (omega arith) there)
 
   high : first.instr ≤ a.instr
-  high = spread_high first a a.instr function_is not_behind
+  high = spread_high first a a.instr function_is not_after
 
   in_block : block_at is first.instr ≡ b
   in_block = let l = low in block_between is first.instr a.instr (let e : block_at is a.instr ≤ first.instr = omega arith in e) high ∙ sym eb
@@ -303,7 +303,7 @@ module _ (narrow : List AccessAt) (up : ascend narrow ≡ true) (is : List Instr
             let z : AccessAt = record { function = a.function; instr = k } in
             let m = and_both (is_listed narrow z) (block_at is k == block_at is a.instr) t in
             let e : block_at is k ≡ block_at is a.instr = test_equal (block_at is k) (block_at is a.instr) m.1 in
-            let r = behind_place narrow up at first z there first_is m.0 (ap (λ (y : AccessAt). access_less y z) (sym at_first) ∙ here_less a.function first.instr k l) in
+            let r = after_place narrow up at first z there first_is m.0 (ap (λ (y : AccessAt). access_less y z) (sym at_first) ∙ here_less a.function first.instr k l) in
             let long : at + 1 < length narrow = omega (arith, r.1, r.2) in
             let s : AccessAt = get_or narrow (at + 1) a in
             let p : access_less first s ≡ true = far narrow up at (at + 1) a (omega arith) long in

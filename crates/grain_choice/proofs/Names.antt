@@ -20,14 +20,14 @@ less_is Less h = refl
 less_is Equal h = cc
 less_is Greater h = cc
 
--- one that comes before another isn't behind it
-not_behind : (p q : Pair) → IsTrue (is_lt (pair_order p q)) → is_lt (pair_order q p) ≡ false
-not_behind p q h = ap is_lt (total.antisymm q p ∙ ap ordering_reverse (less_is (pair_order p q) h))
+-- one that comes before another isn't after it
+not_after : (p q : Pair) → IsTrue (is_lt (pair_order p q)) → is_lt (pair_order q p) ≡ false
+not_after p q h = ap is_lt (total.antisymm q p ∙ ap ordering_reverse (less_is (pair_order p q) h))
 
 sorted_from : (ps : List Pair) → AreAscending ps → (k : ℕ) (d : Pair) → k + 1 < length ps → is_lt (pair_order (get_or ps (k + 1) d) (get_or ps k d)) ≡ false
 sorted_from [] up k d lt = absurd (omega arith)
 sorted_from (p ∷ []) up k d lt = absurd (omega arith)
-sorted_from (p ∷ q ∷ ps) up zero d lt = not_behind p q up.0
+sorted_from (p ∷ q ∷ ps) up zero d lt = not_after p q up.0
 sorted_from (p ∷ q ∷ ps) up (suc k) d lt = let e : suc (k + 1) ≡ suc k + 1 = omega arith in subst (λ n. is_lt (pair_order (get_or (p ∷ q ∷ ps) n d) (get_or (q ∷ ps) k d)) ≡ false) e (sorted_from (q ∷ ps) up.1 k d (omega arith))
 
 searchable : (ps : List Pair) (q : Pair) → AreAscending ps → IsNonDecreasingBy (λ r. ordering_index (pair_order r q)) ps

@@ -15,7 +15,7 @@ fn comes_before(access: &AccessAt, other: &AccessAt) -> bool
     access.cmp(other).is_lt()
 }
 
-/// Where the access belongs: behind all that come before it.
+/// Where the access belongs: after all that come before it.
 pub(crate) fn place_of(listed: &[AccessAt], access: &AccessAt) -> usize
     requires { ascend listed.now ≡ true }
     ensures bound { result ≤ length listed.now }

@@ -25,7 +25,7 @@ use Rattle.flow_code.specs.declared.thread.Phase.TheVariants as phase
 use Rattle.flow_code.specs.declared.thread.Stripe.{Stripe}
 use Rattle.flow_code.specs.Works.{is_pointer, work_of}
 use Rattle.flow_code.specs.Threads.{Thread, arena_end}
-use Rattle.flow_code.specs.Holding.{number_of_stripe, region_of, lacked, open_place, to_give, give_or_quiet, parting, owes, parting_due, held, keeping, left_behind}
+use Rattle.flow_code.specs.Holding.{number_of_stripe, region_of, lacked, open_place, to_give, give_or_quiet, parting, owes, parting_due, held, keeping, left_after}
 use Rattle.flow_code.specs.Next.{value_of, act_at, pointers_of, caller, act_due, phase_due, first_owed, call_after, act_after, begun_due, begun_after, phase_after}
 use Rattle.held_locks.specs.ThreadStripes.{AreSorted}
 use Rattle.held_locks.proofs.Ascending.{ascend_lower}
@@ -52,7 +52,7 @@ tail_there true o e = absurd (true≢false (sym e))
 tail_there false o e = e
 
 -- what is owed is forgotten, or else the first that is held is given
-parting_steps : (th q : Thread) (d : Due) (ys : List Stripe) → ys ≡ th.stripes → Steps th q d → Steps th (left_behind th ys q) (parting_due ys d)
+parting_steps : (th q : Thread) (d : Due) (ys : List Stripe) → ys ≡ th.stripes → Steps th q d → Steps th (left_after th ys q) (parting_due ys d)
 parting_steps th q d [] e s = s
 parting_steps th q d (x ∷ xs) e s = by (owes (x ∷ xs)) refl
   where
@@ -89,10 +89,10 @@ parting_all call.Exit zero xs = inr refl
 parting_all call.Exit (suc made) xs = inl refl
 parting_all _ made xs = inl refl
 
-call_steps : (th q : Thread) (d : Due) (c : LibraryCall) (made : ℕ) → Steps th q d → Steps th (left_behind th (parting c made th.stripes) q) (parting_due (parting c made th.stripes) d)
+call_steps : (th q : Thread) (d : Due) (c : LibraryCall) (made : ℕ) → Steps th q d → Steps th (left_after th (parting c made th.stripes) q) (parting_due (parting c made th.stripes) d)
 call_steps th q d c made s =
     ⊎_elim
-    (λ e. subst (λ ys. Steps th (left_behind th ys q) (parting_due ys d)) (sym e) s)
+    (λ e. subst (λ ys. Steps th (left_after th ys q) (parting_due ys d)) (sym e) s)
     (λ e. parting_steps th q d (parting c made th.stripes) e s)
     (parting_all c made th.stripes)
 

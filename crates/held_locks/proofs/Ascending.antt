@@ -1,7 +1,7 @@
 -- Lists whose numbers ascend.
 use Rattle.std.proofs.Common.{◌≡◌, ℕ, suc, ◌+◌, ◌-◌, ◌<◌, ◌≤◌, Bool, true, false, if◌then◌else◌, List, [], ◌∷◌, ◌++◌, length, ap, arith}
 use Rattle.std.specs.Prelude.{filter, slice_get}
-use Rattle.flow_code.specs.Holding.{number_of_pair, behind_pair, behind_pairs}
+use Rattle.flow_code.specs.Holding.{number_of_pair, after_pair, after_pairs}
 use Rattle.held_locks.specs.ThreadStripes.{AscendFrom}
 
 module _ {A : Type 0} (f g : A → ℕ) where
@@ -17,24 +17,24 @@ module _ {A : Type 0} (f g : A → ℕ) where
       by true more = (h.0, h.1, more)
       by false more = let at = h.0 in ascend_lower n (f x + 1) (filter p xs) (omega arith) more
 
--- the number behind the last pair is above all of them
-above_first : (n : ℕ) (x : ℕ × ℕ) (xs : List (ℕ × ℕ)) → AscendFrom number_of_pair (λ y. y.1) n (x ∷ xs) → n < behind_pairs (x ∷ xs)
+-- the number after the last pair is above all of them
+above_first : (n : ℕ) (x : ℕ × ℕ) (xs : List (ℕ × ℕ)) → AscendFrom number_of_pair (λ y. y.1) n (x ∷ xs) → n < after_pairs (x ∷ xs)
 above_first n x [] h = let at = h.0 in omega arith
 above_first n x (y ∷ xs) h =
     let at = h.0 in
     let more = above_first (number_of_pair x + 1) y xs h.2 in
     let last : suc (suc (length xs)) - 1 ≡ suc (suc (length xs) - 1) = omega arith in
-    let same : behind_pairs (x ∷ y ∷ xs) ≡ behind_pairs (y ∷ xs) = ap (λ k. behind_pair (slice_get (x ∷ y ∷ xs) k)) last in
+    let same : after_pairs (x ∷ y ∷ xs) ≡ after_pairs (y ∷ xs) = ap (λ k. after_pair (slice_get (x ∷ y ∷ xs) k)) last in
     omega arith
 
-pub behind_tail : (x y : ℕ × ℕ) (xs : List (ℕ × ℕ)) → behind_pairs (x ∷ y ∷ xs) ≡ behind_pairs (y ∷ xs)
-behind_tail x y xs = let last : suc (suc (length xs)) - 1 ≡ suc (suc (length xs) - 1) = omega arith in ap (λ k. behind_pair (slice_get (x ∷ y ∷ xs) k)) last
+pub after_tail : (x y : ℕ × ℕ) (xs : List (ℕ × ℕ)) → after_pairs (x ∷ y ∷ xs) ≡ after_pairs (y ∷ xs)
+after_tail x y xs = let last : suc (suc (length xs)) - 1 ≡ suc (suc (length xs) - 1) = omega arith in ap (λ k. after_pair (slice_get (x ∷ y ∷ xs) k)) last
 
--- ascending pairs behind ascending pairs
-pub ascend_append : (n m : ℕ) (xs ys : List (ℕ × ℕ)) → n ≤ m → behind_pairs xs ≤ m → AscendFrom number_of_pair (λ y. y.1) n xs → AscendFrom number_of_pair (λ y. y.1) m ys → AscendFrom number_of_pair (λ y. y.1) n (xs ++ ys)
+-- ascending pairs after ascending pairs
+pub ascend_append : (n m : ℕ) (xs ys : List (ℕ × ℕ)) → n ≤ m → after_pairs xs ≤ m → AscendFrom number_of_pair (λ y. y.1) n xs → AscendFrom number_of_pair (λ y. y.1) m ys → AscendFrom number_of_pair (λ y. y.1) n (xs ++ ys)
 ascend_append n m [] ys le last h k = ascend_lower number_of_pair (λ y. y.1) n m ys le k
 ascend_append n m (x ∷ []) ys le last h k = (h.0, h.1, ascend_lower number_of_pair (λ y. y.1) (number_of_pair x + 1) m ys last k)
 ascend_append n m (x ∷ y ∷ xs) ys le last h k =
     let above = above_first (number_of_pair x + 1) y xs h.2 in
-    let tail = behind_tail x y xs in
+    let tail = after_tail x y xs in
     (h.0, h.1, ascend_append (number_of_pair x + 1) m (y ∷ xs) ys (omega arith) (omega arith) h.2 k)

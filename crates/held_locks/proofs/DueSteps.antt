@@ -15,7 +15,7 @@ use Rattle.flow_code.specs.declared.code.Code.{Code}
 use Rattle.flow_code.specs.declared.thread.Stripe.{Stripe}
 use Rattle.flow_code.specs.Holding.{number_of_stripe}
 use Rattle.flow_code.specs.Threads.{Thread}
-use Rattle.flow_code.specs.Next.{phase_due, first_owed, retake, limited, owing, listed, due_of, phase_after, repaid, lost, holds, counted, one_more, after_due, gave_up, stopped, shut, stepped}
+use Rattle.flow_code.specs.Next.{phase_due, first_owed, retake, limited, owing, listed, due_of, phase_after, repaid, lost, holds, counted, one_more, after_due, gave_up, stopped, slot_closed, stepped}
 use Rattle.flow_code.specs.Settle.{settled}
 use Rattle.flow_code.proofs.Counts.{stepped_is, operate_after}
 use Rattle.flow_code.proofs.Dues.{quiet_by_code, access_by_code}
@@ -131,8 +131,8 @@ revoked_steps th lock stripe e = record {
 pub stopped_steps : (th : Thread) → Steps th (stopped th) (due.Operate op.Stop object.Halt)
 stopped_steps th = same_steps 0 th (stopped th) _ (record { stripes = refl; regions = refl }) (refl, tt)
 
-pub shut_steps : (th : Thread) (t : ℕ) → Steps th (shut th) (due.Operate op.Close (object.Slot t))
-shut_steps th t = same_steps t th (shut th) _ (record { stripes = refl; regions = refl }) (refl, tt)
+pub shut_steps : (th : Thread) (t : ℕ) → Steps th (slot_closed th) (due.Operate op.Close (object.Slot t))
+shut_steps th t = same_steps t th (slot_closed th) _ (record { stripes = refl; regions = refl }) (refl, tt)
 
 -- ---- a thread's own step
 

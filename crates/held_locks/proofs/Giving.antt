@@ -3,7 +3,7 @@ use Rattle.std.proofs.Common.{◌≡◌, ◌≢◌, ℕ, ◌+◌, ◌<◌, ◌�
 use Rattle.std.specs.Prelude.{slice_get, slice_set}
 use Rattle.std.proofs.lemmas.Bool.{cases_eq, cases_Bool, true≢false, leb-true, leb-false, ltb-true, ltb-false}
 use Rattle.flow_code.specs.declared.thread.Stripe.{Stripe}
-use Rattle.flow_code.specs.Holding.{number_of_pair, is_listed, without_stripe, has_stripe, nesting, open_ones, with_pairs, pairs_at, first_alone, alone_at, pairs_behind, region_with, left_by, released, gives_at, keeping}
+use Rattle.flow_code.specs.Holding.{number_of_pair, is_listed, without_stripe, has_stripe, nesting, open_ones, with_pairs, pairs_at, first_alone, alone_at, pairs_after, region_with, left_by, released, gives_at, keeping}
 use Rattle.flow_code.specs.Threads.{Thread, OpenRegion}
 use Rattle.held_locks.specs.ThreadStripes.{AreSorted, ArePairsSorted}
 use Rattle.held_locks.proofs.Ascending.{ascend_filter}
@@ -100,10 +100,10 @@ module _ (th : Thread) (i : ℕ) (r : OpenRegion) (at : slice_get th.regions i �
       by n false q some = let c = left_counts [] n in let same = c.same in let one = ap bit q in omega arith
 
   -- one of them is given, and those before it are in other ones too
-  given_agree : (x : ℕ × ℕ) → first_alone th.regions r.stripes ≡ Some x → Agree (without_stripe (number_of_pair x) th.stripes) (left_open (pairs_behind (number_of_pair x) r.stripes))
+  given_agree : (x : ℕ × ℕ) → first_alone th.regions r.stripes ≡ Some x → Agree (without_stripe (number_of_pair x) th.stripes) (left_open (pairs_after (number_of_pair x) r.stripes))
   given_agree x e = record {
     sorted = without_sorted (number_of_pair x) th.stripes h.sorted;
-    opened = left_opened (pairs_behind (number_of_pair x) r.stripes) (ascend_filter number_of_pair (λ y. y.1) (λ y. nat_lt (number_of_pair x) (number_of_pair y)) 0 r.stripes region_sorted);
+    opened = left_opened (pairs_after (number_of_pair x) r.stripes) (ascend_filter number_of_pair (λ y. y.1) (λ y. nat_lt (number_of_pair x) (number_of_pair y)) 0 r.stripes region_sorted);
     listed = λ n l. some n (number_of_pair x == n) refl (sym (ap is_there (without_standing (number_of_pair x) n th.stripes)) ∙ l);
     only = λ n l. none n (number_of_pair x == n) refl (sym (ap is_there (without_standing (number_of_pair x) n th.stripes)) ∙ l);
   }
@@ -111,33 +111,33 @@ module _ (th : Thread) (i : ℕ) (r : OpenRegion) (at : slice_get th.regions i �
       a : IsAlone th.regions r.stripes 0 x
       a = alone_some th.regions 0 r.stripes x region_sorted e
 
-      behind_has : (n : ℕ) → has_stripe (pairs_behind (number_of_pair x) r.stripes) n ≡ (has_stripe r.stripes n && nat_lt (number_of_pair x) n)
-      behind_has n = has_filter (nat_lt (number_of_pair x)) r.stripes n
+      after_has : (n : ℕ) → has_stripe (pairs_after (number_of_pair x) r.stripes) n ≡ (has_stripe r.stripes n && nat_lt (number_of_pair x) n)
+      after_has n = has_filter (nat_lt (number_of_pair x)) r.stripes n
 
-      some_left : (n : ℕ) (b c : Bool) → n ≢ number_of_pair x → has_stripe r.stripes n ≡ b → nat_lt (number_of_pair x) n ≡ c → has_stripe (pairs_behind (number_of_pair x) r.stripes) n ≡ (b && c) → 0 < nesting th.regions n → 0 < nesting (left_open (pairs_behind (number_of_pair x) r.stripes)) n
-      some_left n true true ne q t f some = let c = left_counts (pairs_behind (number_of_pair x) r.stripes) n in let same = c.same in let u = ap bit q in let v = ap bit f in omega arith
+      some_left : (n : ℕ) (b c : Bool) → n ≢ number_of_pair x → has_stripe r.stripes n ≡ b → nat_lt (number_of_pair x) n ≡ c → has_stripe (pairs_after (number_of_pair x) r.stripes) n ≡ (b && c) → 0 < nesting th.regions n → 0 < nesting (left_open (pairs_after (number_of_pair x) r.stripes)) n
+      some_left n true true ne q t f some = let c = left_counts (pairs_after (number_of_pair x) r.stripes) n in let same = c.same in let u = ap bit q in let v = ap bit f in omega arith
       some_left n true false ne q t f some =
           let over = ltb-false (number_of_pair x) n t in
           let more = a.before n (omega arith) q in
-          let c = left_counts (pairs_behind (number_of_pair x) r.stripes) n in
+          let c = left_counts (pairs_after (number_of_pair x) r.stripes) n in
           let same = c.same in
           let u = ap bit q in
           let v = ap bit f in
           omega arith
-      some_left n false t2 ne q t f some = let c = left_counts (pairs_behind (number_of_pair x) r.stripes) n in let same = c.same in let u = ap bit q in let v = ap bit f in omega arith
+      some_left n false t2 ne q t f some = let c = left_counts (pairs_after (number_of_pair x) r.stripes) n in let same = c.same in let u = ap bit q in let v = ap bit f in omega arith
 
-      some : (n : ℕ) (b : Bool) → (number_of_pair x == n) ≡ b → is_there (if b then None else standing th.stripes n) ≡ true → 0 < nesting (left_open (pairs_behind (number_of_pair x) r.stripes)) n
+      some : (n : ℕ) (b : Bool) → (number_of_pair x == n) ≡ b → is_there (if b then None else standing th.stripes n) ≡ true → 0 < nesting (left_open (pairs_after (number_of_pair x) r.stripes)) n
       some n true q l = absurd (true≢false (sym l))
       some n false q l =
-          some_left n (has_stripe r.stripes n) (nat_lt (number_of_pair x) n) (λ s. true≢false (sym (eq-eqb (number_of_pair x) n (sym s)) ∙ q)) refl refl (behind_has n) (h.listed n l)
+          some_left n (has_stripe r.stripes n) (nat_lt (number_of_pair x) n) (λ s. true≢false (sym (eq-eqb (number_of_pair x) n (sym s)) ∙ q)) refl refl (after_has n) (h.listed n l)
 
-      none_left : (n : ℕ) (b : Bool) → has_stripe r.stripes n ≡ b → has_stripe (pairs_behind (number_of_pair x) r.stripes) n ≡ (b && nat_lt (number_of_pair x) n) → nesting th.regions n ≡ 0 → nesting (left_open (pairs_behind (number_of_pair x) r.stripes)) n ≡ 0
-      none_left n true q f zero_now = let c = left_counts (pairs_behind (number_of_pair x) r.stripes) n in let within = c.within in let u = ap bit q in absurd (omega arith)
-      none_left n false q f zero_now = let c = left_counts (pairs_behind (number_of_pair x) r.stripes) n in let same = c.same in let u = ap bit q in let v = ap bit f in omega arith
+      none_left : (n : ℕ) (b : Bool) → has_stripe r.stripes n ≡ b → has_stripe (pairs_after (number_of_pair x) r.stripes) n ≡ (b && nat_lt (number_of_pair x) n) → nesting th.regions n ≡ 0 → nesting (left_open (pairs_after (number_of_pair x) r.stripes)) n ≡ 0
+      none_left n true q f zero_now = let c = left_counts (pairs_after (number_of_pair x) r.stripes) n in let within = c.within in let u = ap bit q in absurd (omega arith)
+      none_left n false q f zero_now = let c = left_counts (pairs_after (number_of_pair x) r.stripes) n in let same = c.same in let u = ap bit q in let v = ap bit f in omega arith
 
-      gone : nesting (left_open (pairs_behind (number_of_pair x) r.stripes)) (number_of_pair x) ≡ 0
+      gone : nesting (left_open (pairs_after (number_of_pair x) r.stripes)) (number_of_pair x) ≡ 0
       gone =
-          let c = left_counts (pairs_behind (number_of_pair x) r.stripes) (number_of_pair x) in
+          let c = left_counts (pairs_after (number_of_pair x) r.stripes) (number_of_pair x) in
           let same = c.same in
           let u = ap bit a.has in
           let v = ap bit itself in
@@ -147,12 +147,12 @@ module _ (th : Thread) (i : ℕ) (r : OpenRegion) (at : slice_get th.regions i �
           not_below : nat_lt (number_of_pair x) (number_of_pair x) ≡ false
           not_below = ⊎_elim (λ t. let less = ltb-true (number_of_pair x) (number_of_pair x) t in absurd (omega arith)) (λ t. t) (cases_Bool (nat_lt (number_of_pair x) (number_of_pair x)))
 
-          itself : has_stripe (pairs_behind (number_of_pair x) r.stripes) (number_of_pair x) ≡ false
-          itself = behind_has (number_of_pair x) ∙ rw (a.has, not_below) refl
+          itself : has_stripe (pairs_after (number_of_pair x) r.stripes) (number_of_pair x) ≡ false
+          itself = after_has (number_of_pair x) ∙ rw (a.has, not_below) refl
 
-      none : (n : ℕ) (b : Bool) → (number_of_pair x == n) ≡ b → is_there (if b then None else standing th.stripes n) ≡ false → nesting (left_open (pairs_behind (number_of_pair x) r.stripes)) n ≡ 0
-      none n true q l = let same = ap (nesting (left_open (pairs_behind (number_of_pair x) r.stripes))) (eqb-true (number_of_pair x) n q) in omega (arith, gone)
-      none n false q l = none_left n (has_stripe r.stripes n) refl (behind_has n) (h.only n l)
+      none : (n : ℕ) (b : Bool) → (number_of_pair x == n) ≡ b → is_there (if b then None else standing th.stripes n) ≡ false → nesting (left_open (pairs_after (number_of_pair x) r.stripes)) n ≡ 0
+      none n true q l = let same = ap (nesting (left_open (pairs_after (number_of_pair x) r.stripes))) (eqb-true (number_of_pair x) n q) in omega (arith, gone)
+      none n false q l = none_left n (has_stripe r.stripes n) refl (after_has n) (h.only n l)
 
   -- what is given is held or owed
   pub given_there : (x : ℕ × ℕ) → first_alone th.regions r.stripes ≡ Some x → (is_there (standing th.stripes (number_of_pair x)) ≡ true) × (x.1 < 8)

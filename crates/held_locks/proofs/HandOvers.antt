@@ -193,13 +193,13 @@ module _ (code : Code) (s : SetupView) (run : IsRunnable code) (limits : IsWithi
         -- from the end on the thread makes no access
         no_more : (i : ℕ) (x : Event) → events i ≡ Some x → event_thread x ≡ k → event_access x ≢ NoAccess → (lt : Bool) → nat_lt i u.b ≡ lt → i < u.b
         no_more i x e whose access true l = ltb-true i u.b l
-        no_more i x e whose access false l = let high = ltb-false i u.b l in ⊎_elim (λ same. absurd (at_end same)) (λ ne. absurd (behind (omega arith))) (cases_eq i u.b)
+        no_more i x e whose access false l = let high = ltb-false i u.b l in ⊎_elim (λ same. absurd (at_end same)) (λ ne. absurd (following (omega arith))) (cases_eq i u.b)
           where
             at_end : i ≡ u.b → ⊥
             at_end same = access (ap event_access (same_Some x (Did k over.noted over.answer) (sym e ∙ ap events same ∙ u.event ∙ over.happens)))
 
-            behind : u.b < i → ⊥
-            behind lt =
+            following : u.b < i → ⊥
+            following lt =
                 let q = place_at code s labels begin_state i x at_begin e in
                 over_silent code s run limits k has q.before q.after q.label q.reached q.steps (sym (event_is_own code s q.before q.after q.label (has_stepped code s q.before q.after q.label q.steps) x q.event) ∙ whose) x
                 (later is_over over_stays u.after q.before (suc u.b) i (omega arith) u.next q.at u.now) q.event access

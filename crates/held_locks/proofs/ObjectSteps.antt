@@ -21,7 +21,7 @@ use Rattle.core_run.specs.Histories.{IsReachable}
 use Rattle.core_run.specs.Kept.{IsKept}
 use Rattle.core_run.specs.Words.{cells_of, has_object}
 use Rattle.core_run.specs.Machine.{Told, machine}
-use Rattle.core_run.proofs.Places.{place_behind, place_apart}
+use Rattle.core_run.proofs.Places.{place_past, place_apart}
 use Rattle.core_run.proofs.Reached.{kept}
 use Rattle.runs.specs.Labels.{Label, label_thread}
 use Rattle.runs.specs.Ordered.{Event, Did, event_of}
@@ -76,7 +76,7 @@ module _ (code : Code) (s : SetupView) (obj : ObjId) where
 
     pub alone_by_access : IsAccessStep code s st.words st1.words (event_of (machine code s) st l) l h.before.thread h.after.thread → LeavesAlone st l st1
     alone_by_access a = record {
-      same = index_same st1.words st.words (place code s obj) (a.objects (place code s obj) (place_behind (cells_of code s) obj));
+      same = index_same st1.words st.words (place code s obj) (a.objects (place code s obj) (place_past (cells_of code s) obj));
       none = λ t x answer e on. no a.what t x answer (same_Some a.what (Did t x answer) (sym a.happens ∙ e)) a.no_operation;
     }
       where

@@ -57,8 +57,8 @@ abbrev put : ℕ → Stripe → List Stripe → List Stripe
 put n x [] = x ∷ []
 put n x (y ∷ ys) = if nat_lt n (number_of_stripe y) then x ∷ y ∷ ys else y ∷ put n x ys
 
-abbrev is_behind : ℕ → Stripe → Bool
-is_behind n y = nat_lt n (number_of_stripe y)
+abbrev is_past : ℕ → Stripe → Bool
+is_past n y = nat_lt n (number_of_stripe y)
 
 -- the first place at which something holds, or the length
 place_or_end : (p : Stripe → Bool) (xs : List Stripe) → unwrap_or (position p xs) (length xs) ≡ position_or_len p xs
@@ -76,19 +76,19 @@ place_or_end p xs = by (nat_lt (position_or_len p xs) (length xs)) refl
     by true e = refl
     by false e = let over = ltb-false (position_or_len p xs) (length xs) e in let most = at_most p xs in omega arith
 
-insert_is : (n : ℕ) (x : Stripe) (ys : List Stripe) → insert ys (position_or_len (is_behind n) ys) x ≡ put n x ys
+insert_is : (n : ℕ) (x : Stripe) (ys : List Stripe) → insert ys (position_or_len (is_past n) ys) x ≡ put n x ys
 insert_is n x [] = refl
 insert_is n x (y ∷ ys) = by (nat_lt n (number_of_stripe y)) (insert_is n x ys)
   where
-    by : (b : Bool) → insert ys (position_or_len (is_behind n) ys) x ≡ put n x ys → insert (y ∷ ys) (if not b then 1 + position_or_len (is_behind n) ys else 0) x ≡ (if b then x ∷ y ∷ ys else y ∷ put n x ys)
+    by : (b : Bool) → insert ys (position_or_len (is_past n) ys) x ≡ put n x ys → insert (y ∷ ys) (if not b then 1 + position_or_len (is_past n) ys else 0) x ≡ (if b then x ∷ y ∷ ys else y ∷ put n x ys)
     by true e = refl
-    by false e = let one : 1 + position_or_len (is_behind n) ys ≡ suc (position_or_len (is_behind n) ys) = omega arith in ap (λ k. insert (y ∷ ys) k x) one ∙ ap (λ zs. y ∷ zs) e
+    by false e = let one : 1 + position_or_len (is_past n) ys ≡ suc (position_or_len (is_past n) ys) = omega arith in ap (λ k. insert (y ∷ ys) k x) one ∙ ap (λ zs. y ∷ zs) e
 
 abbrev new_one : ℕ → Stripe
 new_one n = record { lock = (stripe_of n).0; stripe = (stripe_of n).1; owed = false }
 
 with_is : (n : ℕ) (xs : List Stripe) → with_stripe n xs ≡ put n (new_one n) xs
-with_is n xs = ap (λ k. insert xs k (new_one n)) (place_or_end (is_behind n) xs) ∙ insert_is n (new_one n) xs
+with_is n xs = ap (λ k. insert xs k (new_one n)) (place_or_end (is_past n) xs) ∙ insert_is n (new_one n) xs
 
 new_number : (n : ℕ) → number_of_stripe (new_one n) ≡ n
 new_number n = omega arith
@@ -196,9 +196,9 @@ at_place p o xs = by (nat_lt (position_or_len p xs) (length xs)) refl
     by true e = refl
     by false e = sym (ap (owed_at o xs (position_or_len p xs)) (slice_get_past xs (position_or_len p xs) (ltb-false (position_or_len p xs) (length xs) e)))
 
-owed_behind : (o : Bool) (x : Stripe) (xs : List Stripe) (i : ℕ) (w : Option Stripe) → owed_at o (x ∷ xs) (suc i) w ≡ x ∷ owed_at o xs i w
-owed_behind o x xs i None = refl
-owed_behind o x xs i (Some y) = refl
+owed_past : (o : Bool) (x : Stripe) (xs : List Stripe) (i : ℕ) (w : Option Stripe) → owed_at o (x ∷ xs) (suc i) w ≡ x ∷ owed_at o xs i w
+owed_past o x xs i None = refl
+owed_past o x xs i (Some y) = refl
 
 marked_is : (p : Stripe → Bool) (o : Bool) (xs : List Stripe) → owed_at o xs (position_or_len p xs) (slice_get xs (position_or_len p xs)) ≡ marked p o xs
 marked_is p o [] = refl
@@ -208,7 +208,7 @@ marked_is p o (x ∷ xs) = by (p x) (marked_is p o xs)
     by true e = refl
     by false e =
         let one : 1 + position_or_len p xs ≡ suc (position_or_len p xs) = omega arith in
-        ap (λ k. owed_at o (x ∷ xs) k (slice_get (x ∷ xs) k)) one ∙ owed_behind o x xs (position_or_len p xs) (slice_get xs (position_or_len p xs)) ∙ ap (λ zs. x ∷ zs) e
+        ap (λ k. owed_at o (x ∷ xs) k (slice_get (x ∷ xs) k)) one ∙ owed_past o x xs (position_or_len p xs) (slice_get xs (position_or_len p xs)) ∙ ap (λ zs. x ∷ zs) e
 
 pub marks : (p : Stripe → Bool) (o : Bool) (xs : List Stripe) → with_owed o xs (position p xs) ≡ marked p o xs
 marks p o xs = at_place p o xs ∙ marked_is p o xs

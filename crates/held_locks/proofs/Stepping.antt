@@ -18,7 +18,7 @@ use Rattle.abstract_machine.specs.declared.event.Action.TheVariants as action
 use Rattle.abstract_machine.specs.Values.{number}
 use Rattle.flow_code.specs.declared.code.Code.{Code}
 use Rattle.flow_code.specs.Threads.{Thread}
-use Rattle.flow_code.specs.Next.{stepped as thread_stepped, action_at, gave_up, stopped, shut}
+use Rattle.flow_code.specs.Next.{stepped as thread_stepped, action_at, gave_up, stopped, slot_closed}
 use Rattle.flow_code.specs.Settle.{settled}
 use Rattle.flow_code.proofs.Counts.{IsAccessAction}
 use Rattle.core_run.specs.Words.{cells_of, has_object, place_of}
@@ -50,7 +50,7 @@ module _ (code : Code) (s : SetupView) where
     by_itself : ComesTo l th (action.Operate o obj) answer q → Makes l th o obj answer q
     by_revoke : (lock stripe : ℕ) → may_revoke th lock stripe ≡ true → o ≡ op.Revoke → obj ≡ object.Weak lock stripe → q ≡ gave_up th lock stripe → Makes l th o obj answer q
     by_stop : may_stop th ≡ true → o ≡ op.Stop → obj ≡ object.Halt → q ≡ stopped th → Makes l th o obj answer q
-    by_close : may_close th ≡ true → o ≡ op.Close → obj ≡ object.Slot (label_thread l) → q ≡ shut th → Makes l th o obj answer q
+    by_close : may_close th ≡ true → o ≡ op.Close → obj ≡ object.Slot (label_thread l) → q ≡ slot_closed th → Makes l th o obj answer q
 
   -- an access or a mark changes no object's word
   pub record IsAccessStep (words after : List ℕ) (event : Option Event) (l : Label) (th q : Thread) : Type 0 where
@@ -137,7 +137,7 @@ module _ (code : Code) (s : SetupView) where
       (if_is (Stop t) told.thread (may_stop told.thread) _ (λ m. operation_is (Stop t) told.thread told op.Stop object.Halt [] (λ answer. stopped told.thread) (λ answer. by_stop m refl refl refl)))
   effect_is (Close t) told =
       subst (EffectIs (Close t) told.thread) (sym (effect_close code s t told))
-      (if_is (Close t) told.thread (may_close told.thread) _ (λ m. operation_is (Close t) told.thread told op.Close (object.Slot t) [] (λ answer. shut told.thread) (λ answer. by_close m refl refl refl)))
+      (if_is (Close t) told.thread (may_close told.thread) _ (λ m. operation_is (Close t) told.thread told op.Close (object.Slot t) [] (λ answer. slot_closed told.thread) (λ answer. by_close m refl refl refl)))
 
   -- ---- what it comes to
 

@@ -20,7 +20,7 @@ use Rattle.abstract_machine.specs.Limits.{most_entries, most_revokes}
 use Rattle.flow_code.specs.declared.code.Code.{Code}
 use Rattle.flow_code.specs.declared.thread.Stripe.{Stripe}
 use Rattle.flow_code.specs.Threads.{Thread}
-use Rattle.flow_code.specs.Next.{holds, due_of, action_of, has_ended, stepped as thread_stepped, gave_up, stopped, shut}
+use Rattle.flow_code.specs.Next.{holds, due_of, action_of, has_ended, stepped as thread_stepped, gave_up, stopped, slot_closed}
 use Rattle.flow_code.specs.Settle.{settled}
 use Rattle.flow_code.proofs.Counts.{IsAccessAction}
 use Rattle.flow_code.proofs.Settle.{action_is}
@@ -113,7 +113,7 @@ module _ (code : Code) (s : SetupView) (l : Label) (th q : Thread) (h : Agree th
   operation_moves o obj answer (by_revoke lock stripe may e f after) =
       subst (λ z. OperationMoves th q z obj) (sym e) (subst (OperationMoves th q op.Revoke) (sym f) (by_steps op.Revoke (object.Weak lock stripe) (gave_up th lock stripe) after (revoked_steps th lock stripe (revoke_holds lock stripe may))))
   operation_moves o obj answer (by_stop may e f after) = subst (λ z. OperationMoves th q z obj) (sym e) (subst (OperationMoves th q op.Stop) (sym f) (by_steps op.Stop object.Halt (stopped th) after (stopped_steps th)))
-  operation_moves o obj answer (by_close may e f after) = subst (λ z. OperationMoves th q z obj) (sym e) (subst (OperationMoves th q op.Close) (sym f) (by_steps op.Close (object.Slot (label_thread l)) (shut th) after (shut_steps th (label_thread l))))
+  operation_moves o obj answer (by_close may e f after) = subst (λ z. OperationMoves th q z obj) (sym e) (subst (OperationMoves th q op.Close) (sym f) (by_steps op.Close (object.Slot (label_thread l)) (slot_closed th) after (shut_steps th (label_thread l))))
 
 -- ---- what an operation on a stripe says of its word
 

@@ -10,7 +10,7 @@ use Rattle.flow_code.specs.declared.region.Region.{Region}
 use Rattle.flow_code.specs.declared.thread.Stripe.{Stripe}
 use Rattle.flow_code.specs.Threads.{Frame, Thread, is_main}
 use Rattle.flow_code.specs.Holding.{number_of_pair, with_stripe, lacked, take_or_quiet, taken, alone_at, give_or_quiet, gives_at}
-use Rattle.flow_code.specs.Next.{first_owed, computed, end_onward, back_in, returned, went_on, on_unless}
+use Rattle.flow_code.specs.Next.{first_owed, computed, end_onward, back_in, returned, resumed, on_unless}
 use Rattle.held_locks.proofs.Standings.{standing, is_held, with_standing, without_standing}
 use Rattle.held_locks.proofs.Holds.{numbered}
 use Rattle.held_locks.proofs.Regions.{Agree}
@@ -61,7 +61,7 @@ returned_same code th value = by (length th.below == 0)
     by true = end_same (is_main code th.top.function) th th.top.made
     by false = back_same code th value (slice_get th.below (length th.below - 1))
 
-pub went_same : (th : Thread) (n : ℕ) (into : Option ℕ) (o : Onward) → HasSame th (went_on (record th { printed = n }) into o)
+pub went_same : (th : Thread) (n : ℕ) (into : Option ℕ) (o : Onward) → HasSame th (resumed (record th { printed = n }) into o)
 went_same th n into (onward.Stays kept) = record { stripes = refl; regions = refl }
 went_same th n into (onward.Gives w) = record { stripes = refl; regions = refl }
 went_same th n into onward.Ends = record { stripes = refl; regions = refl }

@@ -25,7 +25,7 @@ module _ (code : Code) (s : SetupView) where
     pub event : event_of (machine code s) before label ≡ Some x
     pub reached : IsReachable code s before
 
-  -- the state behind the first label
+  -- the state after the first label
   state_more : (l : Label) (ls : List Label) (st st1 : State Told) (k : ℕ) → stepped (machine code s) st l ≡ Some st1 → state_at (machine code s) (l ∷ ls) st (suc k) ≡ state_at (machine code s) ls st1 k
   state_more l ls st st1 k e = ap (option_and_then (λ z. state_at (machine code s) ls z k)) e
 

@@ -44,9 +44,9 @@ to_natural : (z : ℤ) (u w : ℕ) → moved_to u z ≡ Ok w → (k : ℕ) × (p
 to_natural (pos k) u w h = (k, refl)
 to_natural (negsuc k) u w h = cc
 
--- a word so many cells behind another one, moved on or back to no less than that one
-pub moved_behind : (sites : List Site) (v n w m : ℕ) (by : ℤ) → offset_of v + n < 2 ^ 16 → moved sites (v + n) by ≡ Ok w → pos n +ℤ by ≡ pos m → (w ≡ v + m) × (offset_of v + m < 2 ^ 16)
-moved_behind sites v n w m by near h e = read (nat_le (site_of (v + n)) (length sites)) h
+-- a word so many cells after another one, moved on or back to no less than that one
+pub moved_after : (sites : List Site) (v n w m : ℕ) (by : ℤ) → offset_of v + n < 2 ^ 16 → moved sites (v + n) by ≡ Ok w → pos n +ℤ by ≡ pos m → (w ≡ v + m) × (offset_of v + m < 2 ^ 16)
+moved_after sites v n w m by near h e = read (nat_le (site_of (v + n)) (length sites)) h
   where
     go : (b : Bool) → (if b then Err BadDereference else moved_to (v + n) (pos (offset_of (v + n)) +ℤ by)) ≡ Ok w → (w ≡ v + m) × (offset_of v + m < 2 ^ 16)
     go true g = cc

@@ -57,25 +57,25 @@ call_zero f k call.CondWait (c ∷ m ∷ x ∷ xs) l = refl
 call_zero f k _ args l = refl
 
 module _ (slots : ℕ) (f : Function) (k : ℕ) (rs : List ℕ) (h : IsKnown slots f k rs) (w : Caller) (l : RelLocks) (before now later : ℕ → Bool) where
-  -- the locks behind an event, by what it leads to
-  abbrev pub LocksBehind : LibraryCall → List ℕ → ℕ → Onward → Type 0
-  LocksBehind c args made (onward.Stays kept) = Mean slots f rs (call_so_far f k c args (suc made) l) before later
-  LocksBehind c args made (onward.Gives v) = Mean slots f rs (after_library f k c args l) before later
-  LocksBehind c args made onward.Ends = Mean slots f rs (call_so_far f k c args made l) before later
+  -- the locks after an event, by what it leads to
+  abbrev pub LocksAfter : LibraryCall → List ℕ → ℕ → Onward → Type 0
+  LocksAfter c args made (onward.Stays kept) = Mean slots f rs (call_so_far f k c args (suc made) l) before later
+  LocksAfter c args made (onward.Gives v) = Mean slots f rs (after_library f k c args l) before later
+  LocksAfter c args made onward.Ends = Mean slots f rs (call_so_far f k c args made l) before later
 
-  all_behind : (c : LibraryCall) (args : List ℕ) (made : ℕ) (o : Onward) → Mean slots f rs (call_so_far f k c args (suc made) l) before later → Mean slots f rs (after_library f k c args l) before later → Mean slots f rs (call_so_far f k c args made l) before later → LocksBehind c args made o
-  all_behind c args made (onward.Stays kept) x y z = x
-  all_behind c args made (onward.Gives v) x y z = y
-  all_behind c args made onward.Ends x y z = z
+  all_past : (c : LibraryCall) (args : List ℕ) (made : ℕ) (o : Onward) → Mean slots f rs (call_so_far f k c args (suc made) l) before later → Mean slots f rs (after_library f k c args l) before later → Mean slots f rs (call_so_far f k c args made l) before later → LocksAfter c args made o
+  all_past c args made (onward.Stays kept) x y z = x
+  all_past c args made (onward.Gives v) x y z = y
+  all_past c args made onward.Ends x y z = z
 
   abbrev Step : LibraryCall → List ℕ → ℕ → ℤ → ℤ → Type 0
-  Step c args made kept answer = Passes (library_due w c (words_of rs args) made kept) now later → Mean slots f rs (call_so_far f k c args made l) before now → LocksBehind c args made (library_onward w c (words_of rs args) made kept answer)
+  Step c args made kept answer = Passes (library_due w c (words_of rs args) made kept) now later → Mean slots f rs (call_so_far f k c args made l) before now → LocksAfter c args made (library_onward w c (words_of rs args) made kept answer)
 
   plain_step : (c : LibraryCall) (args : List ℕ) (made : ℕ) (kept answer : ℤ) → is_plain c ≡ true → Step c args made kept answer
   plain_step c args made kept answer p passes m =
       let held = more (library_due w c (words_of rs args) made kept) now later (library_none w c (words_of rs args) made kept p) passes in
       let mean = mean_more slots f rs l before now later held (subst (λ z. Mean slots f rs z before now) (plain_far f k c args made l p) m) in
-      all_behind c args made (library_onward w c (words_of rs args) made kept answer)
+      all_past c args made (library_onward w c (words_of rs args) made kept answer)
       (subst (λ z. Mean slots f rs z before later) (sym (plain_far f k c args (suc made) l p)) mean)
       (subst (λ z. Mean slots f rs z before later) (sym (plain_after f k c args l p)) mean)
       (subst (λ z. Mean slots f rs z before later) (sym (plain_far f k c args made l p)) mean)
@@ -97,21 +97,21 @@ module _ (slots : ℕ) (f : Function) (k : ℕ) (rs : List ℕ) (h : IsKnown slo
   lock_step : (r made : ℕ) (kept answer : ℤ) → Step call.MutexLock (r ∷ []) made kept answer
   lock_step r zero kept answer passes m = by (resolved w.sites (register rs r) kind.Mutex) refl passes
     where
-      by : (o : Result ℕ Trap) → resolved w.sites (register rs r) kind.Mutex ≡ o → Passes (at_cell o (λ c. due.Operate op.Lock (object.Mutex c))) now later → LocksBehind call.MutexLock (r ∷ []) 0 (library_onward w call.MutexLock (words_of rs (r ∷ [])) 0 kept answer)
+      by : (o : Result ℕ Trap) → resolved w.sites (register rs r) kind.Mutex ≡ o → Passes (at_cell o (λ c. due.Operate op.Lock (object.Mutex c))) now later → LocksAfter call.MutexLock (r ∷ []) 0 (library_onward w call.MutexLock (words_of rs (r ∷ [])) 0 kept answer)
       by (Err t) g p = absurd p
       by (Ok c) g p =
           let mean = now_locked r c l g p m in
-          all_behind call.MutexLock (r ∷ []) 0 (library_onward w call.MutexLock (words_of rs (r ∷ [])) 0 kept answer) mean mean (mean_more slots f rs l before now later p.0 m)
+          all_past call.MutexLock (r ∷ []) 0 (library_onward w call.MutexLock (words_of rs (r ∷ [])) 0 kept answer) mean mean (mean_more slots f rs l before now later p.0 m)
   lock_step r (suc n) kept answer passes m = by (is_misuse kept) passes
     where
-      by : (b : Bool) → Passes (if b then due.Trap trap.MutexMisuse else due.Quiet) now later → LocksBehind call.MutexLock (r ∷ []) (suc n) (library_onward w call.MutexLock (words_of rs (r ∷ [])) (suc n) kept answer)
+      by : (b : Bool) → Passes (if b then due.Trap trap.MutexMisuse else due.Quiet) now later → LocksAfter call.MutexLock (r ∷ []) (suc n) (library_onward w call.MutexLock (words_of rs (r ∷ [])) (suc n) kept answer)
       by true p = absurd p
       by false p = mean_more slots f rs (locked (naming_at f k r) l) before now later p m
 
   unlock_step : (r made : ℕ) (kept answer : ℤ) → Step call.MutexUnlock (r ∷ []) made kept answer
   unlock_step r zero kept answer passes m = by (resolved w.sites (register rs r) kind.Mutex) refl passes
     where
-      onward_by : (o : Onward) → ((answer2 : ℤ) → o ≡ onward.Ends → ⊥) → Mean slots f rs (unlocked (naming_at f k r) l) before later → LocksBehind call.MutexUnlock (r ∷ []) 0 o
+      onward_by : (o : Onward) → ((answer2 : ℤ) → o ≡ onward.Ends → ⊥) → Mean slots f rs (unlocked (naming_at f k r) l) before later → LocksAfter call.MutexUnlock (r ∷ []) 0 o
       onward_by (onward.Stays x) n mean = mean
       onward_by (onward.Gives x) n mean = mean
       onward_by onward.Ends n mean = absurd (n answer refl)
@@ -120,22 +120,22 @@ module _ (slots : ℕ) (f : Function) (k : ℕ) (rs : List ℕ) (h : IsKnown slo
       stays true e = cc
       stays false e = cc
 
-      by : (o : Result ℕ Trap) → resolved w.sites (register rs r) kind.Mutex ≡ o → Passes (at_cell o (λ c. due.Operate op.Unlock (object.Mutex c))) now later → LocksBehind call.MutexUnlock (r ∷ []) 0 (library_onward w call.MutexUnlock (words_of rs (r ∷ [])) 0 kept answer)
+      by : (o : Result ℕ Trap) → resolved w.sites (register rs r) kind.Mutex ≡ o → Passes (at_cell o (λ c. due.Operate op.Unlock (object.Mutex c))) now later → LocksAfter call.MutexUnlock (r ∷ []) 0 (library_onward w call.MutexUnlock (words_of rs (r ∷ [])) 0 kept answer)
       by (Err t) g p = absurd p
       by (Ok c) g p = onward_by (library_onward w call.MutexUnlock (words_of rs (r ∷ [])) 0 kept answer) (λ z e. stays (is_misuse answer) e) (now_unlocked r c l g p m)
   unlock_step r (suc n) kept answer passes m = by (is_misuse kept) passes
     where
-      by : (b : Bool) → Passes (if b then due.Trap trap.MutexMisuse else due.Quiet) now later → LocksBehind call.MutexUnlock (r ∷ []) (suc n) (library_onward w call.MutexUnlock (words_of rs (r ∷ [])) (suc n) kept answer)
+      by : (b : Bool) → Passes (if b then due.Trap trap.MutexMisuse else due.Quiet) now later → LocksAfter call.MutexUnlock (r ∷ []) (suc n) (library_onward w call.MutexUnlock (words_of rs (r ∷ [])) (suc n) kept answer)
       by true p = absurd p
       by false p = mean_more slots f rs (unlocked (naming_at f k r) l) before now later p m
 
   -- ---- a wait
 
-  wait_step_at : (c r x made : ℕ) (kept answer : ℤ) → resolved w.sites (register rs r) kind.Mutex ≡ Ok x → (y : ℕ) → Passes (wait_due_at y x made kept) now later → Mean slots f rs (call_so_far f k call.CondWait (c ∷ r ∷ []) made l) before now → LocksBehind call.CondWait (c ∷ r ∷ []) made (library_onward w call.CondWait (words_of rs (c ∷ r ∷ [])) made kept answer)
+  wait_step_at : (c r x made : ℕ) (kept answer : ℤ) → resolved w.sites (register rs r) kind.Mutex ≡ Ok x → (y : ℕ) → Passes (wait_due_at y x made kept) now later → Mean slots f rs (call_so_far f k call.CondWait (c ∷ r ∷ []) made l) before now → LocksAfter call.CondWait (c ∷ r ∷ []) made (library_onward w call.CondWait (words_of rs (c ∷ r ∷ [])) made kept answer)
   wait_step_at c r x zero kept answer g y p m = mean_more slots f rs l before now later p m
   wait_step_at c r x (suc zero) kept answer g y p m = by (is_misuse answer)
     where
-      by : (b : Bool) → LocksBehind call.CondWait (c ∷ r ∷ []) 1 (if b then onward.Stays answer else onward.Stays kept)
+      by : (b : Bool) → LocksAfter call.CondWait (c ∷ r ∷ []) 1 (if b then onward.Stays answer else onward.Stays kept)
       by true = now_unlocked r x l g p m
       by false = now_unlocked r x l g p m
   wait_step_at c r x (suc (suc zero)) kept answer g y p m = by (is_misuse kept) p
@@ -148,11 +148,11 @@ module _ (slots : ℕ) (f : Function) (k : ℕ) (rs : List ℕ) (h : IsKnown slo
   wait_step : (c r made : ℕ) (kept answer : ℤ) → Step call.CondWait (c ∷ r ∷ []) made kept answer
   wait_step c r made kept answer passes m = by (cell_of w (words_of rs (c ∷ r ∷ [])) 0 kind.Cond) passes
     where
-      second : (y : ℕ) (o : Result ℕ Trap) → resolved w.sites (register rs r) kind.Mutex ≡ o → Passes (at_cell o (λ x. wait_due_at y x made kept)) now later → LocksBehind call.CondWait (c ∷ r ∷ []) made (library_onward w call.CondWait (words_of rs (c ∷ r ∷ [])) made kept answer)
+      second : (y : ℕ) (o : Result ℕ Trap) → resolved w.sites (register rs r) kind.Mutex ≡ o → Passes (at_cell o (λ x. wait_due_at y x made kept)) now later → LocksAfter call.CondWait (c ∷ r ∷ []) made (library_onward w call.CondWait (words_of rs (c ∷ r ∷ [])) made kept answer)
       second y (Err t) g p = absurd p
       second y (Ok x) g p = wait_step_at c r x made kept answer g y p m
 
-      by : (o : Result ℕ Trap) → Passes (at_cell o (λ y. at_cell (cell_of w (words_of rs (c ∷ r ∷ [])) 1 kind.Mutex) (λ x. wait_due_at y x made kept))) now later → LocksBehind call.CondWait (c ∷ r ∷ []) made (library_onward w call.CondWait (words_of rs (c ∷ r ∷ [])) made kept answer)
+      by : (o : Result ℕ Trap) → Passes (at_cell o (λ y. at_cell (cell_of w (words_of rs (c ∷ r ∷ [])) 1 kind.Mutex) (λ x. wait_due_at y x made kept))) now later → LocksAfter call.CondWait (c ∷ r ∷ []) made (library_onward w call.CondWait (words_of rs (c ∷ r ∷ [])) made kept answer)
       by (Err t) p = absurd p
       by (Ok y) p = second y (resolved w.sites (register rs r) kind.Mutex) refl p
 

@@ -108,7 +108,7 @@ module _ (slots : ℕ) (f : Function) where
     constants = λ r z e. absurd (no_constants (length (objects_of f.instrs)) (omega arith) r z e);
   }
 
-  -- behind the objects no more is known than at the entry
+  -- after the objects no more is known than at the entry
   pub locks_first : (exits : List RelLocks) (top : List LockPath) (x : Points) → IsSolution exits f top x → (j : ℕ) → j ≤ length (objects_of f.instrs) → (l : RelLocks) → slice_get x.before j ≡ Some l → Below l nothing
   locks_first exits top x solves zero le l e = solves.entry l e
   locks_first exits top x solves (suc j) le l e =

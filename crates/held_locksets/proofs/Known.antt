@@ -43,7 +43,7 @@ RootIs slots f rs (global b) v = (base_of v ≡ b + 2 * slots) × (offset_of v �
 RootIs slots f rs (formal i) v = (is_fixed f i ≡ true) × (v ≡ register rs i)
 
 -- the word is so many cells behind the root's
-pub record IsBehind (slots : ℕ) (f : Function) (rs : List ℕ) (n : Known) (w : ℕ) : Type 0 where
+pub record IsAfter (slots : ℕ) (f : Function) (rs : List ℕ) (n : Known) (w : ℕ) : Type 0 where
   pub root : ℕ
   pub is : RootIs slots f rs n.root root
   pub word : w ≡ root + n.cells
@@ -52,17 +52,17 @@ pub record IsBehind (slots : ℕ) (f : Function) (rs : List ℕ) (n : Known) (w 
 -- each register holds what is known of it
 pub record IsKnown (slots : ℕ) (f : Function) (k : ℕ) (rs : List ℕ) : Type 0 where
   pub long : length rs ≡ f.registers
-  pub words : (r : ℕ) (n : Known) → known_at f.formals f.instrs k r ≡ Some n → IsBehind slots f rs n (register rs r)
+  pub words : (r : ℕ) (n : Known) → known_at f.formals f.instrs k r ≡ Some n → IsAfter slots f rs n (register rs r)
   pub constants : (r : ℕ) (z : ℤ) → constant_at f.instrs k r ≡ Some z → number (register rs r) ≡ z
 
 abbrev pub known_to : Root → ℕ → Known
 known_to x n = record { root = x; cells = n }
 
-pub formal_is : (slots : ℕ) (f : Function) (rs : List ℕ) (r : ℕ) (n : Known) → known_formal f.formals f.instrs r ≡ Some n → IsBehind slots f rs n (register rs r)
+pub formal_is : (slots : ℕ) (f : Function) (rs : List ℕ) (r : ℕ) (n : Known) → known_formal f.formals f.instrs r ≡ Some n → IsAfter slots f rs n (register rs r)
 formal_is slots f rs r n e = by (is_fixed f r) refl e
   where
-    by : (b : Bool) → is_fixed f r ≡ b → (if b then Some (known_to (formal r) 0) else None) ≡ Some n → IsBehind slots f rs n (register rs r)
-    by true h g = subst (λ z. IsBehind slots f rs z (register rs r)) (same_Some (known_to (formal r) 0) n g) (record { root = register rs r; is = (h, refl); word = omega arith; near = omega arith })
+    by : (b : Bool) → is_fixed f r ≡ b → (if b then Some (known_to (formal r) 0) else None) ≡ Some n → IsAfter slots f rs n (register rs r)
+    by true h g = subst (λ z. IsAfter slots f rs z (register rs r)) (same_Some (known_to (formal r) 0) n g) (record { root = register rs r; is = (h, refl); word = omega arith; near = omega arith })
     by false h g = cc
 
 if_true : {A : Type 0} (b : Bool) (x y z : A) → b ≡ true → (if b then x else y) ≡ z → x ≡ z
@@ -89,19 +89,19 @@ known_before f k q = known_at f.formals f.instrs k q
 abbrev pub constant_before : Function → ℕ → ℕ → Option ℤ
 constant_before f k q = constant_at f.instrs k q
 
--- an instruction that changes no register but the one that it assigns, to what is known of that behind it
+-- an instruction that changes no register but the one that it assigns, to what is known of that after it
 pub record Changes (slots : ℕ) (f : Function) (k : ℕ) (a : Act) (rs qs : List ℕ) : Type 0 where
   pub long : length qs ≡ length rs
   pub others : (r : ℕ) → assigns r (Some a) ≡ false → register qs r ≡ register rs r
-  pub gives : (r : ℕ) (n : Known) → assigns r (Some a) ≡ true → known_of (known_before f k) (constant_before f k) (Some a) ≡ Some n → IsBehind slots f rs n (register qs r)
+  pub gives : (r : ℕ) (n : Known) → assigns r (Some a) ≡ true → known_of (known_before f k) (constant_before f k) (Some a) ≡ Some n → IsAfter slots f rs n (register qs r)
   pub constant : (r : ℕ) (z : ℤ) → assigns r (Some a) ≡ true → constant_of (Some a) ≡ Some z → number (register qs r) ≡ z
 
 root_kept : (slots : ℕ) (f : Function) (rs qs : List ℕ) (x : Root) (v : ℕ) → ((i : ℕ) → is_fixed f i ≡ true → register qs i ≡ register rs i) → RootIs slots f rs x v → RootIs slots f qs x v
 root_kept slots f rs qs (global b) v h r = r
 root_kept slots f rs qs (formal i) v h r = (r.0, r.1 ∙ sym (h i r.0))
 
-pub behind_kept : (slots : ℕ) (f : Function) (rs qs : List ℕ) (n : Known) (w : ℕ) → ((i : ℕ) → is_fixed f i ≡ true → register qs i ≡ register rs i) → IsBehind slots f rs n w → IsBehind slots f qs n w
-behind_kept slots f rs qs n w h b = record { root = b.root; is = root_kept slots f rs qs n.root b.root h b.is; word = b.word; near = b.near }
+pub after_kept : (slots : ℕ) (f : Function) (rs qs : List ℕ) (n : Known) (w : ℕ) → ((i : ℕ) → is_fixed f i ≡ true → register qs i ≡ register rs i) → IsAfter slots f rs n w → IsAfter slots f qs n w
+after_kept slots f rs qs n w h b = record { root = b.root; is = root_kept slots f rs qs n.root b.root h b.is; word = b.word; near = b.near }
 
 pub step : (slots : ℕ) (f : Function) (k : ℕ) (i : Instr) (rs qs : List ℕ) → slice_get f.instrs k ≡ Some i → IsKnown slots f k rs → Changes slots f k i.act rs qs → IsKnown slots f (suc k) qs
 step slots f k i rs qs at h c = record { long = c.long ∙ h.long; words = λ r n e. first r n (begins_block f.instrs (suc k)) e; constants = λ r z e. third r z (begins_block f.instrs (suc k)) e }
@@ -109,11 +109,11 @@ step slots f k i rs qs at h c = record { long = c.long ∙ h.long; words = λ r 
     fixed : (r : ℕ) → is_fixed f r ≡ true → register qs r ≡ register rs r
     fixed r e = c.others r (never f k i r at e)
 
-    second : (r : ℕ) (n : Known) (b : Bool) → assigns r (Some i.act) ≡ b → (if b then known_of (known_before f k) (constant_before f k) (Some i.act) else known_at f.formals f.instrs k r) ≡ Some n → IsBehind slots f qs n (register qs r)
-    second r n true a g = behind_kept slots f rs qs n (register qs r) fixed (c.gives r n a g)
-    second r n false a g = subst (IsBehind slots f qs n) (sym (c.others r a)) (behind_kept slots f rs qs n (register rs r) fixed (h.words r n g))
+    second : (r : ℕ) (n : Known) (b : Bool) → assigns r (Some i.act) ≡ b → (if b then known_of (known_before f k) (constant_before f k) (Some i.act) else known_at f.formals f.instrs k r) ≡ Some n → IsAfter slots f qs n (register qs r)
+    second r n true a g = after_kept slots f rs qs n (register qs r) fixed (c.gives r n a g)
+    second r n false a g = subst (IsAfter slots f qs n) (sym (c.others r a)) (after_kept slots f rs qs n (register rs r) fixed (h.words r n g))
 
-    first : (r : ℕ) (n : Known) (b : Bool) → (if b then known_formal f.formals f.instrs r else if assigns r (act_in (slice_get f.instrs k)) then known_of (known_before f k) (constant_before f k) (act_in (slice_get f.instrs k)) else known_at f.formals f.instrs k r) ≡ Some n → IsBehind slots f qs n (register qs r)
+    first : (r : ℕ) (n : Known) (b : Bool) → (if b then known_formal f.formals f.instrs r else if assigns r (act_in (slice_get f.instrs k)) then known_of (known_before f k) (constant_before f k) (act_in (slice_get f.instrs k)) else known_at f.formals f.instrs k r) ≡ Some n → IsAfter slots f qs n (register qs r)
     first r n true g = formal_is slots f qs r n g
     first r n false g = second r n (assigns r (Some i.act)) refl (subst (λ o. (if assigns r (act_in o) then known_of (known_before f k) (constant_before f k) (act_in o) else known_at f.formals f.instrs k r) ≡ Some n) at g)
 
@@ -132,7 +132,7 @@ abbrev pub IsAt : ℕ → Function → List ℕ → LockPath → ℕ → Type 0
 IsAt slots f rs (Cell m) w = base_of w + offset_of w ≡ 2 * slots + m
 IsAt slots f rs (Formal j m) w = (is_fixed f j ≡ true) × (w ≡ register rs j + m) × (offset_of (register rs j) + m < 2 ^ 16)
 
-path_is : (slots : ℕ) (f : Function) (rs : List ℕ) (x : Root) (n w : ℕ) → IsBehind slots f rs (known_to x n) w → IsAt slots f rs (path_to x n) w
+path_is : (slots : ℕ) (f : Function) (rs : List ℕ) (x : Root) (n w : ℕ) → IsAfter slots f rs (known_to x n) w → IsAt slots f rs (path_to x n) w
 path_is slots f rs (global b) n w h =
     let start = h.is.0 in
     let front = h.is.1 in

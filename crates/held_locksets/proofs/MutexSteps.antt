@@ -59,7 +59,7 @@ move_of op.MutexInit t answer w v k e =
     ]
 move_of _ t answer w v k e = cc
 
--- behind a lock the thread has the mutex
+-- after a lock the thread has the mutex
 locked_by : (t : ℕ) (answer : ℤ) (w v : ℕ) → first_row (rows op.Lock t) (shown (kind_of (name_of op.Lock)) w) ≡ Moves (shown (kind_of (name_of op.Lock)) v) answer → lock_in v ≡ HeldBy t
 locked_by t answer w v e =
     elim (lock_rows t (lock_in w) (lock_in v) answer e) [

@@ -11,7 +11,7 @@ use Rattle.held_locksets.proofs.NoUnlocks.{is_unlock, HasNoUnlock}
 abbrev pub More : (now later : ℕ → Bool) → Type 0
 More now later = (x : ℕ) → now x ≡ true → later x ≡ true
 
--- behind a lock its mutex is held, and behind an unlock all others are as before
+-- after a lock its mutex is held, and after an unlock all others are as before
 abbrev pub PassesBy : Op → ObjId → (now later : ℕ → Bool) → Type 0
 PassesBy op.Lock obj now later = More now later × ((c : ℕ) → obj ≡ object.Mutex c → later c ≡ true)
 PassesBy op.Unlock obj now later = (x : ℕ) → (obj ≡ object.Mutex x → ⊥) → now x ≡ true → later x ≡ true

@@ -28,10 +28,10 @@ use Rattle.flow_code.specs.declared.region.Region.{Region}
 use Rattle.flow_code.specs.declared.thread.Phase.{Phase}
 use Rattle.flow_code.specs.declared.thread.Phase.TheVariants as phase
 use Rattle.flow_code.specs.declared.thread.Stripe.{Stripe}
-use Rattle.flow_code.specs.Holding.{region_of, lacked, take_or_quiet, taken, to_give, give_or_quiet, gives_at, open_place, parting, owes, parting_due, left_behind}
+use Rattle.flow_code.specs.Holding.{region_of, lacked, take_or_quiet, taken, to_give, give_or_quiet, gives_at, open_place, parting, owes, parting_due, left_after}
 use Rattle.flow_code.specs.Kinds.{act_fits, have_kinds, library_value_fits, may_start, starts_fit}
 use Rattle.abstract_machine.specs.Kinds.{library_kinds}
-use Rattle.flow_code.specs.Next.{act_at, act_due, past, given, value_of, pointers_of, in_frame, computed, one_made, entered, result_of, back_in, end_onward, went_on, call_after, on_unless, act_after, caller, has_ended, phase_due}
+use Rattle.flow_code.specs.Next.{act_at, act_due, past, given, value_of, pointers_of, in_frame, computed, one_made, entered, result_of, back_in, end_onward, resumed, call_after, on_unless, act_after, caller, has_ended, phase_due}
 use Rattle.flow_code.specs.Threads.{Frame, Thread, arena_end, is_main, is_main_in}
 use Rattle.flow_code.specs.Valid.{is_valid}
 use Rattle.flow_code.specs.Works.{is_pointer, work_of}
@@ -70,12 +70,12 @@ computed_keeps : (th : Thread) (into : ℕ) (r : Result ℕ Trap) → KeepsRoot 
 computed_keeps th into (Ok w) = record { root = root_same _ th.top (reverse th.below) refl; phases = inl refl }
 computed_keeps th into (Err t) = keeps th
 
-went_keeps : (th : Thread) (n : ℕ) (into : Option ℕ) (o : Onward) → KeepsRoot th (went_on (record th { printed = n }) into o)
+went_keeps : (th : Thread) (n : ℕ) (into : Option ℕ) (o : Onward) → KeepsRoot th (resumed (record th { printed = n }) into o)
 went_keeps th n into (onward.Stays kept) = record { root = root_same (one_made th.top kept) th.top (reverse th.below) refl; phases = inl refl }
 went_keeps th n into (onward.Gives w) = record { root = root_same (past (given th.top into w)) th.top (reverse th.below) (given_function th.top into w); phases = inl refl }
 went_keeps th n into onward.Ends = record { root = refl; phases = inr (inr refl) }
 
-left_keeps : (th q : Thread) (ys : List Stripe) → KeepsRoot th q → KeepsRoot th (left_behind th ys q)
+left_keeps : (th q : Thread) (ys : List Stripe) → KeepsRoot th q → KeepsRoot th (left_after th ys q)
 left_keeps th q [] k = k
 left_keeps th q (y ∷ ys) k = record { root = refl; phases = inl refl }
 

@@ -19,9 +19,9 @@ use Rattle.flow_code.specs.declared.code.Function.{Function}
 use Rattle.flow_code.specs.declared.region.Region.{Region}
 use Rattle.flow_code.specs.declared.thread.Stripe.{Stripe}
 use Rattle.flow_code.specs.Constants.{constant_fits, constants_fit_in, constants_fit}
-use Rattle.flow_code.specs.Holding.{region_of, lacked, taken, to_give, gives_at, gave, open_place, parting, left_behind}
+use Rattle.flow_code.specs.Holding.{region_of, lacked, taken, to_give, gives_at, gave, open_place, parting, left_after}
 use Rattle.flow_code.specs.Kinds.{act_fits, work_fits}
-use Rattle.flow_code.specs.Next.{act_in, act_at, past, jumped, given, value_of, pointers_in, pointers_of, in_frame, computed, one_made, entered, result_of, back_in, end_onward, returned, went_on, call_after, on_unless, act_after, caller}
+use Rattle.flow_code.specs.Next.{act_in, act_at, past, jumped, given, value_of, pointers_in, pointers_of, in_frame, computed, one_made, entered, result_of, back_in, end_onward, returned, resumed, call_after, on_unless, act_after, caller}
 use Rattle.flow_code.specs.Threads.{Frame, Thread, instr_in, is_main}
 use Rattle.flow_code.specs.Valid.{is_valid, function_fits}
 use Rattle.flow_code.specs.Works.{work_of}
@@ -101,8 +101,8 @@ module _ (code : Code) (slots : ℕ) where
       (begins slots x.function to f.registers (known x.function x.here.function).long
       (or_right (follows_end x.function.instrs to) (is_target x.function.instrs to) (any_at (λ i. goes_to to i.act) x.function.instrs f.instr x.instr x.here.instr (ap (goes_to to) x.is ∙ g))))
 
-  behind : (g : Frame) (qs : List ℕ) → length qs ≡ length g.registers → EndsHere code g → KnownAt code slots g.function g.instr g.registers → KnownAt code slots g.function (g.instr + 1) qs
-  behind g qs long ends known f e =
+  following : (g : Frame) (qs : List ℕ) → length qs ≡ length g.registers → EndsHere code g → KnownAt code slots g.function g.instr g.registers → KnownAt code slots g.function (g.instr + 1) qs
+  following g qs long ends known f e =
       let next : suc g.instr ≡ g.instr + 1 = omega arith in
       subst (λ k. IsKnown slots f k qs) next (begins slots f (suc g.instr) qs (long ∙ (known f e).long) (ap (λ b. b || is_target f.instrs (suc g.instr)) (ended (slice_get f.instrs g.instr) refl)))
     where
@@ -162,12 +162,12 @@ module _ (code : Code) (slots : ℕ) where
   on_known_pair None th q t b h n = (subst (λ (z : Frame). KnownAt code slots z.function (z.instr + 1) z.registers) (sym t) n, subst (λ z. KnownBelow code slots (reverse z)) (sym b) h.1)
   on_known_pair (Some x) th q t b h n = (subst (λ (z : Frame). KnownAt code slots z.function z.instr z.registers) (sym t) h.0, subst (λ z. KnownBelow code slots (reverse z)) (sym b) h.1)
 
-  went_known : (th : Thread) (n : ℕ) (into : Option ℕ) (o : Onward) → KnownThread code slots th → ((w : ℕ) → KnownAt code slots th.top.function (th.top.instr + 1) (given th.top into w).registers) → KnownThread code slots (went_on (record th { printed = n }) into o)
+  went_known : (th : Thread) (n : ℕ) (into : Option ℕ) (o : Onward) → KnownThread code slots th → ((w : ℕ) → KnownAt code slots th.top.function (th.top.instr + 1) (given th.top into w).registers) → KnownThread code slots (resumed (record th { printed = n }) into o)
   went_known th n into (onward.Stays kept) h g = h
   went_known th n into (onward.Gives w) h g = (past_given th.top into w (g w), h.1)
   went_known th n into onward.Ends h g = h
 
-  left_known : (th q : Thread) (ys : List Stripe) → KnownThread code slots th → KnownThread code slots q → KnownThread code slots (left_behind th ys q)
+  left_known : (th q : Thread) (ys : List Stripe) → KnownThread code slots th → KnownThread code slots q → KnownThread code slots (left_after th ys q)
   left_known th q [] h g = g
   left_known th q (y ∷ ys) h g = h
 
@@ -181,7 +181,7 @@ module _ (code : Code) (slots : ℕ) where
   back_known th value None e h = h
   back_known th value (Some g) e h =
       let s = subst (KnownBelow code slots) (below_is th.below g e) h.1 in
-      (past_given g (result_of (act_at code g)) value (behind g (given g (result_of (act_at code g)) value).registers (given_long g (result_of (act_at code g)) value) s.1 s.0), s.2)
+      (past_given g (result_of (act_at code g)) value (following g (given g (result_of (act_at code g)) value).registers (given_long g (result_of (act_at code g)) value) s.1 s.0), s.2)
 
   returned_known : (th : Thread) (value : ℕ) → KnownThread code slots th → KnownThread code slots (returned code th value)
   returned_known th value h = by (length th.below == 0)

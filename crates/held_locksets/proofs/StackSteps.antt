@@ -25,10 +25,10 @@ use Rattle.flow_code.specs.declared.code.Code.{Code}
 use Rattle.flow_code.specs.declared.code.Function.{Function}
 use Rattle.flow_code.specs.declared.region.Region.{Region}
 use Rattle.flow_code.specs.declared.thread.Stripe.{Stripe}
-use Rattle.flow_code.specs.Holding.{region_of, lacked, take_or_quiet, taken, to_give, give_or_quiet, gives_at, gave, open_place, parting, owes, parting_due, left_behind}
+use Rattle.flow_code.specs.Holding.{region_of, lacked, take_or_quiet, taken, to_give, give_or_quiet, gives_at, gave, open_place, parting, owes, parting_due, left_after}
 use Rattle.flow_code.specs.Kinds.{act_fits, have_kinds, library_value_fits, starts_fit}
 use Rattle.abstract_machine.specs.Kinds.{library_kinds}
-use Rattle.flow_code.specs.Next.{act_in, act_at, act_due, past, jumped, given, value_of, pointers_of, quiet_unless, in_frame, computed, one_made, result_of, back_in, end_onward, went_on, call_after, on_unless, act_after, caller}
+use Rattle.flow_code.specs.Next.{act_in, act_at, act_due, past, jumped, given, value_of, pointers_of, quiet_unless, in_frame, computed, one_made, result_of, back_in, end_onward, resumed, call_after, on_unless, act_after, caller}
 use Rattle.flow_code.specs.Threads.{Frame, Thread, instr_in, arena_end, is_main, first_frame}
 use Rattle.flow_code.specs.Valid.{is_valid}
 use Rattle.flow_code.specs.Works.{is_pointer, work_of}
@@ -40,7 +40,7 @@ use Rattle.facts.specs.declared.locks.LockPath.{LockPath}
 use Rattle.facts.specs.declared.locks.RelLocks.{RelLocks}
 use Rattle.held_locksets.specs.Frames.{so_far, call_so_far, IsCalledBy, Stack, ThreadStack}
 use Rattle.held_locksets.specs.Leading.{is_fixed, Mean}
-use Rattle.held_locksets.proofs.Calls.{LocksBehind, library_step}
+use Rattle.held_locksets.proofs.Calls.{LocksAfter, library_step}
 use Rattle.held_locksets.proofs.Known.{set_other, never}
 use Rattle.held_locksets.proofs.Means.{mean_more}
 use Rattle.held_locksets.proofs.NoUnlocks.{HasNoUnlock, load_none, store_none, malloc_none, enter_none, return_none}
@@ -120,20 +120,20 @@ module _ (code : Code) (valid : is_valid code ≡ true) (s : SetupView) (tops : 
 
   -- ---- calls of the library
 
-  call_goes : (c : LibraryCall) (args : List ℕ) (into : Option ℕ) (x : Stands code th.top (act.Library c args into)) (n : ℕ) (answer : ℤ) (o : Onward) → library_onward (caller code s t th) c (words_of th.top.registers args) th.top.made th.top.kept answer ≡ o → Passes (library_due (caller code s t th) c (words_of th.top.registers args) th.top.made th.top.kept) now later → Goal (went_on (record th { printed = n }) into o)
+  call_goes : (c : LibraryCall) (args : List ℕ) (into : Option ℕ) (x : Stands code th.top (act.Library c args into)) (n : ℕ) (answer : ℤ) (o : Onward) → library_onward (caller code s t th) c (words_of th.top.registers args) th.top.made th.top.kept answer ≡ o → Passes (library_due (caller code s t th) c (words_of th.top.registers args) th.top.made th.top.kept) now later → Goal (resumed (record th { printed = n }) into o)
   call_goes c args into x n answer o e passes = by o e
     where
       fit : have_kinds x.function args (library_kinds c) ≡ true
       fit = (and_parts (starts_fit code c) (have_kinds x.function args (library_kinds c)) (and_parts (starts_fit code c && have_kinds x.function args (library_kinds c)) (library_value_fits x.function into c)
           (subst (λ a. act_fits code x.function a ≡ true) x.is (act_is_fit code x.function (function_is_fit code valid th.top.function x.function x.here.function) th.top.instr x.instr x.here.instr))).0).1
 
-      behind : (l : RelLocks) (before : ℕ → Bool) → Mean s.slots x.function th.top.registers (so_far x.function th.top.instr x.instr.act th.top.made l) before now → LocksBehind s.slots x.function th.top.instr th.top.registers (known.0 x.function x.here.function) (caller code s t th) l before now later c args th.top.made (library_onward (caller code s t th) c (words_of th.top.registers args) th.top.made th.top.kept answer)
-      behind l before m =
+      following : (l : RelLocks) (before : ℕ → Bool) → Mean s.slots x.function th.top.registers (so_far x.function th.top.instr x.instr.act th.top.made l) before now → LocksAfter s.slots x.function th.top.instr th.top.registers (known.0 x.function x.here.function) (caller code s t th) l before now later c args th.top.made (library_onward (caller code s t th) c (words_of th.top.registers args) th.top.made th.top.kept answer)
+      following l before m =
           library_step s.slots x.function th.top.instr th.top.registers (known.0 x.function x.here.function) (caller code s t th) l before now later c args th.top.made th.top.kept answer fit passes
           (subst (λ a. Mean s.slots x.function th.top.registers (so_far x.function th.top.instr a th.top.made l) before now) x.is m)
 
-      told : (l : RelLocks) (before : ℕ → Bool) (o : Onward) → library_onward (caller code s t th) c (words_of th.top.registers args) th.top.made th.top.kept answer ≡ o → Mean s.slots x.function th.top.registers (so_far x.function th.top.instr x.instr.act th.top.made l) before now → LocksBehind s.slots x.function th.top.instr th.top.registers (known.0 x.function x.here.function) (caller code s t th) l before now later c args th.top.made o
-      told l before o e m = subst (λ z. LocksBehind s.slots x.function th.top.instr th.top.registers (known.0 x.function x.here.function) (caller code s t th) l before now later c args th.top.made z) e (behind l before m)
+      told : (l : RelLocks) (before : ℕ → Bool) (o : Onward) → library_onward (caller code s t th) c (words_of th.top.registers args) th.top.made th.top.kept answer ≡ o → Mean s.slots x.function th.top.registers (so_far x.function th.top.instr x.instr.act th.top.made l) before now → LocksAfter s.slots x.function th.top.instr th.top.registers (known.0 x.function x.here.function) (caller code s t th) l before now later c args th.top.made o
+      told l before o e m = subst (λ z. LocksAfter s.slots x.function th.top.instr th.top.registers (known.0 x.function x.here.function) (caller code s t th) l before now later c args th.top.made z) e (following l before m)
 
       -- at the place where the thread stands
       at_place : (made : ℕ) → ((l : RelLocks) (before : ℕ → Bool) → Mean s.slots x.function th.top.registers (so_far x.function th.top.instr x.instr.act th.top.made l) before now → Mean s.slots x.function th.top.registers (call_so_far x.function th.top.instr c args made l) before later) → (fn : Function) (i : Instr) (l : RelLocks) (before : ℕ → Bool) → StandsAt code th.top.function th.top.instr fn i → Mean s.slots fn th.top.registers (so_far fn th.top.instr i.act th.top.made l) before now → Mean s.slots fn th.top.registers (so_far fn th.top.instr i.act made l) before later
@@ -146,7 +146,7 @@ module _ (code : Code) (valid : is_valid code ≡ true) (s : SetupView) (tops : 
           (subst (λ z. Mean s.slots z th.top.registers (so_far z th.top.instr x.instr.act th.top.made l) before now) (sym p.function)
           (subst (λ (z : Instr). Mean s.slots fn th.top.registers (so_far fn th.top.instr z.act th.top.made l) before now) (sym p.instr) m)))))
 
-      by : (o : Onward) → library_onward (caller code s t th) c (words_of th.top.registers args) th.top.made th.top.kept answer ≡ o → Goal (went_on (record th { printed = n }) into o)
+      by : (o : Onward) → library_onward (caller code s t th) c (words_of th.top.registers args) th.top.made th.top.kept answer ≡ o → Goal (resumed (record th { printed = n }) into o)
       by (onward.Stays kept) g =
           let one : suc th.top.made ≡ th.top.made + 1 = omega arith in
           stack_stays code s.slots tops xs solves long th.top (th.top.made + 1) kept (reverse th.below) now later
@@ -164,11 +164,11 @@ module _ (code : Code) (valid : is_valid code ≡ true) (s : SetupView) (tops : 
               (λ l before m. subst (λ a. Mean s.slots x.function th.top.registers (after (exits_of xs) x.function th.top.instr a l) before later) (sym x.is) (told l before (onward.Gives w) g m))
               h
 
-          gives : (o : Option ℕ) → into ≡ o → Goal (went_on (record th { printed = n }) o (onward.Gives w))
+          gives : (o : Option ℕ) → into ≡ o → Goal (resumed (record th { printed = n }) o (onward.Gives w))
           gives None q = next th.top.registers (λ r e. refl)
           gives (Some r) q = next (slice_set th.top.registers r w) (λ j e. given_kept th.top (Some r) w j (sym (ap (is_register j) q) ∙ e))
 
-  left_goes : (ys : List Stripe) (d : Due) (q : Thread) → Passes (parting_due ys d) now later → (Passes d now later → Goal q) → Goal (left_behind th ys q)
+  left_goes : (ys : List Stripe) (d : Due) (q : Thread) → Passes (parting_due ys d) now later → (Passes d now later → Goal q) → Goal (left_after th ys q)
   left_goes [] d q p rest = rest p
   left_goes (y ∷ ys) d q p rest = stays (more (parting_due (y ∷ ys) d) now later (parting_none y ys d) p)
 

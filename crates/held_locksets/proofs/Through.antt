@@ -7,7 +7,7 @@ use Rattle.rr_base.specs.Words.{base_of, offset_of}
 use Rattle.abstract_machine.specs.Registers.{register}
 use Rattle.flow_code.specs.declared.code.Function.{Function}
 use Rattle.facts.specs.Locks.{has, with, is_clear, without, and_path, plus_seen, minus_with, listed_seen, minus_seen, through}
-use Rattle.facts.specs.Paths.{names_cell, behind, substituted}
+use Rattle.facts.specs.Paths.{names_cell, following, substituted}
 use Rattle.facts.specs.declared.locks.LockPath.{LockPath}
 use Rattle.facts.specs.declared.locks.LockPath.TheVariants.{Cell, Formal}
 use Rattle.facts.specs.declared.locks.Minus.{Minus}
@@ -21,7 +21,7 @@ use Rattle.held_locksets.proofs.Means.{has_cases, with_cases, with_self, with_mo
 
 -- the frame of f calls g, whose frame has these registers
 module _ (slots : ℕ) (f : Function) (rs : List ℕ) (g : Function) (qs : List ℕ) (actuals : List (Option LockPath)) (seen : (i : ℕ) (p : LockPath) → slice_get actuals i ≡ Some (Some p) → is_fixed g i ≡ true → IsAt slots f rs p (register qs i)) where
-  at_leads : (p q : LockPath) (w n c : ℕ) → IsAt slots f rs p w → offset_of w + n < 2 ^ 16 → c ≡ base_of w + offset_of w + n → behind n (Some (Some p)) ≡ Some q → LeadsTo slots f rs q c
+  at_leads : (p q : LockPath) (w n c : ℕ) → IsAt slots f rs p w → offset_of w + n < 2 ^ 16 → c ≡ base_of w + offset_of w + n → following n (Some (Some p)) ≡ Some q → LeadsTo slots f rs q c
   at_leads (Cell m) q w n c at near is e = subst (λ z. LeadsTo slots f rs z c) (same_Some (Cell (m + n)) q e) (sum (base_of w + offset_of w) at is)
     where
       sum : (x : ℕ) → x ≡ 2 * slots + m → c ≡ x + n → c ≡ 2 * slots + (m + n)
@@ -43,7 +43,7 @@ module _ (slots : ℕ) (f : Function) (rs : List ℕ) (g : Function) (qs : List 
   sub_leads (Cell n) p c e l = subst (λ z. LeadsTo slots f rs z c) (same_Some (Cell n) p e) l
   sub_leads (Formal i n) p c e l = by (slice_get actuals i) refl e
     where
-      by : (o : Option (Option LockPath)) → slice_get actuals i ≡ o → behind n o ≡ Some p → LeadsTo slots f rs p c
+      by : (o : Option (Option LockPath)) → slice_get actuals i ≡ o → following n o ≡ Some p → LeadsTo slots f rs p c
       by None h k = cc
       by (Some None) h k = cc
       by (Some (Some x)) h k = at_leads x p (register qs i) n c (seen i x h l.0) l.1 l.2 k

@@ -15,7 +15,7 @@ use Rattle.facts.specs.declared.locks.RelLocks.{RelLocks}
 abbrev pub is_fixed : Function → ℕ → Bool
 is_fixed f i = nat_lt i f.formals && is_never_assigned f.instrs i
 
--- The path leads to the cell, in a frame with these registers: global cells stand behind the hand-off cells, and a path from
+-- The path leads to the cell, in a frame with these registers: global cells stand after the hand-off cells, and a path from
 -- a formal goes so many cells on from where its word points.
 abbrev pub LeadsTo : (slots : ℕ) → Function → List ℕ → LockPath → ℕ → Type 0
 LeadsTo slots f rs (Cell n) c = c ≡ 2 * slots + n

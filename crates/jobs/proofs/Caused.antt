@@ -23,7 +23,7 @@ use Rattle.order_log.specs.declared.fault.LogFault.TheVariants.{LogSyntax, LogLi
 use Rattle.outcomes.specs.Endings.{Ends, Finishes, Outside, shelf_of}
 use Rattle.outcomes.specs.Endings.Ends.{Found, ShelfFails, InputFails, CrewFails, WantsMemory}
 use Rattle.outcomes.specs.Endings.Finishes.{Tells, PutFails, LacksMemory as LacksForPut}
-use Rattle.outcomes.specs.Outcomes.{answers, behind}
+use Rattle.outcomes.specs.Outcomes.{answers, following}
 use Rattle.outcomes.specs.Puts.{Put, PutFailed}
 use Rattle.outcomes.specs.Steps.{Comes, IsFile, IsInput, IsWithin, Then}
 use Rattle.outcomes.specs.declared.outcome.Outcome.{Outcome}
@@ -173,7 +173,7 @@ module _ (files : Files) (left : List ℕ) where
 
   -- what is told of it; a made source is put before
   abbrev refusal_of : Asked → Answer → Outcome
-  refusal_of (Make count name) a = behind (source_put count name ∷ []) (answers a)
+  refusal_of (Make count name) a = following (source_put count name ∷ []) (answers a)
   refusal_of _ a = answers a
 
   abbrev OfSource : (source : List ℕ) → (List ℕ → Outcome → Type 0) → Outcome → Type 0
@@ -226,7 +226,7 @@ module _ (files : Files) (left : List ℕ) where
     of_profile source log name a (AtTree text s p pi view li h) = record { step = Ok text; is = s; next = log_tree_refused log text (λ v. ShowsLog v name) li.0 view a li.1 li.2 h }
     of_profile source log name a (AtInput text s p pi os t h) = absurd h
 
-    of_make : (count : ℕ) (name : List ℕ) (a : Answer) → Refuses files left (Make count name) a → IsMaking w w count name (behind (source_put count name ∷ []) (answers a))
+    of_make : (count : ℕ) (name : List ℕ) (a : Answer) → Refuses files left (Make count name) a → IsMaking w w count name (following (source_put count name ∷ []) (answers a))
     of_make count name a (AtSource h) = absurd (cc h)
     of_make count name a (AtProfile text s h) = absurd h
     of_make count name a (AtLog text s h) = absurd h

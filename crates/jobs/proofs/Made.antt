@@ -13,12 +13,12 @@ use Rattle.profiles.specs.declared.profile.Profile.TheVariants as profile
 use Rattle.lock_sound.specs.Weakened.{Analysed}
 use Rattle.order_log.specs.Log.{LogView}
 use Rattle.outcomes.proofs.Endings.{no_puts}
-use Rattle.outcomes.proofs.Putting.{failed_behind, partly_behind, put_both}
+use Rattle.outcomes.proofs.Putting.{failed_after, partly_after, put_both}
 use Rattle.outcomes.specs.Endings.{ComesTo, IsCutOff, IsFoundSo}
 use Rattle.outcomes.specs.Endings.IsCutOff.{NonePut, OneFailed}
 use Rattle.outcomes.specs.Ends.{stop_of}
 use Rattle.outcomes.specs.Faults.{CrewShelfStops, CrewStops, IsPure}
-use Rattle.outcomes.specs.Outcomes.{answers, behind}
+use Rattle.outcomes.specs.Outcomes.{answers, following}
 use Rattle.outcomes.specs.Puts.{Put, ArePut, ArePartlyPut}
 use Rattle.outcomes.specs.declared.outcome.Outcome.{Outcome}
 use Rattle.outcomes.specs.declared.stop.Stop.{Stop}
@@ -147,7 +147,7 @@ module _ (a work b : Work) (count : ℕ) (name : List ℕ) (old between new : Op
 
     is_making : (left : Outcome) → IsFoundSo (IsReplayed work b count bytes w log recorded) between new left → IsFoundSo (IsMaking a b count name) old new left
     is_making left h =
-        let rest = behind h.before left in
+        let rest = following h.before left in
         record { before = source_put count name ∷ h.before; put = put_both (source_put count name ∷ []) h.before old between new put h.put; has = record { rest = rest; comes = record { step = Ok runs.os; is = runs.tree; next = is_made rest h.has }; told = refl } }
 
     with_source : (puts : List Put) → puts ≡ recorded.puts → IsPutInMaking count name (source_put count name ∷ puts)
@@ -159,7 +159,7 @@ module _ (a work b : Work) (count : ℕ) (name : List ℕ) (old between new : Op
 
     cut_off : (puts : List Put) → puts ≡ recorded.puts → IsCutOff puts between new → IsCutOff (source_put count name ∷ puts) old new
     cut_off puts e (NonePut none same) = absurd (some_put puts e none)
-    cut_off puts e (OneFailed h) = OneFailed (failed_behind (source_put count name ∷ []) puts old between new put h)
+    cut_off puts e (OneFailed h) = OneFailed (failed_after (source_put count name ∷ []) puts old between new put h)
 
     pub making : (r : Result Outcome Stop) (same : Type 0) (shelf_old shelf_new crew_old crew_new : ℕ) → ComesTo (IsReplayed work b count bytes w log recorded) (λ puts. puts ≡ recorded.puts) between new r → MatchResult r (λ _. same) (λ s. CrewShelfStops s shelf_old shelf_new crew_old crew_new) → ComesTo (IsMaking a b count name) (IsPutInMaking count name) old new r
     making (Ok left) same shelf_old shelf_new crew_old crew_new h f = is_making left h
@@ -167,7 +167,7 @@ module _ (a work b : Work) (count : ℕ) (name : List ℕ) (old between new : Op
     making (Err stop.ShelfFailed) same shelf_old shelf_new crew_old crew_new h f = (source_put count name ∷ h.0, with_source h.0 h.1, cut_off h.0 h.1 h.2)
     making (Err stop.InputFailed) same shelf_old shelf_new crew_old crew_new h f = absurd f
     making (Err stop.CrewFailed) same shelf_old shelf_new crew_old crew_new h f = (source_put count name ∷ h.0, with_source h.0 h.1, put_both (source_put count name ∷ []) h.0 old between new put h.2)
-    making (Err stop.OutOfMemory) same shelf_old shelf_new crew_old crew_new h f = (source_put count name ∷ h.0, with_source h.0 h.1, partly_behind (source_put count name ∷ []) h.0 old between new put h.2)
+    making (Err stop.OutOfMemory) same shelf_old shelf_new crew_old crew_new h f = (source_put count name ∷ h.0, with_source h.0 h.1, partly_after (source_put count name ∷ []) h.0 old between new put h.2)
 
 -- what is told of a run that was recorded and replayed is of that run
 module _ (a work b : Work) (count bytes : ℕ) (r : RecordAsked) (w : Analysed) (log : LogView) (recorded : Outcome) (logged : IsLogged a work r profile.All w [] log recorded) (between new : Option Files) where

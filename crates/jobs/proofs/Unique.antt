@@ -21,7 +21,7 @@ use Rattle.order_log.proofs.Only.{log_at-only}
 use Rattle.order_log.specs.Log.{LogView}
 use Rattle.order_log.specs.declared.fault.LogFault.{LogFault}
 use Rattle.order_log.specs.declared.fault.LogFault.TheVariants.{LogSyntax, LogLimit, OutOfMemory}
-use Rattle.outcomes.specs.Outcomes.{answers, behind}
+use Rattle.outcomes.specs.Outcomes.{answers, following}
 use Rattle.outcomes.specs.Steps.{Comes, IsFile, IsInput, IsWithin, Then}
 use Rattle.outcomes.specs.declared.outcome.Outcome.{Outcome}
 use Rattle.profile_book.proofs.OneAnswer.{one_answer}
@@ -206,7 +206,7 @@ of_make : (a b c d : Work) (count : ℕ) (name : List ℕ) (o p : Outcome) → (
 of_make a b c d count name o p unrun h g =
     let none = λ (x : IsOfRun h.rest.answer). unrun (subst IsOfRun (sym (ap (λ (y : Outcome). y.answer) h.told)) x) in
     let same : h.rest ≡ g.rest = by_tree (program_text count) (IsMade a b count name) (IsMade c d count name) h.rest g.rest (λ os x y. absurd (none (made_is_of_run a b count name os h.rest x))) h.comes g.comes in
-    h.told ∙ ap (behind (source_put count name ∷ [])) same ∙ sym g.told
+    h.told ∙ ap (following (source_put count name ∷ [])) same ∙ sym g.told
 
 pub one_refusal : OneRefusal
 one_refusal a b c d files left None o p unrun h g = h.is ∙ sym g.is

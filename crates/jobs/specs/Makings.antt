@@ -10,7 +10,7 @@ use Rattle.core_run.specs.Walks.{WalkIs}
 use Rattle.profiles.specs.declared.profile.Profile.TheVariants as profile
 use Rattle.lock_sound.specs.Weakened.{Analysed}
 use Rattle.order_log.specs.Log.{LogView}
-use Rattle.outcomes.specs.Outcomes.{behind}
+use Rattle.outcomes.specs.Outcomes.{following}
 use Rattle.outcomes.specs.Puts.{Put}
 use Rattle.outcomes.specs.Steps.{Comes}
 use Rattle.outcomes.specs.declared.outcome.Outcome.{Outcome}
@@ -28,7 +28,7 @@ use Rattle.jobs.specs.Works.{HasRun, Work}
 abbrev pub source_put : (count : ℕ) → (name : List ℕ) → Put
 source_put count name = record { name = name; content = program_text count }
 
--- the recording of this source, as without an option; the log's name has `.log` behind the source's
+-- the recording of this source, as without an option; the log's name has `.log` after the source's
 abbrev pub recording_of : (name : List ℕ) → RecordAsked
 recording_of name = record { source = name; log = name ++ codes ".log"; profile = None; slots = 8; cells = 16384; limit = 16777216; budget = 1000; reads = None }
 
@@ -69,7 +69,7 @@ pub record IsMade (old new : Work) (count : ℕ) (name : List ℕ) (os : List Ou
 pub record IsMaking (old new : Work) (count : ℕ) (name : List ℕ) (o : Outcome) : Type 0 where
   pub rest : Outcome
   pub comes : Comes (IsTree (program_text count)) (IsMade old new count name) rest
-  pub told : o ≡ behind (source_put count name ∷ []) rest
+  pub told : o ≡ following (source_put count name ∷ []) rest
 
 -- what is put before the outcome is found: the source; or then the log of a recording, too
 pub data IsPutInMaking (count : ℕ) (name : List ℕ) (puts : List Put) : Type 0 where

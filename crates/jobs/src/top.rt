@@ -83,7 +83,7 @@ fn do_job<'a, R: Threads + Wait + Sync, I: Source, O: Sink, S: Keeper, C: Crew>(
     }
 }
 
-/// Does what the words behind the program's name ask for, and answers the exit status: 0 where the run ended, or the listing or the
+/// Does what the words after the program's name ask for, and answers the exit status: 0 where the run ended, or the listing or the
 /// profile was written, 1 where the words are no job, 2 where the source is refused, 3 where a thread trapped, 4 where the log is refused, 5
 /// where it isn't one of this program, 6 where the profile is refused, 7 where the input failed, 8 where the sink did, 9 where the
 /// shelf did, 10 where the crew did, 11 where a file or the input has too many bytes, 12 without memory. Nothing is put but where

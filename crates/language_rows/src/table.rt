@@ -1,5 +1,5 @@
 // The table of the rows. A line is `reads SOURCE ANSWER`, `races SOURCE ANSWER`, `weakens SOURCE ANSWER` or `replays SOURCE LOG
-// ANSWER`, where the lines of an answer stand behind each other with `; ` between.
+// ANSWER`, where the lines of an answer stand following each other with `; ` between.
 
 use crate::answered::{content, list_races, list_weak_locks, read_source, replay_log};
 use rr_base::{Bytes, Shelf, ShelfEnd};

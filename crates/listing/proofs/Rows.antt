@@ -22,7 +22,7 @@ instr line column a = record { at = record { line = line; column = column }; act
 abbrev function : List Instr → Function
 function is = record { name = []; line = 1; formals = 0; registers = 2; pointers = []; gives_pointer = false; instrs = is; loops = []; regions = [] }
 
--- a store at 7:3, and a load at 5:9 behind it; then a load at 14:16, and a `pthread_create` at 12:3
+-- a store at 7:3, and a load at 5:9 after it; then a load at 14:16, and a `pthread_create` at 12:3
 abbrev code : Code
 code = record {
   functions = function (instr 7 3 (act.StoreCell 0 1) ∷ instr 5 9 (act.LoadCell 1 0) ∷ []) ∷ function (instr 14 16 (act.LoadCell 1 0) ∷ instr 12 3 (act.Library (call.Create 0) (0 ∷ 1 ∷ []) None) ∷ []) ∷ [];

@@ -47,7 +47,7 @@ pub alone_row : weak_text_of counter (lock 1 0 1 ∷ []) (row 0 0 grain.Instruct
 unfolding digits
 alone_row = refl
 
--- `x = x + 1;`: the store stands before the load in the source, behind it in the code
+-- `x = x + 1;`: the store stands before the load in the source, after it in the code
 abbrev raised : Code
 raised = code (function (codes "inc") (instr 5 5 load ∷ instr 5 3 store ∷ []) ∷ function (codes "main") (instr 12 16 load ∷ []) ∷ [])
 

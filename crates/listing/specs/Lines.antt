@@ -48,7 +48,7 @@ shown_less x y = position_less x.at y.at || (position_same x.at y.at && kind_les
 abbrev pub shown_same : Shown → Shown → Bool
 shown_same x y = position_same x.at y.at && kind_same x.store y.store
 
--- ---- the line of a pair: its first access isn't behind its second
+-- ---- the line of a pair: its first access isn't after its second
 
 abbrev pub in_order : Place → Shown → Shown → Line
 in_order p x y = if shown_less y x then record { place = p; first = y; second = x } else record { place = p; first = x; second = y }

@@ -26,7 +26,7 @@ locks_text code n (l ∷ ls) = lock_text code n l ++ locks_text code (n + 1) ls
 
 -- ---- accesses
 
--- a place in the source behind a word: `loop 4:1`
+-- a place in the source after a word: `loop 4:1`
 abbrev pub spot_text : List ℕ → Position → List ℕ
 spot_text word at = (word ++ decimal at.line) ++ (codes ":" ++ decimal at.column)
 

@@ -36,7 +36,7 @@ fn push_locks(out: &mut Bytes, code: &Code, locks: &[LockInfo]) -> Result<(), Al
     Ok(())
 }
 
-// A place in the source behind a word.
+// A place in the source after a word.
 fn push_spot(out: &mut Bytes, word: &[u8], at: Position) -> Result<(), AllocError>
     ensures { OnOk result (out.new ≡ out.old ++ listing.spot_text word.now at) }
 {

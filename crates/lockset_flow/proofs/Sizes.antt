@@ -1,4 +1,4 @@
--- Sizes: the names of locks lead to few cells behind their root, and so do the locks behind an instruction.
+-- Sizes: the names of locks lead to few cells behind their root, and so do the locks after an instruction.
 use Rattle.std.proofs.Common.{◌≡◌, ℕ, zero, suc, ◌+◌, ◌^◌, ◌<◌, ◌≤◌, Bool, true, false, not, List, [], ◌∷◌, map, refl, subst, arith, Option, Some, None, ℤ, pos, negsuc, nat_lt, nat_le}
 use Rattle.std.specs.Prelude.{◌||◌, ◌&&◌, ◌+ℤ◌, ◌*ℤ◌, if◌then◌else◌, slice_get}
 use Rattle.std.specs.List.{list_all}
@@ -21,7 +21,7 @@ use Rattle.facts.specs.declared.locks.Naming.{Naming}
 use Rattle.facts.specs.declared.locks.Naming.TheVariants.{Unknown, Nowhere, Named}
 use Rattle.facts.specs.declared.locks.RelLocks.{RelLocks}
 use Rattle.facts.specs.Blocks.{begins_block, assigns, constant_at}
-use Rattle.facts.specs.Paths.{Root, global, formal, Known, known_on, known_on_by, at_cells, known_of, known_formal, known_at, is_never_assigned, most_cells, path_to, naming_of, naming_at, actual_of, names_cell, behind, substituted, is_small, are_small, is_small_actual, are_small_actuals, is_sized, are_sized}
+use Rattle.facts.specs.Paths.{Root, global, formal, Known, known_on, known_on_by, at_cells, known_of, known_formal, known_at, is_never_assigned, most_cells, path_to, naming_of, naming_at, actual_of, names_cell, following, substituted, is_small, are_small, is_small_actual, are_small_actuals, is_sized, are_sized}
 use Rattle.facts.specs.Locks.{with, union, is_clear, without, both, locked, unlocked, and_path, plus_seen, minus_with, listed_seen, minus_seen, through, after_call, minus_is_small, locks_are_small, minus_is_sized, locks_are_sized}
 use Rattle.lockset_flow.specs.Flow.{all_sized}
 use Rattle.lockset_flow.specs.Rounds.{library_by, after_by}
@@ -157,7 +157,7 @@ pub exits_small : (ls : List RelLocks) → all_sized ls ≡ true → list_all lo
 exits_small [] h = refl
 exits_small (l ∷ ls) h = let r = and_both (locks_are_sized l) (all_sized ls) h in both_and (locks_are_small l) (list_all locks_are_small ls) (locks_small l r.0) (exits_small ls r.1)
 
--- ---- the locks behind an instruction
+-- ---- the locks after an instruction
 
 named_sized : (q : LockPath) → naming_fits (Named q) ≡ true → is_sized q ≡ true
 named_sized (Cell c) h = let a : c < 2 ^ 23 = grind (arith, h) in let b : c < 2 ^ 31 = omega arith in grind (arith, b)
@@ -240,7 +240,7 @@ substituted_fits : (actuals : List (Option LockPath)) (p : LockPath) → list_al
 substituted_fits actuals (Cell c) h s = s
 substituted_fits actuals (Formal i n) h s = go (slice_get actuals i) refl
   where
-    go : (o : Option (Option LockPath)) → slice_get actuals i ≡ o → seen_fits (behind n o) ≡ true
+    go : (o : Option (Option LockPath)) → slice_get actuals i ≡ o → seen_fits (following n o) ≡ true
     go None e = refl
     go (Some None) e = refl
     go (Some (Some (Cell c))) e =

@@ -9,24 +9,24 @@ use Rattle.facts.specs.declared.locks.Minus.TheVariants.{Listed}
 use Rattle.facts.specs.Locks.{is_less, is_same, has, with, union, both, are_ascending}
 use Rattle.facts.proofs.PathSets.{same_is, same_self, less_trans, less_other}
 use Rattle.facts.proofs.Orders.{path_irr}
-use Rattle.lockset_flow.specs.Meeting.{starts_behind, from_path, begins_with_path}
+use Rattle.lockset_flow.specs.Meeting.{starts_after, from_path, begins_with_path}
 use Rattle.lockset_flow.proofs.Meets.{and_both, or_cases}
 
 -- ---- what ascends
 
-pub ascending_step : (p : LockPath) (ps : List LockPath) → are_ascending (p ∷ ps) ≡ (starts_behind p ps && are_ascending ps)
+pub ascending_step : (p : LockPath) (ps : List LockPath) → are_ascending (p ∷ ps) ≡ (starts_after p ps && are_ascending ps)
 ascending_step p [] = refl
 ascending_step p (q ∷ ps) = refl
 
-parts : (p : LockPath) (ps : List LockPath) → are_ascending (p ∷ ps) ≡ true → (starts_behind p ps ≡ true) × (are_ascending ps ≡ true)
-parts p ps h = and_both (starts_behind p ps) (are_ascending ps) (sym (ascending_step p ps) ∙ h)
+parts : (p : LockPath) (ps : List LockPath) → are_ascending (p ∷ ps) ≡ true → (starts_after p ps ≡ true) × (are_ascending ps ≡ true)
+parts p ps h = and_both (starts_after p ps) (are_ascending ps) (sym (ascending_step p ps) ∙ h)
 
 pub ascending_drop : (ps : List LockPath) (n : ℕ) → are_ascending ps ≡ true → are_ascending (drop n ps) ≡ true
 ascending_drop ps zero h = h
 ascending_drop [] (suc n) h = h
 ascending_drop (p ∷ ps) (suc n) h = ascending_drop ps n (parts p ps h).1
 
--- all behind the first come after it
+-- all after the first come after it
 later : (p q : LockPath) (ps : List LockPath) → are_ascending (p ∷ ps) ≡ true → has q ps ≡ true → is_less p q ≡ true
 later p q [] h i = absurd (true≢false (sym i))
 later p q (x ∷ ps) h i =
@@ -83,9 +83,9 @@ pub found_first : (p : LockPath) (qs : List LockPath) → are_ascending qs ≡ t
 found_first p [] h = refl
 found_first p (q ∷ qs) h = by (found_first p qs (parts q qs h).1) (is_less q p) refl
   where
-    behind : (s : Bool) → is_same p q ≡ s → is_less q p ≡ false → is_same p q ≡ (is_same p q || has p qs)
-    behind true e n = e ∙ ap (λ b. b || has p qs) (sym e)
-    behind false e n =
+    following : (s : Bool) → is_same p q ≡ s → is_less q p ≡ false → is_same p q ≡ (is_same p q || has p qs)
+    following true e n = e ∙ ap (λ b. b || has p qs) (sym e)
+    following false e n =
         let other : is_same q p ≡ false = apart (is_same q p) refl in
         let lt = less_other q p n other in
         e ∙ sym (ap (λ b. b || has p qs) e ∙ before_all p q qs h lt)
@@ -96,7 +96,7 @@ found_first p (q ∷ qs) h = by (found_first p qs (parts q qs h).1) (is_less q p
 
     by : begins_with_path p (from_path p qs) ≡ has p qs → (b : Bool) → is_less q p ≡ b → begins_with_path p (if b then from_path p qs else q ∷ qs) ≡ (is_same p q || has p qs)
     by rest true e = rest ∙ sym (ap (λ b. b || has p qs) (less_apart_back p q e))
-    by rest false e = behind (is_same p q) refl e
+    by rest false e = following (is_same p q) refl e
 
 -- what comes before a path comes before a later one
 pub from_later : (p r : LockPath) (qs : List LockPath) → is_less p r ≡ true → from_path r (from_path p qs) ≡ from_path r qs

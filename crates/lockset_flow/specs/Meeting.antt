@@ -4,9 +4,9 @@ use Rattle.facts.specs.declared.locks.LockPath.{LockPath}
 use Rattle.facts.specs.Locks.{is_less, is_same}
 
 -- the path comes before the first of the others, if there is one
-abbrev pub starts_behind : LockPath → List LockPath → Bool
-starts_behind p [] = true
-starts_behind p (q ∷ qs) = is_less p q
+abbrev pub starts_after : LockPath → List LockPath → Bool
+starts_after p [] = true
+starts_after p (q ∷ qs) = is_less p q
 
 -- the paths from the first on that doesn't come before p
 abbrev pub from_path : LockPath → List LockPath → List LockPath

@@ -17,7 +17,7 @@ use Rattle.lockset_flow.specs.declared.next.Successors.{Successors}
 use Rattle.lockset_flow.specs.declared.next.Successors.TheVariants as next
 use Rattle.facts.specs.Locks.{has, both, locked, unlocked, after_call, nothing, topmost, after, successors, returns, Below, Points, PointsBelow, IsSolution, ascends, locks_are_sized}
 
--- ---- the locks behind an instruction, where the arguments have these names
+-- ---- the locks after an instruction, where the arguments have these names
 
 abbrev pub library_by : LibraryCall → List Naming → RelLocks → RelLocks
 library_by call.MutexLock (n ∷ []) l = locked n l

@@ -1,4 +1,4 @@
-//! The locks behind an instruction.
+//! The locks after an instruction.
 ghost use Rattle.std.specs.Prelude.{◌≡◌, true, map, IfOk};
 ghost use Rattle.std.specs.List.{list_all};
 ghost use Rattle.facts.specs.Locks.{locks_are_small};
@@ -11,7 +11,7 @@ use facts::{Naming, RelLocks};
 use flow_code::Act;
 use std::alloc::{AllocError, Global};
 
-// The locks behind a library call; a wait gives its mutex back and takes it again.
+// The locks after a library call; a wait gives its mutex back and takes it again.
 fn after_library(
     alloc: Global,
     call: &LibraryCall,
@@ -31,7 +31,7 @@ fn after_library(
     }
 }
 
-/// The locks behind an instruction whose arguments have these names, where the functions of the code have these exits.
+/// The locks after an instruction whose arguments have these names, where the functions of the code have these exits.
 pub fn after(
     alloc: Global,
     act: &Act,

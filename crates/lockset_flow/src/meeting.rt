@@ -2,7 +2,7 @@
 ghost use Rattle.std.specs.Prelude.{◌≡◌, ◌<◌, ◌≤◌, true, false, length, IfOk, OnOk};
 ghost use Rattle.std.specs.List.{filter, list_all};
 ghost use Rattle.facts.specs.Locks.{has, both, are_ascending};
-ghost use Rattle.lockset_flow.specs.Meeting.{starts_behind, from_path, begins_with_path};
+ghost use Rattle.lockset_flow.specs.Meeting.{starts_after, from_path, begins_with_path};
 ghost use Rattle.lockset_flow.specs.Rounds.{meet_of, minus_weight, weight, grows as grows_of};
 
 use facts::{LockPath, Minus, RelLocks, has_path};
@@ -25,7 +25,7 @@ fn ascend(paths: &[LockPath]) -> bool
 
 // Whether the path comes before the first of the others, if there is one.
 fn comes_first(path: LockPath, others: &[LockPath]) -> bool
-    ensures { result ≡ starts_behind path others.now }
+    ensures { result ≡ starts_after path others.now }
 {
     match others {
         [first, ..] => path.is_less(*first),

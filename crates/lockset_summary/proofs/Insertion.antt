@@ -79,7 +79,7 @@ below_more row a b m h at l j c lt k = ⊎_elim
     (λ (z : m ≤ j). let e : j ≡ m = omega arith in subst (λ x. guarded_less x a ≡ true) (same_Some b c (sym at ∙ ap (slice_get row) (sym e) ∙ k)) l)
     (cases_lt j m)
 
--- it is greater: so are all behind it
+-- it is greater: so are all after it
 pub above_more : (row : List Guarded) (a b : Guarded) (m : ℕ) → guarded_ascend row ≡ true → slice_get row m ≡ Some b → guarded_less a b ≡ true → (j : ℕ) (c : Guarded) → m ≤ j → slice_get row j ≡ Some c → guarded_less a c ≡ true
 above_more row a b m h at l j c le k = ⊎_elim
     (λ (z : m < j). guarded_trans a b c l (earlier_less row m j b c h z at k))

@@ -29,7 +29,7 @@ IsWithin (Listed ps) top = (p : LockPath) → has p ps ≡ true → has p top �
 
 -- ---- what an instruction does to the locks
 
--- it adds these to those that may have been given back, and what is held behind it depends on what is held before it alone
+-- it adds these to those that may have been given back, and what is held after it depends on what is held before it alone
 record Effect (top : List LockPath) (step : RelLocks → RelLocks) : Type 0 where
   gone : Minus
   within : IsWithin gone top
@@ -230,7 +230,7 @@ closed code exits f fn top at k known = record {
   called = λ j i g arguments into e p q is c there h s n. (k.of q).1 (called f j fn i g arguments into p q (record { function = at; instr = is }) c (minus_has code g e.minus p (known g e there).minus h) s n);
 }
 
--- the locks behind a call are known, where those before it and the called function's are
+-- the locks after a call are known, where those before it and the called function's are
 pub through_known : (code : Code) (f k : ℕ) (fn : Function) (i : Instr) (g : ℕ) (arguments : List ℕ) (into : Option ℕ) (e l : RelLocks) → StandsAt code f k fn i → i.act ≡ act.Call g arguments into → AreLocksKnown code g e → AreLocksKnown code f l → AreLocksKnown code f (through (actuals_at fn k arguments) e l)
 through_known code f k fn i g arguments into e l at is ke kl = record {
   plus = λ p h. ⊎_elim

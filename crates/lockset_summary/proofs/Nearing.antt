@@ -117,7 +117,7 @@ module _ (code : Code) (tops : List (List LockPath)) (tops_known : AllListsKnown
   pub done : (exits : List RelLocks) (xs : List Points) → AreNearing code tops exits xs → all_same exits (exits_of xs) ≡ true → AreGreatest code tops xs
   done exits xs n same = whole code tops tops_known.0 exits xs n.each n.from.above (same_exits exits (exits_of xs) same)
 
--- ---- points that are found one behind the other
+-- ---- points that are found one after the other
 
 get_appended : {X : Type 0} (xs : List X) (y z : X) (j : ℕ) → slice_get (xs ++ y ∷ []) j ≡ Some z → (slice_get xs j ≡ Some z) ⊎ ((j ≡ length xs) × (y ≡ z))
 get_appended [] y z zero h = inr (refl, same_Some y z h)

@@ -1,4 +1,4 @@
--- What a caller knows behind a call rises with what is known at the called function's exit.
+-- What a caller knows after a call rises with what is known at the called function's exit.
 use Rattle.std.proofs.Common.{◌≡◌, ◌≤◌, ℕ, zero, suc, Bool, true, false, not, List, [], ◌∷◌, length, refl, sym, ap, ◌∙◌, subst, arith, ⊎_elim, Option, Some, None, filter}
 use Rattle.std.specs.Prelude.{if◌then◌else◌, slice_get}
 use Rattle.std.proofs.lemmas.Bool.{and_parts, and_from}

@@ -1,4 +1,4 @@
--- Parts of rounds, one behind the other.
+-- Parts of rounds, one after the other.
 use Rattle.std.proofs.Common.{◌≡◌, ℕ, zero, suc, ◌+◌, ◌-◌, ◌^◌, ◌<◌, ◌≤◌, Bool, true, false, ◌||◌, List, [], ◌∷◌, length, get_or, refl, sym, ap, ◌∙◌, subst, arith, ⊎_elim, Result, Ok, Err, Some}
 use Rattle.std.specs.Prelude.{IfOk, slice_get, slice_set}
 use Rattle.std.proofs.lemmas.Option.{same_Some, slice_get-get_or, slice_get_within}

@@ -18,7 +18,7 @@ use Rattle.facts.specs.declared.locks.LockPath.{LockPath}
 use Rattle.facts.specs.declared.locks.LockPath.TheVariants.{Cell, Formal}
 use Rattle.facts.specs.declared.locks.Naming.{Naming}
 use Rattle.facts.specs.declared.locks.Naming.TheVariants.{Unknown, Nowhere, Named}
-use Rattle.facts.specs.Paths.{Root, global, formal, Known, is_never_assigned, known_formal, at_cells, known_on, known_on_by, known_of, known_at, most_cells, path_to, naming_of, naming_at, names_cell, actual_of, behind, substituted, is_small, are_small, is_small_actual, are_small_actuals}
+use Rattle.facts.specs.Paths.{Root, global, formal, Known, is_never_assigned, known_formal, at_cells, known_on, known_on_by, known_of, known_at, most_cells, path_to, naming_of, naming_at, names_cell, actual_of, following, substituted, is_small, are_small, is_small_actual, are_small_actuals}
 use Rattle.facts.specs.declared.locks.Minus.{Minus}
 use Rattle.facts.specs.declared.locks.Minus.TheVariants.{All, Listed}
 use Rattle.facts.specs.declared.locks.RelLocks.{RelLocks}
@@ -156,21 +156,21 @@ near_actuals f k [] i o h = cc
 near_actuals f k (r ∷ rs) zero o h = subst IsNearActual (same_Some (actual_of (naming_at f k r)) o h) (near_actual (naming_at f k r) (near_named f k r))
 near_actuals f k (r ∷ rs) (suc i) o h = near_actuals f k rs i o h
 
-modest_behind : (n : ℕ) (o : Option (Option LockPath)) (q : LockPath) → n ≤ 65535 → ((a : Option LockPath) → o ≡ Some a → IsNearActual a) → behind n o ≡ Some q → names_cell q ≡ true → IsModest q
-modest_behind n None q h f e c = cc
-modest_behind n (Some None) q h f e c = cc
-modest_behind n (Some (Some (Cell b))) q h f e c = subst IsModest (same_Some (Cell (b + n)) q e) (cell b (f (Some (Cell b)) refl))
+modest_after : (n : ℕ) (o : Option (Option LockPath)) (q : LockPath) → n ≤ 65535 → ((a : Option LockPath) → o ≡ Some a → IsNearActual a) → following n o ≡ Some q → names_cell q ≡ true → IsModest q
+modest_after n None q h f e c = cc
+modest_after n (Some None) q h f e c = cc
+modest_after n (Some (Some (Cell b))) q h f e c = subst IsModest (same_Some (Cell (b + n)) q e) (cell b (f (Some (Cell b)) refl))
   where
     cell : (b : ℕ) → b < 4259840 → b + n < 8388608
     cell b l = omega arith
-modest_behind n (Some (Some (Formal i m))) q h f e c = subst IsModest (same_Some (Formal i (m + n)) q e) (few (m + n) (ap names_cell (same_Some (Formal i (m + n)) q e) ∙ c))
+modest_after n (Some (Some (Formal i m))) q h f e c = subst IsModest (same_Some (Formal i (m + n)) q e) (few (m + n) (ap names_cell (same_Some (Formal i (m + n)) q e) ∙ c))
   where
     few : (x : ℕ) → nat_le x 65535 ≡ true → x ≤ 65535
     few x g = grind (arith, g)
 
 modest_substituted : (p q : LockPath) (f : Function) (k : ℕ) (arguments : List ℕ) → IsModest p → substituted p (actuals_at f k arguments) ≡ Some q → names_cell q ≡ true → IsModest q
 modest_substituted (Cell c) q f k arguments h e n = subst IsModest (same_Some (Cell c) q e) h
-modest_substituted (Formal i m) q f k arguments h e n = modest_behind m (slice_get (actuals_at f k arguments) i) q h (λ o g. near_actuals f k arguments i o g) e n
+modest_substituted (Formal i m) q f k arguments h e n = modest_after m (slice_get (actuals_at f k arguments) i) q h (λ o g. near_actuals f k arguments i o g) e n
 
 -- ---- what functions know
 

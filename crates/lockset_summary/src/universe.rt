@@ -27,8 +27,8 @@ fn add(row: &mut List<LockPath>, path: LockPath) -> Result<bool, AllocError>
 {
     let before = row.len();
     add_path(row, path)?;
-    let behind = row.len();
-    Ok(before < behind)
+    let following = row.len();
+    Ok(before < following)
 }
 
 // Adds a path that the function knows.

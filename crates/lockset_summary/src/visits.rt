@@ -118,7 +118,7 @@ fn step(code: &Code, search: &mut Search) -> Result<(), AllocError>
     }
 }
 
-// Lists a function behind those that it calls. The search ends, since no function is opened twice.
+// Lists a function after those that it calls. The search ends, since no function is opened twice.
 fn search_from(code: &Code, search: &mut Search, f: usize) -> Result<(), AllocError>
     requires { IsSearch (length code.now.functions) search.old }
     ensures { OnOk result (IsSearch (length code.now.functions) search.new) }
@@ -169,7 +169,7 @@ pub fn function_at(_code: &Code, order: &[usize], k: usize) -> usize
     order[k]
 }
 
-/// The functions of the code, each behind those that it calls, but where they call each other in a circle.
+/// The functions of the code, each after those that it calls, but where they call each other in a circle.
 pub fn order_of(alloc: Global, code: &Code) -> Result<List<usize>, AllocError>
     ensures { IfOk result (IsOrder (length code.now.functions)) }
 {

@@ -9,7 +9,7 @@ use Rattle.sync_objects.specs.declared.entry.Noted.{Noted}
 use Rattle.core_run.specs.Histories.{entries_in}
 use Rattle.core_run.specs.Kept.{endings_in}
 use Rattle.core_run.specs.Machine.{Told}
-use Rattle.runs.specs.Merge.{Taken, Stuck, Takes, next_entry, merged_on, merged_behind, total_length}
+use Rattle.runs.specs.Merge.{Taken, Stuck, Takes, next_entry, merged_on, merged_after, total_length}
 use Rattle.runs.specs.Steps.{entries_of}
 use Rattle.runs.proofs.Lists.{AllIn}
 
@@ -65,11 +65,11 @@ length_entries [] = refl
 length_entries (x ∷ xs) = ap suc (length_entries xs)
 
 -- a written merge takes no more entries than it is asked for
-pub few_merged : (n : ℕ) (before : List Noted) (lists : List (List Noted)) → length (merged_behind n before lists) ≤ n
+pub few_merged : (n : ℕ) (before : List Noted) (lists : List (List Noted)) → length (merged_after n before lists) ≤ n
 few_merged zero before lists = omega arith
 few_merged (suc n) before lists = on (next_entry before lists) (few_merged n)
   where
-    on : (t : Taken) → ((b : List Noted) (ls : List (List Noted)) → length (merged_behind n b ls) ≤ n) → length (merged_on (merged_behind n) before t) ≤ suc n
+    on : (t : Taken) → ((b : List Noted) (ls : List (List Noted)) → length (merged_after n b ls) ≤ n) → length (merged_on (merged_after n) before t) ≤ suc n
     on Stuck more = omega arith
     on (Takes x rest) more = let few = more (before ++ x ∷ []) rest in omega arith
 

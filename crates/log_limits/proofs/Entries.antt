@@ -17,7 +17,7 @@ use Rattle.abstract_machine.specs.declared.event.Action.{Action}
 use Rattle.abstract_machine.specs.declared.event.Action.TheVariants as action
 use Rattle.abstract_machine.proofs.Calls.{is_from_outside}
 use Rattle.flow_code.specs.declared.code.Code.{Code}
-use Rattle.flow_code.specs.Next.{stepped as thread_stepped, action_at, gave_up, stopped, shut}
+use Rattle.flow_code.specs.Next.{stepped as thread_stepped, action_at, gave_up, stopped, slot_closed}
 use Rattle.flow_code.specs.Settle.{settled, IsRunnable}
 use Rattle.flow_code.specs.Threads.{Thread}
 use Rattle.flow_code.proofs.Asked.{own_action}
@@ -78,7 +78,7 @@ module _ (code : Code) (s : SetupView) where
       (if_fitting (may_stop told.thread) _ (λ may. operation_fitting t told op.Stop object.Halt [] (λ answer. stopped told.thread) refl (λ e. cc)))
   effect_fitting run (Close t) told early =
       subst IsFittingEffect (sym (effect_close code s t told))
-      (if_fitting (may_close told.thread) _ (λ may. operation_fitting t told op.Close (object.Slot t) [] (λ answer. shut told.thread) refl (λ e. cc)))
+      (if_fitting (may_close told.thread) _ (λ may. operation_fitting t told op.Close (object.Slot t) [] (λ answer. slot_closed told.thread) refl (λ e. cc)))
 
   abbrev AllFitting : List Noted → Type 0
   AllFitting xs = AllIn (λ x. IsFitting s x.entry) xs

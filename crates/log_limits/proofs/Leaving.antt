@@ -128,7 +128,7 @@ barrier_lives : (made : ℕ) (kept answer : ℤ) → EndsBy (barrier_wait_onward
 barrier_lives zero kept answer = if_lives (is_serial answer) _ (onward.Stays answer) (λ e. cc) (λ e. cc)
 barrier_lives (suc n) kept answer = if_lives (is_serial kept) _ (onward.Gives 0) (λ e. cc) (λ e. cc)
 
--- an answer ends a thread at pthread_exit alone, behind two of its events
+-- an answer ends a thread at pthread_exit alone, after two of its events
 abbrev IsLast : LibraryCall → ℕ → Type 0
 IsLast call.Exit zero = ⊥
 IsLast call.Exit (suc n) = Unit {0}

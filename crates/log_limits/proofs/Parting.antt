@@ -1,4 +1,4 @@
--- Behind the first event of its pthread_exit a thread has no stripe.
+-- After the first event of its pthread_exit a thread has no stripe.
 use Rattle.std.proofs.Common.{◌≡◌, ℕ, zero, suc, ◌+◌, ◌-◌, Bool, true, false, if◌then◌else◌, ◌==◌, List, [], ◌∷◌, length, position, Option, Some, None, Result, Ok, Err, refl, sym, ap, ◌∙◌, ℤ}
 use Rattle.std.specs.Prelude.{slice_get}
 use Rattle.sync_objects.specs.Setup.{SetupView}
@@ -19,8 +19,8 @@ use Rattle.flow_code.specs.declared.region.Region.{Region}
 use Rattle.flow_code.specs.declared.thread.Phase.{Phase}
 use Rattle.flow_code.specs.declared.thread.Phase.TheVariants as phase
 use Rattle.flow_code.specs.declared.thread.Stripe.{Stripe}
-use Rattle.flow_code.specs.Holding.{region_of, lacked, taken, open_place, to_give, gives_at, parting, left_behind}
-use Rattle.flow_code.specs.Next.{act_at, pointers_of, computed, back_in, end_onward, returned, went_on, call_after, on_unless, act_after, begun_after, phase_after, owed_at, with_owed, after_due, same_stripe, due_of, caller, stepped, value_of}
+use Rattle.flow_code.specs.Holding.{region_of, lacked, taken, open_place, to_give, gives_at, parting, left_after}
+use Rattle.flow_code.specs.Next.{act_at, pointers_of, computed, back_in, end_onward, returned, resumed, call_after, on_unless, act_after, begun_after, phase_after, owed_at, with_owed, after_due, same_stripe, due_of, caller, stepped, value_of}
 use Rattle.flow_code.specs.Threads.{Thread, is_main}
 use Rattle.flow_code.specs.Works.{work_of}
 use Rattle.weak_ways.specs.Reached.{Reached, starts, steps, loses, stops, shuts}
@@ -62,7 +62,7 @@ module _ (code : Code) (s : SetupView) (t : ℕ) where
   compute_parted th into (Err kind) h = h
 
   -- a call that ends its thread has no stripe once it stays behind an event
-  went_parted : (th : Thread) (n : ℕ) (into : Option ℕ) (o : Onward) → (is_exit (act_at code th.top) ≡ true → th.stripes ≡ []) → HasParted code th → HasParted code (went_on (record th { printed = n }) into o)
+  went_parted : (th : Thread) (n : ℕ) (into : Option ℕ) (o : Onward) → (is_exit (act_at code th.top) ≡ true → th.stripes ≡ []) → HasParted code th → HasParted code (resumed (record th { printed = n }) into o)
   went_parted th n into (onward.Stays kept) e h = by (is_exit (act_at code th.top)) e
     where
       by : (b : Bool) → (b ≡ true → th.stripes ≡ []) → Parted (th.top.made + 1) b th.stripes
@@ -89,11 +89,11 @@ module _ (code : Code) (s : SetupView) (t : ℕ) where
       same true e q k = k
       same false e q k = cc
 
-      by : (xs : List Stripe) → parting c th.top.made th.stripes ≡ xs → HasParted code (left_behind th xs (call_after code s t th c arguments into answer))
+      by : (xs : List Stripe) → parting c th.top.made th.stripes ≡ xs → HasParted code (left_after th xs (call_after code s t th c arguments into answer))
       by [] p =
           went_parted th _ into (library_onward (caller code s t th) c (words_of th.top.registers arguments) th.top.made th.top.kept answer)
           (λ e. none_left c th.top.made th.stripes (sym (ap is_exit at) ∙ e) p (same (is_exit (act_at code th.top)) refl e h)) h
-      by (x ∷ xs) p = first c th.top.made th.stripes xs (is_exit (act_at code th.top)) x p (left_behind th (x ∷ xs) th).stripes
+      by (x ∷ xs) p = first c th.top.made th.stripes xs (is_exit (act_at code th.top)) x p (left_after th (x ∷ xs) th).stripes
 
   back_parted : (th : Thread) (value : ℕ) (o : Option _) → HasParted code th → HasParted code (back_in code th value o)
   back_parted th value None h = h

@@ -14,7 +14,7 @@ use Rattle.abstract_machine.specs.declared.event.Action.TheVariants as action
 use Rattle.abstract_machine.specs.declared.event.Due.{Due}
 use Rattle.abstract_machine.specs.declared.event.Due.TheVariants as due
 use Rattle.flow_code.specs.declared.code.Code.{Code}
-use Rattle.flow_code.specs.Next.{stepped, action_at, action_of, after_due, due_of, gave_up, stopped, shut, has_begun, has_ended, holds}
+use Rattle.flow_code.specs.Next.{stepped, action_at, action_of, after_due, due_of, gave_up, stopped, slot_closed, has_begun, has_ended, holds}
 use Rattle.flow_code.specs.Settle.{settled}
 use Rattle.flow_code.specs.Threads.{Thread}
 use Rattle.flow_code.proofs.Counts.{after_operate, ended_action, phase_keeps, settled_keeps_all, stepped_is}
@@ -27,7 +27,7 @@ use Rattle.runs.specs.Labels.{Label, Go, Revoke, Stop, Close}
 use Rattle.runs.specs.Steps.{Change, Becomes, Effect, Refused, Operates}
 use Rattle.log_walks.specs.Followed.{floor}
 
--- the count behind an operation of this name
+-- the count after an operation of this name
 abbrev pub left_by : OpName → ℕ → ℕ
 left_by o count = if is_weak o then count else count + 1
 
@@ -89,7 +89,7 @@ module _ (code : Code) (s : SetupView) where
       (sym (effect_stop code s t told) ∙ is)
   leaves_floor (Close t) told after e change old new answer is becomes =
       if_leaves (may_close told.thread) _ e change (after.thread.count ≡ floor e)
-      (λ q. operation_leaves t told op.Close (object.Slot t) [] (λ x. shut told.thread) e change old new answer after (λ x. refl) q becomes)
+      (λ q. operation_leaves t told op.Close (object.Slot t) [] (λ x. slot_closed told.thread) e change old new answer after (λ x. refl) q becomes)
       (sym (effect_close code s t told) ∙ is)
 
   -- ---- threads that have ended
@@ -115,4 +115,4 @@ module _ (code : Code) (s : SetupView) where
   ended_rests (Stop t) told ended =
       effect_stop code s t told ∙ ap (λ b. if b then operation code s t told op.Stop object.Halt [] (λ x. stopped told.thread) else Refused) (no_end (has_begun told.thread.phase) told.thread ended)
   ended_rests (Close t) told ended =
-      effect_close code s t told ∙ ap (λ b. if b then operation code s t told op.Close (object.Slot t) [] (λ x. shut told.thread) else Refused) (no_end (not (has_begun told.thread.phase)) told.thread ended)
+      effect_close code s t told ∙ ap (λ b. if b then operation code s t told op.Close (object.Slot t) [] (λ x. slot_closed told.thread) else Refused) (no_end (not (has_begun told.thread.phase)) told.thread ended)

@@ -22,7 +22,7 @@ use Rattle.runs.specs.Paths.{IsPrefixOf}
 use Rattle.runs.specs.Steps.{State, entries_of, trace}
 use Rattle.runs.proofs.Lists.{own_out}
 use Rattle.followed_logs.specs.Following.{EndedRest, Follows, HasMade, IsFresh, LeavesAtLeast}
-use Rattle.followed_logs.specs.Numbered.{numbered, numbered_behind, with_number}
+use Rattle.followed_logs.specs.Numbered.{numbered, numbered_after, with_number}
 use Rattle.followed_logs.proofs.Whole.{refused, taken}
 use Rattle.log_walks.specs.Followed.{floor, Followed}
 use Rattle.log_walks.proofs.Floors.{ended_rests, leaves_floor}
@@ -63,10 +63,10 @@ in_front (y ∷ xs) (suc n) (suc k) x is = in_front xs n k x is
 abbrev AreOf : ℕ → List Entry → Type 0
 AreOf n es = (k : ℕ) (e : Entry) → slice_get es k ≡ Some e → e.thread < n
 
-none_of : (n t : ℕ) (es : List Entry) (before : List Noted) → AreOf n es → n ≤ t → entries_of t (numbered_behind before es) ≡ []
+none_of : (n t : ℕ) (es : List Entry) (before : List Noted) → AreOf n es → n ≤ t → entries_of t (numbered_after before es) ≡ []
 none_of n t [] before of beyond = refl
 none_of n t (e ∷ es) before of beyond =
-    own_out t (with_number before e) (numbered_behind (before ++ with_number before e ∷ []) es) (λ is. omega (arith, of 0 e refl, beyond, is))
+    own_out t (with_number before e) (numbered_after (before ++ with_number before e ∷ []) es) (λ is. omega (arith, of 0 e refl, beyond, is))
     ∙ none_of n t es (before ++ with_number before e ∷ []) (λ k f there. of (suc k) f there) beyond
 
 module _ (code : Code) (s : SetupView) (runnable : IsRunnable code) (limits : IsWithinLimits s) where

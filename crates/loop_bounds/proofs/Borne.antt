@@ -175,7 +175,7 @@ counter_kept : (is : List Instr) (l : LoopInfo) → 4 ≤ l.last → keeps_count
 counter_kept is l far h k le lt apart =
     let c = both_true (is_never_assigned (slice_range is l.at (l.last - 1)) l.counter) (is_never_assigned (slice_range is l.last (l.last + 2)) l.counter) h in
     ⊎_elim (λ before. never_there is l.at (l.last - 1) l.counter k c.0 le before)
-    (λ behind. let o : l.last ≤ k = omega arith in never_there is l.last (l.last + 2) l.counter k c.1 o (omega arith))
+    (λ following. let o : l.last ≤ k = omega arith in never_there is l.last (l.last + 2) l.counter k c.1 o (omega arith))
     (cases_lt k (l.last - 1))
 
 pub borne_out : (fn : Function) (l : LoopInfo) → is_counted fn l ≡ true → IsBorneOut fn.instrs l

@@ -27,7 +27,7 @@ first_past false j k e new le was is = was ∙ ap (λ z. nat_lt z k) (sym is)
 
 -- one instruction more, in front of the others, has been looked at
 pub firsts_next : (is : List Instr) (left j m k e new : ℕ) (i : Instr) → left ≡ suc j → j < length is → k ≤ length is → is_target (drop left (take k is)) m ≡ nat_lt e k → new ≡ (if goes_to m (get_or is j i).act then j else e) → is_target (drop j (take k is)) m ≡ nat_lt new k
-firsts_next is left j m k e new i behind lt within was is_new =
+firsts_next is left j m k e new i following lt within was is_new =
     let after : left ≡ j + 1 = omega arith in
     let long = take_long k is within in
     ⊎_elim
@@ -116,13 +116,13 @@ entered is a b target le h =
     ∙ none_goes a b (drop (b + 1) is) (λ t lt within. (h t (omega arith) within).1)
 
 pub not_entered : (is : List Instr) (a b t first end : ℕ) → a < t → t ≤ b → is_target (take a is) t ≡ nat_lt first a → is_target (drop (b + 1) is) t ≡ nat_lt (b + 1) end → (nat_lt first a || nat_lt (b + 1) end) ≡ true → is_entered_at is a b ≡ false
-not_entered is a b t first end lt le before behind h =
+not_entered is a b t first end lt le before following h =
     or_cases (nat_lt first a) (nat_lt (b + 1) end) (is_entered_at is a b ≡ false) h
     (λ g. ap (λ c. c && none_goes_into a b (drop (b + 1) is)) (one_goes a b t (take a is) lt le (before ∙ g)))
-    (λ g. and_none (none_goes_into a b (take a is)) (none_goes_into a b (drop (b + 1) is)) (one_goes a b t (drop (b + 1) is) lt le (behind ∙ g)))
+    (λ g. and_none (none_goes_into a b (take a is)) (none_goes_into a b (drop (b + 1) is)) (one_goes a b t (drop (b + 1) is) lt le (following ∙ g)))
 
 pub one_apart : (is : List Instr) (a b t first end : ℕ) → is_target (take a is) t ≡ nat_lt first a → is_target (drop (b + 1) is) t ≡ nat_lt (b + 1) end → (nat_lt first a || nat_lt (b + 1) end) ≡ false → (is_target (take a is) t ≡ false) × (is_target (drop (b + 1) is) t ≡ false)
-one_apart is a b t first end before behind h = let p = or_false (nat_lt first a) (nat_lt (b + 1) end) h in (before ∙ p.0, behind ∙ p.1)
+one_apart is a b t first end before following h = let p = or_false (nat_lt first a) (nat_lt (b + 1) end) h in (before ∙ p.0, following ∙ p.1)
 
 -- ---- the form of a counted loop stands within the instructions
 

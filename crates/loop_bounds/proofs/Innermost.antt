@@ -12,7 +12,7 @@ use Rattle.flow_code.specs.Order.{is_mark}
 use Rattle.facts.specs.Blocks.{goes_to, is_target}
 use Rattle.facts.specs.PointsTo.{Tables}
 use Rattle.facts.proofs.Marked.{take_all}
-use Rattle.loop_bounds.specs.Tables.{AreRounds, behind, is_calm, calm_loops, AreCalm}
+use Rattle.loop_bounds.specs.Tables.{AreRounds, following, is_calm, calm_loops, AreCalm}
 use Rattle.weak_facts.specs.Loops.{◌>>=◌, nth}
 use Rattle.weak_facts.specs.Ranges.{begins_round, mark_before, is_innermost, loop_round, pointer_of, range_in, range_at, ranges_in}
 use Rattle.loop_bounds.proofs.Marks.{found, passed}
@@ -94,32 +94,32 @@ fewer_rounds is m k j le h = by (begins_round is k j) refl
     by false e = e
 
 -- the Marks between an instruction and the Mark of the innermost loop round it begin no loop round a later one
-pub rounds_between : (is : List Instr) (m k j : ℕ) → m ≤ k → mark_before is k j ≡ mark_before is k (behind (mark_before is m j))
+pub rounds_between : (is : List Instr) (m k j : ℕ) → m ≤ k → mark_before is k j ≡ mark_before is k (following (mark_before is m j))
 rounds_between is m k zero le = refl
 rounds_between is m k (suc j) le = by (rounds_between is m k j le) (begins_round is m j) refl
   where
-    by : mark_before is k j ≡ mark_before is k (behind (mark_before is m j)) → (b : Bool) → begins_round is m j ≡ b → mark_before is k (suc j) ≡ mark_before is k (behind (mark_before is m (suc j)))
-    by so_far true e = ap (λ o. mark_before is k (behind o)) (sym (found is m (suc j) j refl e))
-    by so_far false e = passed is k (suc j) j refl (fewer_rounds is m k j le e) ∙ so_far ∙ ap (λ o. mark_before is k (behind o)) (sym (passed is m (suc j) j refl e))
+    by : mark_before is k j ≡ mark_before is k (following (mark_before is m j)) → (b : Bool) → begins_round is m j ≡ b → mark_before is k (suc j) ≡ mark_before is k (following (mark_before is m (suc j)))
+    by so_far true e = ap (λ o. mark_before is k (following o)) (sym (found is m (suc j) j refl e))
+    by so_far false e = passed is k (suc j) j refl (fewer_rounds is m k j le e) ∙ so_far ∙ ap (λ o. mark_before is k (following o)) (sym (passed is m (suc j) j refl e))
 
-behind_within : (is : List Instr) (m j : ℕ) → behind (mark_before is m j) ≤ j
-behind_within is m zero = omega arith
-behind_within is m (suc j) = by (behind_within is m j) (begins_round is m j) refl
+after_within : (is : List Instr) (m j : ℕ) → following (mark_before is m j) ≤ j
+after_within is m zero = omega arith
+after_within is m (suc j) = by (after_within is m j) (begins_round is m j) refl
   where
-    by : behind (mark_before is m j) ≤ j → (b : Bool) → begins_round is m j ≡ b → behind (mark_before is m (suc j)) ≤ suc j
-    by so_far true e = let h = ap behind (found is m (suc j) j refl e) in omega arith
-    by so_far false e = let h = ap behind (passed is m (suc j) j refl e) in omega arith
+    by : following (mark_before is m j) ≤ j → (b : Bool) → begins_round is m j ≡ b → following (mark_before is m (suc j)) ≤ suc j
+    by so_far true e = let h = ap following (found is m (suc j) j refl e) in omega arith
+    by so_far false e = let h = ap following (passed is m (suc j) j refl e) in omega arith
 
 pub round_at : (is : List Instr) (rounds : List (Option ℕ)) (k : ℕ) → AreRounds is rounds → k < length rounds → slice_index_or rounds k None ≡ mark_before is k k
 round_at is rounds k all lt = same_Some (slice_index_or rounds k None) (mark_before is k k) (sym (slice_get-get_or rounds k None lt) ∙ all k lt)
 
--- where the search goes on behind a Mark that begins no loop round the instruction
-pub next_front : (is : List Instr) (rounds : List (Option ℕ)) (at mark next : ℕ) → AreRounds is rounds → length rounds ≡ at → mark < at → next ≡ behind (slice_index_or rounds mark None) → next ≤ mark
-next_front is rounds at mark next all long lt e = let h = ap behind (round_at is rounds mark all (omega arith)) in omega (arith, behind_within is mark mark)
+-- where the search goes on after a Mark that begins no loop round the instruction
+pub next_front : (is : List Instr) (rounds : List (Option ℕ)) (at mark next : ℕ) → AreRounds is rounds → length rounds ≡ at → mark < at → next ≡ following (slice_index_or rounds mark None) → next ≤ mark
+next_front is rounds at mark next all long lt e = let h = ap following (round_at is rounds mark all (omega arith)) in omega (arith, after_within is mark mark)
 
-pub search_on : (is : List Instr) (rounds : List (Option ℕ)) (at front mark next : ℕ) → AreRounds is rounds → length rounds ≡ at → front ≡ suc mark → front ≤ at → begins_round is at mark ≡ false → next ≡ behind (slice_index_or rounds mark None) → mark_before is at next ≡ mark_before is at front
+pub search_on : (is : List Instr) (rounds : List (Option ℕ)) (at front mark next : ℕ) → AreRounds is rounds → length rounds ≡ at → front ≡ suc mark → front ≤ at → begins_round is at mark ≡ false → next ≡ following (slice_index_or rounds mark None) → mark_before is at next ≡ mark_before is at front
 search_on is rounds at front mark next all long e le none is_next =
-    ap (mark_before is at) (is_next ∙ ap behind (round_at is rounds mark all (omega arith)))
+    ap (mark_before is at) (is_next ∙ ap following (round_at is rounds mark all (omega arith)))
     ∙ sym (rounds_between is mark at mark (omega arith))
     ∙ sym (passed is at front mark e none)
 

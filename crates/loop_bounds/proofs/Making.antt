@@ -131,8 +131,8 @@ block_step s is k r m x i j ps qs g lt le = at_it (nth is i) refl g
     at_it (Some a) e w = ⊎_elim (λ n. n) (λ t. let yes : begins_block is j ≡ true = begun is j (targeted is i j a e t) in let no : begins_block is j ≡ false = x.inside j lt le in cc) (onward s a i j ps qs w)
 
 -- a place where a block begins doesn't stand between a register's maker and its use in a block
-pub behind_target : (is : List Instr) (k r m j : ℕ) → IsMade is k r m → is_target is j ≡ true → j ≤ k → j ≤ m
-behind_target is k r m j x h le = ⊎_elim (λ lt. let yes : begins_block is j ≡ true = begun is j h in let no : begins_block is j ≡ false = x.inside j lt le in cc) (λ o. o) (cases_lt m j)
+pub after_target : (is : List Instr) (k r m j : ℕ) → IsMade is k r m → is_target is j ≡ true → j ≤ k → j ≤ m
+after_target is k r m j x h le = ⊎_elim (λ lt. let yes : begins_block is j ≡ true = begun is j h in let no : begins_block is j ≡ false = x.inside j lt le in cc) (λ o. o) (cases_lt m j)
 
 -- what the maker brings about of its register holds at the use
 pub made_value : (s : Setting) (is : List Instr) (mark : ℕ) (start : List ℕ) (k r m : ℕ) (V : ℕ → Type 0) → IsMade is k r m → mark ≤ m → ((j : ℕ) (ps qs : List ℕ) → Comes s is mark start m ps → Goes s (nth is m) m ps j qs → V (register qs r)) → (rs : List ℕ) → Comes s is mark start k rs → V (register rs r)

@@ -19,9 +19,9 @@ use Rattle.loop_bounds.proofs.Soles.{Sole, Makerless, fits, Fits}
 pub places_entered : (is : List Instr) (k : ℕ) (b : Bool) (brought held : ℕ → Option ℕ) → b ≡ begins_block is k → ((r : ℕ) → held r ≡ (if b then None else brought r)) → ((r : ℕ) → (if begins_block is k then None else brought r) ≡ maker_at is k r) → (r : ℕ) → held r ≡ maker_at is k r
 places_entered is k b brought held same enters was r = enters r ∙ ap (λ x. if x then None else brought r) same ∙ was r
 
-pub places_next : (is : List Instr) (k : ℕ) (i : Instr) (held behind : ℕ → Option ℕ) → slice_get is k ≡ Some i → ((r : ℕ) → held r ≡ maker_at is k r) → ((r : ℕ) → behind r ≡ (if assigns r (Some i.act) then Some k else held r)) → (r : ℕ) → (if begins_block is (k + 1) then None else behind r) ≡ maker_at is (k + 1) r
-places_next is k i held behind there was passed r =
-    subst (λ n. (if begins_block is n then None else behind r) ≡ maker_at is n r) (sym (add-one k))
+pub places_next : (is : List Instr) (k : ℕ) (i : Instr) (held following : ℕ → Option ℕ) → slice_get is k ≡ Some i → ((r : ℕ) → held r ≡ maker_at is k r) → ((r : ℕ) → following r ≡ (if assigns r (Some i.act) then Some k else held r)) → (r : ℕ) → (if begins_block is (k + 1) then None else following r) ≡ maker_at is (k + 1) r
+places_next is k i held following there was passed r =
+    subst (λ n. (if begins_block is n then None else following r) ≡ maker_at is n r) (sym (add-one k))
     (ap (λ x. if begins_block is (suc k) then None else x)
     (passed r ∙ ap (λ x. if assigns r (Some i.act) then Some k else x) (was r) ∙ ap (λ o. if assigns r (act_in o) then Some k else maker_at is k r) (sym there)))
 

@@ -33,7 +33,7 @@ use Rattle.loop_bounds.proofs.Steps.{both_true, kept, is_entered}
 use Rattle.loop_bounds.proofs.Regions.{IsEntered, comes_in, holds_in}
 use Rattle.loop_bounds.proofs.Borne.{cond_some, chained, kept_there}
 use Rattle.loop_bounds.proofs.Turning.{stays}
-use Rattle.loop_bounds.proofs.Making.{IsMade, made, IsConstant, constant_made, constant_act, IsLastMaker, last_made, targeted, behind_target, made_value, as_long_as}
+use Rattle.loop_bounds.proofs.Making.{IsMade, made, IsConstant, constant_made, constant_act, IsLastMaker, last_made, targeted, after_target, made_value, as_long_as}
 
 -- ---- numbers
 
@@ -104,10 +104,10 @@ pub record IsTurn (s : Setting) (is : List Instr) (l : LoopInfo) (start : List �
 mark_target : (is : List Instr) (l : LoopInfo) → IsBorneOut is l → is_target is l.at ≡ true
 mark_target is l b = targeted is (l.last + 1) l.at (act.Jump l.at) b.jumps_back (eq-eqb l.at l.at refl)
 
--- a maker in a block of the loop stands behind the Mark
-pub behind_mark : (is : List Instr) (l : LoopInfo) → IsBorneOut is l → (k r m : ℕ) → IsMade is k r m → l.at < k → l.at < m
-behind_mark is l b k r m x lt =
-    let le : l.at ≤ m = behind_target is k r m l.at x (mark_target is l b) (omega arith) in
+-- a maker in a block of the loop stands after the Mark
+pub past_mark : (is : List Instr) (l : LoopInfo) → IsBorneOut is l → (k r m : ℕ) → IsMade is k r m → l.at < k → l.at < m
+past_mark is l b k r m x lt =
+    let le : l.at ≤ m = after_target is k r m l.at x (mark_target is l b) (omega arith) in
     ⊎_elim (λ h. h) (λ o. let e : m ≡ l.at = omega arith in let a : assigns r (nth is l.at) ≡ true = subst (λ n. assigns r (nth is n) ≡ true) e x.makes in let n : assigns r (nth is l.at) ≡ false = ap (λ z. assigns r z) b.marks in cc) (cases_lt l.at m)
 
 -- a register that was made a constant has that number
@@ -116,7 +116,7 @@ constant_word s is l start t k r z lt h rs c =
     let x = constant_made is k r z h in
     let y = constant_act (nth is x.at) z x.is_so in
     let f : AreFit is (length start) = t.fit in
-    let low : l.at < x.at = behind_mark is l t.borne k r x.at x.made_so lt in
+    let low : l.at < x.at = past_mark is l t.borne k r x.at x.made_so lt in
     made_value s is l.at start k r x.at (λ v. number v ≡ z) x.made_so (omega arith)
     (λ j ps qs d g. let w = given s is l.at start f x.at j r y.0 (work.Constant z) ps qs y.1 x.made_so.makes d g in let e : register qs r ≡ word z = cc (w.gives) in ap number e ∙ to_z-of_z (f.constants x.at y.0 z y.1))
     rs c
@@ -156,7 +156,7 @@ index_word s is l start t k u d lt le h rs c = by (u == l.counter) refl h
     by false other w =
         let y = chained (λ m. shift_by is l.counter m (nth is m)) (maker_at is k u) d w in
         let x = made is k u y.0 y.1 in
-        let low : l.at < y.0 = behind_mark is l t.borne k u y.0 x lt in
+        let low : l.at < y.0 = past_mark is l t.borne k u y.0 x lt in
         let high : y.0 < k = x.before in
         made_value s is l.at start k u y.0 (IsShifted start l d) x (omega arith) (λ j ps qs v g. shift_made s is l start t y.0 u d (nth is y.0) low (omega arith) x.makes refl y.2 j ps qs v g) rs c
 
@@ -180,7 +180,7 @@ base_word s is l start t k r b lt le h rs c = at_it (made_at is k r) refl h
         let same : base.Site (site_of w) ≡ b = cc (g) in
         let z = chained (λ m. nth is m) (maker_at is k r) (act.Compute into (work.Address w)) e in
         let x = made is k r z.0 z.1 in
-        let low : l.at < z.0 = behind_mark is l t.borne k r z.0 x lt in
+        let low : l.at < z.0 = past_mark is l t.borne k r z.0 x lt in
         made_value s is l.at start k r z.0 (IsBaseWord s start b) x (omega arith)
         (λ j ps qs d y. subst (λ v. IsBaseWord s start v (register qs r)) same (w, refl, address_word s ps w (register qs r) (given s is l.at start t.fit z.0 j r into (work.Address w) ps qs z.2 x.makes d y)))
         rs c

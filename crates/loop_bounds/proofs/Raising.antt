@@ -49,7 +49,7 @@ jumped s is l b k j ps qs e g =
     let x : Goes s (Some (act.Jump l.at)) k ps j qs = subst (λ (z : Option Act). Goes s z k ps j qs) there g in
     x.0
 
--- so each instruction behind its first is come from at the one before
+-- so each instruction after its first is come from at the one before
 next_in : (s : Setting) (is : List Instr) (l : LoopInfo) (b : IsBorneOut is l) → (k j : ℕ) (ps qs : List ℕ) → Goes s (nth is k) k ps j qs → b.last_part.begin < j → j ≤ l.last + 1 → (b.last_part.begin ≤ k) × (j ≡ k + 1)
 next_in s is l b k j ps qs g lt le =
     let ends : l.at + 6 ≤ l.last = far is l b in
@@ -57,7 +57,7 @@ next_in s is l b k j ps qs g lt le =
     let low : b.last_part.begin ≤ k = inside.0 in
     let high : k ≤ l.last + 1 = inside.1 in
     ⊎_elim (λ (before : k < l.last + 1). (low, part_step s is l b k j ps qs low (omega arith) g))
-    (λ (behind : l.last + 1 ≤ k). let e : j ≡ l.at = jumped s is l b k j ps qs (omega arith) g in absurd (omega (arith, e, lt, b.begins, b.ends)))
+    (λ (following : l.last + 1 ≤ k). let e : j ≡ l.at = jumped s is l b k j ps qs (omega arith) g in absurd (omega (arith, e, lt, b.begins, b.ends)))
     (cases_lt k (l.last + 1))
 
 way_to : (s : Setting) (is : List Instr) (l : LoopInfo) (b : IsBorneOut is l) → (a c : ℕ) → b.last_part.begin ≤ a → c ≤ l.last + 1 → IsEntered s is a c
@@ -82,11 +82,11 @@ old_word s is l start t rs c = ⊎_elim (λ x. ap (λ r. register rs r) x.1 ∙ 
     copied at_four copies =
         holds_in s is l.at start (l.last - 4) (l.last - 2) (λ z. register z lp.old ≡ register start l.counter) (omega (arith, ends)) (way_to s is l b (l.last - 4) (l.last - 2) (omega (arith, at_four)) (omega (arith, ends))) first keep (l.last - 2) rs c (omega (arith, ends)) (omega arith)
       where
-        behind : l.at < l.last - 4
-        behind = omega (arith, at_four, b.begins, b.ends)
+        following : l.at < l.last - 4
+        following = omega (arith, at_four, b.begins, b.ends)
 
         first : (j : ℕ) (ps qs : List ℕ) → Comes s is l.at start (l.last - 4) ps → Goes s (nth is (l.last - 4)) (l.last - 4) ps j qs → l.last - 4 < j → j ≤ l.last - 2 → register qs lp.old ≡ register start l.counter
-        first j ps qs d g lt le = copy_word s ps l.counter (register qs lp.old) (given s is l.at start t.fit (l.last - 4) j lp.old lp.old (work.Copy l.counter) ps qs copies (ap (λ a. assigns lp.old a) copies ∙ same_register lp.old) d g) ∙ stays s is l b start l.counter b.keeps_counter (l.last - 4) ps d behind (omega arith)
+        first j ps qs d g lt le = copy_word s ps l.counter (register qs lp.old) (given s is l.at start t.fit (l.last - 4) j lp.old lp.old (work.Copy l.counter) ps qs copies (ap (λ a. assigns lp.old a) copies ∙ same_register lp.old) d g) ∙ stays s is l b start l.counter b.keeps_counter (l.last - 4) ps d following (omega arith)
 
         keep : (i j : ℕ) (ps qs : List ℕ) → l.last - 4 < i → i ≤ l.last - 2 → l.last - 4 < j → j ≤ l.last - 2 → Comes s is l.at start i ps → Goes s (nth is i) i ps j qs → register ps lp.old ≡ register start l.counter → register qs lp.old ≡ register start l.counter
         keep i j ps qs lt le lt2 le2 d g p =
@@ -110,7 +110,7 @@ at_next s is l start b a P low high brings rs c =
         absurd (omega (arith, e, lt, le2))
 
 pub raised : (s : Setting) (is : List Instr) (l : LoopInfo) (start : List ℕ) → IsTurn s is l start → (rs : List ℕ) → Comes s is l.at start (l.last + 1) rs → number (register rs l.counter) ≡ number (register start l.counter) +ℤ l.step
-raised s is l start t rs c = at_next s is l start b l.last (λ z. number (register z l.counter) ≡ number (register start l.counter) +ℤ l.step) (omega (arith, early, ends)) (omega arith) behind rs c
+raised s is l start t rs c = at_next s is l start b l.last (λ z. number (register z l.counter) ≡ number (register start l.counter) +ℤ l.step) (omega (arith, early, ends)) (omega arith) following rs c
   where
     b : IsBorneOut is l
     b = t.borne
@@ -155,7 +155,7 @@ raised s is l start t rs c = at_next s is l start b l.last (λ z. number (regist
         (λ j os qs w g. let x = given s is l.at start f (l.last - 1) j l.counter l.counter (work.Copy lp.new) os qs lp.raises (ap (λ a. assigns l.counter a) lp.raises ∙ same_register l.counter) w g in ap number (copy_word s os lp.new (register qs l.counter) x) ∙ new_word os w)
         ps (subst (λ (n : ℕ). Comes s is l.at start n ps) (sym to_last) d)
 
-    behind : (j : ℕ) (ps qs : List ℕ) → Comes s is l.at start l.last ps → Goes s (nth is l.last) l.last ps j qs → number (register qs l.counter) ≡ number (register start l.counter) +ℤ l.step
-    behind j ps qs d g =
+    following : (j : ℕ) (ps qs : List ℕ) → Comes s is l.at start l.last ps → Goes s (nth is l.last) l.last ps j qs → number (register qs l.counter) ≡ number (register start l.counter) +ℤ l.step
+    following j ps qs d g =
         let apart : l.last ≢ l.last - 1 = λ e. omega (arith, ends) in
         ap number (kept s (nth is l.last) l.last j ps qs l.counter g (b.keeps_counter l.last (omega (arith, ends)) (omega arith) apart)) ∙ counter_word ps d

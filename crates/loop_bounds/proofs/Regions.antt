@@ -8,7 +8,7 @@ use Rattle.loop_bounds.specs.Forms.{IsEnteredAt}
 use Rattle.loop_bounds.specs.Turns.{Setting, Goes, Comes, begins, goes}
 use Rattle.loop_bounds.proofs.Steps.{onward}
 
--- of the instructions behind a and up to b, others are come from only at a
+-- of the instructions after a and up to b, others are come from only at a
 abbrev pub IsEntered : Setting → List Instr → (a b : ℕ) → Type 0
 IsEntered s is a b = (k j : ℕ) (rs qs : List ℕ) → Goes s (nth is k) k rs j qs → a < j → j ≤ b → (a ≤ k) × (k ≤ b)
 
@@ -23,8 +23,8 @@ pub holds_in : (s : Setting) (is : List Instr) (mark : ℕ) (start : List ℕ) (
 holds_in s is mark start a b P le way first keep k rs begins lt below = absurd (omega arith)
 holds_in s is mark start a b P le way first keep j qs (goes {k = k} {rs = rs} c g n) lt below =
     let inside = way k j rs qs g lt below in
-    ⊎_elim (λ behind. keep k j rs qs behind inside.1 lt below c g (holds_in s is mark start a b P le way first keep k rs c behind inside.1))
-    (λ not_behind. let e : k ≡ a = omega arith in first j rs qs (subst (λ z. Comes s is mark start z rs) e c) (subst (λ z. Goes s (nth is z) z rs j qs) e g) lt below)
+    ⊎_elim (λ following. keep k j rs qs following inside.1 lt below c g (holds_in s is mark start a b P le way first keep k rs c following inside.1))
+    (λ not_after. let e : k ≡ a = omega arith in first j rs qs (subst (λ z. Comes s is mark start z rs) e c) (subst (λ z. Goes s (nth is z) z rs j qs) e g) lt below)
     (cases_lt a k)
 
 -- at the Mark the turn has just begun

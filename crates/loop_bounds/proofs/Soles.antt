@@ -133,8 +133,8 @@ only_none is l k r h = by (last_maker is k r)
     by None = refl
     by (Some q) = ap (λ b. if nat_lt l.at q && b && is_entered_at is q k then Some q else None) (not_one is r h) ∙ gone (nat_lt l.at q) (is_entered_at is q k) q
 
-pub only_behind : (is : List Instr) (l : LoopInfo) (k r q : ℕ) → sole_maker is r ≡ Some q → k ≤ length is → k ≤ q → only_maker is l k r ≡ None
-only_behind is l k r q h le behind = ap (λ o. o >>= (λ q. if nat_lt l.at q && has_one_maker is r && is_entered_at is q k then Some q else None)) (last_sole is r q k (sole_fits is r q h) le ∙ ap (λ b. if b then Some q else None) (le-ltb q k behind))
+pub only_past : (is : List Instr) (l : LoopInfo) (k r q : ℕ) → sole_maker is r ≡ Some q → k ≤ length is → k ≤ q → only_maker is l k r ≡ None
+only_past is l k r q h le following = ap (λ o. o >>= (λ q. if nat_lt l.at q && has_one_maker is r && is_entered_at is q k then Some q else None)) (last_sole is r q k (sole_fits is r q h) le ∙ ap (λ b. if b then Some q else None) (le-ltb q k following))
 
 pub only_before : (is : List Instr) (l : LoopInfo) (k r q : ℕ) (a c : Bool) → sole_maker is r ≡ Some q → k ≤ length is → q < k → nat_lt l.at q ≡ a → is_entered_at is q k ≡ c → only_maker is l k r ≡ (if a then (if c then Some q else None) else None)
 only_before is l k r q a c h le lt first second =

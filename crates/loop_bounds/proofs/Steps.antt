@@ -187,6 +187,6 @@ is_entered is a b h k j x e t lt le = inside (some_act (slice_get is k) x e) (ca
     inside : (i : Instr) × (slice_get is k ≡ Some i) × (i.act ≡ x) → (k < a) ⊎ (a ≤ k) → (k < b + 1) ⊎ (b + 1 ≤ k) → (a ≤ k) × (k ≤ b)
     inside (i, at, is_x) (inl below) o = absurd (never i (take a is) k ways.0 (take_got is a k below ∙ at) is_x)
     inside (i, at, is_x) (inr above) (inl under) = (above, omega arith)
-    inside (i, at, is_x) (inr above) (inr behind) =
+    inside (i, at, is_x) (inr above) (inr following) =
         let p : (b + 1) + (k - (b + 1)) ≡ k = omega arith in
         absurd (never i (drop (b + 1) is) (k - (b + 1)) ways.1 (drop_got is (b + 1) (k - (b + 1)) ∙ ap (λ n. slice_get is n) p ∙ at) is_x)

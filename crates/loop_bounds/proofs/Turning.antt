@@ -14,7 +14,7 @@ use Rattle.loop_bounds.specs.Turns.{Setting, Goes, Comes}
 use Rattle.loop_bounds.proofs.Steps.{kept}
 use Rattle.loop_bounds.proofs.Regions.{IsEntered, comes_in, holds_in, at_mark}
 
--- the last part has four instructions at least, and stands behind the condition
+-- the last part has four instructions at least, and stands after the condition
 pub begins_early : (is : List Instr) (l : LoopInfo) (b : IsBorneOut is l) → b.last_part.begin ≤ l.last - 3
 begins_early is l b = ⊎_elim (λ x. omega (arith, x.0)) (λ x. omega (arith, x.0)) b.last_part.is_old
 
@@ -28,7 +28,7 @@ way_in s is l b k j rs qs g lt le =
     let inside = comes_in s is l.at (l.last + 1) b.entered k j rs qs g lt (omega arith) in
     let low : l.at ≤ k = inside.0 in
     let high : k ≤ l.last + 1 = inside.1 in
-    ⊎_elim (λ before. (low, omega arith)) (λ behind. ⊎_elim (λ last. absurd (at_last (omega arith))) (λ back. absurd (at_back (omega arith))) (cases_lt k (l.last + 1))) (cases_lt k l.last)
+    ⊎_elim (λ before. (low, omega arith)) (λ following. ⊎_elim (λ last. absurd (at_last (omega arith))) (λ back. absurd (at_back (omega arith))) (cases_lt k (l.last + 1))) (cases_lt k l.last)
   where
     at_last : k ≡ l.last → ⊥
     at_last e =

@@ -16,11 +16,11 @@ abbrev pub HasBound : Bound → Option Act → ℕ → Type 0
 HasBound (bound.Number z) a b = a ≡ Some (act.Compute b (work.Constant z))
 HasBound (bound.Register r) a b = b ≡ r
 
--- an instruction that goes to one behind a and not behind b is itself one from a to b
+-- an instruction that goes to one after a and not after b is itself one from a to b
 abbrev pub IsEnteredAt : List Instr → (a b : ℕ) → Type 0
 IsEnteredAt is a b = (k j : ℕ) (x : Act) → nth is k ≡ Some x → goes_to j x ≡ true → a < j → j ≤ b → (a ≤ k) × (k ≤ b)
 
--- `i < b`, and a branch into the loop or behind it
+-- `i < b`, and a branch into the loop or after it
 pub record IsCondition (is : List Instr) (l : LoopInfo) : Type 0 where
   pub b : ℕ
   pub less : ℕ

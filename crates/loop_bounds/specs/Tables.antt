@@ -9,7 +9,7 @@ use Rattle.loop_bounds.specs.declared.ways.Ways.{Ways}
 use Rattle.weak_facts.specs.Loops.{loop_code, nth}
 use Rattle.weak_facts.specs.Ranges.{mark_before, calls_nothing, moved_of, maker_at}
 
--- each is the place behind the last jump or branch that goes to the instruction in its place, or 0 if none does
+-- each is the place after the last jump or branch that goes to the instruction in its place, or 0 if none does
 abbrev pub AreEnds : List Instr → List ℕ → Type 0
 AreEnds is ends = (m k : ℕ) → m < length is → is_target (drop k is) m ≡ nat_lt k (slice_index_or ends m 0)
 
@@ -23,10 +23,10 @@ pub record AreWays (is : List Instr) (w : Ways) : Type 0 where
   pub firsts : AreFirsts is w.firsts.items
   pub ends : AreEnds is w.ends.items
 
--- the place behind, or 0 where there is none
-abbrev pub behind : Option ℕ → ℕ
-behind None = 0
-behind (Some m) = suc m
+-- the place after, or 0 where there is none
+abbrev pub following : Option ℕ → ℕ
+following None = 0
+following (Some m) = suc m
 
 -- each is the Mark of the innermost loop round the instruction in its place
 abbrev pub AreRounds : List Instr → List (Option ℕ) → Type 0

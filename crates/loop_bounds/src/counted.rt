@@ -66,7 +66,7 @@ fn last_part_at(instrs: &[Instr], counted: &LoopInfo) -> usize
     }
 }
 
-// Whether the condition stands behind the Mark, and the last part behind the body.
+// Whether the condition stands after the Mark, and the last part after the body.
 fn has_places(instrs: &[Instr], counted: &LoopInfo) -> bool
     ensures { result ≡ spec.has_places instrs.now counted.now }
 {

@@ -18,9 +18,9 @@ fn begins_round(instrs: &[Instr], ends: &[usize], at: usize, mark: usize) -> boo
     is_mark(nth(instrs, mark)) && at < ends[mark]
 }
 
-fn behind(place: Option<usize>) -> usize
-    requires { tables.behind place < 2 ^ 64 }
-    ensures { result ≡ tables.behind place }
+fn following(place: Option<usize>) -> usize
+    requires { tables.following place < 2 ^ 64 }
+    ensures { result ≡ tables.following place }
 {
     match place {
         Some(place) => place + 1,
@@ -43,7 +43,7 @@ fn round_of(instrs: &[Instr], ends: &[usize], rounds: &[Option<usize>], at: usiz
         if begins_round(instrs, ends, at, mark) {
             return Some(mark);
         }
-        front = behind(rounds[mark]);
+        front = following(rounds[mark]);
     }
     None
 }

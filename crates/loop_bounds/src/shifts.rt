@@ -63,7 +63,7 @@ fn negative_of(number: Option<i64>) -> Option<i64>
     negative(number?)
 }
 
-// How far what the instruction computes is behind the counter, where this is the constant that it adds or subtracts.
+// How far what the instruction computes is after the counter, where this is the constant that it adds or subtracts.
 fn shift_by(counter: u32, amount: Option<i64>, act: Option<&Act>) -> Option<i64>
     ensures { (is : Items Step) (k : ℕ) → amount ≡ amount_by (constant_at is k) (option_copied act.entry) → result ≡ spec.shift_by is counter k (option_copied act.entry) }
 {
@@ -85,7 +85,7 @@ fn shift_by(counter: u32, amount: Option<i64>, act: Option<&Act>) -> Option<i64>
     }
 }
 
-/// How far the register is behind the counter, which it may be itself, where this instruction made it.
+/// How far the register is after the counter, which it may be itself, where this instruction made it.
 fn shift_at(
     instrs: &[Instr],
     amounts: &[Option<i64>],
@@ -105,7 +105,7 @@ fn shift_at(
     shift_by(counter, amounts[maker], nth(instrs, maker))
 }
 
-/// How far behind the counter the element is to which the instruction moves a pointer.
+/// How far after the counter the element is to which the instruction moves a pointer.
 pub fn moved_shift(
     instrs: &[Instr],
     makers: &Makers,

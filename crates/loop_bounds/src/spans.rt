@@ -18,7 +18,7 @@ fn front(instrs: &[Instr], count: usize) -> &[Instr]
 }
 
 /// The instructions from a place on.
-pub fn behind(instrs: &[Instr], from: usize) -> &[Instr]
+pub fn following(instrs: &[Instr], from: usize) -> &[Instr]
     ensures { result.now ≡ drop from instrs.now }
 {
     if from < instrs.len() {
@@ -32,7 +32,7 @@ pub fn behind(instrs: &[Instr], from: usize) -> &[Instr]
 pub fn part(instrs: &[Instr], from: usize, to: usize) -> &[Instr]
     ensures { result.now ≡ slice_range instrs.now from to }
 {
-    front(behind(instrs, from), to.saturating_sub(from))
+    front(following(instrs, from), to.saturating_sub(from))
 }
 
 /// The instructions of a loop, from its Mark to its jump back.

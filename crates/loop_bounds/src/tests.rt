@@ -113,7 +113,7 @@ struct Row {
     body: &'static [Step],
     last_part: &'static [Step],
     step: i64,
-    // A loop in the body, listed behind the outer one.
+    // A loop in the body, listed after the outer one.
     inner: Option<LoopInfo>,
     // All pointers point to this site.
     site: u16,

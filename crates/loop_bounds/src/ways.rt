@@ -8,7 +8,7 @@ use flow_code::{Act, Instr};
 use std::alloc::{AllocError, Global};
 
 /// The jumps and branches to each instruction: the first of them, or the number of instructions if there is none, and the
-/// place behind the last, or 0.
+/// place after the last, or 0.
 #[derive(Drop)]
 pub struct Ways {
     pub firsts: Vec<usize>,
@@ -45,7 +45,7 @@ fn put_targets(places: &mut Vec<usize>, act: &Act, place: usize)
     }
 }
 
-// The place behind the last jump or branch to each instruction.
+// The place after the last jump or branch to each instruction.
 fn ends_of(alloc: Global, instrs: &[Instr]) -> Result<Vec<usize>, AllocError>
     ensures length { IfOk result (λ v. length v.items ≡ length instrs.now) }
     ensures each { IfOk result (λ v. AreEnds instrs.now v.items) }

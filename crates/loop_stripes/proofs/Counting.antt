@@ -1,4 +1,4 @@
--- Behind a counted loop's condition the counter is less than the bound.
+-- After a counted loop's condition the counter is less than the bound.
 use Rattle.std.proofs.Common.{◌≡◌, ◌≢◌, ℕ, ◌+◌, ◌-◌, ◌<◌, ◌≤◌, Bool, true, false, cond, List, length, Option, Some, None, Ok, refl, ap, subst, ◌∙◌, arith, ◌⊎◌, inl, inr, ⊎_elim, to_z-of_z}
 use Rattle.std.specs.Prelude.{◌<ℤ◌, int_lt, ◌==◌}
 use Rattle.std.specs.Option.{option_and_then}
@@ -151,7 +151,7 @@ module _ (s : Setting) (is : List Instr) (l : LoopInfo) (start : List ℕ) (t : 
           ∙ ap (λ n. truth (int_lt (number n) (number (register os condition.b)))) (counter_word os d)
           ∙ ap (λ z. truth (int_lt (number (register start l.counter)) z)) (bound_word l.bound refl condition.has_bound os d)
 
-  -- ---- behind the branch
+  -- ---- after the branch
 
   into_body : (w m n j : ℕ) (b : Bool) → w ≡ truth b → j ≡ branch_to w m n → j ≢ n → b ≡ true
   into_body w m n j true e h apart = refl
@@ -179,9 +179,9 @@ module _ (s : Setting) (is : List Instr) (l : LoopInfo) (start : List ℕ) (t : 
       let w : option_and_then pointer_of (nth is k) ≡ None = ap (λ n. option_and_then pointer_of (nth is n)) e ∙ ap (λ z. option_and_then pointer_of z) h ∙ none in
       cc
 
-  -- one in the loop stands behind the condition
-  pub access_behind : (k p : ℕ) → option_and_then pointer_of (nth is k) ≡ Some p → l.at < k → End < k
-  access_behind k p acc low = ⊎_elim (λ (lt : End < k). lt) (λ le. absurd (in_condition le)) (cases_lt End k)
+  -- one in the loop stands after the condition
+  pub access_past : (k p : ℕ) → option_and_then pointer_of (nth is k) ≡ Some p → l.at < k → End < k
+  access_past k p acc low = ⊎_elim (λ (lt : End < k). lt) (λ le. absurd (in_condition le)) (cases_lt End k)
     where
       puts : (b : Bound) → l.bound ≡ b → HasBound b (nth is (l.at + 1)) condition.b → k < l.at + 1 + bound_size b → ⊥
       puts (bound.Number z) e h lt = stands_at k (l.at + 1) p (act.Compute condition.b (work.Constant z)) (omega (arith, lt, low)) h refl acc

@@ -17,14 +17,14 @@ use Rattle.abstract_machine.specs.Values.{number}
 use Rattle.facts.specs.Blocks.{assigns}
 use Rattle.weak_facts.specs.Loops.{nth, keeps, is_entered_at}
 use Rattle.weak_facts.specs.Ranges.{maker_at, made_at, base_of, base_at, shift_at, moved_of, moved_shift, last_maker, has_one_maker, only_maker, pointer_of}
-use Rattle.weak_code.specs.Stretches.{moved_from, origin_of, origin_behind, base_behind, element_base}
+use Rattle.weak_code.specs.Stretches.{moved_from, origin_of, origin_after, base_after, element_base}
 use Rattle.loop_bounds.specs.Turns.{Setting, Goes, Comes}
 use Rattle.loop_bounds.proofs.Steps.{both_true, kept, is_entered}
 use Rattle.loop_bounds.proofs.Regions.{comes_in, holds_in}
 use Rattle.loop_bounds.proofs.Borne.{cond_some, chained, kept_there}
 use Rattle.loop_bounds.proofs.Turning.{stays}
 use Rattle.loop_bounds.proofs.Making.{made, IsLastMaker, last_made, made_value}
-use Rattle.loop_bounds.proofs.Pointing.{IsTurn, given, behind_mark, index_word, address_word, moved_act, single, accesses}
+use Rattle.loop_bounds.proofs.Pointing.{IsTurn, given, past_mark, index_word, address_word, moved_act, single, accesses}
 use Rattle.loop_stripes.specs.InRange.{HasBase}
 
 -- a register that is a base is one that the loop keeps
@@ -57,7 +57,7 @@ base_kept is l r o b h = at_it o h
 base_is : (is : List Instr) (k p q : ℕ) (m : ℕ × ℕ) → last_maker is k p ≡ Some q → moved_of (nth is q) ≡ Some m → element_base is k p ≡ origin_of m.0 (made_at is q m.0)
 base_is is k p q m e mv =
     let x = moved_act (nth is q) m mv in
-    ap (base_behind is p) e ∙ ap (λ a. origin_behind is q p (moved_from a)) x.1
+    ap (base_after is p) e ∙ ap (λ a. origin_after is q p (moved_from a)) x.1
 
 module _ (s : Setting) (is : List Instr) (l : LoopInfo) (start : List ℕ) (t : IsTurn s is l start) where
   base_word : (k r : ℕ) (b : Base) → l.at < k → k ≤ l.last - 1 → base_at is l k r ≡ Some b → (rs : List ℕ) → Comes s is l.at start k rs → HasBase s is start b (register rs r)
@@ -75,7 +75,7 @@ module _ (s : Setting) (is : List Instr) (l : LoopInfo) (start : List ℕ) (t : 
           let same : base.Site (site_of w) ≡ b = cc (g) in
           let z = chained (λ m. nth is m) (maker_at is k r) (act.Compute into (work.Address w)) e in
           let x = made is k r z.0 z.1 in
-          let low : l.at < z.0 = behind_mark is l t.borne k r z.0 x lt in
+          let low : l.at < z.0 = past_mark is l t.borne k r z.0 x lt in
           made_value s is l.at start k r z.0 (HasBase s is start b) x (omega arith)
           (λ j ps qs d y. subst (λ v. HasBase s is start v (register qs r)) same (z.0, into, w, z.2, refl, address_word s ps w (register qs r) (given s is l.at start t.fit z.0 j r into (work.Address w) ps qs z.2 x.makes d y)))
           rs c

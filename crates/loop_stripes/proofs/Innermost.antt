@@ -61,17 +61,17 @@ same_mark fn l m k p b c same i acc low high = ⊎_elim (λ (lt : l.at < m.at). 
     no_access : nth fn.instrs k ≡ Some act.Mark → ⊥
     no_access e = let w : option_and_then pointer_of (nth fn.instrs k) ≡ None = ap (λ z. option_and_then pointer_of z) e in cc
 
-    behind : l.at < k
-    behind = ⊎_elim (λ (lt : l.at < k). lt) (λ ge. let e : k ≡ l.at = omega (arith, ge, low) in absurd (no_access (ap (nth fn.instrs) e ∙ b.marks))) (cases_lt l.at k)
+    following : l.at < k
+    following = ⊎_elim (λ (lt : l.at < k). lt) (λ ge. let e : k ≡ l.at = omega (arith, ge, low) in absurd (no_access (ap (nth fn.instrs) e ∙ b.marks))) (cases_lt l.at k)
 
-    -- its jump back stands behind the access
+    -- its jump back stands after the access
     back : is_target (drop k fn.instrs) l.at ≡ true
     back =
         let e : k + (l.last + 1 - k) ≡ l.last + 1 = omega (arith, high) in
         targeted (drop k fn.instrs) (l.last + 1 - k) l.at (act.Jump l.at) (ap act_in (drop_got fn.instrs k (l.last + 1 - k) ∙ ap (slice_get fn.instrs) e) ∙ b.jumps_back) (eq-eqb l.at l.at refl)
 
     outer : l.at ≤ m.at
-    outer = i.inner l.at behind (two (is_mark (nth fn.instrs l.at)) (is_target (drop k fn.instrs) l.at) (ap is_mark b.marks) back)
+    outer = i.inner l.at following (two (is_mark (nth fn.instrs l.at)) (is_target (drop k fn.instrs) l.at) (ap is_mark b.marks) back)
 
     far_m : m.at + 6 ≤ m.last
     far_m = far fn.instrs m c

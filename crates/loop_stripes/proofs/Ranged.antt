@@ -29,7 +29,7 @@ use Rattle.loop_bounds.proofs.Pointing.{IsTurn}
 use Rattle.weak_sound.proofs.RegionsFit.{counted_loop}
 use Rattle.loop_stripes.specs.Inside.{Inside}
 use Rattle.loop_stripes.specs.InRange.{HasBase, IsInRange}
-use Rattle.loop_stripes.proofs.Counting.{before_bound, access_behind, access_before}
+use Rattle.loop_stripes.proofs.Counting.{before_bound, access_past, access_before}
 use Rattle.loop_stripes.proofs.Elements.{KeepsBase, pointer_word}
 use Rattle.loop_stripes.proofs.Innermost.{round_it}
 use Rattle.loop_stripes.proofs.Inward.{inside_long, inside_kept, rises, in_turn}
@@ -62,7 +62,7 @@ module _ (s : Setting) (fn : Function) (l : LoopInfo) (start rs : List ℕ) (k p
       let t : IsTurn s fn.instrs l x.turn = record { borne = borne; fit = subst (AreFit fn.instrs) (sym (inside_long s fn.instrs l start l.at x.turn x.began)) fit } in
       let le = access_before s fn.instrs l x.turn t k p acc within in
       let y = pointer_word s fn.instrs l x.turn t k p q d le acc om ms rs x.comes in
-      let lt = access_behind s fn.instrs l x.turn t k p acc y.2 in
+      let lt = access_past s fn.instrs l x.turn t k p acc y.2 in
       record {
         count = number (register x.turn l.counter);
         from = x.low;

@@ -111,7 +111,7 @@ pub range_has : (code : Code) (word base v : ℕ) (a b c d : ℤ) (lock stripe :
 range_has code word base v a b c d lock stripe like m low high cell g =
     two (not (site_of word == 0)) (any_from (λ o. guards code word o lock stripe) (clamped (length_of word) (pos (offset_of word) +ℤ b +ℤ d) - clamped (length_of word) (pos (offset_of word) +ℤ a +ℤ d)) (clamped (length_of word) (pos (offset_of word) +ℤ a +ℤ d)))
     (ap (λ n. not (n == 0)) same_site ∙ p.0)
-    (any_from_has (λ o. guards code word o lock stripe) (clamped (length_of word) (pos (offset_of word) +ℤ b +ℤ d) - clamped (length_of word) (pos (offset_of word) +ℤ a +ℤ d)) (clamped (length_of word) (pos (offset_of word) +ℤ a +ℤ d)) (offset_of v) first (omega (arith, first, behind))
+    (any_from_has (λ o. guards code word o lock stripe) (clamped (length_of word) (pos (offset_of word) +ℤ b +ℤ d) - clamped (length_of word) (pos (offset_of word) +ℤ a +ℤ d)) (clamped (length_of word) (pos (offset_of word) +ℤ a +ℤ d)) (offset_of v) first (omega (arith, first, following))
     (guards_same code word v (offset_of v) lock stripe same_site same_cells ∙ g))
   where
     p : (not (site_of v == 0) ≡ true) × (nat_lt (offset_of v) (length_of v) ≡ true)
@@ -132,5 +132,5 @@ range_has code word base v a b c d lock stripe like m low high cell g =
     first : clamped (length_of word) (pos (offset_of word) +ℤ a +ℤ d) ≤ offset_of v
     first = clamped_low (pos (offset_of word) +ℤ a +ℤ d) (offset_of v) (length_of word) (subst (λ z. (pos (offset_of word) +ℤ a +ℤ d) ≤ℤ z) at (lower (pos (offset_of word)) a c d low))
 
-    behind : offset_of v < clamped (length_of word) (pos (offset_of word) +ℤ b +ℤ d)
-    behind = clamped_high (pos (offset_of word) +ℤ b +ℤ d) (offset_of v) (length_of word) (subst (λ z. z <ℤ (pos (offset_of word) +ℤ b +ℤ d)) at (higher (pos (offset_of word)) b c d high)) within
+    following : offset_of v < clamped (length_of word) (pos (offset_of word) +ℤ b +ℤ d)
+    following = clamped_high (pos (offset_of word) +ℤ b +ℤ d) (offset_of v) (length_of word) (subst (λ z. z <ℤ (pos (offset_of word) +ℤ b +ℤ d)) at (higher (pos (offset_of word)) b c d high)) within

@@ -171,8 +171,8 @@ module _ (s : Setting) (ss : List Stretch) (is : List Instr) (plain : ArePlain (
       let own = plain_at (length is) is k x plain at in
       let pw : Plain w ≡ k = ap (plain_of Weak) p ∙ plain_seat ss (length is) k is plain (slice_get_within is k x at) in
       let n : k + 1 ≡ suc k = omega arith in
-      let behind : Plain (w + 1) ≡ k + 1 = plain_next Weak w i found ∙ ap (λ c. if c then plain_of Weak w else suc (plain_of Weak w)) (ap is_weak is_a ∙ not_weak (enter ss is k) (length is) x.act own) ∙ ap suc pw ∙ sym n in
-      let go = plain_goes s (length is) (enter ss is k) (plain_of Weak) x.act w v k rs qs own (λ j lt. plain_enter ss (length is) k j is plain lt) behind (subst (λ a. Goes s (Some a) w rs v qs) is_a g) in
+      let following : Plain (w + 1) ≡ k + 1 = plain_next Weak w i found ∙ ap (λ c. if c then plain_of Weak w else suc (plain_of Weak w)) (ap is_weak is_a ∙ not_weak (enter ss is k) (length is) x.act own) ∙ ap suc pw ∙ sym n in
+      let go = plain_goes s (length is) (enter ss is k) (plain_of Weak) x.act w v k rs qs own (λ j lt. plain_enter ss (length is) k j is plain lt) following (subst (λ a. Goes s (Some a) w rs v qs) is_a g) in
       let same : opened_with (Some i.act) rs opened ≡ opened = plain_opened i.act rs opened (ap is_weak is_a ∙ not_weak (enter ss is k) (length is) x.act own) in
       subst (λ os. Since v qs os) (sym same) (own_step k x w v rs qs opened at pw (stands r) go h)
 

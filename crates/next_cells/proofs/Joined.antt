@@ -15,7 +15,7 @@ use Rattle.abstract_machine.specs.declared.event.Action.TheVariants as action
 use Rattle.abstract_machine.specs.declared.event.Due.{Due}
 use Rattle.abstract_machine.specs.declared.event.Due.TheVariants as due
 use Rattle.flow_code.specs.declared.code.Code.{Code}
-use Rattle.flow_code.specs.Next.{phase_due, phase_after, due_of, counted, one_more, after_due, stepped as thread_stepped, stopped, shut, action_of}
+use Rattle.flow_code.specs.Next.{phase_due, phase_after, due_of, counted, one_more, after_due, stepped as thread_stepped, stopped, slot_closed, action_of}
 use Rattle.flow_code.specs.Settle.{settled, IsRunnable}
 use Rattle.flow_code.specs.Threads.{Thread}
 use Rattle.flow_code.proofs.Counts.{IsAccessAction, stepped_is, operate_after}
@@ -172,7 +172,7 @@ module _ (code : Code) (s : SetupView) (run : IsRunnable code) (limits : IsWithi
             (λ d ne. let same = same_op x.op op.Join x.obj (object.Slot k) (sym c.comes ∙ action_is code s t z ∙ ap action_of d) in by_row x same.0 same.1 ne)
         by_makes x (by_revoke lock stripe m a b c) = was k (sym (ap (λ q. joining code q) c) ∙ j)
         by_makes x (by_stop m a b c) = let n : joining code (stopped h.before.thread) ≡ None = refl in never k (sym n ∙ sym (ap (λ q. joining code q) c) ∙ j)
-        by_makes x (by_close m a b c) = let n : joining code (shut h.before.thread) ≡ None = refl in never k (sym n ∙ sym (ap (λ q. joining code q) c) ∙ j)
+        by_makes x (by_close m a b c) = let n : joining code (slot_closed h.before.thread) ≡ None = refl in never k (sym n ∙ sym (ap (λ q. joining code q) c) ∙ j)
 
         by_kind : StepKind code s st.words st1.words (event_of (machine code s) st l) l h.before.thread h.after.thread → (k < s.slots) × (is_over (life code s k st1) ≡ true)
         by_kind (inl x) = by_access x

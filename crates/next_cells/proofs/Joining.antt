@@ -23,8 +23,8 @@ use Rattle.flow_code.specs.declared.region.Region.{Region}
 use Rattle.flow_code.specs.declared.thread.Phase.{Phase}
 use Rattle.flow_code.specs.declared.thread.Phase.TheVariants as phase
 use Rattle.flow_code.specs.declared.thread.Stripe.{Stripe}
-use Rattle.flow_code.specs.Holding.{region_of, lacked, taken, gives_at, open_place, to_give, parting, left_behind}
-use Rattle.flow_code.specs.Next.{act_at, pointers_of, computed, entered, one_made, returned, end_onward, back_in, value_of, went_on, caller, call_after, on_unless, act_due, act_after, begun_after, phase_due, phase_after}
+use Rattle.flow_code.specs.Holding.{region_of, lacked, taken, gives_at, open_place, to_give, parting, left_after}
+use Rattle.flow_code.specs.Next.{act_at, pointers_of, computed, entered, one_made, returned, end_onward, back_in, value_of, resumed, caller, call_after, on_unless, act_due, act_after, begun_after, phase_due, phase_after}
 use Rattle.flow_code.specs.Threads.{Frame, Thread, is_main}
 use Rattle.flow_code.specs.Works.{work_of}
 use Rattle.words_point.specs.Pointing.{joined}
@@ -137,22 +137,22 @@ module _ (code : Code) (s : SetupView) (t : ℕ) (th : Thread) where
 
     -- ---- calls of the library
 
-    went_joins : (n : ℕ) (into : Option ℕ) (o : Onward) (d : Due) (answer : ℤ) (a : Act) → act_at code th.top ≡ Some a → JoinsNone (Some a) → Joins code th (went_on (record th { printed = n }) into o) d answer
+    went_joins : (n : ℕ) (into : Option ℕ) (o : Onward) (d : Due) (answer : ℤ) (a : Act) → act_at code th.top ≡ Some a → JoinsNone (Some a) → Joins code th (resumed (record th { printed = n }) into o) d answer
     went_joins n into (onward.Stays k) d answer a at idle = idle_frame _ d answer (Some a) refl at idle
     went_joins n into (onward.Gives w) d answer a at idle = fresh_frame _ d answer refl refl
     went_joins n into onward.Ends d answer a at idle = none refl
 
-    parted_joins : (xs : List Stripe) (d : Due) (q : Thread) (answer : ℤ) (a : Act) → act_at code th.top ≡ Some a → JoinsNone (Some a) → Joins code th q d answer → Joins code th (left_behind th xs q) d answer
+    parted_joins : (xs : List Stripe) (d : Due) (q : Thread) (answer : ℤ) (a : Act) → act_at code th.top ≡ Some a → JoinsNone (Some a) → Joins code th q d answer → Joins code th (left_after th xs q) d answer
     parted_joins [] d q answer a at idle c = c
     parted_joins (y ∷ ys) d q answer a at idle c = idle_frame _ d answer (Some a) refl at idle
 
-    other_joins : (c : LibraryCall) (arguments : List ℕ) (into : Option ℕ) (d : Due) (answer : ℤ) → act_at code th.top ≡ Some (act.Library c arguments into) → JoinsNone (Some (act.Library c arguments into)) → Joins code th (left_behind th (parting c th.top.made th.stripes) (call_after code s t th c arguments into answer)) d answer
+    other_joins : (c : LibraryCall) (arguments : List ℕ) (into : Option ℕ) (d : Due) (answer : ℤ) → act_at code th.top ≡ Some (act.Library c arguments into) → JoinsNone (Some (act.Library c arguments into)) → Joins code th (left_after th (parting c th.top.made th.stripes) (call_after code s t th c arguments into answer)) d answer
     other_joins c arguments into d answer at idle =
         parted_joins (parting c th.top.made th.stripes) d (call_after code s t th c arguments into answer) answer (act.Library c arguments into) at idle
         (went_joins (th.printed + length (piece_of c (words_of th.top.registers arguments))) into (library_onward (caller code s t th) c (words_of th.top.registers arguments) th.top.made th.top.kept answer) d answer (act.Library c arguments into) at idle)
 
     -- the thread stays at its join with one event more
-    one_more_is : (arguments : List ℕ) (into : Option ℕ) (p n : ℕ) (kept : ℤ) → act_at code th.top ≡ Some (act.Library call.Join arguments into) → th.top.made ≡ n → joining code (went_on (record th { printed = p }) into (onward.Stays kept)) ≡ joins_at th.top.registers (Some (act.Library call.Join arguments into)) (n + 1) kept
+    one_more_is : (arguments : List ℕ) (into : Option ℕ) (p n : ℕ) (kept : ℤ) → act_at code th.top ≡ Some (act.Library call.Join arguments into) → th.top.made ≡ n → joining code (resumed (record th { printed = p }) into (onward.Stays kept)) ≡ joins_at th.top.registers (Some (act.Library call.Join arguments into)) (n + 1) kept
     one_more_is arguments into p n kept at m = ap (joining_in code (one_made th.top kept)) runs ∙ ap (λ a. joins_at th.top.registers a (th.top.made + 1) kept) at ∙ ap (λ j. joins_at th.top.registers (Some (act.Library call.Join arguments into)) (j + 1) kept) m
 
     misused : (kept : ℤ) (k : ℕ) → is_misuse kept ≡ true → (if is_misuse kept then None else Some k) ≡ None
@@ -161,15 +161,15 @@ module _ (code : Code) (s : SetupView) (t : ℕ) (th : Thread) where
     well_used : (kept : ℤ) (k : ℕ) → is_misuse kept ≡ false → (if is_misuse kept then None else Some k) ≡ Some k
     well_used kept k e = ap (λ b. if b then None else Some k) e
 
-    first_joins : (arguments : List ℕ) (into : Option ℕ) (p : ℕ) (answer : ℤ) (d : Due) → act_at code th.top ≡ Some (act.Library call.Join arguments into) → th.top.made ≡ 0 → d ≡ due.Operate op.Join (object.Slot (joined th.top.registers arguments)) → Joins code th (went_on (record th { printed = p }) into (join_onward (not (argument (words_of th.top.registers arguments) 1 == 0)) 0 answer)) d answer
+    first_joins : (arguments : List ℕ) (into : Option ℕ) (p : ℕ) (answer : ℤ) (d : Due) → act_at code th.top ≡ Some (act.Library call.Join arguments into) → th.top.made ≡ 0 → d ≡ due.Operate op.Join (object.Slot (joined th.top.registers arguments)) → Joins code th (resumed (record th { printed = p }) into (join_onward (not (argument (words_of th.top.registers arguments) 1 == 0)) 0 answer)) d answer
     first_joins arguments into p answer d at m is = by (is_misuse answer) refl (not (argument (words_of th.top.registers arguments) 1 == 0))
       where
-        by : (b : Bool) → is_misuse answer ≡ b → (asked : Bool) → Joins code th (went_on (record th { printed = p }) into (if b then onward.Stays answer else (if asked then onward.Stays answer else onward.Gives 0))) d answer
+        by : (b : Bool) → is_misuse answer ≡ b → (asked : Bool) → Joins code th (resumed (record th { printed = p }) into (if b then onward.Stays answer else (if asked then onward.Stays answer else onward.Gives 0))) d answer
         by true e asked = none (one_more_is arguments into p 0 answer at m ∙ misused answer (joined th.top.registers arguments) e)
         by false e true = joins (joined th.top.registers arguments) is e (one_more_is arguments into p 0 answer at m ∙ well_used answer (joined th.top.registers arguments) e)
         by false e false = fresh_frame _ d answer refl refl
 
-    join_joins : (arguments : List ℕ) (into : Option ℕ) (p n : ℕ) (answer : ℤ) → act_at code th.top ≡ Some (act.Library call.Join arguments into) → th.top.made ≡ n → IsLive (join_due (caller code s t th) (words_of th.top.registers arguments) n th.top.kept) → Joins code th (went_on (record th { printed = p }) into (join_onward (not (argument (words_of th.top.registers arguments) 1 == 0)) n answer)) (join_due (caller code s t th) (words_of th.top.registers arguments) n th.top.kept) answer
+    join_joins : (arguments : List ℕ) (into : Option ℕ) (p n : ℕ) (answer : ℤ) → act_at code th.top ≡ Some (act.Library call.Join arguments into) → th.top.made ≡ n → IsLive (join_due (caller code s t th) (words_of th.top.registers arguments) n th.top.kept) → Joins code th (resumed (record th { printed = p }) into (join_onward (not (argument (words_of th.top.registers arguments) 1 == 0)) n answer)) (join_due (caller code s t th) (words_of th.top.registers arguments) n th.top.kept) answer
     join_joins arguments into p zero answer at m live = first_joins arguments into p answer (join_due (caller code s t th) (words_of th.top.registers arguments) 0 th.top.kept) at m (first_live (caller code s t th) (words_of th.top.registers arguments) th.top.kept live)
     join_joins arguments into p (suc zero) answer at m live = none (one_more_is arguments into p 1 answer at m)
     join_joins arguments into p (suc (suc n)) answer at m live = fresh_frame _ _ answer refl refl

@@ -20,7 +20,7 @@ use Rattle.flow_code.specs.declared.thread.Phase.TheVariants as phase
 use Rattle.flow_code.specs.declared.thread.Stripe.{Stripe}
 use Rattle.flow_code.specs.Works.{work_of}
 use Rattle.flow_code.specs.Threads.{Thread}
-use Rattle.flow_code.specs.Holding.{number_of_stripe, number_of_pair, region_of, lacked, taken, open_place, to_give, gives_at, parting, owes, held, keeping, left_behind}
+use Rattle.flow_code.specs.Holding.{number_of_stripe, number_of_pair, region_of, lacked, taken, open_place, to_give, gives_at, parting, owes, held, keeping, left_after}
 use Rattle.flow_code.specs.Next.{value_of, act_at, pointers_of, caller, call_after, on_unless, act_after, begun_after, phase_after, due_of, counted, after_due, repaid, stepped}
 use Rattle.flow_code.specs.Settle.{settled}
 use Rattle.flow_code.proofs.Counts.{stepped_is, after_operate}
@@ -67,7 +67,7 @@ give_fewer th None (Some x) n h = h
 give_fewer th (Some i) None n h = h
 give_fewer th (Some i) (Some x) n h = none_here (number_of_pair x == n) (standing th.stripes n) (sym (ap is_owed (without_standing (number_of_pair x) n th.stripes)) ∙ h)
 
-parting_fewer : (th q : Thread) (ys : List Stripe) → ys ≡ th.stripes → AreSorted th.stripes → OwesFewer th.stripes q.stripes → OwesFewer th.stripes (left_behind th ys q).stripes
+parting_fewer : (th q : Thread) (ys : List Stripe) → ys ≡ th.stripes → AreSorted th.stripes → OwesFewer th.stripes q.stripes → OwesFewer th.stripes (left_after th ys q).stripes
 parting_fewer th q [] e s f = f
 parting_fewer th q (x ∷ xs) e s f = by (owes (x ∷ xs))
   where
@@ -86,10 +86,10 @@ parting_all call.Exit zero xs = inr refl
 parting_all call.Exit (suc made) xs = inl refl
 parting_all _ made xs = inl refl
 
-call_fewer : (th q : Thread) (c : LibraryCall) (made : ℕ) → AreSorted th.stripes → OwesFewer th.stripes q.stripes → OwesFewer th.stripes (left_behind th (parting c made th.stripes) q).stripes
+call_fewer : (th q : Thread) (c : LibraryCall) (made : ℕ) → AreSorted th.stripes → OwesFewer th.stripes q.stripes → OwesFewer th.stripes (left_after th (parting c made th.stripes) q).stripes
 call_fewer th q c made s f =
     ⊎_elim
-    (λ e. subst (λ ys. OwesFewer th.stripes (left_behind th ys q).stripes) (sym e) f)
+    (λ e. subst (λ ys. OwesFewer th.stripes (left_after th ys q).stripes) (sym e) f)
     (λ e. parting_fewer th q (parting c made th.stripes) e s f)
     (parting_all c made th.stripes)
 

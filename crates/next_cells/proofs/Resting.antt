@@ -75,17 +75,17 @@ module _ (code : Code) (s : SetupView) (x : Sets code s) (st : State Told) (made
 
 -- ---- all threads
 
-set_behind : (done : List Told) (x y : Told) (rest : List Told) → slice_set (done ++ x ∷ rest) (length done) y ≡ (done ++ y ∷ []) ++ rest
-set_behind [] x y rest = refl
-set_behind (d ∷ done) x y rest = ap (λ zs. d ∷ zs) (set_behind done x y rest)
+set_after : (done : List Told) (x y : Told) (rest : List Told) → slice_set (done ++ x ∷ rest) (length done) y ≡ (done ++ y ∷ []) ++ rest
+set_after [] x y rest = refl
+set_after (d ∷ done) x y rest = ap (λ zs. d ∷ zs) (set_after done x y rest)
 
-get_behind : (done : List Told) (x : Told) (rest : List Told) → slice_get (done ++ x ∷ rest) (length done) ≡ Some x
-get_behind [] x rest = refl
-get_behind (d ∷ done) x rest = get_behind done x rest
+get_after : (done : List Told) (x : Told) (rest : List Told) → slice_get (done ++ x ∷ rest) (length done) ≡ Some x
+get_after [] x rest = refl
+get_after (d ∷ done) x rest = get_after done x rest
 
-long_behind : (done : List Told) (x : Told) (rest : List Told) → length done < length (done ++ x ∷ rest)
-long_behind [] x rest = omega arith
-long_behind (d ∷ done) x rest = let h = long_behind done x rest in omega arith
+long_after : (done : List Told) (x : Told) (rest : List Told) → length done < length (done ++ x ∷ rest)
+long_after [] x rest = omega arith
+long_after (d ∷ done) x rest = let h = long_after done x rest in omega arith
 
 same_long : (done : List Told) (x y : Told) (rest : List Told) → length ((done ++ y ∷ []) ++ rest) ≡ length (done ++ x ∷ rest)
 same_long [] x y rest = refl
@@ -110,10 +110,10 @@ module _ (code : Code) (s : SetupView) (x : Sets code s) (words : List ℕ) wher
   rest_settles : (done rest : List Told) → length (done ++ rest) ≡ s.slots → Points (done ++ rest) → Points (done ++ resting_from code s (length done) rest)
   rest_settles done [] long p = p
   rest_settles done (y ∷ rest) long p =
-      let few = long_behind done y rest in
+      let few = long_after done y rest in
       let q = resting code s (length done) y in
-      let one = settle_one code s x (state_with (done ++ y ∷ rest)) p.0 p.1 (length done) y (get_behind done y rest) (omega arith) in
-      let next : Points ((done ++ q ∷ []) ++ rest) = subst Points (set_behind done y q rest) one in
+      let one = settle_one code s x (state_with (done ++ y ∷ rest)) p.0 p.1 (length done) y (get_after done y rest) (omega arith) in
+      let next : Points ((done ++ q ∷ []) ++ rest) = subst Points (set_after done y q rest) one in
       let more = rest_settles (done ++ q ∷ []) rest (same_long done y q rest ∙ long) next in
       subst Points (joined_up done q (resting_from code s (length done + 1) rest)) (subst (λ n. Points ((done ++ q ∷ []) ++ resting_from code s n rest)) (one_longer done q) more)
 

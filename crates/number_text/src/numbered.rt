@@ -1,11 +1,11 @@
-// A number behind a word.
+// A number after a word.
 ghost use Rattle.std.specs.Prelude.{◌≡◌, ◌++◌, decimal, OnOk};
 
 use itoa::Buffer;
 use rr_base::Bytes;
 use std::alloc::AllocError;
 
-/// A word, and behind it a number in decimal without leading zeros.
+/// A word, and after it a number in decimal without leading zeros.
 pub fn push_numbered(out: &mut Bytes, word: &[u8], number: u64) -> Result<(), AllocError>
     ensures { OnOk result (out.new ≡ out.old ++ (word.now ++ decimal number)) }
 {

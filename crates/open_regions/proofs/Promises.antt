@@ -11,7 +11,7 @@ use Rattle.flow_code.specs.declared.act.Instr.{Instr}
 use Rattle.flow_code.specs.declared.code.Code.{Code}
 use Rattle.flow_code.specs.declared.region.Region.{Region}
 use Rattle.flow_code.specs.declared.thread.Stripe.{Stripe}
-use Rattle.flow_code.specs.Holding.{has_stripe, behind_pairs, is_opened_here, pairs_at, taken_pairs, region_in, takes}
+use Rattle.flow_code.specs.Holding.{has_stripe, after_pairs, is_opened_here, pairs_at, taken_pairs, region_in, takes}
 use Rattle.flow_code.specs.Next.{act_in}
 use Rattle.flow_code.specs.Stripes.{wants_number, first_lock, wanted}
 use Rattle.flow_code.specs.Threads.{Frame, Thread, OpenRegion, instr_in}
@@ -112,7 +112,7 @@ module _ (code : Code) (s : SetupView) where
 
   -- a Take has taken all that its region wants as far as it has come
   abbrev pub Partly : (n f w : ℕ) → List ℕ → List OpenRegion → Type 0
-  Partly n f w registers rs = (q : ℕ) (r : Region) (i : ℕ) → ActAt code s f w ≡ Some (act.Take q) → region_in (slice_get code.functions f) q ≡ Some r → wants_number code registers r i ≡ true → 8 * first_lock r ≤ i → i < behind_pairs (taken_at n w rs) → has_stripe (taken_at n w rs) i ≡ true
+  Partly n f w registers rs = (q : ℕ) (r : Region) (i : ℕ) → ActAt code s f w ≡ Some (act.Take q) → region_in (slice_get code.functions f) q ≡ Some r → wants_number code registers r i ≡ true → 8 * first_lock r ≤ i → i < after_pairs (taken_at n w rs) → has_stripe (taken_at n w rs) i ≡ true
 
   -- what a running thread keeps; where it exits, nothing is kept for the frames below
   pub record Holds (below : List Frame) (f w : ℕ) (registers : List ℕ) (rs : List OpenRegion) : Type 0 where
@@ -154,7 +154,7 @@ module _ (code : Code) (s : SetupView) where
           once f w os q way at (h q x (length rs - 1, e) (two_true (x.frame == n) (takes (instr_in (slice_get code.functions f) x.instr) q) u.0 (ap (λ k. takes (instr_in (slice_get code.functions f) k) q) v ∙ takes_at (instr_in (slice_get code.functions f) w) q at)))
 
       by : (o : Option OpenRegion) → slice_get rs (length rs - 1) ≡ o → (b : Bool) → last_here n w (slice_get rs (length rs - 1)) ≡ b → has_stripe (taken_at n w rs) i ≡ true
-      by o e false t = absurd (omega (arith, lt, ap behind_pairs (none_taken n w rs t)))
+      by o e false t = absurd (omega (arith, lt, ap after_pairs (none_taken n w rs t)))
       by None e true t = let z : last_here n w None ≡ true = ap (last_here n w) (sym e) ∙ t in cc
       by (Some x) e true t = absurd (opened_here x e (ap (last_here n w) (sym e) ∙ t))
 

@@ -23,8 +23,8 @@ use Rattle.flow_code.specs.declared.thread.Phase.{Phase}
 use Rattle.flow_code.specs.declared.thread.Phase.TheVariants as phase
 use Rattle.flow_code.specs.declared.thread.Stripe.{Stripe}
 use Rattle.flow_code.specs.declared.work.Work.{Work}
-use Rattle.flow_code.specs.Holding.{lacked, region_of, taken, open_place, alone_at, pairs_at, to_give, gives_at, left_by, parting, left_behind}
-use Rattle.flow_code.specs.Next.{act_at, pointers_of, past, given, computed, entered, back_in, end_onward, returned, went_on, branch_to, call_after, on_unless, act_after, begun_after, phase_after, after_due, due_of, caller, result_of, value_of, stepped}
+use Rattle.flow_code.specs.Holding.{lacked, region_of, taken, open_place, alone_at, pairs_at, to_give, gives_at, left_by, parting, left_after}
+use Rattle.flow_code.specs.Next.{act_at, pointers_of, past, given, computed, entered, back_in, end_onward, returned, resumed, branch_to, call_after, on_unless, act_after, begun_after, phase_after, after_due, due_of, caller, result_of, value_of, stepped}
 use Rattle.flow_code.specs.Threads.{Frame, Thread, OpenRegion, is_main}
 use Rattle.flow_code.specs.Works.{work_of}
 use Rattle.loop_bounds.specs.Turns.{Goes, Puts}
@@ -67,25 +67,25 @@ module _ (code : Code) (s : SetupView) (t : ℕ) (once : OpenOnce code) where
   compute_held th into work (Ok w) e at k h = λ p. on_by th (act.Compute into work) (th.top.instr + 1) (slice_set th.top.registers into w) at refl refl (refl, (w, e, refl)) k h
   compute_held th into work (Err kind) e at k h = λ p. h
 
-  went_held : (th : Thread) (c : LibraryCall) (arguments : List ℕ) (into : Option ℕ) (o : Onward) → is_exit (Some (act.Library c arguments into)) ≡ false → act_at code th.top ≡ Some (act.Library c arguments into) → Now th → HoldsBy code s th → IsHeld (went_on th into o)
+  went_held : (th : Thread) (c : LibraryCall) (arguments : List ℕ) (into : Option ℕ) (o : Onward) → is_exit (Some (act.Library c arguments into)) ≡ false → act_at code th.top ≡ Some (act.Library c arguments into) → Now th → HoldsBy code s th → IsHeld (resumed th into o)
   went_held th c arguments into (onward.Stays kept) e at k h = λ p. h
   went_held th c arguments None (onward.Gives w) e at k h = λ p. on_by th (act.Library c arguments None) (th.top.instr + 1) th.top.registers at refl e (refl, refl) k h
   went_held th c arguments (Some r) (onward.Gives w) e at k h = λ p. on_by th (act.Library c arguments (Some r)) (th.top.instr + 1) (slice_set th.top.registers r w) at refl e (refl, (w, refl)) k h
   went_held th c arguments into onward.Ends e at k h = λ p. cc
 
   -- the end by pthread_exit
-  exit_held : (th q : Thread) (arguments : List ℕ) (into : Option ℕ) (xs : List Stripe) → act_at code th.top ≡ Some (act.Library call.Exit arguments into) → HoldsBy code s th → IsHeld q → IsHeld (left_behind th xs q)
+  exit_held : (th q : Thread) (arguments : List ℕ) (into : Option ℕ) (xs : List Stripe) → act_at code th.top ≡ Some (act.Library call.Exit arguments into) → HoldsBy code s th → IsHeld q → IsHeld (left_after th xs q)
   exit_held th q arguments into [] at h l = l
-  exit_held th q arguments into (x ∷ xs) at h l = λ p. exits code s th.below th.top.function th.top.instr th.top.registers (left_behind th (x ∷ xs) q).regions h.top.opened (ap is_exit at) h.top.walked
+  exit_held th q arguments into (x ∷ xs) at h l = λ p. exits code s th.below th.top.function th.top.instr th.top.registers (left_after th (x ∷ xs) q).regions h.top.opened (ap is_exit at) h.top.walked
 
-  exit_went : (th : Thread) (into : Option ℕ) (made : ℕ) (kept : ℤ) → HoldsBy code s th → IsHeld (went_on th into (exit_onward made kept))
+  exit_went : (th : Thread) (into : Option ℕ) (made : ℕ) (kept : ℤ) → HoldsBy code s th → IsHeld (resumed th into (exit_onward made kept))
   exit_went th into zero kept h = λ p. h
   exit_went th into (suc zero) kept h = λ p. h
   exit_went th into (suc (suc n)) kept h = λ p. cc
 
   library_held : (th : Thread) (c : LibraryCall) (arguments : List ℕ) (into : Option ℕ) (answer : ℤ) (b : Bool) → is_exit (Some (act.Library c arguments into)) ≡ b → act_at code th.top ≡ Some (act.Library c arguments into) → Now th → HoldsBy code s th → IsHeld (act_after code s t th (Some (act.Library c arguments into)) answer)
   library_held th c arguments into answer false e at k h =
-      subst (λ xs. IsHeld (left_behind th xs (call_after code s t th c arguments into answer))) (sym (not_parting c arguments into th.top.made th.stripes e))
+      subst (λ xs. IsHeld (left_after th xs (call_after code s t th c arguments into answer))) (sym (not_parting c arguments into th.top.made th.stripes e))
       (went_held (record th { printed = th.printed + length (piece_of c (words_of th.top.registers arguments)) }) c arguments into (library_onward (caller code s t th) c (words_of th.top.registers arguments) th.top.made th.top.kept answer) e at k h)
   library_held th call.Exit arguments into answer true e at k h =
       exit_held th (call_after code s t th call.Exit arguments into answer) arguments into (parting call.Exit th.top.made th.stripes) at h

@@ -1,10 +1,10 @@
--- The open regions behind a Take, and the stripes that it has taken.
+-- The open regions after a Take, and the stripes that it has taken.
 use Rattle.std.proofs.Common.{◌≡◌, ℕ, zero, suc, ◌+◌, ◌-◌, ◌<◌, ◌≤◌, ◌||◌, Bool, true, false, List, [], ◌∷◌, ◌++◌, length, refl, sym, ap, ◌∙◌, subst, arith, Option, Some, None, ◌⊎◌, inl, inr, ⊎_elim}
 use Rattle.std.specs.Prelude.{slice_get, slice_set, if◌then◌else◌, ◌==◌}
 use Rattle.std.proofs.lemmas.Bool.{cases_eq}
 use Rattle.std.proofs.lemmas.Bool.Decides.{nat_tests}
 use Rattle.std.proofs.lemmas.Option.{same_Some}
-use Rattle.flow_code.specs.Holding.{number_of_pair, has_stripe, has_stripes, open_ones, with_pairs, behind_pair, behind_pairs, is_opened_here, latest, latest_with, pairs_at, opened}
+use Rattle.flow_code.specs.Holding.{number_of_pair, has_stripe, has_stripes, open_ones, with_pairs, after_pair, after_pairs, is_opened_here, latest, latest_with, pairs_at, opened}
 use Rattle.flow_code.specs.Stripes.{stripe_of, and_stripe, stripes_from}
 use Rattle.flow_code.specs.Threads.{Thread, OpenRegion}
 use Rattle.weak_sound.proofs.Accesses.{Each}
@@ -117,19 +117,19 @@ opened_taken th xs n h = by (find_latest th)
 
 -- ---- lists of stripes
 
-pub behind_more : (x y : ℕ × ℕ) (zs : List (ℕ × ℕ)) → behind_pairs (x ∷ y ∷ zs) ≡ behind_pairs (y ∷ zs)
-behind_more x y zs = let e : length (x ∷ y ∷ zs) - 1 ≡ suc (length (y ∷ zs) - 1) = omega arith in ap (λ n. behind_pair (slice_get (x ∷ y ∷ zs) n)) e
+pub past_more : (x y : ℕ × ℕ) (zs : List (ℕ × ℕ)) → after_pairs (x ∷ y ∷ zs) ≡ after_pairs (y ∷ zs)
+past_more x y zs = let e : length (x ∷ y ∷ zs) - 1 ≡ suc (length (y ∷ zs) - 1) = omega arith in ap (λ n. after_pair (slice_get (x ∷ y ∷ zs) n)) e
 
-pub behind_append : (m : ℕ) (xs ys : List (ℕ × ℕ)) → behind_pairs xs ≤ m → behind_pairs ys ≤ m → behind_pairs (xs ++ ys) ≤ m
-behind_append m [] ys h k = k
-behind_append m (x ∷ []) [] h k = h
-behind_append m (x ∷ []) (y ∷ ys) h k = omega (arith, k, behind_more x y ys)
-behind_append m (x ∷ z ∷ xs) ys h k = omega (arith, behind_more x z (xs ++ ys), behind_append m (z ∷ xs) ys (omega (arith, h, behind_more x z xs)) k)
+pub after_append : (m : ℕ) (xs ys : List (ℕ × ℕ)) → after_pairs xs ≤ m → after_pairs ys ≤ m → after_pairs (xs ++ ys) ≤ m
+after_append m [] ys h k = k
+after_append m (x ∷ []) [] h k = h
+after_append m (x ∷ []) (y ∷ ys) h k = omega (arith, k, past_more x y ys)
+after_append m (x ∷ z ∷ xs) ys h k = omega (arith, past_more x z (xs ++ ys), after_append m (z ∷ xs) ys (omega (arith, h, past_more x z xs)) k)
 
-behind_under : (m : ℕ) (xs : List (ℕ × ℕ)) → Each (λ x. number_of_pair x < m) xs → behind_pairs xs ≤ m
-behind_under m [] h = omega arith
-behind_under m (x ∷ []) h = omega (arith, h.0)
-behind_under m (x ∷ y ∷ ys) h = omega (arith, behind_more x y ys, behind_under m (y ∷ ys) h.1)
+after_under : (m : ℕ) (xs : List (ℕ × ℕ)) → Each (λ x. number_of_pair x < m) xs → after_pairs xs ≤ m
+after_under m [] h = omega arith
+after_under m (x ∷ []) h = omega (arith, h.0)
+after_under m (x ∷ y ∷ ys) h = omega (arith, past_more x y ys, after_under m (y ∷ ys) h.1)
 
 from_under : (p : ℕ → Bool) (m k b : ℕ) → k + m ≤ b → Each (λ x. number_of_pair x < b) (stripes_from p m k)
 from_under p zero k b le = tt
@@ -139,8 +139,8 @@ from_under p (suc m) k b le = by (p k) (from_under p m (k + 1) b (omega (arith, 
     by true e = (omega (arith, le, number_back k), e)
     by false e = e
 
-pub behind_from : (p : ℕ → Bool) (m k b : ℕ) → k + m ≤ b → behind_pairs (stripes_from p m k) ≤ b
-behind_from p m k b le = behind_under b (stripes_from p m k) (from_under p m k b le)
+pub after_from : (p : ℕ → Bool) (m k b : ℕ) → k + m ≤ b → after_pairs (stripes_from p m k) ≤ b
+after_from p m k b le = after_under b (stripes_from p m k) (from_under p m k b le)
 
 -- what is among them passes and is one of the numbers
 pub of_from : (p : ℕ → Bool) (m k n : ℕ) → has_stripe (stripes_from p m k) n ≡ true → (p n ≡ true) × (k ≤ n) × (n < k + m)

@@ -8,7 +8,7 @@ use Rattle.sync_objects.specs.Setup.{SetupView}
 use Rattle.flow_code.specs.declared.act.Act.TheVariants as act
 use Rattle.flow_code.specs.declared.code.Code.{Code}
 use Rattle.flow_code.specs.declared.region.Region.{Region}
-use Rattle.flow_code.specs.Holding.{has_stripe, behind_pairs, taken_pairs, left_from, lacked, is_lacked, is_listed, taken_before, opened, region_in, region_of, takes}
+use Rattle.flow_code.specs.Holding.{has_stripe, after_pairs, taken_pairs, left_from, lacked, is_lacked, is_listed, taken_before, opened, region_in, region_of, takes}
 use Rattle.flow_code.specs.Next.{act_at}
 use Rattle.flow_code.specs.Stripes.{wants_number, first_lock, end_lock, stripes_from, wanted}
 use Rattle.flow_code.specs.Threads.{Frame, Thread, OpenRegion, instr_in}
@@ -20,7 +20,7 @@ use Rattle.weak_ways.proofs.Holdings.{is_of, last_here, Kept, takes_is, way_on, 
 use Rattle.open_regions.specs.OpenStripes.{is_exit}
 use Rattle.open_regions.proofs.Walking.{OpenOnce, ActAt, walk_on}
 use Rattle.open_regions.proofs.Promises.{taken_at, taken_same, promised, in_promised, two_true, both_true, takes_at, Has, Stands, Partly, Holds, HoldsBy, Keeps, is_same, has_kept, others_kept, arrives}
-use Rattle.open_regions.proofs.Taken.{opened_keeps, opened_new, opened_from, opened_taken, behind_append, behind_from, of_from}
+use Rattle.open_regions.proofs.Taken.{opened_keeps, opened_new, opened_from, opened_taken, after_append, after_from, of_from}
 
 or_right : (b : Bool) → (b || true) ≡ true
 or_right true = refl
@@ -32,19 +32,19 @@ module _ (code : Code) (s : SetupView) (th : Thread) where
 
   -- all that the region wants before a number is taken, once the Take has gone on to before it
   taken_all : (q : ℕ) (r : Region) (to i : ℕ) → ActAt code s th.top.function th.top.instr ≡ Some (act.Take q) → region_of code th.top q ≡ Some r → HoldsBy code s th → wants_number code th.top.registers r i ≡ true → 8 * first_lock r ≤ i → i < to → has_stripe (taken_before code th r to) i ≡ true
-  taken_all q r to i at re h wants le lt = has_append (taken_pairs th) (stripes_from (wants_number code th.top.registers r) (to - left_from th r) (left_from th r)) i ∙ ⊎_elim before behind (cases_lt i (behind_pairs (taken_pairs th)))
+  taken_all q r to i at re h wants le lt = has_append (taken_pairs th) (stripes_from (wants_number code th.top.registers r) (to - left_from th r) (left_from th r)) i ∙ ⊎_elim before following (cases_lt i (after_pairs (taken_pairs th)))
     where
-      before : i < behind_pairs (taken_pairs th) → (has_stripe (taken_pairs th) i || has_stripe (stripes_from (wants_number code th.top.registers r) (to - left_from th r) (left_from th r)) i) ≡ true
+      before : i < after_pairs (taken_pairs th) → (has_stripe (taken_pairs th) i || has_stripe (stripes_from (wants_number code th.top.registers r) (to - left_from th r) (left_from th r)) i) ≡ true
       before l =
-          let z : i < behind_pairs Taken = omega (arith, l, ap behind_pairs (taken_same th)) in
+          let z : i < after_pairs Taken = omega (arith, l, ap after_pairs (taken_same th)) in
           ap (λ b. b || has_stripe (stripes_from (wants_number code th.top.registers r) (to - left_from th r) (left_from th r)) i) (ap (λ ps. has_stripe ps i) (taken_same th) ∙ h.partly q r i at re wants le z)
 
       above : (a b : ℕ) → a ≤ i → b ≤ i → max a b ≤ i
       above a b l k = omega (arith, l, k)
 
-      behind : behind_pairs (taken_pairs th) ≤ i → (has_stripe (taken_pairs th) i || has_stripe (stripes_from (wants_number code th.top.registers r) (to - left_from th r) (left_from th r)) i) ≡ true
-      behind ge =
-          let l : left_from th r ≤ i = above (8 * first_lock r) (behind_pairs (taken_pairs th)) le ge in
+      following : after_pairs (taken_pairs th) ≤ i → (has_stripe (taken_pairs th) i || has_stripe (stripes_from (wants_number code th.top.registers r) (to - left_from th r) (left_from th r)) i) ≡ true
+      following ge =
+          let l : left_from th r ≤ i = above (8 * first_lock r) (after_pairs (taken_pairs th)) le ge in
           let u : i < left_from th r + (to - left_from th r) = omega (arith, l, lt) in
           ap (λ b. has_stripe (taken_pairs th) i || b) (from_has (wants_number code th.top.registers r) (to - left_from th r) (left_from th r) i l u wants) ∙ or_right (has_stripe (taken_pairs th) i)
 
@@ -84,9 +84,9 @@ module _ (code : Code) (s : SetupView) (th : Thread) where
       at_most : (a b : ℕ) → max a b ≤ n → b ≤ n + 1
       at_most a b le = omega (arith, le)
 
-      few : behind_pairs (taken_before code th r (n + 1)) ≤ n + 1
-      few = behind_append (n + 1) (taken_pairs th) (stripes_from (wants_number code th.top.registers r) (n + 1 - left_from th r) (left_from th r)) (at_most (8 * first_lock r) (behind_pairs (taken_pairs th)) found.1)
-          (behind_from (wants_number code th.top.registers r) (n + 1 - left_from th r) (left_from th r) (n + 1) (let p = found.1 in omega (arith, p)))
+      few : after_pairs (taken_before code th r (n + 1)) ≤ n + 1
+      few = after_append (n + 1) (taken_pairs th) (stripes_from (wants_number code th.top.registers r) (n + 1 - left_from th r) (left_from th r)) (at_most (8 * first_lock r) (after_pairs (taken_pairs th)) found.1)
+          (after_from (wants_number code th.top.registers r) (n + 1 - left_from th r) (left_from th r) (n + 1) (let p = found.1 in omega (arith, p)))
 
       partly : Partly code s (length th.below) th.top.function th.top.instr th.top.registers (opened th (taken_before code th r (n + 1)))
       partly p u i to re' wants le lt =
@@ -94,7 +94,7 @@ module _ (code : Code) (s : SetupView) (th : Thread) where
           let y : r ≡ u = same_region q r u re (ap (region_in (slice_get code.functions th.top.function)) z ∙ re') in
           let x : taken_at (length th.below) th.top.instr (opened th (taken_before code th r (n + 1))) ≡ taken_before code th r (n + 1) = opened_taken th (taken_before code th r (n + 1)) n has in
           ap (λ ps. has_stripe ps i) x
-          ∙ taken_all q r (n + 1) i at re h (ap (λ v. wants_number code th.top.registers v i) y ∙ wants) (omega (arith, le, ap first_lock y)) (omega (arith, lt, ap behind_pairs x, few))
+          ∙ taken_all q r (n + 1) i at re h (ap (λ v. wants_number code th.top.registers v i) y ∙ wants) (omega (arith, le, ap first_lock y)) (omega (arith, lt, ap after_pairs x, few))
         where
           same_take : (a b : ℕ) → Some (act.Take a) ≡ Some (act.Take b) → a ≡ b
           same_take a b e = cc

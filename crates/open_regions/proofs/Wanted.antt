@@ -11,7 +11,7 @@ use Rattle.flow_code.specs.declared.region.Span.{Span}
 use Rattle.flow_code.specs.Holding.{has_stripe}
 use Rattle.flow_code.specs.Regions.{ascend, are_locks, locks_fit, base_fits, bound_is_whole, span_fits, spans_fit, region_fits}
 use Rattle.flow_code.specs.Kinds.{has_whole}
-use Rattle.flow_code.specs.Stripes.{among, or_zero, behind_lock, first_lock, end_lock, cell_wants, base_word, stripes_in, bound_of, range_wants, span_wants, wants, wants_number, wanted}
+use Rattle.flow_code.specs.Stripes.{among, or_zero, after_lock, first_lock, end_lock, cell_wants, base_word, stripes_in, bound_of, range_wants, span_wants, wants, wants_number, wanted}
 use Rattle.abstract_machine.specs.Registers.{register}
 use Rattle.abstract_machine.specs.Values.{number}
 use Rattle.weak_ways.proofs.Opened.{from_has}
@@ -38,7 +38,7 @@ first_small (x ∷ y ∷ ys) l a h = by (x == l) refl h (λ b k. first_small (y 
     by true e h rec = let z : x ≡ l = grind (arith, nat_tests, e) in omega (arith, z)
     by false e h rec = omega (arith, next, rec parts.1 h)
 
-last_large : (locks : List ℕ) (l : ℕ) → ascend locks ≡ true → among locks l ≡ true → l < behind_lock (slice_get locks (length locks - 1))
+last_large : (locks : List ℕ) (l : ℕ) → ascend locks ≡ true → among locks l ≡ true → l < after_lock (slice_get locks (length locks - 1))
 last_large [] l a h = cc
 last_large (x ∷ []) l a h = by (x == l) refl h
   where
@@ -53,13 +53,13 @@ last_large (x ∷ y ∷ ys) l a h = by (x == l) refl h (λ n b k. last_large (y 
     next : x < y
     next = let t = parts.0 in grind (arith, nat_tests, t)
 
-    last : behind_lock (slice_get (x ∷ y ∷ ys) (length (x ∷ y ∷ ys) - 1)) ≡ behind_lock (slice_get (y ∷ ys) (length (y ∷ ys) - 1))
-    last = let e : length (x ∷ y ∷ ys) - 1 ≡ suc (length (y ∷ ys) - 1) = omega arith in ap (λ n. behind_lock (slice_get (x ∷ y ∷ ys) n)) e
+    last : after_lock (slice_get (x ∷ y ∷ ys) (length (x ∷ y ∷ ys) - 1)) ≡ after_lock (slice_get (y ∷ ys) (length (y ∷ ys) - 1))
+    last = let e : length (x ∷ y ∷ ys) - 1 ≡ suc (length (y ∷ ys) - 1) = omega arith in ap (λ n. after_lock (slice_get (x ∷ y ∷ ys) n)) e
 
     itself : among (y ∷ ys) y ≡ true
     itself = let e : (y == y) ≡ true = grind (arith, nat_tests) in ap (λ b. b || among ys y) e
 
-    by : (b : Bool) → (x == l) ≡ b → (b || among (y ∷ ys) l) ≡ true → ((n : ℕ) → ascend (y ∷ ys) ≡ true → among (y ∷ ys) n ≡ true → n < behind_lock (slice_get (y ∷ ys) (length (y ∷ ys) - 1))) → l < behind_lock (slice_get (x ∷ y ∷ ys) (length (x ∷ y ∷ ys) - 1))
+    by : (b : Bool) → (x == l) ≡ b → (b || among (y ∷ ys) l) ≡ true → ((n : ℕ) → ascend (y ∷ ys) ≡ true → among (y ∷ ys) n ≡ true → n < after_lock (slice_get (y ∷ ys) (length (y ∷ ys) - 1))) → l < after_lock (slice_get (x ∷ y ∷ ys) (length (x ∷ y ∷ ys) - 1))
     by true e h rec = let z : x ≡ l = grind (arith, nat_tests, e) in omega (arith, z, next, last, rec y parts.1 itself)
     by false e h rec = omega (arith, last, rec l parts.1 h)
 

@@ -21,7 +21,7 @@ All_back P (x ∷ xs) ys h = All_back P xs ys h.1
 pub count_push : {X : Type 0} (p : X → Bool) (xs : List X) (x : X) → count_by p (xs ++ x ∷ []) ≡ count_by p xs + cond (p x) 1 0
 count_push p xs x = sum_by_push (λ y. cond (p y) 1 0) xs x
 
--- one item behind the front is counted with it
+-- one item after the front is counted with it
 pub count_front : {X : Type 0} (p : X → Bool) (xs : List X) (x : X) (ys : List X) → count_by p xs + cond (p x) 1 0 ≤ count_by p (xs ++ x ∷ ys)
 count_front p xs x ys =
     let parts = sum_by-append (λ y. cond (p y) 1 0) xs (x ∷ ys) in
@@ -30,7 +30,7 @@ count_front p xs x ys =
 
 -- ---- pairs
 
--- pairs that ascend, and one more behind them
+-- pairs that ascend, and one more after them
 pub AreAscending-push : (ps : List Pair) (p : Pair) → AreAscending ps → ends_before ps p ≡ true → AreAscending (ps ++ p ∷ [])
 AreAscending-push [] p h last = (tt, tt)
 AreAscending-push (q ∷ []) p h last = (last, (tt, tt))

@@ -126,7 +126,7 @@ takes_more strict done p line v are l b within =
 
 -- ---- the answer at the end
 
--- a part is a whole log with nothing behind it, or the end is missing
+-- a part is a whole log with nothing after it, or the end is missing
 finishes : (p : Part) (at : ℕ) (rest : Text)
     → ((v : LogView) × (p ≡ whole v) × (rest ≡ []) × (finish p at rest ≡ Ok v)) ⊎ ((finish p at rest ≡ Err (LogSyntax at)) × ((v : LogView) → p ≡ whole v → rest ≡ [] → ⊥))
 finishes Bare at rest = inr (refl, λ v e r. cc)

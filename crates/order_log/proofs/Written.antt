@@ -25,7 +25,7 @@ chain : (s c m i h : Text) (ps es : List Text) (o1 o2 o3 o4 o5 o6 o7 o8 o9 : Tex
     → o9 ≡ (codes "chimera log 1" ++ 10 ∷ []) ++ (s ++ 10 ∷ []) ++ (c ++ 10 ∷ []) ++ (m ++ 10 ∷ []) ++ text_of ps ++ (i ++ 10 ∷ []) ++ h ++ 10 ∷ [] ++ text_of es
 chain s c m i h ps es o1 o2 o3 o4 o5 o6 o7 o8 o9 e1 e2 e3 e4 e5 e6 e7 e8 e9 = cc
 
--- the parts as they are written, one behind the other
+-- the parts as they are written, one after the other
 pub written : (v : LogView) (o1 o2 o3 o4 o5 o6 o7 o8 o9 : Text) → o1 ≡ codes "chimera log 1\n"
     → o2 ≡ o1 ++ ((codes "slots " ++ number_text v.setup.slots) ++ 10 ∷ []) → o3 ≡ o2 ++ ((codes "cells " ++ number_text v.setup.cells) ++ 10 ∷ [])
     → o4 ≡ o3 ++ ((codes "limit " ++ number_text v.setup.limit) ++ 10 ∷ []) → o5 ≡ o4 ++ text_of (profile_lines v.profile)

@@ -22,18 +22,18 @@ o >>= f = option_and_then f o
 
 -- ---- parts of a line
 
--- what stands before the first such byte, and what stands behind it
+-- what stands before the first such byte, and what stands after it
 abbrev pub cut : ℕ → Text → Option (Text × Text)
 cut c [] = None
 cut c (b ∷ bs) = if b == c then Some ([], bs) else option_map (λ p. (b ∷ p.0, p.1)) (cut c bs)
 
--- what stands behind the word, where the line begins with it
+-- what stands after the word, where the line begins with it
 abbrev pub after_word : Text → Text → Option Text
 after_word [] line = Some line
 after_word (w ∷ ws) [] = None
 after_word (w ∷ ws) (b ∷ bs) = if b == w then after_word ws bs else None
 
--- the number that decimal digits behind those of v write
+-- the number that decimal digits after those of v write
 abbrev pub digits_from : ℕ → Text → Option ℕ
 digits_from v [] = Some v
 digits_from v (b ∷ bs) = if is_ascii_digit b then digits_from (v * 10 + (b - 48)) bs else None

@@ -50,7 +50,7 @@ IsObjectWithin slots object.Halt = Unit {0}
 IsObjectWithin slots object.Input = Unit {0}
 IsObjectWithin slots object.Output = Unit {0}
 
--- an ending entry may stand behind the last event
+-- an ending entry may stand after the last event
 abbrev pub last_count : ℕ → OpName → ℕ
 last_count limit op = if is_ending op then limit + 1 else limit
 

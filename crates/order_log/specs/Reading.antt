@@ -8,12 +8,12 @@ use Rattle.order_log.specs.Text.{text_of, log_text}
 
 -- ---- the lines of a text
 
--- the byte is put in front of the first line; without a newline behind it there is none
+-- the byte is put in front of the first line; without a newline after it there is none
 abbrev pub onto_first : ℕ → List Text → List Text
 onto_first b [] = []
 onto_first b (line ∷ lines) = (b ∷ line) ∷ lines
 
--- the whole lines, without their newlines; what stands behind the last newline is no whole line
+-- the whole lines, without their newlines; what stands after the last newline is no whole line
 abbrev pub lines_of : Text → List Text
 lines_of [] = []
 lines_of (b ∷ bs) = if b == 10 then [] ∷ lines_of bs else onto_first b (lines_of bs)

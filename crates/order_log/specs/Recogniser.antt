@@ -37,12 +37,12 @@ abbrev pub kept : ℕ → List Text → Text → Text → Text
 kept b [] bs rest = b ∷ bs
 kept b (line ∷ lines) bs rest = rest
 
--- what stands behind the last newline
+-- what stands after the last newline
 abbrev pub unfinished_of : Text → Text
 unfinished_of [] = []
 unfinished_of (b ∷ bs) = if b == 10 then unfinished_of bs else kept b (lines_of bs) bs (unfinished_of bs)
 
--- the number of the next line, the whole lines from it on, and what stands behind them
+-- the number of the next line, the whole lines from it on, and what stands after them
 pub record Lines : Type 0 where
   pub at : ℕ
   pub whole : List Text
@@ -84,7 +84,7 @@ numbered word low high l = do
   n ← found_at l.at (option_and_then number_in (after_word word line.0))
   if nat_le low n && nat_le n high then Ok (n, line.1) else Err (LogLimit l.at)
 
--- so many pairs, behind those that were read
+-- so many pairs, after those that were read
 abbrev pub pairs_from : ℕ → List Pair → Lines → Result (List Pair × Lines) LogFault
 pairs_from zero ps l = Ok (ps, l)
 pairs_from (suc left) ps l = next_line l >>= λ line. found_at l.at (pair_in ps line.0) >>= λ p. pairs_from left (ps ++ p ∷ []) line.1
@@ -133,7 +133,7 @@ abbrev pub ended : List Entry → ℕ → Text → Result (List Entry) LogFault
 ended es at [] = Ok es
 ended es at (b ∷ bs) = Err (LogSyntax at)
 
--- the entries to the end, behind those that were read
+-- the entries to the end, after those that were read
 abbrev pub entries_from : SetupView → List Entry → ℕ → List Text → Text → Result (List Entry) LogFault
 entries_from s es at [] rest = ended es at rest
 entries_from s es at (line ∷ lines) rest = found_at at (entry_in line) >>= λ e. if may_follow s es e then entries_from s (es ++ e ∷ []) (next at) lines rest else Err (LogLimit at)

@@ -32,7 +32,7 @@ fn is_object_within(slots: u8, obj: ObjId) -> bool
     }
 }
 
-// The greatest count of an entry: an ending one may stand behind the last event.
+// The greatest count of an entry: an ending one may stand after the last event.
 fn greatest_count(limit: u32, op: OpName) -> u32
     requires { limit < 67108865 }
     ensures { result ≡ last_count limit op }
@@ -64,7 +64,7 @@ fn takes(counts: &mut [u32], thread: u8, most: u32) -> bool
     true
 }
 
-// Whether the entry is within the limits behind those that are counted. It is then counted too.
+// Whether the entry is within the limits after those that are counted. It is then counted too.
 fn may_follow(setup: &Setup, counts: &mut Counts, entry: &Entry) -> bool
     ensures value { (es : List Entry) → AreCounted counts.old.others counts.old.endings es
         → result ≡ recogniser.may_follow setup.now es entry.now }

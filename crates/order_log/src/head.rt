@@ -27,7 +27,7 @@ pub fn first_line(reader: &mut Reader) -> Result<(), LogFault>
     Ok(())
 }
 
-/// The number behind a word, alone in its line, where it is from `low` to `high`.
+/// The number after a word, alone in its line, where it is from `low` to `high`.
 #[tactic(auto, unfolding(crate::specs::Recogniser::numbered))]
 pub fn numbered(reader: &mut Reader, word: &[u8], low: u32, high: u32) -> Result<u32, LogFault>
     ensures { Gives (λ n. (n, left reader.new)) result
@@ -35,7 +35,7 @@ pub fn numbered(reader: &mut Reader, word: &[u8], low: u32, high: u32) -> Result
 {
     let at = reader.line;
     let line = next_line(reader)?;
-    let Some(n) = number_behind(word, line) else {
+    let Some(n) = number_after(word, line) else {
         return Err(LogFault::LogSyntax(at));
     };
     if n < u64::from(low) || u64::from(high) < n {
@@ -44,7 +44,7 @@ pub fn numbered(reader: &mut Reader, word: &[u8], low: u32, high: u32) -> Result
     Ok(n as u32)
 }
 
-fn number_behind(word: &[u8], text: &[u8]) -> Option<u64>
+fn number_after(word: &[u8], text: &[u8]) -> Option<u64>
     ensures { result ≡ option_map line.capped (option_and_then line.number_in (line.after_word word.now text.now)) }
 {
     number(after_word(word, text)?)
@@ -61,7 +61,7 @@ pub fn profile(alloc: Global, reader: &mut Reader) -> Result<Profile, LogFault>
     if line == b"profile all".as_slice() {
         return Ok(Profile::All);
     }
-    let Some(count) = number_behind(b"profile ", line) else {
+    let Some(count) = number_after(b"profile ", line) else {
         return Err(LogFault::LogSyntax(at));
     };
     Ok(Profile::Pairs(function_pairs(alloc, reader, count)?))

@@ -31,12 +31,12 @@ pub fn bytes_in(alloc: Global, digits: &[u8]) -> Result<Option<Bytes>, AllocErro
 {
     let mut bytes = List::with_capacity(alloc, digits.len() / 2)?;
     let mut rest = digits;
-    while let [high, low, behind @ ..] = rest {
+    while let [high, low, following @ ..] = rest {
         let Some(byte) = byte_in(*high, *low) else {
             return Ok(None);
         };
         bytes.push(byte)?;
-        rest = behind;
+        rest = following;
     }
     match rest {
         [] => Ok(Some(bytes)),

@@ -25,7 +25,7 @@ fn ends_before(before: &[(Bytes, Bytes)], first: &[u8], second: &[u8]) -> bool
     }
 }
 
-/// The pair of a line, where it may stand behind those before it.
+/// The pair of a line, where it may stand after those before it.
 #[tactic(auto, unfolding(crate::specs::Line::pair_in))]
 fn pair_in<'a>(before: &[(Bytes, Bytes)], text: &'a [u8]) -> Option<(&'a [u8], &'a [u8])>
     ensures { option_map (λ p. (p.0.now, p.1.now)) result ≡ line.pair_in before.now text.now }

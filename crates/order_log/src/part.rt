@@ -5,7 +5,7 @@ ghost use Rattle.std.specs.List.{list_all};
 ghost use Rattle.order_log.specs.Line as line;
 ghost use Rattle.order_log.specs.Names.{IsName, begins_name, continues_name};
 
-/// What stands before the first such byte, and what stands behind it.
+/// What stands before the first such byte, and what stands after it.
 pub fn cut(bytes: &[u8], at: u8) -> Option<(&[u8], &[u8])>
     ensures { option_map (λ p. (p.0.now, p.1.now)) result ≡ line.cut at bytes.now }
 {
@@ -17,7 +17,7 @@ pub fn cut(bytes: &[u8], at: u8) -> Option<(&[u8], &[u8])>
     None
 }
 
-/// What stands behind a word, where the line begins with it.
+/// What stands after a word, where the line begins with it.
 pub fn after_word<'a>(word: &[u8], text: &'a [u8]) -> Option<&'a [u8]>
     ensures { option_map (λ rest. rest.now) result ≡ line.after_word word.now text.now }
 {

@@ -11,14 +11,14 @@ use rr_base::{Bytes, List};
 use std::alloc::{AllocError, Global};
 use sync_objects::{Entry, ObjId};
 
-// A number behind a word.
+// A number after a word.
 fn push_numbered(out: &mut Bytes, word: &[u8], n: u64) -> Result<(), AllocError>
     ensures { OnOk result (out.new ≡ out.old ++ (word.now ++ number_text n)) }
 {
     number_text::push_numbered(out, word, n)
 }
 
-// A number behind a word, alone in its line.
+// A number after a word, alone in its line.
 fn push_number_line(out: &mut Bytes, word: &[u8], n: u64) -> Result<(), AllocError>
     ensures { OnOk result (out.new ≡ out.old ++ (word.now ++ number_text n ++ 10 ∷ [])) }
 {

@@ -7,13 +7,13 @@ use Rattle.answers.specs.declared.answer.Answer.{Answer}
 use Rattle.answers.specs.declared.answer.Answer.TheVariants as answer
 use Rattle.rr_base.specs.Faults.{Rose}
 use Rattle.rr_base.specs.Files.{Files}
-use Rattle.outcomes.proofs.Putting.{failed_behind, partly_behind, put_both}
+use Rattle.outcomes.proofs.Putting.{failed_after, partly_after, put_both}
 use Rattle.outcomes.specs.Endings.{ComesTo, Ends, Finishes, IsFoundSo, MayStop, Outside, ShelfSight, TellsStop, shelf_of}
 use Rattle.outcomes.specs.Endings.Ends.{Found, ShelfFails, InputFails, CrewFails, WantsMemory}
 use Rattle.outcomes.specs.Endings.Finishes.{Tells, PutFails, LacksMemory}
 use Rattle.outcomes.specs.Endings.IsCutOff.{NonePut}
 use Rattle.outcomes.specs.Faults.{Counts, StopCounts}
-use Rattle.outcomes.specs.Outcomes.{answers, behind}
+use Rattle.outcomes.specs.Outcomes.{answers, following}
 use Rattle.outcomes.specs.Puts.{Put, ArePut}
 use Rattle.outcomes.specs.Steps.{Gives}
 use Rattle.outcomes.specs.declared.outcome.Outcome.{Outcome}
@@ -25,21 +25,21 @@ no_puts None new e = e
 no_puts (Some files) new e = e
 
 -- an outcome whose first files were put before is finished
-finishes_behind : (ps : List Put) (o : Outcome) (first between last : ShelfSight) (old new : Sight) (result : ℕ) → ArePut ps first.files between.files → between.faults ≡ first.faults → Finishes o between last old new result → Finishes (behind ps o) first last old new result
-finishes_behind ps o first between last old new result h e (Tells puts faults w) = Tells (put_both ps o.puts first.files between.files last.files h puts) (faults ∙ e) w
-finishes_behind ps o first between last old new result h e (PutFails puts rose w) = PutFails (failed_behind ps o.puts first.files between.files last.files h puts) (subst (λ n. Rose n last.faults) e rose) w
-finishes_behind ps o first between last old new result h e (LacksMemory is same puts faults) = LacksMemory is same (partly_behind ps o.puts first.files between.files last.files h puts) (faults ∙ e)
+finishes_after : (ps : List Put) (o : Outcome) (first between last : ShelfSight) (old new : Sight) (result : ℕ) → ArePut ps first.files between.files → between.faults ≡ first.faults → Finishes o between last old new result → Finishes (following ps o) first last old new result
+finishes_after ps o first between last old new result h e (Tells puts faults w) = Tells (put_both ps o.puts first.files between.files last.files h puts) (faults ∙ e) w
+finishes_after ps o first between last old new result h e (PutFails puts rose w) = PutFails (failed_after ps o.puts first.files between.files last.files h puts) (subst (λ n. Rose n last.faults) e rose) w
+finishes_after ps o first between last old new result h e (LacksMemory is same puts faults) = LacksMemory is same (partly_after ps o.puts first.files between.files last.files h puts) (faults ∙ e)
 
 module _ (MayHave : Outcome → Type 0) (PutsBefore : List Put → Type 0) (UsesShelf ReadsInput Runs : Type 0) (old new : Outside) (result : ℕ) where
   -- an outcome was found, without a change of the outside but for files that were put, and then finished
   pub finished : (o : Outcome) (between : ShelfSight) → IsFoundSo MayHave old.files between.files o → between.faults ≡ old.counts.shelf → new.counts.input ≡ old.counts.input → new.counts.crew ≡ old.counts.crew → Finishes o between (shelf_of new) old.out new.out result → Ends MayHave PutsBefore UsesShelf ReadsInput Runs old new result
-  finished o between h faults input crew f = Found (behind h.before o) h.has (record { input = input; crew = crew }) (finishes_behind h.before o (shelf_of old) between (shelf_of new) old.out new.out result h.put faults f)
+  finished o between h faults input crew f = Found (following h.before o) h.has (record { input = input; crew = crew }) (finishes_after h.before o (shelf_of old) between (shelf_of new) old.out new.out result h.put faults f)
 
   -- a job was stopped, and that was told
   pub stopped : (s : Stop) → ComesTo MayHave PutsBefore old.files new.files (Err s) → StopCounts s old.counts new.counts → MayStop UsesShelf ReadsInput Runs s → TellsStop s old.out new.out result → Ends MayHave PutsBefore UsesShelf ReadsInput Runs old new result
   stopped (stop.Refused a) h counts may tells =
       let puts : ArePut (h.before ++ []) old.files new.files = put_both h.before [] old.files new.files new.files h.put (no_puts new.files new.files refl) in
-      Found (behind h.before (answers a)) h.has (record { input = ap (λ (c : Counts). c.input) counts; crew = ap (λ (c : Counts). c.crew) counts }) (Tells puts (ap (λ (c : Counts). c.shelf) counts) tells)
+      Found (following h.before (answers a)) h.has (record { input = ap (λ (c : Counts). c.input) counts; crew = ap (λ (c : Counts). c.crew) counts }) (Tells puts (ap (λ (c : Counts). c.shelf) counts) tells)
   stopped stop.ShelfFailed h counts may tells = ShelfFails may h.0 h.1 h.2 counts.0 (record { input = counts.1; crew = counts.2 }) tells
   stopped stop.InputFailed h counts may tells = InputFails may h counts.0 counts.1 counts.2 tells
   stopped stop.CrewFailed h counts may tells = CrewFails may h.0 h.1 h.2 counts.0 counts.1 counts.2 tells

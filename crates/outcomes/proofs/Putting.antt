@@ -15,11 +15,11 @@ pub put_both : (ps qs : List Put) (old between new : Option Files) → ArePut ps
 put_both ps qs None between new h g = g ∙ ap (option_map (with_puts qs)) h
 put_both ps qs (Some files) between new h g = g ∙ ap (option_map (with_puts qs)) h ∙ ap Some (sym (with_both ps qs files))
 
-pub partly_behind : (ps qs : List Put) (old between new : Option Files) → ArePut ps old between → ArePartlyPut qs between new → ArePartlyPut (ps ++ qs) old new
-partly_behind ps qs old between new h g = record { made = ps ++ g.made; rest = g.rest; split = ap (λ (xs : List Put). ps ++ xs) g.split ∙ sym (append_assoc ps g.made g.rest); files = put_both ps g.made old between new h g.files }
+pub partly_after : (ps qs : List Put) (old between new : Option Files) → ArePut ps old between → ArePartlyPut qs between new → ArePartlyPut (ps ++ qs) old new
+partly_after ps qs old between new h g = record { made = ps ++ g.made; rest = g.rest; split = ap (λ (xs : List Put). ps ++ xs) g.split ∙ sym (append_assoc ps g.made g.rest); files = put_both ps g.made old between new h g.files }
 
-pub failed_behind : (ps qs : List Put) (old between new : Option Files) → ArePut ps old between → PutFailed qs between new → PutFailed (ps ++ qs) old new
-failed_behind ps qs old between new h g = record { made = ps ++ g.made; failed = g.failed; rest = g.rest; split = ap (λ (xs : List Put). ps ++ xs) g.split ∙ sym (append_assoc ps g.made (g.failed ∷ g.rest)); before = g.before; files = put_both ps g.made old between g.before h g.files; others = g.others }
+pub failed_after : (ps qs : List Put) (old between new : Option Files) → ArePut ps old between → PutFailed qs between new → PutFailed (ps ++ qs) old new
+failed_after ps qs old between new h g = record { made = ps ++ g.made; failed = g.failed; rest = g.rest; split = ap (λ (xs : List Put). ps ++ xs) g.split ∙ sym (append_assoc ps g.made (g.failed ∷ g.rest)); before = g.before; files = put_both ps g.made old between g.before h g.files; others = g.others }
 
 -- ---- up to a place
 

@@ -5,7 +5,7 @@ use Rattle.answers.specs.Endings.{Sight, Writes}
 use Rattle.rr_base.specs.Faults.{Rose}
 use Rattle.rr_base.specs.Files.{Files}
 use Rattle.outcomes.specs.Faults.{Counts}
-use Rattle.outcomes.specs.Outcomes.{answers, behind}
+use Rattle.outcomes.specs.Outcomes.{answers, following}
 use Rattle.outcomes.specs.Puts.{Put, ArePut, ArePartlyPut, PutFailed}
 use Rattle.outcomes.specs.declared.outcome.Outcome.{Outcome}
 use Rattle.outcomes.specs.declared.stop.Stop.{Stop}
@@ -76,7 +76,7 @@ pub data Ends (MayHave : Outcome → Type 0) (PutsBefore : List Put → Type 0) 
 pub record IsFoundSo (MayHave : Outcome → Type 0) (old new : Option Files) (left : Outcome) : Type 0 where
   pub before : List Put
   pub put : ArePut before old new
-  pub has : MayHave (behind before left)
+  pub has : MayHave (following before left)
 
 -- what a job came to, and which files were put on the way
 abbrev pub ComesTo : (MayHave : Outcome → Type 0) → (PutsBefore : List Put → Type 0) → (old new : Option Files) → Result Outcome Stop → Type 0

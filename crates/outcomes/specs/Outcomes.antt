@@ -9,5 +9,5 @@ abbrev pub answers : Answer → Outcome
 answers a = record { puts = []; answer = a }
 
 -- an outcome, before whose files these are put
-abbrev pub behind : List Put → Outcome → Outcome
-behind puts o = record { puts = puts ++ o.puts; answer = o.answer }
+abbrev pub following : List Put → Outcome → Outcome
+following puts o = record { puts = puts ++ o.puts; answer = o.answer }

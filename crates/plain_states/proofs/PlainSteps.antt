@@ -21,7 +21,7 @@ use Rattle.abstract_machine.specs.declared.event.Due.{Due}
 use Rattle.abstract_machine.specs.declared.event.Due.TheVariants as due
 use Rattle.abstract_machine.proofs.Calls.{is_from_outside}
 use Rattle.flow_code.specs.declared.code.Code.{Code}
-use Rattle.flow_code.specs.Next.{due_of, action_of, action_at, stepped, gave_up, stopped, shut, has_ended}
+use Rattle.flow_code.specs.Next.{due_of, action_of, action_at, stepped, gave_up, stopped, slot_closed, has_ended}
 use Rattle.flow_code.specs.Settle.{settled, IsRunnable}
 use Rattle.flow_code.specs.Threads.{Thread}
 use Rattle.flow_code.proofs.Asked.{own_action}
@@ -299,8 +299,8 @@ module _ (w : Code) (objects : HasObjects w) (s : SetupView) (limits : IsWithinL
 
     close_step : outcome (machine w s) st.words (effect_of w s (Close t) told) ≡ Leaves words q → Moved
     close_step out =
-        let may = allowed_inv w s st.words words (may_close told.thread) (operation w s t told op.Close (object.Slot t) [] (λ answer. shut told.thread)) q (subst Came (effect_close w s t told) out) in
-        let i = operated_inv w s st.words words t told q op.Close (object.Slot t) [] (λ answer. shut told.thread) may.1 in
+        let may = allowed_inv w s st.words words (may_close told.thread) (operation w s t told op.Close (object.Slot t) [] (λ answer. slot_closed told.thread)) q (subst Came (effect_close w s t told) out) in
+        let i = operated_inv w s st.words words t told q op.Close (object.Slot t) [] (λ answer. slot_closed told.thread) may.1 in
         stays (subst (λ ws. SameWords w s limits ws b.words) (sym i.words_are) (one_set w s limits (object.Slot t) i.has st.words b.words i.old i.new i.at (λ has u h. closes_slot t i.old i.new i.answer u i.row h) f.words))
         (ended (ap (λ (z : Thread). has_ended z.phase) i.thread_is))
 

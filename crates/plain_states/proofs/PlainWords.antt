@@ -26,7 +26,7 @@ use Rattle.flow_code.specs.declared.code.Code.{Code}
 use Rattle.weak_code.specs.Stripped.{strip}
 use Rattle.core_run.specs.Words.{cells_of, has_object, place_of, start_cells, start_objects, start_words}
 use Rattle.core_run.proofs.Beginnings.{length-start_cells, start_word_at}
-use Rattle.core_run.proofs.Places.{place_behind, place_apart}
+use Rattle.core_run.proofs.Places.{place_past, place_apart}
 use Rattle.runs.specs.Same.{same_object}
 use Rattle.runs.proofs.SameEntries.{same_object-true, same_object-refl}
 use Rattle.source_runs.proofs.NoStripes.{no_lock}
@@ -157,8 +157,8 @@ module _ (w : Code) (s : SetupView) (limits : IsWithinLimits s) where
   stored ws bs c v x lt at h = record {
     cells = λ d ld. stored_cell ws bs c v x d (nat_eq d c) refl lt ld at h;
     objects = λ o u has is.
-        let behind = place_behind (cells_of w s) o in
-        let other : place o ≡ c → ⊥ = λ e. absurd (omega (arith, behind, lt, e)) in
+        let following = place_past (cells_of w s) o in
+        let other : place o ≡ c → ⊥ = λ e. absurd (omega (arith, following, lt, e)) in
         let r = h.objects o u has (sym (slice_get-set_other ws c (place o) v other) ∙ is) in
         (r.0, slice_get-set_other bs c (place o) v other ∙ r.1, r.2);
   }
@@ -167,7 +167,7 @@ module _ (w : Code) (s : SetupView) (limits : IsWithinLimits s) where
 
   module _ (obj : ObjId) (has_obj : has_object w s obj ≡ true) where
     cell_apart : (c : ℕ) → c < cells_of w s → c ≡ place obj → ⊥
-    cell_apart c lt e = let behind = place_behind (cells_of w s) obj in absurd (omega (arith, behind, lt, e))
+    cell_apart c lt e = let following = place_past (cells_of w s) obj in absurd (omega (arith, following, lt, e))
 
     object_apart : (o : ObjId) → has_object (strip w) s o ≡ true → same_object o obj ≡ false → place o ≡ place obj → ⊥
     object_apart o has e at = let one = place_apart w s o obj limits (had o has) has_obj at in true≢false (sym (ap (same_object o) (sym one) ∙ same_object-refl o) ∙ e)

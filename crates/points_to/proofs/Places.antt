@@ -65,8 +65,8 @@ registers_got [] k f h = cc
 registers_got (x ∷ xs) zero f h = cc
 registers_got (x ∷ xs) (suc k) f h = registers_got xs k f h
 
-behind : (first : ℕ) (xs ys : List ℕ) (n k : ℕ) → length xs ≡ n → get_or (first ∷ (xs ++ ys)) (n + suc k) 0 ≡ get_or ys k 0
-behind first xs ys n k long =
+following : (first : ℕ) (xs ys : List ℕ) (n k : ℕ) → length xs ≡ n → get_or (first ∷ (xs ++ ys)) (n + suc k) 0 ≡ get_or ys k 0
+following first xs ys n k long =
     let e : n + suc k ≡ suc (length xs + k) = omega arith in
     ap (λ j. get_or (first ∷ (xs ++ ys)) j 0) e ∙ get_or-append-add xs ys k 0
 
@@ -78,7 +78,7 @@ registers_width code f fn h =
 
 pub cells_width : (code : Code) (s : ℕ) → 1 ≤ s → s ≤ length code.sites → slice_index (widths_of code) (length code.functions + s) ≡ classes_of (element_of code.sites s)
 cells_width code zero le most = absurd (omega arith)
-cells_width code (suc k) le most = behind (length code.functions + 1) (map (λ (f : Function). f.registers) code.functions) (map (λ (s : Site). classes_of s.layout.element) code.sites) (length code.functions) k (length-map code.functions (λ (f : Function). f.registers)) ∙ classes_got code.sites k (omega arith)
+cells_width code (suc k) le most = following (length code.functions + 1) (map (λ (f : Function). f.registers) code.functions) (map (λ (s : Site). classes_of s.layout.element) code.sites) (length code.functions) k (length-map code.functions (λ (f : Function). f.registers)) ∙ classes_got code.sites k (omega arith)
 
 pub cells_node : (code : Code) (p : Place) → IsPlace code.sites p → IsNode code (Cells p)
 cells_node code p h = (h.0, omega (arith, h.2, cells_width code p.site h.0 h.1))

@@ -84,9 +84,9 @@ before_call = instrs (
 pub constant_in_block : constant_at before_call 1 1 ≡ Some (pos 3)
 constant_in_block = refl
 
--- a block begins behind the call
-pub constant_behind_call : constant_at before_call 3 1 ≡ None
-constant_behind_call = refl
+-- a block begins after the call
+pub constant_after_call : constant_at before_call 3 1 ≡ None
+constant_after_call = refl
 
 -- three elements of two cells back, and any number of them
 pub known_move : act_constraints 5 before_call 1 (act.Compute 2 (work.Move 0 1 2 true)) ≡ Shifted (Register 5 0) (Register 5 2) (pos 3) 2 true ∷ []

@@ -1,4 +1,4 @@
--- Where the sets of a code's nodes stand as rows of numbers. The first block has the results of functions, and behind them
+-- Where the sets of a code's nodes stand as rows of numbers. The first block has the results of functions, and after them
 -- what ended threads give. Then come a block for the registers of each function, and one for the classes of each site.
 use Rattle.std.specs.Prelude.{ℕ, ◌+◌, ◌*◌, ◌/◌, ◌%◌, ◌^◌, ◌<◌, ◌≤◌, List, ◌∷◌, ◌++◌, length, map, slice_index}
 use Rattle.std.specs.List.{Contains}

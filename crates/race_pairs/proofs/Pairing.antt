@@ -170,12 +170,12 @@ from_all gs i j xs ys far m = all_below (PairAt gs i) j xs ys inside m
     inside : (k : ℕ) (v : Pair) → PairAt gs i k v → k < j
     inside k v (g, h, gg, gh, le, s, p) = let l = (got gs k h gh).0 in omega arith
 
--- behind a group of another place there is none of this one
+-- after a group of another place there is none of this one
 pub from_closed : (gs : List Group) (i j : ℕ) (g u : Group) (xs ys : List Pair) → HasPlacesInOrder gs → slice_get gs i ≡ Some g → slice_get gs j ≡ Some u → i ≤ j → (u.place ≡ g.place → ⊥) → Gains (Below j (PairAt gs i)) xs ys → Gains (PairsFrom gs i) xs ys
 from_closed gs i j g u xs ys up gg gu le apart m = all_below (PairAt gs i) j xs ys before m
   where
-    behind : (k : ℕ) (v : Pair) → PairAt gs i k v → j ≤ k → ⊥
-    behind k v (a, h, ga, gh, l, e, p) far =
+    following : (k : ℕ) (v : Pair) → PairAt gs i k v → j ≤ k → ⊥
+    following k v (a, h, ga, gh, l, e, p) far =
         let s : a ≡ g = cc in
         let same : h.place ≡ g.place = e ∙ ap (λ (z : Group). z.place) s in
         let first : place_less u.place g.place ≡ false = up i j g u le gg gu in
@@ -183,7 +183,7 @@ from_closed gs i j g u xs ys up gg gu le apart m = all_below (PairAt gs i) j xs 
         apart (orders_places.total u.place g.place first (subst (λ z. place_less z u.place ≡ false) same second))
 
     before : (k : ℕ) (v : Pair) → PairAt gs i k v → k < j
-    before k v h = ⊎_elim (λ l. l) (λ (l : j ≤ k). absurd (behind k v h l)) (cases_lt k j)
+    before k v h = ⊎_elim (λ l. l) (λ (l : j ≤ k). absurd (following k v h l)) (cases_lt k j)
 
 pub pairs_all : (gs : List Group) (k : ℕ) (xs ys : List Pair) → length gs ≤ k → Gains (Below k (PairsFrom gs)) xs ys → Gains (PairsOf gs) xs ys
 pairs_all gs k xs ys far m = all_below (PairsFrom gs) k xs ys inside m

@@ -148,8 +148,8 @@ module _ (ss : List Summary) (ws : List Touch) where
       place : g.place ≡ v.place
       place = is.place ∙ ap (λ (z : Touch). z.place) same
 
-      behind : (h : Group) → Contains gs h → place_less g.place h.place ≡ false
-      behind h c =
+      following : (h : Group) → Contains gs h → place_less g.place h.place ≡ false
+      following h c =
           let r = old.reached h c in
           let l = r.2 in
           ap (λ z. place_less z h.place) place ∙ ap (λ z. place_less v.place z) r.4 ∙ up r.0 from r.1 v (omega arith) r.3 gv
@@ -159,7 +159,7 @@ module _ (ss : List Summary) (ws : List Touch) where
         where
           go : (slice_get gs i ≡ Some a) ⊎ ((i ≡ length gs) × (a ≡ g)) → (slice_get gs j ≡ Some b) ⊎ ((j ≡ length gs) × (b ≡ g)) → place_less b.place a.place ≡ false
           go (inl m) (inl n) = old.places i j a b le m n
-          go (inl m) (inr (e, n)) = ap (λ (z : Group). place_less z.place a.place) n ∙ behind a (held gs i a m)
+          go (inl m) (inr (e, n)) = ap (λ (z : Group). place_less z.place a.place) n ∙ following a (held gs i a m)
           go (inr (e, m)) (inl n) = let l = (got gs j b n).0 in absurd (omega (arith, l, e))
           go (inr (e, m)) (inr (f, n)) = ap (λ (z : Group). place_less z.place a.place) n ∙ ap (λ (z : Group). place_less g.place z.place) m ∙ orders_places.self g.place
 

@@ -45,7 +45,7 @@ RowAt p a bs from k v = (from ≤ k) × (b : AccessAt) × (slice_get bs k ≡ So
 abbrev pub RowFrom : Place → AccessAt → List AccessAt → (from : ℕ) → Pair → Type 0
 RowFrom p a bs from v = (k : ℕ) × RowAt p a bs from k v
 
--- in one group an access is paired with itself and those behind it
+-- in one group an access is paired with itself and those after it
 abbrev pub first_of : Bool → ℕ → ℕ
 first_of true k = k
 first_of false k = 0

@@ -5,7 +5,7 @@ use Rattle.std.specs.List.{flat_map}
 use Rattle.abstract_machine.specs.Values.{number}
 use Rattle.core_run.specs.declared.access.Access.{Access}
 
--- a number with a blank behind it
+-- a number with a blank after it
 abbrev pub number_text : ℕ → List ℕ
 number_text n = decimal n ++ 32 ∷ []
 

@@ -21,7 +21,7 @@ use Rattle.core_run.specs.Machine.{Told, start_state}
 use Rattle.core_run.specs.Walks.{WalkIs, walk_of}
 use Rattle.core_run.proofs.Reached.{kept}
 use Rattle.core_run.proofs.WholeRuns.{merges_walk, written_is_merge}
-use Rattle.runs.specs.Merge.{Taken, Stuck, Takes, merged_behind, merged_on, next_entry, total_length, written_merge}
+use Rattle.runs.specs.Merge.{Taken, Stuck, Takes, merged_after, merged_on, next_entry, total_length, written_merge}
 use Rattle.shared_cells.specs.Closing.{Closes}
 use Rattle.shared_cells.specs.Rule.{Board}
 use Rattle.shared_cells.specs.Seats.{AreSeats, IsSeatOf, view_of}
@@ -142,17 +142,17 @@ module _ (R : Carrying → Carrying → Type 0) (cells : Board) (given back : Li
 
 -- ---- the log
 
-behind_length : (n : ℕ) (before : List Noted) (lists : List (List Noted)) → length (merged_behind n before lists) ≤ n
-behind_length zero before lists = omega arith
-behind_length (suc n) before lists = by (next_entry before lists) (λ b ls. behind_length n b ls)
+after_length : (n : ℕ) (before : List Noted) (lists : List (List Noted)) → length (merged_after n before lists) ≤ n
+after_length zero before lists = omega arith
+after_length (suc n) before lists = by (next_entry before lists) (λ b ls. after_length n b ls)
   where
-    by : (x : Taken) → ((b : List Noted) (ls : List (List Noted)) → length (merged_behind n b ls) ≤ n) → length (merged_on (merged_behind n) before x) ≤ suc n
+    by : (x : Taken) → ((b : List Noted) (ls : List (List Noted)) → length (merged_after n b ls) ≤ n) → length (merged_on (merged_after n) before x) ≤ suc n
     by Stuck again = omega arith
     by (Takes x ls) again = let few = again (before ++ x ∷ []) ls in omega arith
 
 -- no more entries are written than the lists have
 pub few_written : (lists : List (List Noted)) → length (entries_in (written_merge lists)) ≤ total_length lists
-few_written lists = let few = behind_length (total_length lists) [] lists in let same = length-map (written_merge lists) (λ (x : Noted). x.entry) in omega arith
+few_written lists = let few = after_length (total_length lists) [] lists in let same = length-map (written_merge lists) (λ (x : Noted). x.entry) in omega arith
 
 module _ (code : Code) (s : SetupView) (lists : List (List Noted)) (remains : List Remains) (entries : List Entry) (runnable : IsRunnable code) (limits : IsWithinLimits s) (done : IsFinished code s lists remains) (free : HasNoRace code s) (is : entries ≡ entries_in (written_merge lists)) where
   log : entries ≡ entries_in (written_merge (lists_of done.state))

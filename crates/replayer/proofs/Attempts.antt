@@ -16,7 +16,7 @@ use Rattle.sync_objects.specs.declared.operation.OpName.TheVariants as name
 use Rattle.abstract_machine.specs.declared.event.Action.TheVariants as action
 use Rattle.abstract_machine.proofs.Calls.{is_from_outside}
 use Rattle.flow_code.specs.declared.code.Code.{Code}
-use Rattle.flow_code.specs.Next.{stepped, gave_up, stopped, shut}
+use Rattle.flow_code.specs.Next.{stepped, gave_up, stopped, slot_closed}
 use Rattle.flow_code.specs.Settle.{settled, next, IsRunnable}
 use Rattle.flow_code.specs.Threads.{Thread}
 use Rattle.flow_code.proofs.Asked.{own_action}
@@ -158,7 +158,7 @@ module _ (code : Code) (s : SetupView) (t : ℕ) (told : Told) where
     pub can_close : label_of x ≡ Close t → x.op ≡ name.Close → x.obj ≡ object.Slot t → may_close told.thread ≡ true → CanMake code s t told op.Close (object.Slot t) x
     can_close label op_is obj_is may =
         let mine = entry_of t told.thread name.Close (object.Slot t) in
-        let onward = λ (z : ℤ). shut told.thread in
+        let onward = λ (z : ℤ). slot_closed told.thread in
         let change : ℕ → Change Told = λ w. change_of told mine [] onward w (advanced op.Close t w) in
         let has : has_object code s (object.Slot t) ≡ true = ap (has_object code s) (sym obj_is) ∙ has_x in
         let same = entry_is name.Close (object.Slot t) op_is obj_is in

@@ -13,7 +13,7 @@ use Rattle.flow_code.specs.Next.{has_ended}
 use Rattle.core_run.specs.Machine.{Told, effect_of}
 use Rattle.core_run.specs.Words.{cells_of, has_object, place_of}
 use Rattle.core_run.proofs.Beginnings.{start_word_at}
-use Rattle.core_run.proofs.Places.{place_behind}
+use Rattle.core_run.proofs.Places.{place_past}
 use Rattle.followed_logs.specs.Following.{IsNoStep, Above, Early, Other, Barred}
 use Rattle.log_walks.specs.Followed.{floor}
 use Rattle.log_walks.proofs.Floors.{ended_rests}
@@ -42,9 +42,9 @@ left-append [] x = refl
 left-append (y ∷ []) x = refl
 left-append (y ∷ z ∷ xs) x = left-append (z ∷ xs) x
 
--- an object's word is one of the machine, behind those of cells
+-- an object's word is one of the machine, after those of cells
 pub object_place : (code : Code) (s : SetupView) (obj : ObjId) → IsWithinLimits s → has_object code s obj ≡ true → (cells_of code s ≤ place_of (cells_of code s) obj) × (place_of (cells_of code s) obj < objects_end code s)
-object_place code s obj limits has = (place_behind (cells_of code s) obj, slice_get_within _ _ _ (start_word_at code s obj limits has))
+object_place code s obj limits has = (place_past (cells_of code s) obj, slice_get_within _ _ _ (start_word_at code s obj limits has))
 
 module _ (v : SeatView) (told : Told) (x : Noted) where
   pub above : IsInStep told x → x.entry.count < told.thread.count → HasDeparted v told x

@@ -37,7 +37,7 @@ use Rattle.walk_pieces.specs.declared.remains.Remains.{Remains}
 use Rattle.walk_pieces.specs.Remains.{IsWalked, RemainsOf, remains_in}
 use Rattle.walk_pieces.proofs.Remaining.{all_remain, same_remains}
 use Rattle.weak_turns.proofs.Showing.{same_phase}
-use Rattle.replayer.specs.Following.{Following, IsSound, IsOnTrack, StandsSo, next_of, is_behind, is_over, made_in}
+use Rattle.replayer.specs.Following.{Following, IsSound, IsOnTrack, StandsSo, next_of, is_past, is_over, made_in}
 use Rattle.replayer.specs.Replays.{IsFollower, HaveFollowed, entries_taken, has_ended_in}
 use Rattle.replayer.specs.Steps.{told_at, HasDeparted}
 use Rattle.replayer.specs.Wants.{wanted_of, noted_in}
@@ -61,9 +61,9 @@ module _ (cells : Board) (es : List Entry) (t : ℕ) (f : Following) (is : IsFol
   pub follows : IsPrefixOf (told_at f.seat).entries (entries_of t (numbered es))
   follows = subst (λ xs. IsPrefixOf xs (entries_of t (numbered es))) (sym entries_are) (subst (IsPrefixOf (noted_in (take f.made (wanted_of t es)))) (wanted_are t 0 (numbered es)) (take_noted f.made (wanted_of t es)))
 
-  -- its next entry stands behind what it knows of the departure
-  behind : is_over f ≡ true → (w : Wanted) → next_of f ≡ Some w → v.met ≤ w.position
-  behind over w e = by f.has_departed refl track.stands
+  -- its next entry stands after what it knows of the departure
+  following : is_over f ≡ true → (w : Wanted) → next_of f ≡ Some w → v.met ≤ w.position
+  following over w e = by f.has_departed refl track.stands
     where
       met : v.met ≤ f.bound
       met = track.bound
@@ -73,7 +73,7 @@ module _ (cells : Board) (es : List Entry) (t : ℕ) (f : Following) (is : IsFol
           let same : s.0 ≡ w = same_Some s.0 w (sym s.1 ∙ e) in
           subst (λ (z : Wanted). v.met ≤ z.position) same s.3
       by false q s =
-          let le : nat_le f.bound w.position ≡ true = ap (is_behind f.bound) (sym e) ∙ ap (λ b. b || is_behind f.bound (next_of f)) (sym q) ∙ ap (λ b. b || f.has_departed || is_behind f.bound (next_of f)) (sym alive) ∙ over in
+          let le : nat_le f.bound w.position ≡ true = ap (is_past f.bound) (sym e) ∙ ap (λ b. b || is_past f.bound (next_of f)) (sym q) ∙ ap (λ b. b || f.has_departed || is_past f.bound (next_of f)) (sym alive) ∙ over in
           let bound = leb-true f.bound w.position le in
           omega (arith, met, bound)
 
@@ -84,7 +84,7 @@ module _ (cells : Board) (es : List Entry) (t : ℕ) (f : Following) (is : IsFol
   reached over departure low =
       subst (IsPrefixOf (entries_of t (numbered (take departure es)))) (sym entries_are)
       (subst (λ xs. IsPrefixOf (entries_of t xs) (noted_in (take f.made (wanted_of t es)))) (sym (numbered-take [] departure es))
-      (reached_by t 0 (numbered es) f.made departure (λ w e. let le = behind over w (next_is w e) in omega (arith, le, low))))
+      (reached_by t 0 (numbered es) f.made departure (λ w e. let le = following over w (next_is w e) in omega (arith, le, low))))
 
   -- the position that it has put is that of an entry of its own, from which it has departed
   pub record HasPut (departure : ℕ) : Type 0 where
@@ -282,7 +282,7 @@ module _ (code : Code) (s : SetupView) (cells : Board) (es : List Entry) (seats 
           let o = of_seat p.t p.seat p.at in
           let q = has_put cells es p.t o.f o.is o.sound o.alive d (subst (λ (z : Seat). Contains (view_of z).positions d) (sym o.seat_is) p.put) in
           let st = stands_at p.t 0 (numbered es) o.f.made q.w q.next in
-          let inside = slice_get_within (numbered es) st.behind q.w.noted st.there in
+          let inside = slice_get_within (numbered es) st.following q.w.noted st.there in
           let long = length-numbered [] es in
           let pos = st.position in
           let same = q.position in
@@ -308,7 +308,7 @@ module _ (code : Code) (s : SetupView) (cells : Board) (es : List Entry) (seats 
           let st = stands_at p.t 0 (numbered es) o.f.made q.w q.next in
           let pos = st.position in
           let same_pos = q.position in
-          let spot : st.behind ≡ departure = omega (arith, pos, same_pos) in
+          let spot : st.following ≡ departure = omega (arith, pos, same_pos) in
           let noted_there : slice_get (numbered es) departure ≡ Some q.w.noted = subst (λ k. slice_get (numbered es) k ≡ Some q.w.noted) spot st.there in
           let entry : q.w.noted.entry ≡ e = same_Some q.w.noted.entry e (sym (entry_at [] es departure q.w.noted noted_there) ∙ there) in
           let whose : p.t ≡ t = sym st.own ∙ ap (λ (z : Entry). z.thread) entry ∙ own_is in

@@ -9,7 +9,7 @@ use Rattle.sync_objects.specs.declared.entry.Noted.{Noted}
 use Rattle.sync_objects.specs.declared.object.ObjId.{ObjId}
 use Rattle.indexmap.specs.IndexMap.{IndexMap}
 use Rattle.entry_merge.specs.Counts.{count_in, AreCounted}
-use Rattle.followed_logs.specs.Numbered.{numbered, numbered_behind, with_number}
+use Rattle.followed_logs.specs.Numbered.{numbered, numbered_after, with_number}
 use Rattle.runs.specs.Merge.{entries_at}
 use Rattle.runs.specs.Same.{same_object}
 use Rattle.runs.proofs.Written.{entries_at-append}
@@ -40,12 +40,12 @@ counted_more : (b : Bool) (n : ℕ) → (if b then suc n else n) ≡ n + (if b t
 counted_more true n = omega arith
 counted_more false n = omega arith
 
-pub numbered-next : (before : List Noted) (es : List Entry) (k : ℕ) (e : Entry) → slice_get es k ≡ Some e → numbered_behind before (take (suc k) es) ≡ numbered_behind before (take k es) ++ with_number (before ++ numbered_behind before (take k es)) e ∷ []
+pub numbered-next : (before : List Noted) (es : List Entry) (k : ℕ) (e : Entry) → slice_get es k ≡ Some e → numbered_after before (take (suc k) es) ≡ numbered_after before (take k es) ++ with_number (before ++ numbered_after before (take k es)) e ∷ []
 numbered-next before [] k e at = cc
 numbered-next before (e0 ∷ es) zero e at = ap (λ z. with_number before z ∷ []) (same_Some e0 e at) ∙ ap (λ z. with_number z e ∷ []) (sym (append-nil before))
 numbered-next before (e0 ∷ es) (suc k) e at =
     let y = with_number before e0 in
-    ap (λ z. y ∷ z) (numbered-next (before ++ y ∷ []) es k e at ∙ ap (λ z. numbered_behind (before ++ y ∷ []) (take k es) ++ with_number z e ∷ []) (append_assoc before (y ∷ []) (numbered_behind (before ++ y ∷ []) (take k es))))
+    ap (λ z. y ∷ z) (numbered-next (before ++ y ∷ []) es k e at ∙ ap (λ z. numbered_after (before ++ y ∷ []) (take k es) ++ with_number z e ∷ []) (append_assoc before (y ∷ []) (numbered_after (before ++ y ∷ []) (take k es))))
 
 module _ {S : Type 0} (all : List Entry) (counts later : IndexMap ObjId ℕ S) (noted : List Noted) (e : Entry) (k : ℕ) (h : AreNumbered all counts noted k) (at : slice_get all k ≡ Some e) where
   pub small : length all < 2 ^ 32 - 1 → count_in counts e.obj < 2 ^ 32

@@ -240,7 +240,7 @@ module _ (cells : Board) (seat : Seat) (run : Stepping) (x : Noted) (set : IsSet
     own = set.own ∙ sym (look_keeps seat mid o obj number s sees).thread;
   }
 
-  -- an attempt behind a look
+  -- an attempt after a look
   pub tried : (mid new : Seat) (q : Stepping) (o : Op) (obj : ObjId) (number : ℕ) (s : Sight) (came : Attempt) (st : Step) → Sees seat mid o obj number s → CanMake (view_of mid).code (view_of mid).setup (view_of mid).from (told_at mid) o obj x.entry → IsCarrying cells new q → AttemptIs mid new o obj came → CameIs came x.number st → Comes cells seat new q x st
   tried mid new q o obj number s came st sees can carrying is came_is =
       comes_on cells seat mid new q x st (look_keeps seat mid o obj number s sees) (look_told seat mid o obj number s sees) (attempted cells mid new q x o obj can carrying came st is came_is)

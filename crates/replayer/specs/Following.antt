@@ -31,14 +31,14 @@ pub record Following : Type 0 where
 abbrev pub next_of : Following → Option Wanted
 next_of f = slice_get f.wanted f.made
 
--- the entry stands at the position or behind it, or there is none
-abbrev pub is_behind : ℕ → Option Wanted → Bool
-is_behind bound None = true
-is_behind bound (Some w) = nat_le bound w.position
+-- the entry stands at the position or after it, or there is none
+abbrev pub is_past : ℕ → Option Wanted → Bool
+is_past bound None = true
+is_past bound (Some w) = nat_le bound w.position
 
 -- it does nothing more: memory ran out, it has departed, or its next entry isn't before the departure
 abbrev pub is_over : Following → Bool
-is_over f = f.is_out || f.has_departed || is_behind f.bound (next_of f)
+is_over f = f.is_out || f.has_departed || is_past f.bound (next_of f)
 
 -- whether it has departed from its next entry, whose position it has put then
 abbrev pub StandsSo : Bool → Following → Type 0

@@ -26,7 +26,7 @@ use Rattle.replayer.specs.declared.step.Step.TheVariants as step
 use Rattle.replayer.specs.declared.sight.Sight.{Sight}
 use Rattle.replayer.specs.declared.sight.Sight.TheVariants as sight
 
--- the thread as its seat knows it, behind the marks that are still to come
+-- the thread as its seat knows it, after the marks that are still to come
 abbrev pub told_at : Seat → Told
 told_at seat = pending (view_of seat) seat.marks
 
@@ -75,7 +75,7 @@ pub record IsSet (cells : Board) (seat : Seat) (run : Stepping) (x : Noted) : Ty
 
 -- ---- a look at the entry's object
 
--- the object's word, by how many operations are behind it and by what it allows
+-- the object's word, by how many operations are after it and by what it allows
 abbrev pub SightIs : Sight → (t word number : ℕ) → Op → Type 0
 SightIs sight.Elsewhere t word number o = number_of word ≢ number
 SightIs sight.Barred t word number o = (number_of word ≡ number) × (advanced o t word ≡ NotAllowed)

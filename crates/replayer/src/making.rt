@@ -14,7 +14,7 @@ use core_run::{Action, Entry, Noted, has_object};
 use shared_cells::{Attempt, Cells, Seat};
 use sync_objects::{ObjId, Op, OpName};
 use thread_step::ThreadRun;
-use weak_turns::{LockStripe, give_up, operate, shut, stop};
+use weak_turns::{LockStripe, close_slot, give_up, operate, stop};
 
 // Whether the entry is of an operation of this name.
 fn has_name(entry: Entry, op: Op) -> bool
@@ -166,7 +166,7 @@ fn make_close(cells: &Cells, seat: &mut Seat, run: &mut ThreadRun, next: Noted) 
     match look_at(cells, seat, Op::Close, slot, next.entry.thread, next.number) {
         Sight::Elsewhere => Step::Waits,
         Sight::Barred => Step::Departs,
-        Sight::Open => came_to(shut(cells, seat, run), next.number),
+        Sight::Open => came_to(close_slot(cells, seat, run), next.number),
     }
 }
 

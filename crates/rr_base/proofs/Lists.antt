@@ -85,7 +85,7 @@ same_by_slice_get (x ∷ xs) [] h = let e = h 0 in cc
 same_by_slice_get (x ∷ xs) (y ∷ ys) h =
     let e : x ≡ y = same_Some x y (h 0) in let more : xs ≡ ys = same_by_slice_get xs ys (λ i. h (suc i)) in cc
 
--- two front parts, one behind the other
+-- two front parts, one after the other
 pub take-add : {X : Type 0} (m n : ℕ) (xs : List X) → take (m + n) xs ≡ take m xs ++ take n (drop m xs)
 take-add zero n xs = let e : 0 + n ≡ n = omega arith in ap (λ k. take k xs) e
 take-add (suc m) zero [] = let e : suc m + 0 ≡ suc m = omega arith in ap (λ k. take k []) e

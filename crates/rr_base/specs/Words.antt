@@ -1,5 +1,5 @@
 -- Pointer words. A word of 64 bits has, from its top bit on: the site that made the object (10 bits), the object's first cell
--- (22 bits), its number of cells (16 bits), and how many cells behind the first one the pointer stands (16 bits). A word of
+-- (22 bits), its number of cells (16 bits), and how many cells after the first one the pointer stands (16 bits). A word of
 -- site 0 points to no object: its low 54 bits are a whole number in two's complement. The word 0 is the null pointer.
 use Rattle.std.specs.Prelude.{ℕ, ◌+◌, ◌-◌, ◌*◌, ◌/◌, ◌%◌, ◌^◌, ◌==◌, nat_lt, nat_le, ℤ, pos, negsuc, ◌+ℤ◌, Result, Ok, Err, if◌then◌else◌}
 use Rattle.rr_base.specs.declared.trap.Trap.{Trap}
@@ -26,7 +26,7 @@ pack site base cells offset = site * 2 ^ 54 + base * 2 ^ 32 + cells * 2 ^ 16 + o
 
 -- ---- pointers into an object (C99 6.5.6)
 
--- a pointer may stand at each cell of its object, and right behind the last one
+-- a pointer may stand at each cell of its object, and right after the last one
 abbrev pub moved_to : ℕ → ℤ → Result ℕ Trap
 moved_to w (pos k) = if nat_le k (length_of w) then Ok (pack (site_of w) (base_of w) (length_of w) k) else Err OutOfObject
 moved_to w (negsuc k) = Err OutOfObject

@@ -6,7 +6,7 @@ use crate::trap::Trap;
 use std::marker::Model;
 
 /// A pointer as one word, which contracts see as its number. From the top bit on it has the site that made the
-/// object (10 bits), the object's first cell (22), its number of cells (16) and how many cells behind the first the
+/// object (10 bits), the object's first cell (22), its number of cells (16) and how many cells after the first the
 /// pointer stands (16). A word of site 0 points nowhere, and holds a whole number of 54 bits; the word 0 is null.
 #[derive(Clone, Copy, Debug, PartialEq, Eq, PartialOrd, Ord, Hash)]
 pub struct PtrWord(u64);
@@ -47,7 +47,7 @@ impl PtrWord {
         self.0
     }
 
-    /// The pointer to the cell that lies `offset` cells behind `base`, in the object of `length` cells from `base` on.
+    /// The pointer to the cell that lies `offset` cells after `base`, in the object of `length` cells from `base` on.
     pub fn pack(site: u16, base: u32, length: u16, offset: u16) -> PtrWord
         requires object { 0 < site }
         requires site { site < 2 ^ 10 }
@@ -90,7 +90,7 @@ impl PtrWord {
         ((self.0 >> 16) % (1 << 16)) as u16
     }
 
-    /// How many cells behind the object's first one the pointer stands.
+    /// How many cells after the object's first one the pointer stands.
     pub fn offset(self) -> u16
         ensures { result ≡ offset_of self }
     {
@@ -98,7 +98,7 @@ impl PtrWord {
     }
 
     /// The pointer `by` cells further on (C99 6.5.6). It is BadDereference where the word points nowhere, and
-    /// OutOfObject where the pointer would leave its object by more than the one place behind it.
+    /// OutOfObject where the pointer would leave its object by more than the one place after it.
     pub fn moved(self, by: i64) -> Result<PtrWord, Trap>
         ensures value { result ≡ moved self by }
         ensures nowhere { (result ≡ Err Trap.BadDereference) ↔ (site_of self ≡ 0) }
@@ -118,7 +118,7 @@ impl PtrWord {
     }
 
     /// The cell to which the word points (C99 6.5.3.2). It is BadDereference where the word points nowhere, and
-    /// OutOfObject where it points right behind its object.
+    /// OutOfObject where it points right after its object.
     pub fn cell(self) -> Result<u32, Trap>
         ensures { result ≡ cell_of self }
     {

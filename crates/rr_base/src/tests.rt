@@ -22,12 +22,12 @@ fn parts_of_pointer_words(rt: HostRuntime) -> Result<(), Fail> {
 #[test]
 fn moved_pointers(rt: HostRuntime) -> Result<(), Fail> {
     let word = PtrWord::pack(1, 34, 8, 7);
-    let behind = PtrWord::pack(1, 34, 8, 8);
-    assert_eq!(rt; word.moved(1), Ok(behind));
-    assert_eq!(rt; behind.cell(), Err(Trap::OutOfObject));
-    assert_eq!(rt; behind.moved(1), Err(Trap::OutOfObject));
-    assert_eq!(rt; behind.moved(-9), Err(Trap::OutOfObject));
-    assert_eq!(rt; behind.moved(i64::MAX), Err(Trap::OutOfObject));
+    let following = PtrWord::pack(1, 34, 8, 8);
+    assert_eq!(rt; word.moved(1), Ok(following));
+    assert_eq!(rt; following.cell(), Err(Trap::OutOfObject));
+    assert_eq!(rt; following.moved(1), Err(Trap::OutOfObject));
+    assert_eq!(rt; following.moved(-9), Err(Trap::OutOfObject));
+    assert_eq!(rt; following.moved(i64::MAX), Err(Trap::OutOfObject));
     assert_eq!(rt; PtrWord::null().moved(0), Err(Trap::BadDereference));
     assert_eq!(rt; PtrWord::null().cell(), Err(Trap::BadDereference));
     Ok(())

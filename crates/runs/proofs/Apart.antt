@@ -85,12 +85,12 @@ module _ {T : Type 0} (m : Machine T) (law : IsLawful m) where
 
   apart_cases : (a b : Label) (x y : T) (e f : Effect T) → Law a x e → Law b y f → (Conflict (access_of e) (access_of f) → ⊥) → Differ e f → Apart (touch m e) (touch m f)
   apart_cases a b x y (Loads c f) (Stores d v th) h k q d2 = q
-  apart_cases a b x y (Loads c f) (Operates e g) h k q d2 = λ eq. absurd (omega (arith, h.1, law.behind e.obj k.object, eq))
+  apart_cases a b x y (Loads c f) (Operates e g) h k q d2 = λ eq. absurd (omega (arith, h.1, law.following e.obj k.object, eq))
   apart_cases a b x y (Stores c v th) (Loads d f) h k q d2 = q
   apart_cases a b x y (Stores c v th) (Stores d w th2) h k q d2 = q
-  apart_cases a b x y (Stores c v th) (Operates e g) h k q d2 = λ eq. absurd (omega (arith, h.1, law.behind e.obj k.object, eq))
-  apart_cases a b x y (Operates e f) (Loads d g) h k q d2 = λ eq. absurd (omega (arith, law.behind e.obj h.object, k.1, eq))
-  apart_cases a b x y (Operates e f) (Stores d w th2) h k q d2 = λ eq. absurd (omega (arith, law.behind e.obj h.object, k.1, eq))
+  apart_cases a b x y (Stores c v th) (Operates e g) h k q d2 = λ eq. absurd (omega (arith, h.1, law.following e.obj k.object, eq))
+  apart_cases a b x y (Operates e f) (Loads d g) h k q d2 = λ eq. absurd (omega (arith, law.following e.obj h.object, k.1, eq))
+  apart_cases a b x y (Operates e f) (Stores d w th2) h k q d2 = λ eq. absurd (omega (arith, law.following e.obj h.object, k.1, eq))
   apart_cases a b x y (Operates e f) (Operates e2 g) h k q d2 = λ eq. d2 (law.apart e.obj e2.obj h.object k.object eq)
   apart_cases a b x y (Marks th) Refused h k q d2 = tt
   apart_cases a b x y Refused Refused h k q d2 = tt

@@ -28,7 +28,7 @@ module _ {T : Type 0} (m : Machine T) (law : IsLawful m) where
   numbers_after l th ws ws1 t (Loads c f) h on o known = let r = load_inv ws f (slice_get ws c) ws1 t on in let q = ap (λ z. number_at m z o) r.2 in omega arith
   numbers_after l th ws ws1 t (Stores c v x) h on o known =
       let r = change_inv ws c (λ _. Becomes v (pos 0) x) (slice_get ws c) ws1 t on in
-      let ne : m.place o ≢ c = omega (arith, h.1, law.behind o known) in
+      let ne : m.place o ≢ c = omega (arith, h.1, law.following o known) in
       let q = ap m.number (ap (λ z. slice_index z (m.place o)) r.5 ∙ get_or-set_other ws c (m.place o) r.1 0 ne) in omega arith
   numbers_after l th ws ws1 t (Operates e f) h on o known =
       let at = m.place e.obj in

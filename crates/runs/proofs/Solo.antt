@@ -83,7 +83,7 @@ module _ {T : Type 0} (m : Machine T) where
       (a.0, part_is e s a.0 a.1, solo_of_walk es a.0 s1 a.2)
 
 module _ {T : Type 0} (m : Machine T) (law : IsLawful m) where
-  -- a part is a stretch of the thread's own steps with the entry's label behind it
+  -- a part is a stretch of the thread's own steps with the entry's label after it
   stretch_of : (before : List Label) (l : Label) (e : Noted) (s between s1 : State T) → AllOf (label_thread l) before → trace m before s ≡ [] → run m before s ≡ Some between → added m between l ≡ e ∷ [] → stepped m between l ≡ Some s1 → (n : ℕ) × Solo m law n l e s s1
   stretch_of [] l e s between s1 own nothing leads adds ends =
       let q : between ≡ s = sym (same_Some _ _ leads) in

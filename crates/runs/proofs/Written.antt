@@ -6,7 +6,7 @@ use Rattle.sync_objects.specs.declared.entry.Noted.{Noted}
 use Rattle.sync_objects.specs.declared.object.ObjId.{ObjId}
 use Rattle.runs.specs.Same.{same_object}
 use Rattle.runs.specs.Steps.{entries_of}
-use Rattle.runs.specs.Merge.{ComesBefore, IsAscending, IsMerge, lists_from, entries_at, Taken, Stuck, Takes, behind_list, next_entry, merged_on, merged_behind, total_length, written_merge}
+use Rattle.runs.specs.Merge.{ComesBefore, IsAscending, IsMerge, lists_from, entries_at, Taken, Stuck, Takes, after_list, next_entry, merged_on, merged_after, total_length, written_merge}
 use Rattle.runs.proofs.Lists.{AllIn, AllIn-map, AllIn-entries_of, entries_of-thread, own_in, own_out}
 use Rattle.runs.proofs.SameEntries.{same_object-refl, same_object-ne}
 
@@ -156,16 +156,16 @@ data Choice (before xs : List Noted) (t n : ℕ) : Taken → Type 0 where
   none_ready : ((u : ℕ) (y : Noted) (ys : List Noted) → t ≤ u → u < t + n → entries_of u xs ≡ y ∷ ys → y.number ≢ entries_at y.entry.obj before) → Choice before xs t n Stuck
   one_ready : (u : ℕ) (y : Noted) (ys : List Noted) (rest : List (List Noted)) → t ≤ u → entries_of u xs ≡ y ∷ ys → y.number ≡ entries_at y.entry.obj before → rest ≡ lists_from t n (without u xs) → Choice before xs t n (Takes y rest)
 
-choice_behind : (before xs : List Noted) (t n : ℕ) (taken : Taken) → ((y : Noted) (ys : List Noted) → entries_of t xs ≡ y ∷ ys → y.number ≢ entries_at y.entry.obj before) → Choice before xs (t + 1) n taken → Choice before xs t (suc n) (behind_list (entries_of t xs) taken)
-choice_behind before xs t n _ not_here (none_ready none) = none_ready (λ u y ys le lt o. ⊎_elim (λ (e : u ≡ t). not_here y ys (ap (λ z. entries_of z xs) (sym e) ∙ o)) (λ (ne : u ≡ t → ⊥). none u y ys (omega (arith, ne)) (omega arith) o) (cases_eq u t))
-choice_behind before xs t n _ not_here (one_ready u y ys rest le o ready is) =
+choice_after : (before xs : List Noted) (t n : ℕ) (taken : Taken) → ((y : Noted) (ys : List Noted) → entries_of t xs ≡ y ∷ ys → y.number ≢ entries_at y.entry.obj before) → Choice before xs (t + 1) n taken → Choice before xs t (suc n) (after_list (entries_of t xs) taken)
+choice_after before xs t n _ not_here (none_ready none) = none_ready (λ u y ys le lt o. ⊎_elim (λ (e : u ≡ t). not_here y ys (ap (λ z. entries_of z xs) (sym e) ∙ o)) (λ (ne : u ≡ t → ⊥). none u y ys (omega (arith, ne)) (omega arith) o) (cases_eq u t))
+choice_after before xs t n _ not_here (one_ready u y ys rest le o ready is) =
     one_ready u y ys (entries_of t xs ∷ rest) (omega arith) o ready
     (ap (λ z. z ∷ rest) (sym (without_other u t xs (omega arith))) ∙ ap (λ z. entries_of t (without u xs) ∷ z) is)
 
 choice_here : (before xs : List Noted) (t n : ℕ) (zs : List Noted) → entries_of t xs ≡ zs → Choice before xs (t + 1) n (next_entry before (lists_from (t + 1) n xs)) → Choice before xs t (suc n) (next_entry before (zs ∷ lists_from (t + 1) n xs))
 choice_here before xs t n [] o later =
-    subst (λ z. Choice before xs t (suc n) (behind_list z (next_entry before (lists_from (t + 1) n xs)))) o
-    (choice_behind before xs t n (next_entry before (lists_from (t + 1) n xs)) (λ y ys e. cc (o, e)) later)
+    subst (λ z. Choice before xs t (suc n) (after_list z (next_entry before (lists_from (t + 1) n xs)))) o
+    (choice_after before xs t n (next_entry before (lists_from (t + 1) n xs)) (λ y ys e. cc (o, e)) later)
 choice_here before xs t n (y ∷ ys) o later = go (eqb y.number (entries_at y.entry.obj before)) refl
   where
     lists : List (List Noted)
@@ -177,13 +177,13 @@ choice_here before xs t n (y ∷ ys) o later = go (eqb y.number (entries_at y.en
     head : (z : Noted) (zs : List Noted) → y ∷ ys ≡ z ∷ zs → y ≡ z
     head z zs e = cc
 
-    go : (b : Bool) → eqb y.number (entries_at y.entry.obj before) ≡ b → Choice before xs t (suc n) (if b then Takes y (ys ∷ lists_from (t + 1) n xs) else behind_list (y ∷ ys) (next_entry before (lists_from (t + 1) n xs)))
+    go : (b : Bool) → eqb y.number (entries_at y.entry.obj before) ≡ b → Choice before xs t (suc n) (if b then Takes y (ys ∷ lists_from (t + 1) n xs) else after_list (y ∷ ys) (next_entry before (lists_from (t + 1) n xs)))
     go true e =
         one_ready t y ys (ys ∷ lists_from (t + 1) n xs) (omega arith) o (ready_of e)
         (ap (λ z. z ∷ lists_from (t + 1) n xs) (sym (without_own t y ys xs o)) ∙ ap (λ z. entries_of t (without t xs) ∷ z) (lists_same (t + 1) n xs (without t xs) (λ u le. sym (without_other t u xs (omega arith)))))
     go false e =
-        subst (λ z. Choice before xs t (suc n) (behind_list z (next_entry before (lists_from (t + 1) n xs)))) o
-        (choice_behind before xs t n (next_entry before (lists_from (t + 1) n xs))
+        subst (λ z. Choice before xs t (suc n) (after_list z (next_entry before (lists_from (t + 1) n xs)))) o
+        (choice_after before xs t n (next_entry before (lists_from (t + 1) n xs))
         (λ z zs q. λ r. let same = head z zs (sym o ∙ q) in eqb-false y.number (entries_at y.entry.obj before) e (ap (λ k. k.number) same ∙ r ∙ ap (λ k. entries_at k.entry.obj before) (sym same)))
         later)
 
@@ -217,37 +217,37 @@ long_enough : (n : ℕ) (xs : List Noted) → AllIn (IsOfThreads n) xs → lengt
 long_enough n [] h = omega arith
 long_enough n (x ∷ xs) h = let a = longer 0 n x xs (omega arith) (omega (arith, h.0.below)) in let b = long_enough n xs h.1 in omega arith
 
--- what is merged behind these entries: all entries that are left, each with its number
+-- what is merged after these entries: all entries that are left, each with its number
 record Merges (before xs merged : List Noted) : Type 0 where
   threads : (t : ℕ) → entries_of t merged ≡ entries_of t xs
   numbered : IsNumbered before merged
 
-merges_nothing : (n threads : ℕ) (before : List Noted) → Merges before [] (merged_behind n before (lists_from 0 threads []))
+merges_nothing : (n threads : ℕ) (before : List Noted) → Merges before [] (merged_after n before (lists_from 0 threads []))
 merges_nothing n threads before = subst (Merges before []) (sym (empty n (next_entry before (lists_from 0 threads [])) (choice before [] 0 threads))) (record { threads = λ t. refl; numbered = tt })
   where
     nothing : (t : Taken) → Choice before [] 0 threads t → t ≡ Stuck
     nothing _ (none_ready none) = refl
     nothing _ (one_ready u y ys rest le o ready is) = cc
 
-    empty : (n : ℕ) (t : Taken) → Choice before [] 0 threads t → merged_behind n before (lists_from 0 threads []) ≡ []
+    empty : (n : ℕ) (t : Taken) → Choice before [] 0 threads t → merged_after n before (lists_from 0 threads []) ≡ []
     empty zero t c = refl
-    empty (suc n) t c = ap (merged_on (merged_behind n) before) (nothing (next_entry before (lists_from 0 threads [])) (choice before [] 0 threads))
+    empty (suc n) t c = ap (merged_on (merged_after n) before) (nothing (next_entry before (lists_from 0 threads [])) (choice before [] 0 threads))
 
-merges : (n threads : ℕ) (before xs : List Noted) → length xs ≤ n → AllIn (IsOfThreads threads) xs → IsNumbered before xs → Merges before xs (merged_behind n before (lists_from 0 threads xs))
+merges : (n threads : ℕ) (before xs : List Noted) → length xs ≤ n → AllIn (IsOfThreads threads) xs → IsNumbered before xs → Merges before xs (merged_after n before (lists_from 0 threads xs))
 merges n threads before [] le within h = merges_nothing n threads before
 merges zero threads before (x ∷ xs) le within h = absurd (omega arith)
 merges (suc n) threads before (x ∷ xs) le within h = go (next_entry before (lists_from 0 threads (x ∷ xs))) (choice before (x ∷ xs) 0 threads) (λ b ys le2 w2 h2. merges n threads b ys le2 w2 h2)
   where
-    go : (t : Taken) → Choice before (x ∷ xs) 0 threads t → ((b ys : List Noted) → length ys ≤ n → AllIn (IsOfThreads threads) ys → IsNumbered b ys → Merges b ys (merged_behind n b (lists_from 0 threads ys))) → Merges before (x ∷ xs) (merged_on (merged_behind n) before t)
+    go : (t : Taken) → Choice before (x ∷ xs) 0 threads t → ((b ys : List Noted) → length ys ≤ n → AllIn (IsOfThreads threads) ys → IsNumbered b ys → Merges b ys (merged_after n b (lists_from 0 threads ys))) → Merges before (x ∷ xs) (merged_on (merged_after n) before t)
     go _ (none_ready none) again = absurd (none x.entry.thread x (entries_of x.entry.thread xs) (omega arith) (omega (arith, within.0.below)) (own_in x.entry.thread x xs refl) h.0)
     go _ (one_ready u y ys rest from o ready is) again =
         let left = without u (x ∷ xs) in
         let r = again (before ++ y ∷ []) left (let a = without_length u y ys (x ∷ xs) o in omega arith) (without_all (IsOfThreads threads) u y ys (x ∷ xs) o within) (without_numbered u y ys before (x ∷ xs) o ready h) in
         let y_thread : y.entry.thread ≡ u = (subst (AllIn (λ z. z.entry.thread ≡ u)) o (entries_of-thread u (x ∷ xs))).0 in
-        subst (λ z. Merges before (x ∷ xs) (y ∷ merged_behind n (before ++ y ∷ []) z)) (sym is) (record {
+        subst (λ z. Merges before (x ∷ xs) (y ∷ merged_after n (before ++ y ∷ []) z)) (sym is) (record {
           threads = λ t. ⊎_elim
-              (λ (e : t ≡ u). own_in t y (merged_behind n (before ++ y ∷ []) (lists_from 0 threads left)) (y_thread ∙ sym e) ∙ ap (λ z. y ∷ z) (r.threads t ∙ ap (λ z. entries_of z left) e ∙ without_own u y ys (x ∷ xs) o) ∙ sym (ap (λ z. entries_of z (x ∷ xs)) e ∙ o))
-              (λ (ne : t ≡ u → ⊥). own_out t y (merged_behind n (before ++ y ∷ []) (lists_from 0 threads left)) (λ q. ne (sym q ∙ y_thread)) ∙ r.threads t ∙ without_other u t (x ∷ xs) ne)
+              (λ (e : t ≡ u). own_in t y (merged_after n (before ++ y ∷ []) (lists_from 0 threads left)) (y_thread ∙ sym e) ∙ ap (λ z. y ∷ z) (r.threads t ∙ ap (λ z. entries_of z left) e ∙ without_own u y ys (x ∷ xs) o) ∙ sym (ap (λ z. entries_of z (x ∷ xs)) e ∙ o))
+              (λ (ne : t ≡ u → ⊥). own_out t y (merged_after n (before ++ y ∷ []) (lists_from 0 threads left)) (λ q. ne (sym q ∙ y_thread)) ∙ r.threads t ∙ without_other u t (x ∷ xs) ne)
               (cases_eq t u);
           numbered = (ready, r.numbered);
         })

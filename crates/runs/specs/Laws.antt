@@ -51,10 +51,10 @@ module _ {T : Type 0} (m : Machine T) where
   IsLawfulEffect l th (Stores c w after) = (l ≡ Go (label_thread l)) × (c < m.cells) × GoesOn th after
   IsLawfulEffect l th (Operates e change) = IsOperation l th e change
 
-  -- each label keeps to its law with each thread, and the words of objects stand behind the cells, each at a place of its own
+  -- each label keeps to its law with each thread, and the words of objects stand after the cells, each at a place of its own
   pub record IsLawful : Type 0 where
     pub effects : (l : Label) (th : T) → IsLawfulEffect l th (m.effect l th)
-    pub behind : (o : ObjId) → m.has_object o ≡ true → m.cells ≤ m.place o
+    pub following : (o : ObjId) → m.has_object o ≡ true → m.cells ≤ m.place o
     pub apart : (o p : ObjId) → m.has_object o ≡ true → m.has_object p ≡ true → m.place o ≡ m.place p → o ≡ p
 
   -- two threads race here: their next actions are conflicting accesses

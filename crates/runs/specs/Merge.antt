@@ -35,24 +35,24 @@ pub data Taken : Type 0 where
   Stuck : Taken
   Takes : (entry : Noted) → (rest : List (List Noted)) → Taken
 
-abbrev pub behind_list : List Noted → Taken → Taken
-behind_list xs Stuck = Stuck
-behind_list xs (Takes x rest) = Takes x (xs ∷ rest)
+abbrev pub after_list : List Noted → Taken → Taken
+after_list xs Stuck = Stuck
+after_list xs (Takes x rest) = Takes x (xs ∷ rest)
 
 -- the first list whose next entry's number is how many entries of its object were taken before gives that entry
 abbrev pub next_entry : List Noted → List (List Noted) → Taken
 next_entry before [] = Stuck
-next_entry before ([] ∷ lists) = behind_list [] (next_entry before lists)
-next_entry before ((x ∷ xs) ∷ lists) = if x.number == entries_at x.entry.obj before then Takes x (xs ∷ lists) else behind_list (x ∷ xs) (next_entry before lists)
+next_entry before ([] ∷ lists) = after_list [] (next_entry before lists)
+next_entry before ((x ∷ xs) ∷ lists) = if x.number == entries_at x.entry.obj before then Takes x (xs ∷ lists) else after_list (x ∷ xs) (next_entry before lists)
 
 abbrev pub merged_on : (List Noted → List (List Noted) → List Noted) → List Noted → Taken → List Noted
 merged_on rest before Stuck = []
 merged_on rest before (Takes x lists) = x ∷ rest (before ++ x ∷ []) lists
 
 -- at most this many entries of the lists in the written order, after those that were taken before
-abbrev pub merged_behind : ℕ → List Noted → List (List Noted) → List Noted
-merged_behind zero before lists = []
-merged_behind (suc n) before lists = merged_on (merged_behind n) before (next_entry before lists)
+abbrev pub merged_after : ℕ → List Noted → List (List Noted) → List Noted
+merged_after zero before lists = []
+merged_after (suc n) before lists = merged_on (merged_after n) before (next_entry before lists)
 
 abbrev pub total_length : List (List Noted) → ℕ
 total_length [] = 0
@@ -60,4 +60,4 @@ total_length (xs ∷ lists) = length xs + total_length lists
 
 -- the written merge: always the lowest thread whose next entry's number is how many entries of its object were taken before
 abbrev pub written_merge : List (List Noted) → List Noted
-written_merge lists = merged_behind (total_length lists) [] lists
+written_merge lists = merged_after (total_length lists) [] lists

@@ -21,7 +21,7 @@ pub data Effect (T : Type 0) : Type 0 where
   Operates : Entry → (ℕ → Change T) → Effect T
 
 -- a thread language with its shared words: what each label does with a thread in some state, how many events a thread's state
--- has behind it and whether it has ended, how many of the words are cells, which objects there are and at which place each
+-- has after it and whether it has ended, how many of the words are cells, which objects there are and at which place each
 -- has its word, and how many operations an object had, by its word
 pub record Machine (T : Type 0) : Type 0 where
   pub effect : Label → T → Effect T
@@ -124,7 +124,7 @@ module _ {T : Type 0} (m : Machine T) where
   count_or_zero None = 0
   count_or_zero (Some th) = m.count th
 
-  -- how many events the thread has behind it
+  -- how many events the thread has after it
   abbrev pub count_of : State T → ℕ → ℕ
   count_of s t = count_or_zero (slice_get s.threads t)
 

@@ -1,4 +1,4 @@
-// The walk, entry by entry, with what is at work at once behind each.
+// The walk, entry by entry, with what is at work at once after each.
 ghost use Rattle.std.specs.Prelude.{◌≡◌, IfOk, [], option_map, replicate};
 ghost use Rattle.flow_code.specs.Settle.{IsRunnable};
 ghost use Rattle.seen_pairs.specs.Pairings.{NotedIs, no_reads as spec_no_reads};
@@ -46,7 +46,7 @@ fn start_stacks(alloc: Global, slots: u8) -> Result<List<List<u32>>, AllocError>
     Ok(stacks)
 }
 
-/// The pairs of functions that are at work at once behind some entry of the walk, each in one order at least; None where the
+/// The pairs of functions that are at work at once after some entry of the walk, each in one order at least; None where the
 /// entries have no walk.
 pub(crate) fn noted_along(
     alloc: Global,

@@ -19,7 +19,7 @@ use std::alloc::{AllocError, Global};
 use sync_objects::{Entry, Setup};
 
 /// The pairs of functions, by their names, that are on two threads' stacks right after some entry of the walk: in order, each
-/// once, and with the lesser name first. It is None exactly where the entries have no walk. Quiet steps behind an entry
+/// once, and with the lesser name first. It is None exactly where the entries have no walk. Quiet steps after an entry
 /// are still to come there, and a thread that has ended has no stack.
 pub fn seen_pairs(
     alloc: Global,

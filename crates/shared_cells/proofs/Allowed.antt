@@ -22,7 +22,7 @@ use Rattle.flow_code.specs.Settle.{IsRunnable, next}
 use Rattle.core_run.specs.Machine.{Told}
 use Rattle.core_run.specs.Words.{cells_of, has_object, place_of}
 use Rattle.core_run.proofs.Beginnings.{start_word_at, length-start_words}
-use Rattle.core_run.proofs.Places.{place_behind}
+use Rattle.core_run.proofs.Places.{place_past}
 use Rattle.rr_base.proofs.Lists.{slice_get-set_other, slice_get-set_within}
 use Rattle.shared_cells.specs.Views.{Note, SeatView, with_thread, looked, missed, departing, lowered}
 use Rattle.shared_cells.specs.Threads.{own, pending, after_marks, AreMarks, IsNext, IsDueIn, after_load, after_store, after_operation}
@@ -49,7 +49,7 @@ module _ (code : Code) (s : SetupView) (t : ℕ) (told : Told) where
       (λ ne. marks_below m k h.0 (omega (arith, lt, ne)))
       (cases_eq k m)
 
-  -- marks behind which something else comes are all of them
+  -- marks after which something else comes are all of them
   same_marks : (n m : ℕ) (a b : Action) → (a ≡ action.Mark → ⊥) → (b ≡ action.Mark → ⊥) → AreMarks code s t n told → next code s t (after_marks code s t n told).thread ≡ a → AreMarks code s t m told → next code s t (after_marks code s t m told).thread ≡ b → n ≡ m
   same_marks n m a b no_a no_b hn en hm em = ⊎_elim
       (λ e. e)
@@ -68,9 +68,9 @@ load_is_no_mark c e = cc
 store_is_no_mark : (c w : ℕ) → action.Store c w ≡ action.Mark → ⊥
 store_is_no_mark c w e = cc
 
--- an object's word is one of the machine, behind those of cells
+-- an object's word is one of the machine, after those of cells
 pub object_place : (code : Code) (s : SetupView) (obj : ObjId) → IsWithinLimits s → has_object code s obj ≡ true → (cells_of code s ≤ place_of (cells_of code s) obj) × (place_of (cells_of code s) obj < objects_end code s)
-object_place code s obj limits has = (place_behind (cells_of code s) obj, slice_get_within _ _ _ (start_word_at code s obj limits has))
+object_place code s obj limits has = (place_past (cells_of code s) obj, slice_get_within _ _ _ (start_word_at code s obj limits has))
 
 pub cell_within : (code : Code) (s : SetupView) (c : ℕ) → c < cells_of code s → c < objects_end code s
 cell_within code s c lt = let len = length-start_words code s in omega (arith, len, lt)
@@ -159,7 +159,7 @@ module _ (v : SeatView) (xs : List (ℕ × Asked)) (slots id : ℕ) (one : lengt
           let code = v.code in
           let setup = v.setup in
           let spot : (cells_of code setup ≤ place) × (place < objects_end code setup) = subst (λ p. (cells_of code setup ≤ p) × (p < objects_end code setup)) (sym place_is) (object_place code setup it.obj limits has) in
-          let behind = spot.0 in
+          let following = spot.0 in
           let inside = spot.1 in
           let size = size_is code setup s.words s.views id v h at one in
           let there : slice_get s.words place ≡ Some seen_word = slice_get-get_or s.words place 0 (omega (arith, size, inside)) ∙ ap Some hit in

@@ -27,7 +27,7 @@ use Rattle.shared_cells.proofs.Keeping.{only}
 use Rattle.shared_cells.proofs.Moves.{get_within}
 use Rattle.shared_cells.proofs.Dealt.{apart_sym}
 
--- an item of two lists, one behind the other, is one of the two
+-- an item of two lists, one after the other, is one of the two
 data OfTwo {X : Type 0} (xs ys : List X) (k : ℕ) (x : X) : Type 0 where
   of_first : slice_get xs k ≡ Some x → OfTwo xs ys k x
   of_second : (m : ℕ) → k ≡ length xs + m → slice_get ys m ≡ Some x → OfTwo xs ys k x
@@ -232,7 +232,7 @@ gathers_more seat back w one g = record {
 
 -- ---- all seats
 
--- the seats that are joined already stand behind those that aren't
+-- the seats that are joined already stand after those that aren't
 pub record IsJoining (b : Board) (id : TableId) (all front : List Seat) (whole : TableSeat Asked SeatView) : Type 0 where
   pub back : List Seat
   pub are : all ≡ front ++ back

@@ -13,7 +13,7 @@ use Rattle.sync_objects.specs.declared.operation.Op.TheVariants as op
 use Rattle.abstract_machine.specs.declared.event.Action.{Action}
 use Rattle.abstract_machine.specs.declared.event.Action.TheVariants as action
 use Rattle.flow_code.specs.declared.code.Code.{Code}
-use Rattle.flow_code.specs.Next.{stepped as thread_stepped, gave_up, stopped, shut}
+use Rattle.flow_code.specs.Next.{stepped as thread_stepped, gave_up, stopped, slot_closed}
 use Rattle.flow_code.specs.Settle.{settled, next}
 use Rattle.flow_code.specs.Threads.{Thread}
 use Rattle.core_run.specs.Histories.{IsReachable}
@@ -153,11 +153,11 @@ module _ (code : Code) (s : SetupView) where
           goes_on (Close t) (slice_set ws place new) (after_by (Closes k) code s t told o obj answer (number_of old)) refl
           (ap (outcome (machine code s) ws)
           (effect_close code s t told
-          ∙ ap (λ b. if b then operation code s t told op.Close (object.Slot t) [] (λ z. shut told.thread) else Refused) due.1
-          ∙ ap (λ x. operation code s t told x (object.Slot t) [] (λ z. shut told.thread)) (sym p.0)
-          ∙ ap (λ x. operation code s t told o (object.Slot x) [] (λ z. shut told.thread)) (sym due.0)
-          ∙ ap (λ x. operation code s t told o x [] (λ z. shut told.thread)) (sym p.1))
-          ∙ operation_leaves told [] (λ z. shut told.thread))
+          ∙ ap (λ b. if b then operation code s t told op.Close (object.Slot t) [] (λ z. slot_closed told.thread) else Refused) due.1
+          ∙ ap (λ x. operation code s t told x (object.Slot t) [] (λ z. slot_closed told.thread)) (sym p.0)
+          ∙ ap (λ x. operation code s t told o (object.Slot x) [] (λ z. slot_closed told.thread)) (sym due.0)
+          ∙ ap (λ x. operation code s t told o x [] (λ z. slot_closed told.thread)) (sym p.1))
+          ∙ operation_leaves told [] (λ z. slot_closed told.thread))
 
       pub goes_operation : IsDue code s t told o obj → GoesTo st t (slice_set ws place new) (after_operation code s t told o obj answer (number_of old))
       goes_operation due = goes_by (way_of o obj) refl due

@@ -74,7 +74,7 @@ pub record Shows (code : Code) (s : SetupView) (words : List ℕ) (views : List 
 abbrev pub Holds : Knowledge → table.State Asked SeatView → Type 0
 Holds key s = Shows key.code key.setup s.words s.views
 
--- two views become one: the threads of the second one are those behind the first one's
+-- two views become one: the threads of the second one are those after the first one's
 abbrev pub both : SeatView → SeatView → SeatView
 both v w = record v { carried = v.carried ++ w.carried; notes = v.notes ++ w.notes; positions = v.positions ++ w.positions; met = min v.met w.met }
 

@@ -1,4 +1,4 @@
--- What a seat's thread does: marks, which touch no word, and the load, store or operation behind them.
+-- What a seat's thread does: marks, which touch no word, and the load, store or operation after them.
 use Rattle.std.specs.Prelude.{◌≡◌, ⊤, ℕ, zero, suc, ℤ, pos, true, false, [], slice_get}
 use Rattle.std.specs.Option.{unwrap_or}
 use Rattle.sync_objects.specs.Setup.{SetupView}
@@ -12,7 +12,7 @@ use Rattle.abstract_machine.specs.declared.event.Action.{Action}
 use Rattle.abstract_machine.specs.declared.event.Action.TheVariants as action
 use Rattle.abstract_machine.specs.Values.{number}
 use Rattle.flow_code.specs.declared.code.Code.{Code}
-use Rattle.flow_code.specs.Next.{stepped, gave_up, stopped, shut}
+use Rattle.flow_code.specs.Next.{stepped, gave_up, stopped, slot_closed}
 use Rattle.flow_code.specs.Settle.{settled, next, after}
 use Rattle.core_run.specs.Machine.{Told, accessed, marked, operated, entry_of, access_of, may_revoke, may_stop, may_close, start_told}
 use Rattle.thread_step.specs.Steps as thread
@@ -82,7 +82,7 @@ abbrev pub after_by : Way → Code → SetupView → ℕ → Told → Op → Obj
 after_by Own code s t told o obj answer n = thread.after code s t (at_rest code s t told) (action.Operate o obj) answer n
 after_by (Revokes lock stripe) code s t told o obj answer n = operated told (gave_up told.thread lock stripe) (noted_by t told o obj n) []
 after_by Stops code s t told o obj answer n = operated told (stopped told.thread) (noted_by t told o obj n) []
-after_by (Closes k) code s t told o obj answer n = operated told (shut told.thread) (noted_by t told o obj n) []
+after_by (Closes k) code s t told o obj answer n = operated told (slot_closed told.thread) (noted_by t told o obj n) []
 
 abbrev pub after_operation : Code → SetupView → ℕ → Told → Op → ObjId → ℤ → ℕ → Told
 after_operation code s t told o obj answer n = after_by (way_of o obj) code s t told o obj answer n

@@ -1,6 +1,6 @@
 use sync_objects::{ObjId, Op};
 
-/// What an exchange is to make: an operation on an object, behind so many marks of its thread, and the object's answer to it.
+/// What an exchange is to make: an operation on an object, after so many marks of its thread, and the object's answer to it.
 #[derive(Clone, Copy)]
 pub struct Asked {
     pub op: Op,

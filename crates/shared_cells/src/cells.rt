@@ -60,7 +60,7 @@ fn first_words(alloc: Global, code: &Code, setup: &Setup) -> Result<Vec<u64>, Al
     Ok(words)
 }
 
-// Puts a word behind the others, where there is room.
+// Puts a word after the others, where there is room.
 fn put_word(words: &mut Vec<u64>, word: u64)
     requires { vec_len words.old < vec_capacity words.old }
     ensures items { words.new.items ≡ words.old.items ++ word ∷ [] }

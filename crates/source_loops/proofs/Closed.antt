@@ -19,13 +19,13 @@ use Rattle.weak_sound.proofs.Accesses.{Each, each_append}
 use Rattle.weak_ways.specs.LoopsClosed.{jump_keeps, act_keeps, instrs_keep, loop_is_closed, loops_are_closed}
 use Rattle.source_loops.proofs.Jumps.{ActJumps, Jumps, joined, exp_jumps, maybe_jumps, test_jumps, statement_jumps, statements_jumps}
 
--- ---- instructions before a loop, in it and behind it
+-- ---- instructions before a loop, in it and after it
 
 jump_before : (a b k to : ℕ) → k < a → jump_keeps a b k to ≡ true
 jump_before a b k to lt = grind (arith, nat_tests, lt)
 
-jump_behind : (a b k to : ℕ) → b < k → to ≢ a → jump_keeps a b k to ≡ true
-jump_behind a b k to lt ne = grind (arith, nat_tests, lt, ne)
+jump_after : (a b k to : ℕ) → b < k → to ≢ a → jump_keeps a b k to ≡ true
+jump_after a b k to lt ne = grind (arith, nat_tests, lt, ne)
 
 jump_inside : (a b k to : ℕ) → a ≤ k → k ≤ b → a ≤ to → to ≤ b + 1 → jump_keeps a b k to ≡ true
 jump_inside a b k to l h l' h' = grind (arith, nat_tests, l, h, l', h')
@@ -51,14 +51,14 @@ keeps_before a b k (i ∷ is) le = and_from (act_keeps a b k i.act) (instrs_keep
 abbrev Outside : ℕ → ℕ → ℕ → Type 0
 Outside x y to = x ≤ to → y ≤ to
 
-act_behind : (a b k x y : ℕ) (i : Act) → b < k → x ≤ a → a < y → ActJumps (Outside x y) i → act_keeps a b k i ≡ true
-act_behind a b k x y (act.Jump to) lt l h j = jump_behind a b k to lt (λ e. let q = j (omega (arith, e, l)) in omega (arith, q, e, h))
-act_behind a b k x y (act.Branch on u v) lt l h j = and_from (jump_keeps a b k u) (jump_keeps a b k v) (jump_behind a b k u lt (λ e. let q = j.0 (omega (arith, e, l)) in omega (arith, q, e, h))) (jump_behind a b k v lt (λ e. let q = j.1 (omega (arith, e, l)) in omega (arith, q, e, h)))
-act_behind a b k x y _ lt l h j = refl
+act_past : (a b k x y : ℕ) (i : Act) → b < k → x ≤ a → a < y → ActJumps (Outside x y) i → act_keeps a b k i ≡ true
+act_past a b k x y (act.Jump to) lt l h j = jump_after a b k to lt (λ e. let q = j (omega (arith, e, l)) in omega (arith, q, e, h))
+act_past a b k x y (act.Branch on u v) lt l h j = and_from (jump_keeps a b k u) (jump_keeps a b k v) (jump_after a b k u lt (λ e. let q = j.0 (omega (arith, e, l)) in omega (arith, q, e, h))) (jump_after a b k v lt (λ e. let q = j.1 (omega (arith, e, l)) in omega (arith, q, e, h)))
+act_past a b k x y _ lt l h j = refl
 
-keeps_behind : (a b k x y : ℕ) (is : List Instr) → b < k → x ≤ a → a < y → Jumps (Outside x y) is → instrs_keep a b k is ≡ true
-keeps_behind a b k x y [] lt l h j = refl
-keeps_behind a b k x y (i ∷ is) lt l h j = and_from (act_keeps a b k i.act) (instrs_keep a b (k + 1) is) (act_behind a b k x y i.act lt l h j.0) (keeps_behind a b (k + 1) x y is (omega (arith, lt)) l h j.1)
+keeps_past : (a b k x y : ℕ) (is : List Instr) → b < k → x ≤ a → a < y → Jumps (Outside x y) is → instrs_keep a b k is ≡ true
+keeps_past a b k x y [] lt l h j = refl
+keeps_past a b k x y (i ∷ is) lt l h j = and_from (act_keeps a b k i.act) (instrs_keep a b (k + 1) is) (act_past a b k x y i.act lt l h j.0) (keeps_past a b (k + 1) x y is (omega (arith, lt)) l h j.1)
 
 abbrev Between : ℕ → ℕ → ℕ → Type 0
 Between a b to = (a ≤ to) × (to ≤ b)
@@ -94,7 +94,7 @@ after k j is js (l ∷ ls) e h = (
   after k j is js ls e h.1,
 )
 
--- instructions behind, which jump to none of these
+-- instructions after, which jump to none of these
 before : (k y : ℕ) (is js : List Instr) (ls : List LoopInfo) → y ≡ k + length is → Jumps (Outside k y) js → Each (IsKept k is) ls → Each (IsKept k (is ++ js)) ls
 before k y is js [] e j h = tt
 before k y is js (l ∷ ls) e j h =
@@ -105,7 +105,7 @@ before k y is js (l ∷ ls) e j h =
         low = low;
         long = long;
         high = omega (arith, high, length-append is js);
-        keeps = keeps_append l.at (l.last + 1) k is js h.0.keeps (keeps_behind l.at (l.last + 1) (k + length is) k y js high low (omega (arith, long, high, e)) j);
+        keeps = keeps_append l.at (l.last + 1) k is js h.0.keeps (keeps_past l.at (l.last + 1) (k + length is) k y js high low (omega (arith, long, high, e)) j);
       },
       before k y is js ls e j h.1,
     )
@@ -166,11 +166,11 @@ module _ (first : ℕ) where
         let leave = instr at (act.Jump (no' + statement_size b')) in
         let ls = statement_loops a yes' in
         let ms = statement_loops b no' in
-        let behind : Jumps (Outside yes' (yes' + statement_size a')) code_b = statement_jumps (Outside yes' (yes' + statement_size a')) no' (no' + statement_size b') (λ k low high from. omega (arith, low)) first b' rb no' out on (omega arith) (omega arith) (λ from. omega (arith, o)) (λ from. omega (arith, c)) in
+        let following : Jumps (Outside yes' (yes' + statement_size a')) code_b = statement_jumps (Outside yes' (yes' + statement_size a')) no' (no' + statement_size b') (λ k low high from. omega (arith, low)) first b' rb no' out on (omega arith) (omega arith) (λ from. omega (arith, o)) (λ from. omega (arith, c)) in
         after pc (pc + exp_size e') (exp_code first e' r pc) (choice ∷ (code_a ++ (leave ∷ code_b))) (ls ++ ms) (omega (arith, exp_length first e' r pc))
         (after (pc + exp_size e') yes' (choice ∷ []) (code_a ++ (leave ∷ code_b)) (ls ++ ms) (omega arith)
         (each_append (IsKept yes' (code_a ++ (leave ∷ code_b))) ls ms
-        (before yes' (yes' + statement_size a') code_a (leave ∷ code_b) ls (omega (arith, statement_length first a' (r + width e') yes' out on)) ((λ from. omega arith), behind)
+        (before yes' (yes' + statement_size a') code_a (leave ∷ code_b) ls (omega (arith, statement_length first a' (r + width e') yes' out on)) ((λ from. omega arith), following)
         (statement_closed a (r + width e') yes' out on (omega (arith, o)) (omega (arith, c))))
         (after yes' (yes' + statement_size a') code_a (leave ∷ code_b) ms (omega (arith, statement_length first a' (r + width e') yes' out on))
         (after (yes' + statement_size a') no' (leave ∷ []) code_b ms (omega arith)

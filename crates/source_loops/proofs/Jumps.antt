@@ -1,4 +1,4 @@
--- Where the jumps of a statement's code go: to its own places, to the one right behind them, or to where its loop is left for
+-- Where the jumps of a statement's code go: to its own places, to the one right after them, or to where its loop is left for
 -- or continued.
 use Rattle.std.proofs.Common.{ℕ, ◌+◌, ◌≤◌, Bool, true, false, if◌then◌else◌, pos, List, [], ◌∷◌, ◌++◌, length, Option, Some, None, arith}
 use Rattle.flow_code.specs.declared.act.Act.{Act}

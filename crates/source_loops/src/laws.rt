@@ -10,7 +10,7 @@ pub fn law_loops_are_apart()
     ensures { (p : Program) → loops_are_apart (lowered p) ≡ true }
 {}
 
-/// A jump from inside of a loop that a core tree's code lists goes to its inside or right behind it, and no later instruction
+/// A jump from inside of a loop that a core tree's code lists goes to its inside or right after it, and no later instruction
 /// jumps back to its Mark.
 pub fn law_loops_are_closed()
     ensures { (p : Program) → loops_are_closed (lowered p) ≡ true }

@@ -19,7 +19,7 @@ use Rattle.c_programs.specs.Programs.{known_at_start, signature_of, after_outer}
 use Rattle.c_sites.specs.Addresses.{count_of_outer, program_addressed}
 use Rattle.c_sites.specs.Whole.{first_fault}
 use Rattle.c_core.specs.Core as core
-use Rattle.c_values.specs.Here.{Source}
+use Rattle.c_values.specs.Context.{Source}
 use Rattle.c_elaborate.specs.Whole.{code_functions, outer_functions, outers_functions, source_of, core_of_source}
 use Rattle.c_grammar.proofs.Exactly.{parsed_exactly}
 use Rattle.c_grammar.proofs.Prints.{prints}
@@ -47,9 +47,9 @@ use Rattle.source_names.proofs.Tokens.{tokens_are_spelled}
 -- ---- lists
 
 module _ {X : Type 0} (P : X → Type 0) where
-  behind : (xs ys : List X) → AllByRecursion P (xs ++ ys) → AllByRecursion P ys
-  behind [] ys h = h
-  behind (x ∷ xs) ys h = behind xs ys h.1
+  following : (xs ys : List X) → AllByRecursion P (xs ++ ys) → AllByRecursion P ys
+  following [] ys h = h
+  following (x ∷ xs) ys h = following xs ys h.1
 
   before : (xs ys : List X) → AllByRecursion P (xs ++ ys) → AllByRecursion P xs
   before [] ys h = tt
@@ -100,8 +100,8 @@ function_text : (is_static : Bool) (s : Specifier) (stars : ℕ) (name : Name) (
 function_text is_static s stars name xs code h =
     let named = name_kind name ∷ p punct.OpenParen ∷ (params_kinds xs ++ p punct.CloseParen ∷ code_kinds code) in
     let starred = stars_kinds stars ++ named in
-    let typed = behind IsSpelled (if_there is_static (w word.Static)) (specifier_kinds s ++ starred) h in
-    (behind IsSpelled (stars_kinds stars) named (behind IsSpelled (specifier_kinds s) starred typed)).0
+    let typed = following IsSpelled (if_there is_static (w word.Static)) (specifier_kinds s ++ starred) h in
+    (following IsSpelled (stars_kinds stars) named (following IsSpelled (specifier_kinds s) starred typed)).0
 
 module _ (s : Source) (ns : List ℕ) where
   code_texts : (known : Known) (n : ℕ) (name : Name) (f : Signature) (xs : Params) (code : Body) → IsUtf8 name.text → AllByRecursion HasText (code_functions s ns known n name f xs code)
@@ -118,7 +118,7 @@ module _ (s : Source) (ns : List ℕ) where
   outers_texts known n (o ∷ os) h =
       both HasText (outer_functions s ns known n o) (outers_functions s ns (after_outer known o) (n + count_of_outer o) os)
       (outer_texts known n o (before IsSpelled (outer_kinds o) (kinds_of os) h))
-      (outers_texts (after_outer known o) (n + count_of_outer o) os (behind IsSpelled (outer_kinds o) (kinds_of os) h))
+      (outers_texts (after_outer known o) (n + count_of_outer o) os (following IsSpelled (outer_kinds o) (kinds_of os) h))
 
 core_texts : (os : List Outer) → AllByRecursion IsSpelled (kinds_of os) → AllByRecursion HasText (core_of_source os).functions
 unfolding core_of_source

@@ -172,7 +172,7 @@ piece_fine first defined text = either (slice_index text 0 == 35 && first) (dire
 
 -- ---- tokens
 
-with_spelled : (k : Kind) (n : ℕ) (r : Reading) (found : Found) → IsSpelled k → AreSpelled found → AreSpelled (with_token (token_at k n r.place) found)
+with_spelled : (k : Kind) (n : ℕ) (r : Reading) (found : Found) → IsSpelled k → AreSpelled found → AreSpelled (with_token (token_at k n r.cursor) found)
 with_spelled k n r (Ok ts) h g = (h, g)
 with_spelled k n r (Err f) h g = tt
 

@@ -6,7 +6,7 @@ use Rattle.sync_objects.specs.declared.object.ObjId.TheVariants as object
 use Rattle.sync_objects.specs.declared.operation.Op.TheVariants as op
 use Rattle.flow_code.specs.declared.code.Code.{Code}
 use Rattle.flow_code.specs.Threads.{Thread}
-use Rattle.flow_code.specs.Next.{has_begun, has_ended, gave_up, stopped, shut}
+use Rattle.flow_code.specs.Next.{has_begun, has_ended, gave_up, stopped, slot_closed}
 use Rattle.flow_code.specs.Settle.{settled, IsRunnable}
 use Rattle.flow_code.proofs.Counts.{settled_keeps_all, ended_action}
 use Rattle.c_core.specs.Core.{Program}
@@ -94,11 +94,11 @@ module _ (p : Program) (s : SetupView) (code : Code) (same_cells : cells_of code
     close_step : (x : Progress) → Stands x told.thread → Came (effect_of code s (Close t) told) → Done x closes
     close_step x stands out = by x stands (and_parts (not (has_begun told.thread.phase)) (not (has_ended told.thread.phase)) may.0)
       where
-        may : (may_close told.thread ≡ true) × Came (operation code s t told op.Close (object.Slot t) [] (λ answer. shut told.thread))
+        may : (may_close told.thread ≡ true) × Came (operation code s t told op.Close (object.Slot t) [] (λ answer. slot_closed told.thread))
         may = allowed_inv code s words after (may_close told.thread) _ q (subst Came (effect_close code s t told) out)
 
-        i : Operated code s words after t op.Close (object.Slot t) (λ answer. shut told.thread) q.thread
-        i = operated_inv code s words after t told q op.Close (object.Slot t) [] (λ answer. shut told.thread) may.1
+        i : Operated code s words after t op.Close (object.Slot t) (λ answer. slot_closed told.thread) q.thread
+        i = operated_inv code s words after t told q op.Close (object.Slot t) [] (λ answer. slot_closed told.thread) may.1
 
         by : (x : Progress) → Stands x told.thread → (not (has_begun told.thread.phase) ≡ true) × (not (has_ended told.thread.phase) ≡ true) → Done x closes
         by (waits r) stands both =

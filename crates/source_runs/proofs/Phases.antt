@@ -21,12 +21,12 @@ use Rattle.abstract_machine.specs.declared.event.Onward.{Onward}
 use Rattle.abstract_machine.specs.declared.event.Onward.TheVariants as onward
 use Rattle.flow_code.specs.declared.thread.Stripe.{Stripe}
 use Rattle.flow_code.specs.declared.region.Region.{Region}
-use Rattle.flow_code.specs.Holding.{region_of, lacked, taken, open_place, to_give, gives_at, parting, left_behind}
+use Rattle.flow_code.specs.Holding.{region_of, lacked, taken, open_place, to_give, gives_at, parting, left_after}
 use Rattle.abstract_machine.proofs.Calls.{is_retake}
 use Rattle.flow_code.specs.Works.{work_of}
 use Rattle.abstract_machine.specs.Library.{library_onward}
 use Rattle.flow_code.specs.Threads.{Frame, Thread, is_main}
-use Rattle.flow_code.specs.Next.{value_of, act_at, pointers_of, caller, due_of, computed, went_on, returned, end_onward, back_in, on_unless, act_after, begun_after, phase_after, after_due, has_ended, has_begun, action_at, action_of, stepped}
+use Rattle.flow_code.specs.Next.{value_of, act_at, pointers_of, caller, due_of, computed, resumed, returned, end_onward, back_in, on_unless, act_after, begun_after, phase_after, after_due, has_ended, has_begun, action_at, action_of, stepped}
 use Rattle.abstract_machine.specs.Registers.{words_of}
 use Rattle.flow_code.proofs.Counts.{action_counts, stepped_is, operate_after}
 use Rattle.flow_code.proofs.Dues.{operate_by_code}
@@ -44,7 +44,7 @@ module _ (code : Code) (s : SetupView) (t : ℕ) (th : Thread) where
     computed_begun into (Ok w) = begun_here
     computed_begun into (Err k) = begun_here
 
-    went_on_begun : (n : ℕ) (into : Option ℕ) (o : Onward) → has_begun (went_on (record th { printed = n }) into o).phase ≡ true
+    went_on_begun : (n : ℕ) (into : Option ℕ) (o : Onward) → has_begun (resumed (record th { printed = n }) into o).phase ≡ true
     went_on_begun n into (onward.Stays kept) = begun_here
     went_on_begun n into (onward.Gives w) = begun_here
     went_on_begun n into onward.Ends = refl
@@ -66,7 +66,7 @@ module _ (code : Code) (s : SetupView) (t : ℕ) (th : Thread) where
         by true = end_begun (is_main code th.top.function) th.top.made
         by false = back_begun value (slice_get th.below (length th.below - 1))
 
-    left_begun : (xs : List Stripe) (q : Thread) → has_begun q.phase ≡ true → has_begun (left_behind th xs q).phase ≡ true
+    left_begun : (xs : List Stripe) (q : Thread) → has_begun q.phase ≡ true → has_begun (left_after th xs q).phase ≡ true
     left_begun [] q h = h
     left_begun (x ∷ xs) q h = begun_here
 

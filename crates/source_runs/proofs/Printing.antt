@@ -19,7 +19,7 @@ use Rattle.abstract_machine.specs.declared.event.Due.TheVariants as due
 use Rattle.abstract_machine.specs.declared.event.Action.{Action}
 use Rattle.abstract_machine.specs.declared.event.Action.TheVariants as action
 use Rattle.flow_code.specs.Threads.{Thread}
-use Rattle.flow_code.specs.Next.{due_of, action_of, action_at, stepped as thread_stepped, gave_up, stopped, shut}
+use Rattle.flow_code.specs.Next.{due_of, action_of, action_at, stepped as thread_stepped, gave_up, stopped, slot_closed}
 use Rattle.flow_code.specs.Settle.{settled}
 use Rattle.flow_code.proofs.Settle.{action_is}
 use Rattle.c_core.specs.Runs.{printed_in}
@@ -98,7 +98,7 @@ module _ (code : Code) (s : SetupView) where
   label_adds (Go t) told = subst (Adds told (pieces_at (Go t) told.thread)) (sym (effect_go code s t told)) (action_adds t told (settled code s t told.thread) (action_at code s t (settled code s t told.thread)))
   label_adds (Revoke t lock stripe) told = subst (Adds told []) (sym (effect_revoke code s t lock stripe told)) (if_adds told [] (may_revoke told.thread lock stripe) _ (operation_adds t told told op.Revoke (object.Weak lock stripe) [] (λ answer. gave_up told.thread lock stripe) refl))
   label_adds (Stop t) told = subst (Adds told []) (sym (effect_stop code s t told)) (if_adds told [] (may_stop told.thread) _ (operation_adds t told told op.Stop object.Halt [] (λ answer. stopped told.thread) refl))
-  label_adds (Close t) told = subst (Adds told []) (sym (effect_close code s t told)) (if_adds told [] (may_close told.thread) _ (operation_adds t told told op.Close (object.Slot t) [] (λ answer. shut told.thread) refl))
+  label_adds (Close t) told = subst (Adds told []) (sym (effect_close code s t told)) (if_adds told [] (may_close told.thread) _ (operation_adds t told told op.Close (object.Slot t) [] (λ answer. slot_closed told.thread) refl))
 
   outcome_adds : (words after : List ℕ) (e : Effect Told) (told q : Told) (ps : List (List ℕ)) → Adds told ps e → outcome (machine code s) words e ≡ Leaves after q → q.pieces ≡ told.pieces ++ ps
   outcome_adds words after Refused told q ps h e = cc

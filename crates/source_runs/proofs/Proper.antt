@@ -239,11 +239,11 @@ module _ (p : Program) (s : SetupView) (t : ℕ) where
       event_proper s.limit line action.Mark σ _ tt (λ z σ1. ht σ1 _ (λ w σ2.
       choose_proper w _ _ (λ σ3 k3 h3. hb σ3 _ (λ f σ4. if_turns_proper f _ (λ σ5 k5 h5. hs σ5 _ (λ u σ6. turns_proper n line test body step ht hb hs σ6 k5 h5)) σ4 k3 h3)) (λ σ3 k3 h3. h3 goes σ3) σ2 k h))
 
-  turns_behind_proper : (n line : ℕ) (body : M Completion) (test : M ℕ) → Keeps body → Keeps test → Keeps (meaning.turns_behind p s t n line body test)
-  turns_behind_proper zero line body test hb ht σ k h = trap_proper trap.Limit line
-  turns_behind_proper (suc n) line body test hb ht σ k h =
+  turns_after_proper : (n line : ℕ) (body : M Completion) (test : M ℕ) → Keeps body → Keeps test → Keeps (meaning.turns_after p s t n line body test)
+  turns_after_proper zero line body test hb ht σ k h = trap_proper trap.Limit line
+  turns_after_proper (suc n) line body test hb ht σ k h =
       event_proper s.limit line action.Mark σ _ tt (λ z σ1. hb σ1 _ (λ f σ2.
-      if_turns_proper f _ (λ σ3 k3 h3. ht σ3 _ (λ w σ4. choose_proper w _ _ (turns_behind_proper n line body test hb ht) (λ σ5 k5 h5. h5 goes σ5) σ4 k3 h3)) σ2 k h))
+      if_turns_proper f _ (λ σ3 k3 h3. ht σ3 _ (λ w σ4. choose_proper w _ _ (turns_after_proper n line body test hb ht) (λ σ5 k5 h5. h5 goes σ5) σ4 k3 h3)) σ2 k h))
 
   module _ (calls : Calls) (keep : CallsKeep calls) where
     test_proper : (o : Option Exp) → Keeps (meaning.test_value p s t calls o)
@@ -261,7 +261,7 @@ module _ (p : Program) (s : SetupView) (t : ℕ) where
       meaning_proper (branch e a at) σ k h = value_proper calls keep e σ _ (λ w σ1. choose_proper w _ _ (meaning_proper a) (λ σ2 k2 h2. h2 goes σ2) σ1 k h)
       meaning_proper (branch_else e a b at) σ k h = value_proper calls keep e σ _ (λ w σ1. choose_proper w _ _ (meaning_proper a) (meaning_proper b) σ1 k h)
       meaning_proper (while_loop e a at) σ k h = turns_proper s.limit at.line _ _ _ (value_proper calls keep e) (meaning_proper a) (λ σ1 k1 h1. h1 0 σ1) σ k h
-      meaning_proper (do_loop a e at) σ k h = turns_behind_proper s.limit at.line _ _ (meaning_proper a) (value_proper calls keep e) σ k h
+      meaning_proper (do_loop a e at) σ k h = turns_after_proper s.limit at.line _ _ (meaning_proper a) (value_proper calls keep e) σ k h
       meaning_proper (for_loop start test step a at) σ k h =
           meaning_proper start σ _ (λ f σ1. if_goes_proper f _ (turns_proper s.limit at.line _ _ _ (test_proper test) (meaning_proper a) (step_proper step)) σ1 k h)
       meaning_proper (break_at at) σ k h = h breaks σ

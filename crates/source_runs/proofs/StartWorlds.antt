@@ -49,10 +49,10 @@ module _ (p : Program) (s : SetupView) where
   no_global (Some kind.Pointer) = refl
   no_global (Some k) = refl
 
-  behind_all : (ws : List ℕ) (i : ℕ) → length ws ≤ i → slice_get ws i ≡ None
-  behind_all [] i h = refl
-  behind_all (w ∷ ws) zero h = absurd (omega arith)
-  behind_all (w ∷ ws) (suc i) h = behind_all ws i (omega arith)
+  after_all : (ws : List ℕ) (i : ℕ) → length ws ≤ i → slice_get ws i ≡ None
+  after_all [] i h = refl
+  after_all (w ∷ ws) zero h = absurd (omega arith)
+  after_all (w ∷ ws) (suc i) h = after_all ws i (omega arith)
 
   globals_length : (ks : List CellKind) (ws : List ℕ) → length (start_globals s.slots ks ws) ≡ length ws
   globals_length [] ws = refl
@@ -90,15 +90,15 @@ module _ (p : Program) (s : SetupView) where
       let place : 2 * s.slots + (length p.globals + i) ≡ length (hands ++ globals) + i = omega arith in
       ap (slice_get ((hands ++ globals) ++ arenas)) place ∙ slice_get-append_right (hands ++ globals) arenas i ∙ zero_at (s.slots * s.cells) i lt
 
-  -- behind the hand-off cells
-  cell_behind : (k : ℕ) (b : Bool) → nat_lt k (length p.globals) ≡ b → length p.global_kinds ≡ length p.globals → 2 * s.slots + k < cell_count p s → slice_get ((hands ++ globals) ++ arenas) (2 * s.slots + k) ≡ Some (global_word p s (slice_get p.global_kinds k) (slice_get p.globals k))
-  cell_behind k true e kinds lt = cell_of_globals k kinds (ltb-true k (length p.globals) e)
-  cell_behind k false e kinds lt =
+  -- after the hand-off cells
+  cell_after : (k : ℕ) (b : Bool) → nat_lt k (length p.globals) ≡ b → length p.global_kinds ≡ length p.globals → 2 * s.slots + k < cell_count p s → slice_get ((hands ++ globals) ++ arenas) (2 * s.slots + k) ≡ Some (global_word p s (slice_get p.global_kinds k) (slice_get p.globals k))
+  cell_after k true e kinds lt = cell_of_globals k kinds (ltb-true k (length p.globals) e)
+  cell_after k false e kinds lt =
       let high = not_below k (length p.globals) e in
       let i = k - length p.globals in
       let place : 2 * s.slots + k ≡ 2 * s.slots + (length p.globals + i) = omega arith in
       ap (slice_get ((hands ++ globals) ++ arenas)) place ∙ cell_of_arenas i (omega arith)
-      ∙ sym (ap Some (ap (global_word p s (slice_get p.global_kinds k)) (behind_all p.globals k high) ∙ no_global (slice_get p.global_kinds k)))
+      ∙ sym (ap Some (ap (global_word p s (slice_get p.global_kinds k)) (after_all p.globals k high) ∙ no_global (slice_get p.global_kinds k)))
     where
       not_below : (m n : ℕ) → nat_lt m n ≡ false → n ≤ m
       not_below m n h = grind (arith, h)
@@ -110,7 +110,7 @@ module _ (p : Program) (s : SetupView) where
       let high = not_below c (2 * s.slots) e in
       let k = c - 2 * s.slots in
       let place : c ≡ 2 * s.slots + k = omega arith in
-      ap (slice_get ((hands ++ globals) ++ arenas)) place ∙ cell_behind k (nat_lt k (length p.globals)) refl kinds (omega arith)
+      ap (slice_get ((hands ++ globals) ++ arenas)) place ∙ cell_after k (nat_lt k (length p.globals)) refl kinds (omega arith)
     where
       not_below : (m n : ℕ) → nat_lt m n ≡ false → n ≤ m
       not_below m n h = grind (arith, h)

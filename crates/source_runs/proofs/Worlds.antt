@@ -18,7 +18,7 @@ use Rattle.flow_code.specs.declared.code.Code.{Code}
 use Rattle.abstract_machine.specs.declared.event.Action.TheVariants as action
 use Rattle.c_core.specs.Core.{Program}
 use Rattle.core_run.specs.Words.{cells_of, has_object, place_of}
-use Rattle.core_run.proofs.Places.{place_behind, place_apart}
+use Rattle.core_run.proofs.Places.{place_past, place_apart}
 use Rattle.runs.specs.Same.{same_object}
 use Rattle.runs.proofs.SameEntries.{same_object-true, same_object-refl}
 use Rattle.c_core.specs.SourceRuns.{World, word_after, operated, acted, cell_count, IsThere}
@@ -112,7 +112,7 @@ module _ (p : Program) (s : SetupView) (code : Code) (same_cells : cells_of code
   shows_store words w t c v lt h = record {
     cells = λ d ld. stored_cell words w c v d (nat_eq d c) refl lt ld h;
     objects = λ o is.
-        let behind = place_behind (cells_of code s) o in
+        let following = place_past (cells_of code s) o in
         slice_get-set_other words c (place o) v (λ e. absurd (omega arith)) ∙ h.objects o is;
   }
 
@@ -121,7 +121,7 @@ module _ (p : Program) (s : SetupView) (code : Code) (same_cells : cells_of code
   -- cells keep their words
   cell_kept : (words : List ℕ) (w : World) (obj : ObjId) (new c : ℕ) → c < cells_of code s → Shows words w → slice_get (slice_set words (place obj) new) c ≡ Some (w.cells c)
   cell_kept words w obj new c lt h =
-      let behind = place_behind (cells_of code s) obj in
+      let following = place_past (cells_of code s) obj in
       slice_get-set_other words (place obj) c new (λ e. absurd (omega arith)) ∙ h.cells c lt
 
   object_after : (words : List ℕ) (w : World) (obj o : ObjId) (old new : ℕ) (b : Bool) → same_object o obj ≡ b → has_object code s obj ≡ true → IsThere p s o → slice_get words (place obj) ≡ Some old → Shows words w →

@@ -20,7 +20,7 @@ answers_to [] = []
 answers_to (done a out answer ∷ es) = answer ∷ answers_to es
 answers_to (trapped why line ∷ es) = answers_to es
 
--- first events of the run on the answers to them, behind which the thread may have trapped since its list in the log was full
+-- first events of the run on the answers to them, after which the thread may have trapped since its list in the log was full
 pub record IsPartOf (r : Run) (es : List Event) : Type 0 where
   pub first : List Event
   pub rest : List Event

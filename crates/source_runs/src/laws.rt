@@ -37,7 +37,7 @@ pub fn law_source_run()
         IsSourceRun p setup IsBeforeEntry (events_of_run (lowered p) setup labels) }
 {}
 
-/// In a run of the source each thread's own events are the first ones of its run, on the answers that they got; behind
+/// In a run of the source each thread's own events are the first ones of its run, on the answers that they got; after
 /// them it may have trapped since its list in the log was full.
 pub fn law_own_events()
     ensures { (p : Program) (setup : SetupView) (transitions : List ThreadTransition) (t : ℕ) →

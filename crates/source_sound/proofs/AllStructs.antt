@@ -1,4 +1,4 @@
--- The structs of a whole file: all that it names as its own are defined behind it, each once.
+-- The structs of a whole file: all that it names as its own are defined after it, each once.
 use Rattle.std.proofs.Common.{◌≡◌, ℕ, zero, suc, ◌+◌, ◌<◌, cond, Bool, true, false, not, ◌||◌, nat_lt, if◌then◌else◌, List, [], ◌∷◌, ◌++◌, length, Option, Some, None, slice_get, position, bytes_eq, refl, sym, ap, ◌∙◌, subst, arith, true≢false, append_assoc, append-nil, length-append, lt-ltb}
 use Rattle.std.specs.List.{position_or_len}
 use Rattle.std.proofs.lemmas.Option.{none-some}
@@ -12,7 +12,7 @@ use Rattle.c_types.specs.Scopes.{Known, Members, member_among, has_name, with_te
 use Rattle.c_programs.specs.Declarators.{is_numbered_below, is_struct_defined, struct_faults, after_struct, with_fields}
 use Rattle.c_programs.specs.Statements.{declared_by, after_declared, after_objects}
 use Rattle.c_programs.specs.Programs.{signature_of, after_function, outer_faults, after_outer, outers_faults, structs_with}
-use Rattle.c_sites.specs.Spots.{known_behind}
+use Rattle.c_sites.specs.Spots.{known_after}
 use Rattle.source_sound.proofs.Environment.{IsFormed}
 use Rattle.source_sound.proofs.FileLists.{append_nil}
 use Rattle.source_sound.proofs.FileStructs.{IsMember, AreMembers, AllMembers, AreStructs, struct_known, struct_defined}
@@ -35,7 +35,7 @@ member_found n j [] k name m h e = absurd (none-some m e)
 member_found n j (ms ∷ structs) zero name m h e = is_typed_member n j m (found_entry (λ x t. IsMember n j t) ms (named_member n j ms h.0) name m e)
 member_found n j (ms ∷ structs) (suc k) name m h e = member_found n (j + 1) structs k name m h.1 e
 
--- ---- behind each definition
+-- ---- after each definition
 
 objects_structs : (known : Known) (sp : Specifier) (xs : List Object) → AreStructs known → AreStructs (after_objects known true sp xs)
 objects_structs known sp [] h = h
@@ -50,7 +50,7 @@ outer_structs known (structure name fs) some e h = struct_known known name fs so
 outer_structs known (function is_static sp stars name ps code) some e h = function_structs known name (signature_of known sp stars ps) code h
 outer_structs known (objects is_static sp xs at) some e h = objects_structs known sp xs h
 
-pub all_structs : (known : Known) (os : List Outer) → StructsHaveMembers os → outers_faults known os ≡ [] → AreStructs known → AreStructs (known_behind known os)
+pub all_structs : (known : Known) (os : List Outer) → StructsHaveMembers os → outers_faults known os ≡ [] → AreStructs known → AreStructs (known_after known os)
 all_structs known [] some e h = h
 all_structs known (o ∷ os) some e h =
     let a = append_nil (outer_faults known o) (outers_faults (after_outer known o) os) e in
@@ -122,8 +122,8 @@ objects_counted : (known : Known) (xs : List Text) (sp : Specifier) (items : Lis
 objects_counted known xs sp [] os names many = record { names = names; many = many }
 objects_counted known xs sp (x ∷ items) os names many = objects_counted (after_declared known true sp (declared_by x)) xs sp items os names many
 
--- behind the whole file
-pub structs_counted : (known : Known) (xs : List Text) (os : List Outer) → outers_faults known os ≡ [] → AreCounted known xs os → length (known_behind known os).structs ≡ length (known_behind known os).struct_names
+-- after the whole file
+pub structs_counted : (known : Known) (xs : List Text) (os : List Outer) → outers_faults known os ≡ [] → AreCounted known xs os → length (known_after known os).structs ≡ length (known_after known os).struct_names
 structs_counted known xs [] e h = sym h.many ∙ sym (ap (λ ys. length ys) h.names)
 structs_counted known xs (structure name fs ∷ os) e h =
     let a = append_nil (struct_faults known name fs) (outers_faults (after_struct known name fs) os) e in

@@ -18,7 +18,7 @@ use Rattle.c_programs.specs.Statements.{parts_faults}
 use Rattle.c_sites.specs.Addresses.{numbered_from, parts_addressed}
 use Rattle.c_sites.specs.Spots.{in_function, definition_spots}
 use Rattle.c_core.specs.Core.{Program}
-use Rattle.c_values.specs.Here.{Source, global_named, function_counted}
+use Rattle.c_values.specs.Context.{Source, global_named, function_counted}
 use Rattle.c_values.specs.Calls.{gives_pointer}
 use Rattle.c_elaborate.specs.Functions.{definition}
 use Rattle.c_core.specs.Sound.{IsCallable, IsAddress, IsSoundFunction}
@@ -43,7 +43,7 @@ module _ (p : Program) (home : ℕ → Option ℕ) (n : ℕ) where
   IsFileName s names name (variable (Some t)) = (constant_named name ≡ None) × IsFormed n t × IsAddress p home (global_named s name)
   IsFileName s names name (function_of g) = (constant_named name ≡ None) × IsGiven g.result × IsCalled names name g
 
-  -- what is known of the file behind the name of a function
+  -- what is known of the file after the name of a function
   pub record Begins (s : Source) (known : Known) (scope : Scope) : Type 0 where
     pub scopes : known.scopes ≡ scope ∷ []
     pub struct_names : length known.struct_names ≡ n

@@ -29,11 +29,11 @@ use Rattle.rr_base.specs.declared.position.Position.{Position}
 use Rattle.c_core.specs.Core as core
 use Rattle.c_core.specs.Core.{Function, Program}
 use Rattle.c_core.specs.Meaning.{is_pointer}
-use Rattle.c_values.specs.Held.{Held, held_value, value_by, pointer_by}
-use Rattle.c_values.specs.Here.{Here, function_counted}
+use Rattle.c_values.specs.Denoted.{Denoted, denoted_value, value_by, pointer_by}
+use Rattle.c_values.specs.Context.{Context, function_counted}
 use Rattle.c_values.specs.Operators.{is_some_address}
 use Rattle.c_values.specs.Calls.{is_pointer_wanted, library_of, first_of, library_called, gives_pointer, called}
-use Rattle.c_values.specs.Expressions.{held, arguments}
+use Rattle.c_values.specs.Expressions.{denoted, arguments}
 use Rattle.c_core.specs.Sound.{HasSite, IsCallable, IsSoundExp, AreSound, value_kinds}
 use Rattle.source_sound.proofs.Environment.{IsFormedGiven, IsFormedResult, IsFormedTarget, AreFitting, wanted_kinds, Suits}
 use Rattle.source_sound.proofs.Apart.{not_nothing, append_nil, append_nil₃, comes_not, keeps, never}
@@ -62,8 +62,8 @@ found_either : {A : Type 0} (b : Bool) (x y : Found) → (if b then x ∷ [] els
 found_either true x y h = not_nothing x [] h
 found_either false x y h = not_nothing y [] h
 
-module _ (p : Program) (home : ℕ → Option ℕ) (f : Function) (h : Here) (suits : Suits p home f h) where
-  abbrev stands : Standing → Held → Type 0
+module _ (p : Program) (home : ℕ → Option ℕ) (f : Function) (h : Context) (suits : Suits p home f h) where
+  abbrev stands : Standing → Denoted → Type 0
   stands = Stands p home f suits.structs
 
   -- the arguments of a call are there, of the kinds that are wanted, and fit
@@ -77,10 +77,10 @@ module _ (p : Program) (home : ℕ → Option ℕ) (f : Function) (h : Here) (su
 
   -- ---- one more argument
 
-  fitting_argument : (t : StarredType) (e : Exp) (ws : List Wanted) (es : Exps) → stands (standing h.known no_target e) (held h no_target e) → accepts (starred_type t) (operand_of (standing h.known no_target e)) ≡ true → AllFit ws es → AllFit (wants.Fits t ∷ ws) (and_exp e es)
+  fitting_argument : (t : StarredType) (e : Exp) (ws : List Wanted) (es : Exps) → stands (standing h.known no_target e) (denoted h no_target e) → accepts (starred_type t) (operand_of (standing h.known no_target e)) ≡ true → AllFit ws es → AllFit (wants.Fits t ∷ ws) (and_exp e es)
   fitting_argument t e ws es s a all =
       let s' = standing h.known no_target e in
-      let x = held h no_target e in
+      let x = denoted h no_target e in
       let g = stands_gives p home f suits.structs s' x s in
       let word = fitting_word p home f suits.structs t (operand_of s') (value_by s' x) (pointer_by s' x) g a in
       record {
@@ -90,7 +90,7 @@ module _ (p : Program) (home : ℕ → Option ℕ) (f : Function) (h : Here) (su
       }
 
   pub argument_fits : (x : Wanted) (e : Exp) (ws : List Wanted) (es : Exps) (at : Position) → AreWanted (x ∷ ws) → one_argument_faults h.known x at e (faults h.known no_target e) ≡ [] →
-      (faults h.known no_target e ≡ [] → stands (standing h.known no_target e) (held h no_target e)) → AllFit ws es → AllFit (x ∷ ws) (and_exp e es)
+      (faults h.known no_target e ≡ [] → stands (standing h.known no_target e) (denoted h no_target e)) → AllFit ws es → AllFit (x ∷ ws) (and_exp e es)
   argument_fits (wants.Fits t) e ws es at w none own all =
       let apart = append_nil (faults h.known no_target e) _ none in
       fitting_argument t e ws es (own apart.0) (keeps _ fault.TypeMismatch at apart.1) all
@@ -108,19 +108,19 @@ module _ (p : Program) (home : ℕ → Option ℕ) (f : Function) (h : Here) (su
 
   -- ---- what a call gives
 
-  given_layers : (ls : List Layer) (b : BaseType) (e : core.Exp) → IsFormedGiven suits.structs ls b → is_pointer e ≡ is_some_address (layered_operand ls b) → IsSoundExp p home f e → stands (layered_value ls b) (held_value e)
+  given_layers : (ls : List Layer) (b : BaseType) (e : core.Exp) → IsFormedGiven suits.structs ls b → is_pointer e ≡ is_some_address (layered_operand ls b) → IsSoundExp p home f e → stands (layered_value ls b) (denoted_value e)
   given_layers [] b e g k s = (g, k, s)
   given_layers (layer.Pointer ∷ ls) b e g k s = (g, k, s)
   given_layers (layer.Array n ∷ ls) b e g k s = absurd g
 
-  given_stands : (r : Option StarredType) (n : ℕ) (es : core.Exps) (at : Position) → IsFormedResult suits.structs r → IsSoundExp p home f (core.call n es (gives_pointer r) at) → stands (given_type r) (held_value (core.call n es (gives_pointer r) at))
+  given_stands : (r : Option StarredType) (n : ℕ) (es : core.Exps) (at : Position) → IsFormedResult suits.structs r → IsSoundExp p home f (core.call n es (gives_pointer r) at) → stands (given_type r) (denoted_value (core.call n es (gives_pointer r) at))
   given_stands None n es at g s = absurd g
   given_stands (Some t) n es at g s =
       let u = starred_type t in
       given_layers u.layers u.base (core.call n es (gives_pointer (Some t)) at) g (sym (wanted_pointer t) ∙ address_layers u.layers u.base) s
 
   -- where the arguments fit
-  fit_stands : (c : Callee) (ws : List Wanted) (s : Standing) (es : Exps) (x : Held) → c ≡ callee ws s → fit_wanted h.known ws es ≡ true → stands s x → stands (call_standing c (fit_wanted h.known (callee_wants c) es)) x
+  fit_stands : (c : Callee) (ws : List Wanted) (s : Standing) (es : Exps) (x : Denoted) → c ≡ callee ws s → fit_wanted h.known ws es ≡ true → stands s x → stands (call_standing c (fit_wanted h.known (callee_wants c) es)) x
   fit_stands c ws s es x e fit k =
       subst (λ z. stands (call_standing z (fit_wanted h.known (callee_wants z) es)) x) (sym e) (where_true p home f suits.structs (fit_wanted h.known ws es) s no_type x fit k)
 
@@ -132,7 +132,7 @@ module _ (p : Program) (home : ℕ → Option ℕ) (f : Function) (h : Here) (su
   function_stands : (w : Target) (name : Text) (g : Signature) (es : Exps) (at : Position) (o : Position) → seen h.known name ≡ Some (function_of g) →
       callee_faults h.known name w (begins_with_text es) (format_of es) (count_of es) at (Some (function_of g)) ≡ [] → arguments_faults h.known g.params at es ≡ [] → All at es →
       stands (call_standing (callee_of h.known w name (format_of es) (Some (function_of g))) (fit_wanted h.known (callee_wants (callee_of h.known w name (format_of es) (Some (function_of g)))) es))
-      (held_value (core.call (function_counted (function_numbered h.known name)) (core.listed (arguments h g.params es)) (gives_pointer g.result) o))
+      (denoted_value (core.call (function_counted (function_numbered h.known name)) (core.listed (arguments h g.params es)) (gives_pointer g.result) o))
   function_stands w name g es at o e none none' all =
       let apart = append_nil₃ (where_it_comes (is_main name) fault.BadCall at) (where_it_comes (not (has_name h.known.defined name)) fault.UnknownName at) (count_faults (count_of es) (length g.params) at) none in
       let no_main = comes_not (is_main name) fault.BadCall at apart.0 in
@@ -156,7 +156,7 @@ module _ (p : Program) (home : ℕ → Option ℕ) (f : Function) (h : Here) (su
   plain_given _ x = (tt, refl)
 
   plain_stands : (c : LibraryName) (es : Exps) (at : Position) (o : Position) → IsPlain p home f c → count_faults (count_of es) (length (wanted_by c)) at ≡ [] → arguments_faults h.known (wanted_by c) at es ≡ [] → All at es →
-      stands (call_standing (callee (wanted_by c) (type_value (bare (given_by c)))) (fit_wanted h.known (wanted_by c) es)) (held_value (core.library (library_of h.known c es) (core.listed (arguments h (wanted_by c) es)) o))
+      stands (call_standing (callee (wanted_by c) (type_value (bare (given_by c)))) (fit_wanted h.known (wanted_by c) es)) (denoted_value (core.library (library_of h.known c es) (core.listed (arguments h (wanted_by c) es)) o))
   plain_stands c es at o x none none' all =
       let fits = all (wanted_by c) none' (counted (count_of es) (length (wanted_by c)) at none) (library_wanted c) in
       let given = plain_given c x in
@@ -165,7 +165,7 @@ module _ (p : Program) (home : ℕ → Option ℕ) (f : Function) (h : Here) (su
 
   malloc_stands : (w : Target) (es : Exps) (at : Position) (site : ℕ) (o : Position) → IsFormedTarget suits.structs w → HasSite p site →
       where_it_comes (has_no_target w) fault.OutOfProfile at ++ count_faults (count_of es) 1 at ≡ [] → arguments_faults h.known (wanted_by library.Malloc) at es ≡ [] → All at es →
-      stands (call_standing (callee (wanted_by library.Malloc) (malloc_standing w)) (fit_wanted h.known (wanted_by library.Malloc) es)) (held_value (core.allocate site (first_of (arguments h (wanted_by library.Malloc) es) o) o))
+      stands (call_standing (callee (wanted_by library.Malloc) (malloc_standing w)) (fit_wanted h.known (wanted_by library.Malloc) es)) (denoted_value (core.allocate site (first_of (arguments h (wanted_by library.Malloc) es) o) o))
   malloc_stands no_target es at site o formed has none none' all = not_nothing _ [] (append_nil (where_it_comes true fault.OutOfProfile at) (count_faults (count_of es) 1 at) none).0
   malloc_stands some_target es at site o formed has none none' all = absurd formed
   malloc_stands (target_of t) es at site o formed has none none' all =
@@ -179,7 +179,7 @@ module _ (p : Program) (home : ℕ → Option ℕ) (f : Function) (h : Here) (su
       library_call_faults library.PrintFormat w true n (suc (count_of es)) at ≡ [] → format_faults true (Some library.PrintFormat) None n here' ≡ [] →
       arguments_faults h.known (some_library_wants library.PrintFormat n) at (and_exp (text bytes here) es) ≡ [] → All at (and_exp (text bytes here) es) →
       stands (call_standing (some_library_callee library.PrintFormat w n) (fit_wanted h.known (callee_wants (some_library_callee library.PrintFormat w n)) (and_exp (text bytes here) es)))
-      (held_value (library_called h.known site (Some library.PrintFormat) (and_exp (text bytes here) es) (arguments h (some_library_wants library.PrintFormat n) (and_exp (text bytes here) es)) o))
+      (denoted_value (library_called h.known site (Some library.PrintFormat) (and_exp (text bytes here) es) (arguments h (some_library_wants library.PrintFormat n) (and_exp (text bytes here) es)) o))
   format_stands w bytes here es at here' o site None e none none' none'' all = not_nothing _ [] none'
   format_stands w bytes here es at here' o site (Some n) e none none' none'' all =
       let ws = wants.Text ∷ replicate n an_int in
@@ -193,7 +193,7 @@ module _ (p : Program) (home : ℕ → Option ℕ) (f : Function) (h : Here) (su
   PrintStands w es at here' o site = library_call_faults library.PrintFormat w (begins_with_text es) (format_of es) (count_of es) at ≡ [] → format_faults (begins_with_text es) (Some library.PrintFormat) None (format_of es) here' ≡ [] →
       arguments_faults h.known (some_library_wants library.PrintFormat (format_of es)) at es ≡ [] → All at es →
       stands (call_standing (some_library_callee library.PrintFormat w (format_of es)) (fit_wanted h.known (callee_wants (some_library_callee library.PrintFormat w (format_of es))) es))
-      (held_value (library_called h.known site (Some library.PrintFormat) es (arguments h (some_library_wants library.PrintFormat (format_of es)) es) o))
+      (denoted_value (library_called h.known site (Some library.PrintFormat) es (arguments h (some_library_wants library.PrintFormat (format_of es)) es) o))
 
   not_text : {A : Type 0} (e : Exp) (own rest : List Found) (at : Position) → is_text e ≡ false → (where_judged (not (is_text e)) own ++ where_it_comes (not (is_text e)) fault.OutOfProfile (first_place e)) ++ rest ≡ [] → A
   not_text e own rest at isn h =
@@ -210,7 +210,7 @@ module _ (p : Program) (home : ℕ → Option ℕ) (f : Function) (h : Here) (su
       library_call_faults c w (begins_with_text es) (format_of es) (count_of es) at ≡ [] → format_faults (begins_with_text es) (Some c) None (format_of es) here' ≡ [] →
       arguments_faults h.known (some_library_wants c (format_of es)) at es ≡ [] → All at es →
       stands (call_standing (some_library_callee c w (format_of es)) (fit_wanted h.known (callee_wants (some_library_callee c w (format_of es))) es))
-      (held_value (library_called h.known site (Some c) es (arguments h (some_library_wants c (format_of es)) es) o))
+      (denoted_value (library_called h.known site (Some c) es (arguments h (some_library_wants c (format_of es)) es) o))
   some_stands w library.Malloc es at here' o site formed has none none' none'' all = malloc_stands w es at site o formed (has refl) none none'' all
   some_stands w library.PrintFormat es at here' o site formed has none none' none'' all = print_stands w es at here' o site none none' none'' all
   some_stands w library.Create es at here' o site formed has none none' none'' all = plain_stands library.Create es at o tt none none'' all
@@ -240,7 +240,7 @@ module _ (p : Program) (home : ℕ → Option ℕ) (f : Function) (h : Here) (su
       unseen_call_faults c name w (begins_with_text es) (format_of es) (count_of es) at ≡ [] → format_faults (begins_with_text es) c None (format_of es) here' ≡ [] →
       arguments_faults h.known (library_wants c (format_of es)) at es ≡ [] → All at es →
       stands (call_standing (library_callee c w (format_of es)) (fit_wanted h.known (callee_wants (library_callee c w (format_of es))) es))
-      (held_value (library_called h.known site c es (arguments h (library_wants c (format_of es)) es) o))
+      (denoted_value (library_called h.known site c es (arguments h (library_wants c (format_of es)) es) o))
   library_stands w name None es at here' o site formed has none none' none'' all = found_either (is_some (constant_named name)) _ _ none
   library_stands w name (Some c) es at here' o site formed has none none' none'' all = some_stands w c es at here' o site formed (λ e. has (ap Some e)) none none' none'' all
 
@@ -251,7 +251,7 @@ module _ (p : Program) (home : ℕ → Option ℕ) (f : Function) (h : Here) (su
       callee_faults h.known name w (begins_with_text es) (format_of es) (count_of es) at m ≡ [] → format_faults (begins_with_text es) (library_named name) m (format_of es) here' ≡ [] →
       arguments_faults h.known (wants_of name (format_of es) m) at es ≡ [] → All at es →
       stands (call_standing (callee_of h.known w name (format_of es) m) (fit_wanted h.known (callee_wants (callee_of h.known w name (format_of es) m)) es))
-      (held_value (called h.known site name (library_named name) m es (arguments h (wants_of name (format_of es) m) es) o))
+      (denoted_value (called h.known site name (library_named name) m es (arguments h (wants_of name (format_of es) m) es) o))
   called_stands w name None es at here' o site e formed has none none' none'' all = library_stands w name (library_named name) es at here' o site formed (has refl) none none' none'' all
   called_stands w name (Some (variable t)) es at here' o site e formed has none none' none'' all = not_nothing _ [] none
   called_stands w name (Some (function_of g)) es at here' o site e formed has none none' none'' all = function_stands w name g es at o e none none'' all

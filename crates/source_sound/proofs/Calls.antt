@@ -25,8 +25,8 @@ use Rattle.rr_base.specs.declared.position.Position.{Position}
 use Rattle.c_core.specs.Core as core
 use Rattle.c_core.specs.Core.{Function, Program}
 use Rattle.c_core.specs.Meaning.{is_pointer}
-use Rattle.c_values.specs.Here.{Here, function_counted}
-use Rattle.c_values.specs.Held.{is_pointing}
+use Rattle.c_values.specs.Context.{Context, function_counted}
+use Rattle.c_values.specs.Denoted.{is_pointing}
 use Rattle.c_values.specs.Calls.{is_pointer_wanted, gives_pointer, started_function, library_of, first_of}
 use Rattle.c_core.specs.Sound.{IsWhole, IsCallable, Starts, IsSoundExp, AreSound, value_kinds}
 use Rattle.source_sound.proofs.Environment.{wanted_kinds, CallSuits, Suits}
@@ -155,13 +155,13 @@ module _ (p : Program) (home : ℕ → Option ℕ) (f : Function) where
   root_gives None h = never h
   root_gives (Some t) h = pointer_to_void t h
 
-  root_callable : (h : Here) (name : Text) (g : Signature) → CallSuits p home f h name g → has_root_types g ≡ true → IsCallable p (function_counted (function_numbered h.known name)) (true ∷ []) true
+  root_callable : (h : Context) (name : Text) (g : Signature) → CallSuits p home f h name g → has_root_types g ≡ true → IsCallable p (function_counted (function_numbered h.known name)) (true ∷ []) true
   root_callable h name g suits e =
       let are = both (gives_pointer_to_void g.result) (wants_pointer_to_void g.params) e in
       subst (λ b. IsCallable p (function_counted (function_numbered h.known name)) (true ∷ []) b) (root_gives g.result are.0)
       (subst (λ ks. IsCallable p (function_counted (function_numbered h.known name)) ks (gives_pointer g.result)) (root_wants g.params are.1) suits.callable)
 
-  module _ (h : Here) (suits : Suits p home f h) where
+  module _ (h : Context) (suits : Suits p home f h) where
     root_by : (name : Text) (m : Option Meaning) → seen h.known name ≡ m → (is_root_type m && not (is_main name) && has_name h.known.defined name) ≡ true → IsCallable p (function_counted (function_numbered h.known name)) (true ∷ []) true
     root_by name None e r = never r
     root_by name (Some (variable t)) e r = never r

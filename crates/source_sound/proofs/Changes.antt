@@ -18,8 +18,8 @@ use Rattle.c_core.specs.declared.value.Change.TheVariants as change
 use Rattle.c_core.specs.Core as core
 use Rattle.c_core.specs.Core.{Function, Program}
 use Rattle.c_core.specs.Meaning.{is_pointer}
-use Rattle.c_values.specs.Held.{Held, held_register, held_cells, held_zero, held_value, Part, part_by, operand_in, is_pointing, value_in, wanted_in}
-use Rattle.c_values.specs.Here.{Source}
+use Rattle.c_values.specs.Denoted.{Denoted, denoted_register, denoted_cells, denoted_zero, denoted_value, Part, part_by, operand_in, is_pointing, value_in, wanted_in}
+use Rattle.c_values.specs.Context.{Source}
 use Rattle.c_values.specs.Operators.{changing_operator, change_of, changed_by, stored_in, assigned_in, stepped_in}
 use Rattle.c_core.specs.Sound.{IsSoundExp}
 use Rattle.source_sound.proofs.Environment.{IsFormed}
@@ -87,41 +87,41 @@ module _ (p : Program) (home : ℕ → Option ℕ) (f : Function) (structs : ℕ
 
   -- ---- `=`
 
-  stored_stands : (t : ObjectType) (x : Held) (a : Operand) (v q : core.Exp) (at : Position) → Stands p home f structs (a_place t) x → Gives p home f structs a v q → accepts t a ≡ true →
-      Stands p home f structs (type_value t) (held_value (stored_in x (if is_pointing (type_operand t) then q else v) at))
-  stored_stands t (held_register n loaded) a v q at h g e =
+  stored_stands : (t : ObjectType) (x : Denoted) (a : Operand) (v q : core.Exp) (at : Position) → Stands p home f structs (a_place t) x → Gives p home f structs a v q → accepts t a ≡ true →
+      Stands p home f structs (type_value t) (denoted_value (stored_in x (if is_pointing (type_operand t) then q else v) at))
+  stored_stands t (denoted_register n loaded) a v q at h g e =
       let kind = accepted t a v q g e in
       type_value_stands p home f structs t.layers t.base _ (formed_or_void structs t.layers t.base h.0) (no_struct_accepts t.layers t.base a e)
       (kind ∙ address_layers t.layers t.base) (h.2 ∙ ap Some (sym kind), either_sound (is_pointing (type_operand t)) a v q g)
-  stored_stands t (held_cells to loaded) a v q at h g e =
+  stored_stands t (denoted_cells to loaded) a v q at h g e =
       let kind = accepted t a v q g e in
       type_value_stands p home f structs t.layers t.base _ (formed_or_void structs t.layers t.base h.0) (no_struct_accepts t.layers t.base a e)
       (kind ∙ address_layers t.layers t.base) (h.1, h.2, either_sound (is_pointing (type_operand t)) a v q g)
-  stored_stands t (held_zero loaded) a v q at h g e = absurd h
-  stored_stands t (held_value w) a v q at h g e = absurd h
+  stored_stands t (denoted_zero loaded) a v q at h g e = absurd h
+  stored_stands t (denoted_value w) a v q at h g e = absurd h
 
   -- ---- the other ones
 
   module _ (s : Source) (sizes : (t : ObjectType) → IsFormed structs t → 1 ≤ cells_of_type s.whole t) where
-    number_changes : (x : Held) (o : FlowOp) (a : Operand) (v q : core.Exp) (old : Bool) (at : Position) → Stands p home f structs (a_place (record { layers = []; base = base.Int })) x → Gives p home f structs a v q → is_whole a ≡ true →
-        Stands p home f structs (layered_value [] base.Int) (held_value (changed_by (change.Compute o) x v old at))
-    number_changes (held_register n loaded) o a v q old at h g e = (tt, refl, (h.2, gives_whole p home f structs a v q g e, g.sound))
-    number_changes (held_cells to loaded) o a v q old at h g e = (tt, refl, (h.1, gives_whole p home f structs a v q g e, h.2, g.sound))
-    number_changes (held_zero loaded) o a v q old at h g e = absurd h
-    number_changes (held_value w) o a v q old at h g e = absurd h
+    number_changes : (x : Denoted) (o : FlowOp) (a : Operand) (v q : core.Exp) (old : Bool) (at : Position) → Stands p home f structs (a_place (record { layers = []; base = base.Int })) x → Gives p home f structs a v q → is_whole a ≡ true →
+        Stands p home f structs (layered_value [] base.Int) (denoted_value (changed_by (change.Compute o) x v old at))
+    number_changes (denoted_register n loaded) o a v q old at h g e = (tt, refl, (h.2, gives_whole p home f structs a v q g e, g.sound))
+    number_changes (denoted_cells to loaded) o a v q old at h g e = (tt, refl, (h.1, gives_whole p home f structs a v q g e, h.2, g.sound))
+    number_changes (denoted_zero loaded) o a v q old at h g e = absurd h
+    number_changes (denoted_value w) o a v q old at h g e = absurd h
 
-    pointer_changes : (ls : List Layer) (b : BaseType) (x : Held) (back : Bool) (a : Operand) (v q : core.Exp) (old : Bool) (at : Position) → Stands p home f structs (a_place (record { layers = layer.Pointer ∷ ls; base = b })) x → Gives p home f structs a v q →
+    pointer_changes : (ls : List Layer) (b : BaseType) (x : Denoted) (back : Bool) (a : Operand) (v q : core.Exp) (old : Bool) (at : Position) → Stands p home f structs (a_place (record { layers = layer.Pointer ∷ ls; base = b })) x → Gives p home f structs a v q →
         is_void (record { layers = ls; base = b }) ≡ false → is_whole a ≡ true →
-        Stands p home f structs (layered_value (layer.Pointer ∷ ls) b) (held_value (changed_by (change.Move (cells_of_type s.whole (record { layers = ls; base = b })) back) x v old at))
-    pointer_changes ls b (held_register n loaded) back a v q old at h g d e =
+        Stands p home f structs (layered_value (layer.Pointer ∷ ls) b) (denoted_value (changed_by (change.Move (cells_of_type s.whole (record { layers = ls; base = b })) back) x v old at))
+    pointer_changes ls b (denoted_register n loaded) back a v q old at h g d e =
         (h.0, refl, (h.2, (gives_whole p home f structs a v q g e, sized p home f structs s sizes (record { layers = ls; base = b }) h.0 d), g.sound))
-    pointer_changes ls b (held_cells to loaded) back a v q old at h g d e =
+    pointer_changes ls b (denoted_cells to loaded) back a v q old at h g d e =
         (h.0, refl, (h.1, (gives_whole p home f structs a v q g e, sized p home f structs s sizes (record { layers = ls; base = b }) h.0 d), h.2, g.sound))
-    pointer_changes ls b (held_zero loaded) back a v q old at h g d e = absurd h
-    pointer_changes ls b (held_value w) back a v q old at h g d e = absurd h
+    pointer_changes ls b (denoted_zero loaded) back a v q old at h g d e = absurd h
+    pointer_changes ls b (denoted_value w) back a v q old at h g d e = absurd h
 
-    layers_change : (ls : List Layer) (b : BaseType) (x : Held) (o : FlowOp) (a : Operand) (v q : core.Exp) (old : Bool) (at : Position) → Stands p home f structs (a_place (record { layers = ls; base = b })) x → Gives p home f structs a v q → layered_moves ls b a ≡ true →
-        Stands p home f structs (layered_value ls b) (held_value (changed_by (change_of s (layered_operand ls b) o) x v old at))
+    layers_change : (ls : List Layer) (b : BaseType) (x : Denoted) (o : FlowOp) (a : Operand) (v q : core.Exp) (old : Bool) (at : Position) → Stands p home f structs (a_place (record { layers = ls; base = b })) x → Gives p home f structs a v q → layered_moves ls b a ≡ true →
+        Stands p home f structs (layered_value ls b) (denoted_value (changed_by (change_of s (layered_operand ls b) o) x v old at))
     layers_change [] base.Int x o a v q old at h g e = number_changes x o a v q old at h g e
     layers_change [] base.Void x o a v q old at h g e = never e
     layers_change [] (base.Struct k) x o a v q old at h g e = never e
@@ -133,8 +133,8 @@ module _ (p : Program) (home : ℕ → Option ℕ) (f : Function) (structs : ℕ
         pointer_changes ls b x _ a v q old at h g (not_true (is_void (record { layers = ls; base = b })) are.0) are.1
     layers_change (layer.Array m ∷ ls) b x o a v q old at h g e = never e
 
-    pub changed_stands : (t : ObjectType) (x : Held) (o : FlowOp) (a : Operand) (v q : core.Exp) (old : Bool) (at : Position) → Stands p home f structs (a_place t) x → Gives p home f structs a v q → moves t a ≡ true →
-        Stands p home f structs (type_value t) (held_value (changed_by (change_of s (type_operand t) o) x v old at))
+    pub changed_stands : (t : ObjectType) (x : Denoted) (o : FlowOp) (a : Operand) (v q : core.Exp) (old : Bool) (at : Position) → Stands p home f structs (a_place t) x → Gives p home f structs a v q → moves t a ≡ true →
+        Stands p home f structs (type_value t) (denoted_value (changed_by (change_of s (type_operand t) o) x v old at))
     changed_stands t x o a v q old at h g e = layers_change t.layers t.base x o a v q old at h g e
 
     -- ---- `++` and `--`
@@ -142,8 +142,8 @@ module _ (p : Program) (home : ℕ → Option ℕ) (f : Function) (structs : ℕ
     one_gives : (at : Position) → Gives p home f structs whole (core.number (pos 1) at) (core.number (pos 1) at)
     one_gives at = record { typed = refl; formed = tt; kind = refl; sound = tt; pointer = λ w. never w; pointer_sound = tt }
 
-    pub stepped_stands : (sa : Standing) (x : Held) (o : FlowOp) (old : Bool) (at : Position) → Stands p home f structs sa x → IsPlace sa → steps (standing_type sa) ≡ true →
-        Stands p home f structs (stepped sa) (held_value (stepped_in s o (part_by sa x) old at))
+    pub stepped_stands : (sa : Standing) (x : Denoted) (o : FlowOp) (old : Bool) (at : Position) → Stands p home f structs sa x → IsPlace sa → steps (standing_type sa) ≡ true →
+        Stands p home f structs (stepped sa) (denoted_value (stepped_in s o (part_by sa x) old at))
     stepped_stands no_type x o old at h place e = absurd place
     stepped_stands zero_literal x o old at h place e = absurd place
     stepped_stands null_literal x o old at h place e = absurd place
@@ -152,8 +152,8 @@ module _ (p : Program) (home : ℕ → Option ℕ) (f : Function) (structs : ℕ
 
     -- ---- assignments
 
-    assigned_at : (t : ObjectType) (x : Held) (o : AssignOp) (b : Part) (at : Position) → Stands p home f structs (a_place t) x → PartGives p home f structs b → assigns o t (operand_in b) ≡ true →
-        Stands p home f structs (type_value t) (held_value (assigned_in s o (part_by (a_place t) x) b at))
+    assigned_at : (t : ObjectType) (x : Denoted) (o : AssignOp) (b : Part) (at : Position) → Stands p home f structs (a_place t) x → PartGives p home f structs b → assigns o t (operand_in b) ≡ true →
+        Stands p home f structs (type_value t) (denoted_value (assigned_in s o (part_by (a_place t) x) b at))
     assigned_at t x assign_op.Assign b at h g e = stored_stands t x (operand_in b) (value_in b) (wanted_in true b) at h g e
     assigned_at t x assign_op.Add b at h g e = changed_stands t x (changing_operator assign_op.Add) (operand_in b) (value_in b) (wanted_in true b) false at h g e
     assigned_at t x assign_op.Subtract b at h g e = changed_stands t x (changing_operator assign_op.Subtract) (operand_in b) (value_in b) (wanted_in true b) false at h g e
@@ -166,8 +166,8 @@ module _ (p : Program) (home : ℕ → Option ℕ) (f : Function) (structs : ℕ
     assigned_at t x assign_op.ShiftLeft b at h g e = changed_stands t x (changing_operator assign_op.ShiftLeft) (operand_in b) (value_in b) (wanted_in true b) false at h g (number_moves t (operand_in b) e)
     assigned_at t x assign_op.ShiftRight b at h g e = changed_stands t x (changing_operator assign_op.ShiftRight) (operand_in b) (value_in b) (wanted_in true b) false at h g (number_moves t (operand_in b) e)
 
-    pub assigned_stands : (sa : Standing) (x : Held) (o : AssignOp) (b : Part) (at : Position) → Stands p home f structs sa x → IsPlace sa → PartGives p home f structs b → assigns_to o (standing_type sa) (operand_in b) ≡ true →
-        Stands p home f structs (assign_standing o sa (operand_in b)) (held_value (assigned_in s o (part_by sa x) b at))
+    pub assigned_stands : (sa : Standing) (x : Denoted) (o : AssignOp) (b : Part) (at : Position) → Stands p home f structs sa x → IsPlace sa → PartGives p home f structs b → assigns_to o (standing_type sa) (operand_in b) ≡ true →
+        Stands p home f structs (assign_standing o sa (operand_in b)) (denoted_value (assigned_in s o (part_by sa x) b at))
     assigned_stands no_type x o b at h place g e = absurd place
     assigned_stands zero_literal x o b at h place g e = absurd place
     assigned_stands null_literal x o b at h place g e = absurd place

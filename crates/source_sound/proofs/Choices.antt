@@ -10,7 +10,7 @@ use Rattle.c_types.specs.Standing.{layered_struct, made_int, can_go}
 use Rattle.c_core.specs.Core as core
 use Rattle.c_core.specs.Core.{Function, Program}
 use Rattle.c_core.specs.Meaning.{is_pointer}
-use Rattle.c_values.specs.Held.{Held, held_register, held_cells, held_zero, held_value}
+use Rattle.c_values.specs.Denoted.{Denoted, denoted_register, denoted_cells, denoted_zero, denoted_value}
 use Rattle.c_values.specs.Operators.{is_some_address}
 use Rattle.c_core.specs.Sound.{IsWhole, IsSoundExp}
 use Rattle.source_sound.proofs.Environment.{IsFormedLayered}
@@ -30,23 +30,23 @@ module _ (p : Program) (home : ℕ → Option ℕ) (f : Function) (structs : ℕ
   pub gives_whole : (a : Operand) (v q : core.Exp) → Gives p home f structs a v q → is_whole a ≡ true → IsWhole v
   gives_whole a v q g w = g.kind ∙ whole_address a g.typed w
 
-  pub where_true : (c : Bool) (s s' : Standing) (x : Held) → c ≡ true → Stands p home f structs s x → Stands p home f structs (if c then s else s') x
+  pub where_true : (c : Bool) (s s' : Standing) (x : Denoted) → c ≡ true → Stands p home f structs s x → Stands p home f structs (if c then s else s') x
   where_true true s s' x e h = h
   where_true false s s' x e h = never e
 
-  pub where_false : (c : Bool) (s s' : Standing) (x : Held) → c ≡ false → Stands p home f structs s' x → Stands p home f structs (if c then s else s') x
+  pub where_false : (c : Bool) (s s' : Standing) (x : Denoted) → c ≡ false → Stands p home f structs s' x → Stands p home f structs (if c then s else s') x
   where_false true s s' x e h = never' e
   where_false false s s' x e h = h
 
-  pub settled_stands : (c : Bool) (a b : Operand) (s : Standing) (x : Held) → c ≡ true → is_typed a ≡ true → is_typed b ≡ true → Stands p home f structs s x → Stands p home f structs (settled c a b s) x
+  pub settled_stands : (c : Bool) (a b : Operand) (s : Standing) (x : Denoted) → c ≡ true → is_typed a ≡ true → is_typed b ≡ true → Stands p home f structs s x → Stands p home f structs (settled c a b s) x
   settled_stands c a b s x e d d' h = where_true (c && is_typed a && is_typed b) s no_type x (and_from _ _ (and_from _ _ e d) d') h
 
-  pub made_stands : (c : Bool) (a : Operand) (e : core.Exp) → c ≡ true → is_typed a ≡ true → IsWhole e → IsSoundExp p home f e → Stands p home f structs (made_int c a) (held_value e)
-  made_stands c a e holds d k h = where_true (c && is_typed a) int_value no_type (held_value e) (and_from _ _ holds d) (tt, k, h)
+  pub made_stands : (c : Bool) (a : Operand) (e : core.Exp) → c ≡ true → is_typed a ≡ true → IsWhole e → IsSoundExp p home f e → Stands p home f structs (made_int c a) (denoted_value e)
+  made_stands c a e holds d k h = where_true (c && is_typed a) int_value no_type (denoted_value e) (and_from _ _ holds d) (tt, k, h)
 
   -- the value of an object, which is no struct
   pub type_value_stands : (ls : List Layer) (b : BaseType) (e : core.Exp) → IsFormedLayered structs (layer.Pointer ∷ ls) b → layered_struct ls b ≡ None →
-      is_pointer e ≡ is_some_address (layered_operand ls b) → IsSoundExp p home f e → Stands p home f structs (layered_value ls b) (held_value e)
+      is_pointer e ≡ is_some_address (layered_operand ls b) → IsSoundExp p home f e → Stands p home f structs (layered_value ls b) (denoted_value e)
   type_value_stands [] base.Int e h n k s = (tt, k, s)
   type_value_stands [] base.Void e h n k s = (tt, k, s)
   type_value_stands [] (base.Struct j) e h n k s = some_not_none _ _ refl n
@@ -58,7 +58,7 @@ module _ (p : Program) (home : ℕ → Option ℕ) (f : Function) (structs : ℕ
 
   -- what may be let go is no struct
   place_value : (ls : List Layer) (b : BaseType) (e : core.Exp) → IsFormedLayered structs ls b → can_go (a_place (record { layers = ls; base = b })) ≡ true →
-      is_pointer e ≡ is_some_address (layered_operand ls b) → IsSoundExp p home f e → Stands p home f structs (layered_value ls b) (held_value e)
+      is_pointer e ≡ is_some_address (layered_operand ls b) → IsSoundExp p home f e → Stands p home f structs (layered_value ls b) (denoted_value e)
   place_value [] base.Int e h c k s = (tt, k, s)
   place_value [] base.Void e h c k s = (tt, k, s)
   place_value [] (base.Struct j) e h c k s = never c
@@ -68,15 +68,15 @@ module _ (p : Program) (home : ℕ → Option ℕ) (f : Function) (structs : ℕ
   place_value (layer.Pointer ∷ ls) b e h c k s = (h, k, s)
   place_value (layer.Array m ∷ ls) b e h c k s = (formed_or_void structs ls b h.1, k, s)
 
-  pub as_value_stands : (s : Standing) (x : Held) (e : core.Exp) → Stands p home f structs s x → can_go s ≡ true → is_pointer e ≡ is_some_address (operand_of s) → IsSoundExp p home f e → Stands p home f structs (as_value s) (held_value e)
+  pub as_value_stands : (s : Standing) (x : Denoted) (e : core.Exp) → Stands p home f structs s x → can_go s ≡ true → is_pointer e ≡ is_some_address (operand_of s) → IsSoundExp p home f e → Stands p home f structs (as_value s) (denoted_value e)
   as_value_stands no_type x e h c k s = absurd h
   as_value_stands zero_literal x e h c k s = (tt, k, s)
   as_value_stands null_literal x e h c k s = (tt, k, s)
-  as_value_stands (a_value t) (held_value v) e h c k s = (h.0, k, s)
-  as_value_stands (a_value t) (held_zero at) e h c k s = absurd h
-  as_value_stands (a_value t) (held_register n at) e h c k s = absurd h
-  as_value_stands (a_value t) (held_cells v at) e h c k s = absurd h
-  as_value_stands (a_place t) (held_register n at) e h c k s = place_value t.layers t.base e h.0 c k s
-  as_value_stands (a_place t) (held_cells v at) e h c k s = place_value t.layers t.base e h.0 c k s
-  as_value_stands (a_place t) (held_zero at) e h c k s = absurd h
-  as_value_stands (a_place t) (held_value v) e h c k s = absurd h
+  as_value_stands (a_value t) (denoted_value v) e h c k s = (h.0, k, s)
+  as_value_stands (a_value t) (denoted_zero at) e h c k s = absurd h
+  as_value_stands (a_value t) (denoted_register n at) e h c k s = absurd h
+  as_value_stands (a_value t) (denoted_cells v at) e h c k s = absurd h
+  as_value_stands (a_place t) (denoted_register n at) e h c k s = place_value t.layers t.base e h.0 c k s
+  as_value_stands (a_place t) (denoted_cells v at) e h c k s = place_value t.layers t.base e h.0 c k s
+  as_value_stands (a_place t) (denoted_zero at) e h c k s = absurd h
+  as_value_stands (a_place t) (denoted_value v) e h c k s = absurd h

@@ -1,4 +1,4 @@
--- Inside a function, behind a declaration: each new name leads to the home of its local, and has a type.
+-- Inside a function, after a declaration: each new name leads to the home of its local, and has a type.
 use Rattle.std.proofs.Common.{◌≡◌, ℕ, ◌+◌, ◌<◌, ◌==◌, Bool, true, false, ◌&&◌, if◌then◌else◌, ℤ, List, [], ◌∷◌, ◌++◌, length, map, Option, Some, None, is_some, bytes_eq, refl, sym, ap, ◌∙◌, subst, arith}
 use Rattle.std.proofs.lemmas.Slice.Eq.{bytes_eq-Decides}
 use Rattle.c_lexer.specs.Bytes.{Text}
@@ -17,20 +17,20 @@ use Rattle.c_types.specs.Operands.{a_place, type_operand}
 use Rattle.c_rules.specs.Faults.{name_place, mismatch, specifier_faults}
 use Rattle.c_programs.specs.Declarators.{declared_type, declared_name, is_library_name, is_taken, declarator_faults, taken_faults, size_faults, cannot_pass, param_type, param_place, param_faults, params_faults, after_param, after_params}
 use Rattle.c_programs.specs.Statements.{declared_by, cells_of_declared, global_cells_with, after_declared, global_name_faults, declared_faults, object_faults, objects_faults, declares_faults, after_objects, start_of_for_faults}
-use Rattle.c_sites.specs.Addresses.{Numbered, number_seen, numbered_in, behind, number_name, after_name, after_names, behind_statement, inside, after_formal, after_formals, count_of_locals}
+use Rattle.c_sites.specs.Addresses.{Numbered, number_seen, numbered_in, following, number_name, after_name, after_names, past_statement, inside, after_formal, after_formals, count_of_locals}
 use Rattle.c_sites.specs.Spots.{is_kept}
 use Rattle.rr_base.specs.declared.position.Position.{Position}
 use Rattle.c_core.specs.Core.{Function, Program}
 use Rattle.c_values.specs.declared.home.Home.{Home}
 use Rattle.c_values.specs.declared.home.Home.TheVariants as kept_in
 use Rattle.c_elaborate.specs.declared.local.Local.{Local}
-use Rattle.c_values.specs.Held.{is_pointing}
-use Rattle.c_values.specs.Here.{Source, Frame, Here, home_numbered, home_of}
-use Rattle.c_values.specs.Expressions.{held_in}
+use Rattle.c_values.specs.Denoted.{is_pointing}
+use Rattle.c_values.specs.Context.{Source, Frame, Context, home_numbered, home_of}
+use Rattle.c_values.specs.Expressions.{denoted_in}
 use Rattle.c_elaborate.specs.Functions.{formal_of, local_declared, local_of, declares_locals, start_locals}
-use Rattle.c_elaborate.specs.Statements.{here_inside, here_after_object, here_after_declares, here_after_start, here_after}
+use Rattle.c_elaborate.specs.Statements.{context_inside, here_after_object, here_after_declares, here_after_start, context_after}
 use Rattle.c_core.specs.Sound.{HasRegister}
-use Rattle.source_sound.proofs.Environment.{IsFormed, HeldFits}
+use Rattle.source_sound.proofs.Environment.{IsFormed, DenotedFits}
 use Rattle.source_sound.proofs.NoFaults.{append_nil, four_nil, never, matches, neither}
 use Rattle.source_sound.proofs.Inside.{IsOpen, HoldsNoStruct, AtHome, EntryFits, ScopeFits, ScopesFit, EntriesFit, scope_entries, Inside, moved}
 use Rattle.source_sound.proofs.Typed.{IsScalar, StarsTell, declared_formed, declared_known, declared_tells, scalar_no_struct, param_known}
@@ -106,7 +106,7 @@ module _ (p : Program) (home : ℕ → Option ℕ) (f : Function) (structs : ℕ
 
   -- so it stands for a name of the type
   at_home_by : (o : Option Home) (l : Local) (t : ObjectType) → HomeFits f.pointers (length f.objects) o l → Tells l t
-      → (x : Home) × (o ≡ Some x) × ((at : Position) → HeldFits p home f (a_place t) (held_in x at)) × HoldsNoStruct x t
+      → (x : Home) × (o ≡ Some x) × ((at : Position) → DenotedFits p home f (a_place t) (denoted_in x at)) × HoldsNoStruct x t
   at_home_by None l t fit tells = absurd fit
   at_home_by (Some (kept_in.Register r)) l t fit tells = (kept_in.Register r, refl, (λ at. (tt, fit.1 ∙ ap Some (tells fit.0).0)), (tells fit.0).1)
   at_home_by (Some (kept_in.Object k)) l t fit tells = (kept_in.Object k, refl, (λ at. (tt, refl, fit)), tt)
@@ -117,13 +117,13 @@ module _ (p : Program) (home : ℕ → Option ℕ) (f : Function) (structs : ℕ
   -- ---- objects of a block
 
   -- the object's type is known, and its name leads to a home that suits it
-  abbrev pub IsDeclared : Here → Specifier → Declared → Type 0
+  abbrev pub IsDeclared : Context → Specifier → Declared → Type 0
   IsDeclared h s d = (t : ObjectType) × (declared_type h.known s d ≡ Some t) × (x : Home) × (home_of (here_after_object h s d) (declared_name d).text ≡ Some x) × HomeSuits x t × IsFormed structs t
 
-  pub object_inside : (h : Here) (s : Specifier) (d : Declared) → Inside p home f structs h
+  pub object_inside : (h : Context) (s : Specifier) (d : Declared) → Inside p home f structs h
       → HomeFits f.pointers (length f.objects) (home_numbered h.frame (Some h.numbers.next)) (local_declared s d) → declared_faults h.known false s d ≡ []
       → Inside p home f structs (here_after_object h s d) × IsDeclared h s d
-  unfolding behind
+  unfolding following
   object_inside h s (declared stars name lengths) i fit none =
       let d = declared stars name lengths in
       let parts = four_nil (declarator_faults h.known s d) (taken_faults h.known name) (size_faults (cells_of_declared h.known s d) name) (global_name_faults false (global_cells_with true h.known.global_cells (cells_of_declared h.known s d)) name) none in
@@ -144,19 +144,19 @@ module _ (p : Program) (home : ℕ → Option ℕ) (f : Function) (structs : ℕ
   object_declared known s (plain d) none = none
   object_declared known s (initialised d i at) none = (append_nil (declared_faults known false s d) _ none).0
 
-  abbrev pub here_after_objects : Here → Specifier → List Object → Here
+  abbrev pub here_after_objects : Context → Specifier → List Object → Context
   here_after_objects h s os = record h { known = after_objects h.known false s os; numbers = after_names h.numbers os }
 
   pub next_after_name : (ns : Numbered) (d : Declared) → (after_name ns d).next ≡ ns.next + 1
-  unfolding behind
+  unfolding following
   next_after_name ns d = refl
 
-  -- behind one object those that come have the next numbers
-  pub home_after_object : (h : Here) (s : Specifier) (o : Object) (ls : List Local) → AreHome f.pointers (length f.objects) h.frame h.numbers.next (local_of s o ∷ ls)
+  -- after one object those that come have the next numbers
+  pub home_after_object : (h : Context) (s : Specifier) (o : Object) (ls : List Local) → AreHome f.pointers (length f.objects) h.frame h.numbers.next (local_of s o ∷ ls)
       → AreHome f.pointers (length f.objects) h.frame (after_name h.numbers (declared_by o)).next ls
   home_after_object h s o ls come = subst (λ n. AreHome f.pointers (length f.objects) h.frame n ls) (sym (next_after_name h.numbers (declared_by o))) come.1
 
-  pub objects_inside : (h : Here) (s : Specifier) (os : List Object) → Inside p home f structs h → AreHome f.pointers (length f.objects) h.frame h.numbers.next (map (local_of s) os)
+  pub objects_inside : (h : Context) (s : Specifier) (os : List Object) → Inside p home f structs h → AreHome f.pointers (length f.objects) h.frame h.numbers.next (map (local_of s) os)
       → objects_faults h.known false s os ≡ [] → Inside p home f structs (here_after_objects h s os)
   objects_inside h s [] i come none = i
   objects_inside h s (o ∷ os) i come none =
@@ -164,37 +164,37 @@ module _ (p : Program) (home : ℕ → Option ℕ) (f : Function) (structs : ℕ
       let one = object_inside h s (declared_by o) i come.0 (object_declared h.known s o parts.0) in
       objects_inside (here_after_object h s (declared_by o)) s os one.0 (home_after_object h s o (map (local_of s) os) come) parts.1
 
-  pub declares_inside : (h : Here) (d : Declares) → Inside p home f structs h → AreHome f.pointers (length f.objects) h.frame h.numbers.next (declares_locals d)
+  pub declares_inside : (h : Context) (d : Declares) → Inside p home f structs h → AreHome f.pointers (length f.objects) h.frame h.numbers.next (declares_locals d)
       → declares_faults h.known d ≡ [] → Inside p home f structs (here_after_declares h d)
   declares_inside h (declares s os at) i come none = objects_inside h s os i come none
 
-  pub start_inside : (h : Here) (s : Start) → Inside p home f structs h → AreHome f.pointers (length f.objects) h.frame h.numbers.next (start_locals s)
+  pub start_inside : (h : Context) (s : Start) → Inside p home f structs h → AreHome f.pointers (length f.objects) h.frame h.numbers.next (start_locals s)
       → start_of_for_faults h.known s ≡ [] → Inside p home f structs (here_after_start h s)
   start_inside h (start_declares d) i come none = declares_inside h d i come none
   start_inside h (start_computes e) i come none = i
 
   -- ---- blocks and statements
 
-  pub opened_inside : (h : Here) → Inside p home f structs h → Inside p home f structs (here_inside h)
+  pub opened_inside : (h : Context) → Inside p home f structs h → Inside p home f structs (context_inside h)
   opened_inside h i = moved p home f structs h ([] ∷ h.known.scopes) (inside h.numbers) i (tt, i.scopes) tt
 
-  pub behind_inside : (h : Here) (s : Statement) → Inside p home f structs h → Inside p home f structs (here_after h s)
-  unfolding behind
-  behind_inside h s i = moved p home f structs h h.known.scopes (behind_statement h.numbers s) i i.scopes i.is_open
+  pub after_inside : (h : Context) (s : Statement) → Inside p home f structs h → Inside p home f structs (context_after h s)
+  unfolding following
+  after_inside h s i = moved p home f structs h h.known.scopes (past_statement h.numbers s) i i.scopes i.is_open
 
-  pub next_behind : (ns : Numbered) (s : Statement) → (behind_statement ns s).next ≡ ns.next + count_of_locals s
-  unfolding behind
-  next_behind ns s = refl
+  pub next_after : (ns : Numbered) (s : Statement) → (past_statement ns s).next ≡ ns.next + count_of_locals s
+  unfolding following
+  next_after ns s = refl
 
   -- ---- formals
 
-  abbrev pub here_after_formals : Here → List Param → Here
+  abbrev pub here_after_formals : Context → List Param → Context
   here_after_formals h qs = record h { known = after_params h.known qs; numbers = after_formals h.numbers qs }
 
-  named_inside : (h : Here) (q : Param) (name : Name) → Inside p home f structs h
+  named_inside : (h : Context) (q : Param) (name : Name) → Inside p home f structs h
       → HomeFits f.pointers (length f.objects) (home_numbered h.frame (Some h.numbers.next)) (formal_of (record q { name = Some name })) → param_faults h.known true (record q { name = Some name }) ≡ []
       → Inside p home f structs (here_after_formals h (record q { name = Some name } ∷ []))
-  unfolding behind
+  unfolding following
   named_inside h q name i fit none =
       let named = record q { name = Some name } in
       let parts = four_nil (specifier_faults h.known (q.stars == 0) q.specifier) (mismatch (cannot_pass q.specifier q.stars) (name_place name)) (mismatch (true && false) (name_place name)) (taken_faults h.known name) none in
@@ -205,13 +205,13 @@ module _ (p : Program) (home : ℕ → Option ℕ) (f : Function) (structs : ℕ
       let new = new_name h.source h.frame h.known.defined h.numbers.scopes h.known.scopes name.text (variable (param_type h.known q)) h.numbers.next i.is_open i.scopes free.1 entry in
       moved p home f structs h (declared_in h.known.scopes name.text (variable (param_type h.known q))) (number_name h.numbers name) i new.0 new.2
 
-  nameless : (h : Here) (q : Param) → param_faults h.known true (record q { name = None }) ≡ [] → ⊥
+  nameless : (h : Context) (q : Param) → param_faults h.known true (record q { name = None }) ≡ [] → ⊥
   nameless h q none =
       let parts = four_nil (specifier_faults h.known (q.stars == 0) q.specifier) (mismatch (cannot_pass q.specifier q.stars) (param_place (record q { name = None }))) (mismatch (true && true) (param_place (record q { name = None }))) [] none in
       let e = matches (true && true) (param_place (record q { name = None })) parts.2 in
       cc
 
-  formal_inside : (h : Here) (q : Param) → Inside p home f structs h → HomeFits f.pointers (length f.objects) (home_numbered h.frame (Some h.numbers.next)) (formal_of q)
+  formal_inside : (h : Context) (q : Param) → Inside p home f structs h → HomeFits f.pointers (length f.objects) (home_numbered h.frame (Some h.numbers.next)) (formal_of q)
       → param_faults h.known true q ≡ [] → Inside p home f structs (here_after_formals h (q ∷ []))
   formal_inside h q i =
       elim q.name as (λ o. HomeFits f.pointers (length f.objects) (home_numbered h.frame (Some h.numbers.next)) (formal_of (record q { name = o }))
@@ -221,11 +221,11 @@ module _ (p : Program) (home : ℕ → Option ℕ) (f : Function) (structs : ℕ
       ]
 
   next_after_formal : (ns : Numbered) (o : Option Name) → (after_formal ns o).next ≡ ns.next + 1
-  unfolding behind
+  unfolding following
   next_after_formal ns None = refl
   next_after_formal ns (Some name) = refl
 
-  pub formals_inside : (h : Here) (qs : List Param) → Inside p home f structs h → AreHome f.pointers (length f.objects) h.frame h.numbers.next (map formal_of qs)
+  pub formals_inside : (h : Context) (qs : List Param) → Inside p home f structs h → AreHome f.pointers (length f.objects) h.frame h.numbers.next (map formal_of qs)
       → params_faults h.known true qs ≡ [] → Inside p home f structs (here_after_formals h qs)
   formals_inside h [] i come none = i
   formals_inside h (q ∷ qs) i come none =

@@ -21,13 +21,13 @@ use Rattle.c_sites.specs.Spots.{Spot}
 use Rattle.rr_base.specs.declared.position.Position.{Position}
 use Rattle.c_core.specs.Core.{Function, Program}
 use Rattle.c_core.specs.Meaning.{is_pointer}
-use Rattle.c_values.specs.Held.{Held, held_register, held_cells, held_zero, held_value, is_pointing}
+use Rattle.c_values.specs.Denoted.{Denoted, denoted_register, denoted_cells, denoted_zero, denoted_value, is_pointing}
 use Rattle.c_values.specs.declared.home.Home.{Home}
 use Rattle.c_values.specs.declared.home.Home.TheVariants as kept
-use Rattle.c_values.specs.Here.{Here, home_of, home_numbered, site_at, function_counted}
+use Rattle.c_values.specs.Context.{Context, home_of, home_numbered, site_at, function_counted}
 use Rattle.c_values.specs.Operators.{is_some_address}
 use Rattle.c_values.specs.Calls.{is_pointer_wanted, gives_pointer}
-use Rattle.c_values.specs.Expressions.{variable_held}
+use Rattle.c_values.specs.Expressions.{variable_denoted}
 use Rattle.c_core.specs.Sound.{IsPointer, IsCallable, HasSite, HasRegister, IsSoundExp}
 
 -- ---- types
@@ -86,7 +86,7 @@ IsKept (Some (kept.Register n)) = ⊥
 IsKept _ = Unit {0}
 
 -- no formal or local with one of these numbers is in a register
-abbrev pub AreKept : Here → List ℕ → Type 0
+abbrev pub AreKept : Context → List ℕ → Type 0
 AreKept h [] = Unit {0}
 AreKept h (n ∷ ns) = IsKept (home_numbered h.frame (Some n)) × AreKept h ns
 
@@ -103,11 +103,11 @@ module _ (p : Program) (home : ℕ → Option ℕ) (f : Function) where
   IsObject _ = ⊥
 
   -- the register, cells, literal or value is there, and is of the kind that is known of the expression
-  abbrev pub HeldFits : Standing → Held → Type 0
-  HeldFits s (held_register n at) = IsObject s × HasRegister p home f n (is_pointing (operand_of s))
-  HeldFits s (held_cells e at) = IsObject s × IsPointer e × IsSoundExp p home f e
-  HeldFits s (held_zero at) = s ≡ zero_literal
-  HeldFits s (held_value e) = (is_pointer e ≡ is_some_address (operand_of s)) × IsSoundExp p home f e
+  abbrev pub DenotedFits : Standing → Denoted → Type 0
+  DenotedFits s (denoted_register n at) = IsObject s × HasRegister p home f n (is_pointing (operand_of s))
+  DenotedFits s (denoted_cells e at) = IsObject s × IsPointer e × IsSoundExp p home f e
+  DenotedFits s (denoted_zero at) = s ≡ zero_literal
+  DenotedFits s (denoted_value e) = (is_pointer e ≡ is_some_address (operand_of s)) × IsSoundExp p home f e
 
   -- whether an argument of the kind that is wanted is a pointer; an attribute is none
   abbrev pub wanted_kinds : List Wanted → List Bool
@@ -122,12 +122,12 @@ module _ (p : Program) (home : ℕ → Option ℕ) (f : Function) where
   AreFitting (_ ∷ ws) = ⊥
 
   -- a function that is called or started by its name
-  pub record CallSuits (h : Here) (name : Text) (g : Signature) : Type 0 where
+  pub record CallSuits (h : Context) (name : Text) (g : Signature) : Type 0 where
     pub params : AreFitting g.params
     pub callable : IsCallable p (function_counted (function_numbered h.known name)) (wanted_kinds g.params) (gives_pointer g.result)
 
   -- the names in reach, and the sizes and members of structs
-  pub record Suits (h : Here) : Type 0 where
+  pub record Suits (h : Context) : Type 0 where
     -- the structs of the file
     pub structs : ℕ
     pub sizes : (t : ObjectType) → IsFormed structs t → 1 ≤ cells_of_type h.source.whole t
@@ -139,13 +139,13 @@ module _ (p : Program) (home : ℕ → Option ℕ) (f : Function) where
     -- no name is of a type with a fault
     pub typed : (name : Text) → seen h.known name ≡ Some (variable None) → ⊥
     pub formed : (name : Text) (t : ObjectType) → seen h.known name ≡ Some (variable (Some t)) → IsFormed structs t
-    pub variables : (name : Text) (t : ObjectType) (at : Position) → seen h.known name ≡ Some (variable (Some t)) → HeldFits (a_place t) (variable_held h name (home_of h name) at)
+    pub variables : (name : Text) (t : ObjectType) (at : Position) → seen h.known name ≡ Some (variable (Some t)) → DenotedFits (a_place t) (variable_denoted h name (home_of h name) at)
     -- no struct is in a register
     pub registers : (name : Text) (t : ObjectType) (n : ℕ) → seen h.known name ≡ Some (variable (Some t)) → home_of h name ≡ Some (kept.Register n) → type_struct t ≡ None
     pub results : (name : Text) (g : Signature) → seen h.known name ≡ Some (function_of g) → IsFormedResult structs g.result
     pub functions : (name : Text) (g : Signature) → seen h.known name ≡ Some (function_of g) → has_name h.known.defined name ≡ true → is_main name ≡ false → CallSuits h name g
 
   -- each of these places is that of a site
-  abbrev pub HaveSites : Here → List Position → Type 0
+  abbrev pub HaveSites : Context → List Position → Type 0
   HaveSites h [] = Unit {0}
   HaveSites h (at ∷ ats) = HasSite p (site_at h.source.sites at) × HaveSites h ats

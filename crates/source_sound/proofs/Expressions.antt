@@ -10,7 +10,7 @@ use Rattle.c_types.specs.declared.fault.FaultKind.TheVariants as fault
 use Rattle.c_types.specs.Library.{library_named}
 use Rattle.c_types.specs.Scopes.{seen, type_named}
 use Rattle.c_types.specs.Operands.{Standing, Operand, operand_of, as_value, takes, is_scalar}
-use Rattle.c_types.specs.Standing.{Target, no_target, assigned_target, cast_target, casts_to, can_index, struct_of, pointed_struct, let_go, behind, is_sized, format_of, standing, last_standing}
+use Rattle.c_types.specs.Standing.{Target, no_target, assigned_target, cast_target, casts_to, can_index, struct_of, pointed_struct, let_go, following, is_sized, format_of, standing, last_standing}
 use Rattle.c_rules.specs.Faults.{mismatch, condition_takes, go_faults, step_faults, cast_faults, specifier_faults, assign_faults, prefix_faults, member_faults, callee_faults, format_faults, begins_with_text, count_of, place_of_first, call_faults, wants_of, one_argument_faults, faults, rest_faults, arguments_faults}
 use Rattle.c_programs.specs.Initials.{is_address}
 use Rattle.c_sites.specs.Addresses.{where_address, number_of_operand, addressed, all_addressed}
@@ -18,11 +18,11 @@ use Rattle.c_sites.specs.Spots.{is_malloc, where_malloc, allocations, all_alloca
 use Rattle.rr_base.specs.declared.position.Position.{Position}
 use Rattle.c_core.specs.Core as core
 use Rattle.c_core.specs.Core.{Function, Program}
-use Rattle.c_values.specs.Held.{Held, held_value, held_zero, value_by, position_of}
-use Rattle.c_values.specs.Here.{Here, site_at, offset_in}
+use Rattle.c_values.specs.Denoted.{Denoted, denoted_value, denoted_zero, value_by, position_of}
+use Rattle.c_values.specs.Context.{Context, site_at, offset_in}
 use Rattle.c_values.specs.Operators.{conditional_in, binary_in, prefix_in, cast_in}
 use Rattle.c_values.specs.Commas.{with_last}
-use Rattle.c_values.specs.Expressions.{with_tail, is_pointer_type, held, tail_of, part}
+use Rattle.c_values.specs.Expressions.{with_tail, is_pointer_type, denoted, tail_of, part}
 use Rattle.c_core.specs.Sound.{IsSoundExp}
 use Rattle.source_sound.proofs.Environment.{IsFormedTarget, AreKept, places_of, Suits, HaveSites}
 use Rattle.source_sound.proofs.Apart.{not_nothing, append_nil, append_nil₃, append_nil₄, keeps}
@@ -34,25 +34,25 @@ use Rattle.source_sound.proofs.Calls.{AreWanted}
 use Rattle.source_sound.proofs.Names.{type_known, sized_type}
 use Rattle.source_sound.proofs.Called.{AllFit, no_arguments, argument_fits, called_stands}
 use Rattle.source_sound.proofs.Targets.{IsKnownType, formed_assigned_target, formed_cast_target, sites_apart, sites_apart₃, malloc_site, kept_apart, kept_apart₃}
-use Rattle.source_sound.proofs.Commas.{AllSound, LastStands, Joined, with_last_sound, with_last_stands, behind_last, joined_stands}
-use Rattle.source_sound.proofs.Nodes.{folded_here, sized_stands, number_stands, named_stands, steps_stands, assigns_stands, prefixed_stands, casts_stand, comma_stands, gone_stands, behind_stands}
+use Rattle.source_sound.proofs.Commas.{AllSound, LastStands, Joined, with_last_sound, with_last_stands, after_last, joined_stands}
+use Rattle.source_sound.proofs.Nodes.{folded_here, sized_stands, number_stands, named_stands, steps_stands, assigns_stands, prefixed_stands, casts_stand, comma_stands, gone_stands, after_stands}
 
-module _ (p : Program) (home : ℕ → Option ℕ) (f : Function) (h : Here) (suits : Suits p home f h) where
+module _ (p : Program) (home : ℕ → Option ℕ) (f : Function) (h : Context) (suits : Suits p home f h) where
   abbrev structs : ℕ
   structs = suits.structs
 
-  abbrev stands : Standing → Held → Type 0
+  abbrev stands : Standing → Denoted → Type 0
   stands = Stands p home f suits.structs
 
   -- of an expression of this place
   abbrev StandsHere : Target → Exp → Type 0
-  StandsHere w e = stands (standing h.known w e) (held h w e)
+  StandsHere w e = stands (standing h.known w e) (denoted h w e)
 
   abbrev word : Exp → core.Exp
-  word e = value_by (standing h.known no_target e) (held h no_target e)
+  word e = value_by (standing h.known no_target e) (denoted h no_target e)
 
   gives_here : (w : Target) (e : Exp) → StandsHere w e → PartGives p home f structs (part h w e)
-  gives_here w e s = stands_gives p home f structs (standing h.known w e) (held h w e) s
+  gives_here w e s = stands_gives p home f structs (standing h.known w e) (denoted h w e) s
 
   -- ---- casts
 
@@ -69,13 +69,13 @@ module _ (p : Program) (home : ℕ → Option ℕ) (f : Function) (h : Here) (su
 
   -- ---- commas
 
-  -- the word that comes behind those so far
+  -- the word that comes after those so far
   abbrev Tail : Standing → Exps → List (Option core.Exp) → Position → Type 0
   Tail s es places at = Joined p home f h suits (last_standing h.known s es) (tail_of h es places at)
 
-  comma_tail : (s : Standing) (v : core.Exp) (es : Exps) (at : Position) → IsSoundExp p home f v → Tail s es [] at → stands (last_standing h.known s es) (held_value (with_tail v (tail_of h es [] at) at))
+  comma_tail : (s : Standing) (v : core.Exp) (es : Exps) (at : Position) → IsSoundExp p home f v → Tail s es [] at → stands (last_standing h.known s es) (denoted_value (with_tail v (tail_of h es [] at) at))
   comma_tail s v es at sound t =
-      subst (λ z. stands (last_standing h.known s es) (held_value (with_tail v z at))) (sym t.is)
+      subst (λ z. stands (last_standing h.known s es) (denoted_value (with_tail v z at))) (sym t.is)
       (comma_stands p home f h suits (last_standing h.known s es) v t.last at sound t.stands_last)
 
   -- ---- arguments
@@ -113,8 +113,8 @@ module _ (p : Program) (home : ℕ → Option ℕ) (f : Function) (h : Here) (su
         let gone = gone_stands p home f h suits e (word e) s none'.1 g.kind g.sound in
         let gone' = gone_stands p home f h suits x (word x) s' more.1 g'.kind g'.sound in
         comma_tail (let_go (standing h.known no_target e)) (word e) (and_exp x xs) (position_of at) g.sound
-        (tail_stands xs (behind (let_go (standing h.known no_target e)) (let_go (standing h.known no_target x))) (Some (word x) ∷ []) (position_of at)
-        (behind_stands p home f h suits (let_go (standing h.known no_target e)) (let_go (standing h.known no_target x)) (word e) (word x) gone gone') (g'.sound, tt) more.2 sites''.1 kept''.1)
+        (tail_stands xs (following (let_go (standing h.known no_target e)) (let_go (standing h.known no_target x))) (Some (word x) ∷ []) (position_of at)
+        (after_stands p home f h suits (let_go (standing h.known no_target e)) (let_go (standing h.known no_target x)) (word e) (word x) gone gone') (g'.sound, tt) more.2 sites''.1 kept''.1)
     exp_stands (assign a o b at) w none sites kept formed =
         let sa = standing h.known no_target a in
         let w' = assigned_target o sa in
@@ -122,7 +122,7 @@ module _ (p : Program) (home : ℕ → Option ℕ) (f : Function) (h : Here) (su
         let sites' = sites_apart p home f h (allocations h.known no_target a) (allocations h.known w' b) sites in
         let kept' = kept_apart h (addressed h.numbers a) (addressed h.numbers b) kept in
         let s = exp_stands a no_target none'.0 sites'.0 kept'.0 tt in
-        let s' = exp_stands b w' none'.1 sites'.1 kept'.1 (formed_assigned_target p home f structs o sa (held h no_target a) s) in
+        let s' = exp_stands b w' none'.1 sites'.1 kept'.1 (formed_assigned_target p home f structs o sa (denoted h no_target a) s) in
         assigns_stands p home f h suits a o (part h w' b) at (position_of at) s (gives_here w' b s') none'.2
     exp_stands (conditional a b c at) w none sites kept formed =
         let none' = append_nil₄ (faults h.known no_target a) (faults h.known no_target b) (faults h.known no_target c) (mismatch (not (condition_takes (operand_of (standing h.known no_target a)) (operand_of (standing h.known no_target b)) (operand_of (standing h.known no_target c)))) at) none in
@@ -131,7 +131,7 @@ module _ (p : Program) (home : ℕ → Option ℕ) (f : Function) (h : Here) (su
         let s = exp_stands a no_target none'.0 sites'.0 kept'.0 tt in
         let s' = exp_stands b no_target none'.1 sites'.1 kept'.1 tt in
         let s'' = exp_stands c no_target none'.2 sites'.2 kept'.2 tt in
-        folded_here p home f h suits w (conditional a b c at) (held_value (conditional_in (part h no_target a) (part h no_target b) (part h no_target c) (position_of at))) (position_of at) tt
+        folded_here p home f h suits w (conditional a b c at) (denoted_value (conditional_in (part h no_target a) (part h no_target b) (part h no_target c) (position_of at))) (position_of at) tt
         (conditional_stands p home f structs (part h no_target a) (part h no_target b) (part h no_target c) (position_of at) (gives_here no_target a s) (gives_here no_target b s') (gives_here no_target c s'')
         (keeps (condition_takes (operand_of (standing h.known no_target a)) (operand_of (standing h.known no_target b)) (operand_of (standing h.known no_target c))) fault.TypeMismatch at none'.3))
     exp_stands (binary a o b at) w none sites kept formed =
@@ -140,7 +140,7 @@ module _ (p : Program) (home : ℕ → Option ℕ) (f : Function) (h : Here) (su
         let kept' = kept_apart h (addressed h.numbers a) (addressed h.numbers b) kept in
         let s = exp_stands a no_target none'.0 sites'.0 kept'.0 tt in
         let s' = exp_stands b no_target none'.1 sites'.1 kept'.1 tt in
-        folded_here p home f h suits w (binary a o b at) (held_value (binary_in h.source o (part h no_target a) (part h no_target b) (position_of at))) (position_of at) tt
+        folded_here p home f h suits w (binary a o b at) (denoted_value (binary_in h.source o (part h no_target a) (part h no_target b) (position_of at))) (position_of at) tt
         (binary_stands p home f structs h.source suits.sizes o (part h no_target a) (part h no_target b) (position_of at) (gives_here no_target a s) (gives_here no_target b s')
         (keeps (takes o (operand_of (standing h.known no_target a)) (operand_of (standing h.known no_target b))) fault.TypeMismatch at none'.2))
     exp_stands (prefix o a at) w none sites kept formed =
@@ -154,13 +154,13 @@ module _ (p : Program) (home : ℕ → Option ℕ) (f : Function) (h : Here) (su
         let s = exp_stands a no_target none'.0 sites kept tt in
         sized_stands p home f h suits w a at s (keeps (is_sized h.known (standing h.known no_target a)) fault.TypeMismatch at none'.1)
     exp_stands (sizeof_type t at) w none sites kept formed =
-        value_stands p home f structs true _ (standing h.known w (sizeof_type t at)) (held_zero (position_of at)) (position_of at) refl (sized_type h.known t at none)
+        value_stands p home f structs true _ (standing h.known w (sizeof_type t at)) (denoted_zero (position_of at)) (position_of at) refl (sized_type h.known t at none)
     exp_stands (cast t a at) w none sites kept formed =
         let w' = cast_target (type_named h.known t) t.stars in
         let none' = append_nil (faults h.known w' a) (cast_faults h.known t (operand_of (standing h.known w' a)) at) none in
         let known = known_type t (cast_specifier t (operand_of (standing h.known w' a)) at none'.1) in
         let s = exp_stands a w' none'.0 sites kept (formed_cast_target structs (type_named h.known t) t.stars known) in
-        folded_here p home f h suits w (cast t a at) (held_value (cast_in (is_pointer_type (type_named h.known t)) (part h w' a) (position_of at))) (position_of at) tt
+        folded_here p home f h suits w (cast t a at) (denoted_value (cast_in (is_pointer_type (type_named h.known t)) (part h w' a) (position_of at))) (position_of at) tt
         (casts_stand p home f h suits (type_named h.known t) t.stars (part h w' a) (position_of at) known (gives_here w' a s) (cast_apart t (operand_of (standing h.known w' a)) at none'.1))
     exp_stands (index a b at) w none sites kept formed =
         let none' = append_nil₃ (faults h.known no_target a) (faults h.known no_target b) (mismatch (not (can_index (operand_of (standing h.known no_target a)) (operand_of (standing h.known no_target b)))) at) none in
@@ -174,7 +174,7 @@ module _ (p : Program) (home : ℕ → Option ℕ) (f : Function) (h : Here) (su
         let sa = standing h.known no_target a in
         let none' = append_nil (faults h.known no_target a) (member_faults h.known (operand_of sa) (struct_of sa) name at) none in
         let s = exp_stands a no_target none'.0 sites kept tt in
-        member_stands p home f structs h.known suits.members sa (held h no_target a) name at (offset_in h.source (struct_of sa) name.text) (position_of at) s none'.1
+        member_stands p home f structs h.known suits.members sa (denoted h no_target a) name at (offset_in h.source (struct_of sa) name.text) (position_of at) s none'.1
     exp_stands (arrow a name at) w none sites kept formed =
         let sa = standing h.known no_target a in
         let none' = append_nil (faults h.known no_target a) (member_faults h.known (operand_of sa) (pointed_struct (operand_of sa)) name at) none in
@@ -200,7 +200,7 @@ module _ (p : Program) (home : ℕ → Option ℕ) (f : Function) (h : Here) (su
     exp_stands (null at) w none sites kept formed = (refl, tt)
     exp_stands (paren a at) w none sites kept formed = exp_stands a w none sites kept formed
 
-    -- the expressions behind a comma
+    -- the expressions after a comma
     tail_stands : (es : Exps) (s : Standing) (places : List (Option core.Exp)) (at : Position) → LastStands p home f h suits (as_value s) places → AllSound p home f h suits places → rest_faults h.known es ≡ [] → HaveSites p home f h (places_of (all_allocations h.known es)) → AreKept h (all_addressed h.numbers es) → Tail s es places at
     tail_stands no_exp s places at last sound none sites kept = joined_stands p home f h suits (as_value s) places at sound last
     tail_stands (and_exp x xs) s places at last sound none sites kept =
@@ -210,8 +210,8 @@ module _ (p : Program) (home : ℕ → Option ℕ) (f : Function) (h : Here) (su
         let s' = exp_stands x no_target more.0 sites'.0 kept'.0 tt in
         let g = gives_here no_target x s' in
         let gone = gone_stands p home f h suits x (word x) s' more.1 g.kind g.sound in
-        let next = behind s (let_go (standing h.known no_target x)) in
-        let stands_next = behind_last p home f h suits s (let_go (standing h.known no_target x)) places (word x) last gone in
+        let next = following s (let_go (standing h.known no_target x)) in
+        let stands_next = after_last p home f h suits s (let_go (standing h.known no_target x)) places (word x) last gone in
         tail_stands xs next (with_last (word x) places at) at (with_last_stands p home f h suits (as_value next) (word x) places at stands_next sound)
         (with_last_sound p home f h suits (word x) places at g.sound sound) more.2 sites'.1 kept'.1
 

@@ -15,9 +15,9 @@ use Rattle.c_types.specs.Standing.{is_main as is_main_name}
 use Rattle.c_programs.specs.Declarators.{listed_params}
 use Rattle.c_programs.specs.Programs.{signature_of, after_function, after_outer}
 use Rattle.c_sites.specs.Addresses.{count_of_outer, code_addressed, outer_addressed, outers_addressed}
-use Rattle.c_sites.specs.Spots.{in_function, code_spots, outer_spots, outers_spots, known_behind}
+use Rattle.c_sites.specs.Spots.{in_function, code_spots, outer_spots, outers_spots, known_after}
 use Rattle.c_core.specs.Core.{Program}
-use Rattle.c_values.specs.Here.{Source, global_named, function_counted}
+use Rattle.c_values.specs.Context.{Source, global_named, function_counted}
 use Rattle.c_values.specs.Calls.{gives_pointer}
 use Rattle.c_elaborate.specs.Whole.{code_functions, outer_functions, outers_functions}
 use Rattle.c_core.specs.Sound.{IsAddress, IsCallable, IsSoundFunction}
@@ -38,8 +38,8 @@ use Rattle.source_sound.proofs.Among.{AreAmong, among_parts}
 module _ (p : Program) (home : ℕ → Option ℕ) (s : Source) (n : ℕ) (whole : IsWhole s n) (many : length s.whole.structs ≡ n)
     (good : (name : Text) → is_some (entry_of s.globals name) ≡ true → IsAddress p home (global_named s name)) (ns : List ℕ) (final : Known)
     (names : final.defined ≡ names_of p.functions) (of_file : AllAre (λ f. IsOfFile n final f) p.functions) (sites : s.sites ≡ p.sites) (definitions : DefinitionsAreSound p home n s) where
-  abbrev Here' : Known → Scope → ℕ → List Outer → Type 0
-  Here' known scope m os = From s n whole (IsAddress p home) good ns known scope m os
+  abbrev Context' : Known → Scope → ℕ → List Outer → Type 0
+  Context' known scope m os = From s n whole (IsAddress p home) good ns known scope m os
 
   same_function : (f g : Signature) → ◌≡◌ {A = Option Meaning} (Some (function_of f)) (Some (function_of g)) → f ≡ g
   same_function f g e = inside (same_Some (function_of f) (function_of g) e)
@@ -97,7 +97,7 @@ module _ (p : Program) (home : ℕ → Option ℕ) (s : Source) (n : ℕ) (whole
       let after = after_function known name f (defined parts at) in
       (definitions ns after (with_name scope name.text (function_of f)) m name f.result (listed_params ps) parts (begins after (with_name scope name.text (function_of f)) place grown) (given f.result is.signature.1) is.params is.body marks spots, tt)
 
-  outer_sound : (known : Known) (scope : Scope) (m : ℕ) (o : Outer) (os : List Outer) → Here' known scope m (o ∷ os) → OneOn s n whole (IsAddress p home) good ns known scope m o os → Grows (after_outer known o) final → AreAmong ns (outer_addressed m o) → HaveSpots p s.sites (outer_spots ns known m o) →
+  outer_sound : (known : Known) (scope : Scope) (m : ℕ) (o : Outer) (os : List Outer) → Context' known scope m (o ∷ os) → OneOn s n whole (IsAddress p home) good ns known scope m o os → Grows (after_outer known o) final → AreAmong ns (outer_addressed m o) → HaveSpots p s.sites (outer_spots ns known m o) →
       AllAre (λ f. IsSoundFunction p home f) (outer_functions s ns known m o)
   outer_sound known scope m (structure name fs) os h one grown marks spots = tt
   outer_sound known scope m (function is_static sp stars name ps code) os h one grown marks spots =
@@ -107,7 +107,7 @@ module _ (p : Program) (home : ℕ → Option ℕ) (s : Source) (n : ℕ) (whole
       code_sound known scope m sp stars name ps code place grown is marks spots
   outer_sound known scope m (objects is_static sp xs at) os h one grown marks spots = tt
 
-  pub all_sound : (known : Known) (scope : Scope) (m : ℕ) (os : List Outer) → Here' known scope m os → final ≡ known_behind known os → AreAmong ns (outers_addressed m os) → HaveSpots p s.sites (outers_spots ns known m os) →
+  pub all_sound : (known : Known) (scope : Scope) (m : ℕ) (os : List Outer) → Context' known scope m os → final ≡ known_after known os → AreAmong ns (outers_addressed m os) → HaveSpots p s.sites (outers_spots ns known m os) →
       AllAre (λ f. IsSoundFunction p home f) (outers_functions s ns known m os)
   all_sound known scope m [] h end marks spots = tt
   all_sound known scope m (o ∷ os) h end marks spots =

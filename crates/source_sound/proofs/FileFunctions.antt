@@ -24,11 +24,11 @@ use Rattle.c_programs.specs.Declarators.{is_struct_defined, with_fields, struct_
 use Rattle.c_programs.specs.Statements.{declared_by, after_declared, after_objects}
 use Rattle.c_programs.specs.Programs.{signature_of, result_of, after_function, after_outer, again_faults, is_main_signature, int_result, agree, agree_on_result, agree_on_params, functions_with}
 use Rattle.c_sites.specs.Addresses.{count_of_outer}
-use Rattle.c_sites.specs.Spots.{known_behind}
+use Rattle.c_sites.specs.Spots.{known_after}
 use Rattle.c_core.specs.Core.{Function}
 use Rattle.c_core.specs.Meaning.{is_main}
 use Rattle.c_elaborate.specs.declared.local.Local.{Local}
-use Rattle.c_values.specs.Here.{Source, global_named}
+use Rattle.c_values.specs.Context.{Source, global_named}
 use Rattle.c_values.specs.Calls.{gives_pointer}
 use Rattle.c_elaborate.specs.Functions.{formal_at, formal_of, marked, local_pointers, definition}
 use Rattle.c_elaborate.specs.Functions.{parts_locals}
@@ -108,7 +108,7 @@ main_alone known sp stars ps false e h = absurd (true≢false (sym e))
 
 -- ---- each function
 
--- by its name behind the whole file
+-- by its name after the whole file
 pub record IsOfFile (n : ℕ) (final : Known) (f : Function) : Type 0 where
   pub signature : Signature
   pub means : found final f.name ≡ Some (function_of signature)
@@ -141,17 +141,17 @@ module _ (s : Source) (n : ℕ) (whole : IsWhole s n) (Good : ℕ → Type 0) (g
         tt,
       )
 
-  outer_of_file : (known : Known) (scope : Scope) (m : ℕ) (o : Outer) (os : List Outer) → From known scope m (o ∷ os) → OneOn s n whole Good good ns known scope m o os → AllAre (λ f. IsOfFile n (known_behind (after_outer known o) os) f) (outer_functions s ns known m o)
+  outer_of_file : (known : Known) (scope : Scope) (m : ℕ) (o : Outer) (os : List Outer) → From known scope m (o ∷ os) → OneOn s n whole Good good ns known scope m o os → AllAre (λ f. IsOfFile n (known_after (after_outer known o) os) f) (outer_functions s ns known m o)
   outer_of_file known scope m (structure name fs) os h one = tt
   outer_of_file known scope m (function is_static sp stars name ps code) os h one =
-      code_of_file known scope m sp stars name ps code (known_behind (after_outer known (function is_static sp stars name ps code)) os) (outers_grow (after_outer known (function is_static sp stars name ps code)) os) (function_is s n whole Good good ns known scope sp stars name ps code h.place one.own)
+      code_of_file known scope m sp stars name ps code (known_after (after_outer known (function is_static sp stars name ps code)) os) (outers_grow (after_outer known (function is_static sp stars name ps code)) os) (function_is s n whole Good good ns known scope sp stars name ps code h.place one.own)
   outer_of_file known scope m (objects is_static sp xs at) os h one = tt
 
-  pub all_of_file : (known : Known) (scope : Scope) (m : ℕ) (os : List Outer) → From known scope m os → AllAre (λ f. IsOfFile n (known_behind known os) f) (outers_functions s ns known m os)
+  pub all_of_file : (known : Known) (scope : Scope) (m : ℕ) (os : List Outer) → From known scope m os → AllAre (λ f. IsOfFile n (known_after known os) f) (outers_functions s ns known m os)
   all_of_file known scope m [] h = tt
   all_of_file known scope m (o ∷ os) h =
       let one = one_on s n whole Good good ns known scope m o os h in
-      all_are (λ f. IsOfFile n (known_behind (after_outer known o) os) f) (outer_functions s ns known m o) (outers_functions s ns (after_outer known o) (m + count_of_outer o) os)
+      all_are (λ f. IsOfFile n (known_after (after_outer known o) os) f) (outer_functions s ns known m o) (outers_functions s ns (after_outer known o) (m + count_of_outer o) os)
       (outer_of_file known scope m o os h one) (all_of_file (after_outer known o) one.goes.scope (m + count_of_outer o) os one.rest)
 
   -- ---- their names, in order
@@ -201,7 +201,7 @@ module _ (s : Source) (n : ℕ) (whole : IsWhole s n) (Good : ℕ → Type 0) (g
       by true is e = absurd (no_more_than (found known name.text) (found_has known known.begun name.text h is) e)
       by false is e = refl
 
-  -- behind a definition the names of those that have begun are there, with the new one last
+  -- after a definition the names of those that have begun are there, with the new one last
   record BegunOn (known : Known) (o : Outer) (os : List Outer) (names : List Text) : Type 0 where
     are : AreFound (after_outer known o) (after_outer known o).begun
     all : functions_with known.begun (o ∷ os) ≡ functions_with (after_outer known o).begun os

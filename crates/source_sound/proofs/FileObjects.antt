@@ -1,4 +1,4 @@
--- The globals of a file without a fault: their words, their cells, and what is known behind them.
+-- The globals of a file without a fault: their words, their cells, and what is known after them.
 use Rattle.std.proofs.Common.{◌≡◌, ℕ, zero, suc, ◌+◌, ◌≤◌, ◌<◌, min, Bool, true, false, nat_lt, List, [], ◌∷◌, ◌++◌, map, length, replicate, Option, Some, None, is_some, slice_get, unwrap_or, sym, ap, ap₂, ◌∙◌, subst, arith, length-append, append-nil}
 use Rattle.std.proofs.lemmas.Bool.Decides.{nat_tests}
 use Rattle.std.proofs.lemmas.List.{map-append}
@@ -19,7 +19,7 @@ use Rattle.c_types.specs.Found.{where_it_comes}
 use Rattle.c_types.specs.declared.fault.FaultKind.TheVariants as fault
 use Rattle.c_types.specs.Standing.{is_main}
 use Rattle.c_sites.specs.Spots.{types_of_members, layout_by, lengths_allocations, initial_allocations, file_level, declared_lengths, declared_spots, object_spots, objects_spots}
-use Rattle.c_values.specs.Here.{Source, global_named}
+use Rattle.c_values.specs.Context.{Source, global_named}
 use Rattle.c_elaborate.specs.Initials.{kinds_of_some}
 use Rattle.c_elaborate.specs.Globals.{object_words, objects_words, start_words}
 use Rattle.source_sound.proofs.FileLists.{append_nil, nil4, where_nil}
@@ -28,12 +28,12 @@ use Rattle.source_sound.proofs.DeclaredTypes.{IsDeclared, declared_known, declar
 use Rattle.source_sound.proofs.FileStructs.{kinds_known, small_enough, AreMembers, AreStructs, IsStruct, struct_is}
 use Rattle.source_sound.proofs.FileScope.{IsFile, file_variable, file_typed, file_declared}
 use Rattle.source_sound.proofs.Homes.{kinds_in, AreNamed, named_parts}
-use Rattle.source_sound.proofs.Held.{kinds_parts, others_kinds, lengths_others, initial_others}
+use Rattle.source_sound.proofs.Denoted.{kinds_parts, others_kinds, lengths_others, initial_others}
 use Rattle.source_sound.proofs.Words.{AreWords, zeros, words_parts, words_length, start_good}
 
 -- ---- the whole file
 
--- what is known behind the whole source
+-- what is known after the whole source
 pub record IsWhole (s : Source) (n : ℕ) : Type 0 where
   pub structs : AreStructs s.whole
   pub many : length s.whole.struct_names ≡ n
@@ -57,7 +57,7 @@ pub has_structs : (s : Source) (n : ℕ) (known : Known) (scope : Scope) → IsP
 has_structs s n known scope h = record { structs = h.structs; more = h.more; later = h.later }
 
 module _ (s : Source) (n : ℕ) (whole : IsWhole s n) where
-  -- a type that has a size has the cells that it has behind the whole file
+  -- a type that has a size has the cells that it has after the whole file
   kinds_split : (known : Known) (more : List Members) → s.whole.structs ≡ known.structs ++ more → (rest : List (List CellKind)) × (s.kinds ≡ kinds_known known ++ rest)
   kinds_split known more e =
       let cut : kinds_known s.whole ≡ struct_kinds (map types_of_members known.structs ++ map types_of_members more) = ap (λ z. struct_kinds (map types_of_members z)) e ∙ ap struct_kinds (map-append types_of_members known.structs more) in
@@ -127,7 +127,7 @@ module _ (s : Source) (n : ℕ) (whole : IsWhole s n) where
   pub object_kinds : (known : Known) (sp : Specifier) (d : Declared) (o : IsObjectType known sp d) → (layout_by s.kinds (declared_type known sp d)).kinds ≡ kinds_of_type s.kinds o.t
   object_kinds known sp d o = ap (λ z. (layout_by s.kinds z).kinds) o.is ∙ ap (λ l. l.kinds) (layout_is s.kinds o.t o.small o.whole_within o.few)
 
-  -- ---- known behind it
+  -- ---- known after it
 
   declared_place : (known : Known) (scope : Scope) (sp : Specifier) (d : Declared) → IsPlace s n known scope → declared_faults known true sp d ≡ [] → is_some (entry_of s.globals (declared_name d).text) ≡ true →
       IsPlace s n (after_declared known true sp d) (with_name scope (declared_name d).text (variable (declared_type known sp d)))
@@ -158,7 +158,7 @@ module _ (s : Source) (n : ℕ) (whole : IsWhole s n) where
     variables known scope h name None e = absurd (file_typed n (λ x. is_some (entry_of s.globals x) ≡ true) known scope h.file name e)
     variables known scope h name (Some t) e = let is = file_variable n (λ x. is_some (entry_of s.globals x) ≡ true) known scope h.file name t e in (is.2, good name is.3)
 
-    -- what holds behind a part of the file: the words fit the cells, and are counted
+    -- what holds after a part of the file: the words fit the cells, and are counted
     pub record GoesOn (known after : Known) (kinds : List CellKind) (words : List ℕ) : Type 0 where
       pub scope : Scope
       pub place : IsPlace s n after scope

@@ -1,4 +1,4 @@
--- The definitions of a file without a fault, one after another: what is known behind each, and the words of the globals.
+-- The definitions of a file without a fault, one after another: what is known after each, and the words of the globals.
 use Rattle.std.proofs.Common.{◌≡◌, ℕ, ◌+◌, ◌≤◌, true, List, [], ◌∷◌, ◌++◌, length, is_some, refl, sym, ap, ◌∙◌, subst, arith}
 use Rattle.rr_base.specs.declared.layout.CellKind.{CellKind}
 use Rattle.c_lexer.specs.Bytes.{Text}
@@ -12,15 +12,15 @@ use Rattle.c_types.specs.Scopes.{Known, Scope, Members, function_of, with_name}
 use Rattle.c_programs.specs.Declarators.{struct_faults, after_struct, listed_params}
 use Rattle.c_programs.specs.Programs.{signature_of, after_function, function_faults, outer_faults, after_outer, outers_faults}
 use Rattle.c_sites.specs.Addresses.{count_of_outer}
-use Rattle.c_sites.specs.Spots.{in_function, code_spots, fields_allocations, outer_spots, outers_spots, known_behind}
-use Rattle.c_values.specs.Here.{Source, global_named}
+use Rattle.c_sites.specs.Spots.{in_function, code_spots, fields_allocations, outer_spots, outers_spots, known_after}
+use Rattle.c_values.specs.Context.{Source, global_named}
 use Rattle.c_elaborate.specs.Whole.{outer_words, outers_words}
 use Rattle.source_sound.proofs.FileLists.{append_nil}
 use Rattle.source_sound.specs.Members.{HaveMembers, StructsHaveMembers}
 use Rattle.source_sound.proofs.FileStructs.{AreStructs, struct_known, struct_defined}
 use Rattle.source_sound.proofs.FileScope.{IsFile, IsFunction, file_function_after}
 use Rattle.source_sound.proofs.Homes.{kinds_in, AreNamed, named_parts}
-use Rattle.source_sound.proofs.Held.{kinds_parts, others_kinds, code_others, fields_others}
+use Rattle.source_sound.proofs.Denoted.{kinds_parts, others_kinds, code_others, fields_others}
 use Rattle.source_sound.proofs.Words.{AreWords}
 use Rattle.source_sound.proofs.FileObjects.{IsWhole, IsPlace, GoesOn, no_more, then_on, objects_on}
 use Rattle.source_sound.proofs.Grown.{outers_grow}
@@ -115,9 +115,9 @@ module _ (s : Source) (n : ℕ) (whole : IsWhole s n) (Good : ℕ → Type 0) (g
     pub members : StructsHaveMembers os
     pub faults : outers_faults known os ≡ []
     pub names : AreNamed s.kinds s.globals (outers_spots ns known m os)
-    pub behind : s.whole ≡ known_behind known os
+    pub following : s.whole ≡ known_after known os
 
-  -- behind the first of them
+  -- after the first of them
   pub record OneOn (known : Known) (scope : Scope) (m : ℕ) (o : Outer) (os : List Outer) : Type 0 where
     pub goes : Goes known (after_outer known o) (kinds_in s.kinds (outer_spots ns known m o)) (outer_words s known o)
     pub rest : AreSoundFrom (after_outer known o) goes.scope (m + count_of_outer o) os
@@ -129,14 +129,14 @@ module _ (s : Source) (n : ℕ) (whole : IsWhole s n) (Good : ℕ → Type 0) (g
       let parted = named_parts s.kinds s.globals (outer_spots ns known m o) (outers_spots ns (after_outer known o) (m + count_of_outer o) os) h.names in
       let some = members_first o os h.members in
       let grown = outers_grow (after_outer known o) os in
-      let goes = outer_on known scope m o h.place some.0 e.0 parted.0 grown.more (ap (λ k. k.structs) h.behind ∙ grown.structs) in
-      record { goes = goes; rest = record { place = goes.place; members = some.1; faults = e.1; names = parted.1; behind = h.behind }; own = e.0 }
+      let goes = outer_on known scope m o h.place some.0 e.0 parted.0 grown.more (ap (λ k. k.structs) h.following ∙ grown.structs) in
+      record { goes = goes; rest = record { place = goes.place; members = some.1; faults = e.1; names = parted.1; following = h.following }; own = e.0 }
 
-  pub words_on : (known : Known) (scope : Scope) (m : ℕ) (os : List Outer) → AreSoundFrom known scope m os → Goes known (known_behind known os) (kinds_in s.kinds (outers_spots ns known m os)) (outers_words s known os)
+  pub words_on : (known : Known) (scope : Scope) (m : ℕ) (os : List Outer) → AreSoundFrom known scope m os → Goes known (known_after known os) (kinds_in s.kinds (outers_spots ns known m os)) (outers_words s known os)
   words_on known scope m [] h = no_more s n whole Good good known scope h.place
   words_on known scope m (o ∷ os) h =
       let one = one_on known scope m o os h in
       let more = words_on (after_outer known o) one.goes.scope (m + count_of_outer o) os one.rest in
       let spots = outers_spots ns (after_outer known o) (m + count_of_outer o) os in
-      subst (λ ks. Goes known (known_behind (after_outer known o) os) ks (outer_words s known o ++ outers_words s (after_outer known o) os)) (sym (kinds_parts s.kinds (outer_spots ns known m o) spots))
-      (then_on s n whole Good good known (after_outer known o) (known_behind (after_outer known o) os) (kinds_in s.kinds (outer_spots ns known m o)) (kinds_in s.kinds spots) (outer_words s known o) (outers_words s (after_outer known o) os) one.goes more)
+      subst (λ ks. Goes known (known_after (after_outer known o) os) ks (outer_words s known o ++ outers_words s (after_outer known o) os)) (sym (kinds_parts s.kinds (outer_spots ns known m o) spots))
+      (then_on s n whole Good good known (after_outer known o) (known_after (after_outer known o) os) (kinds_in s.kinds (outer_spots ns known m o)) (kinds_in s.kinds spots) (outer_words s known o) (outers_words s (after_outer known o) os) one.goes more)

@@ -149,7 +149,7 @@ module _ (n : ℕ) (IsGlobal : Text → Type 0) where
   signature_known : (known inside : Known) (is_def : Bool) (s : Specifier) (stars : ℕ) (ps : Params) → inside.struct_names ≡ known.struct_names → specifier_faults known (stars == 0) s ≡ [] → cannot_give s stars ≡ false → params_faults inside is_def (listed_params ps) ≡ [] → length known.struct_names ≡ n → IsKnown n (signature_of known s stars ps)
   signature_known known inside is_def s stars ps names h give wants size = ((params_wanted known inside is_def (listed_params ps) names wants).0, subst (λ k. IsSomeResult k (result_of known s stars)) size (result_known known s stars h give))
 
-  -- the function that a name leads to behind its declaration takes and gives the same kinds
+  -- the function that a name leads to after its declaration takes and gives the same kinds
   abbrev pub LeadsTo : Scope → Text → Signature → Type 0
   LeadsTo scope name f = (g : Signature) × (entry_of scope name ≡ Some (function_of g)) × IsKnown n g × SameKinds g f
 

@@ -202,7 +202,7 @@ pub record AreStructs (known : Known) : Type 0 where
   pub sized : AreSized known (kinds_known known)
   pub members : AllMembers (length known.struct_names) 0 known.structs
 
--- what is known behind a struct
+-- what is known after a struct
 pub struct_defined : (known : Known) (name : Name) (fs : List Fields) → struct_faults known name fs ≡ [] → (is_struct_defined known name.text ≡ false) × (after_struct known name fs ≡ with_struct known (with_fields known [] fs) (struct_cells known fs))
 struct_defined known name fs h =
     let a = nil3 (where_it_comes (is_struct_defined known name.text) fault.DuplicateName (name_place name)) (fields_faults known [] fs) (size_faults (struct_cells known fs) name) h in

@@ -26,8 +26,8 @@ use Rattle.c_core.specs.Core.{Function, Program}
 use Rattle.c_core.specs.Meaning.{is_pointer}
 use Rattle.c_values.specs.declared.home.Home.{Home}
 use Rattle.c_values.specs.declared.home.Home.TheVariants as kept_in
-use Rattle.c_values.specs.Held.{position_of, is_pointing}
-use Rattle.c_values.specs.Here.{Here, home_numbered, home_of}
+use Rattle.c_values.specs.Denoted.{position_of, is_pointing}
+use Rattle.c_values.specs.Context.{Context, home_numbered, home_of}
 use Rattle.c_values.specs.Expressions.{is_pointer_type, wanted_of}
 use Rattle.c_elaborate.specs.Initials.{kinds_of_some, cell_stored, cell_cleared, cleared, type_of_part, started, parts_started, zero_word, first_word, first_of_braces, object_begun, begun}
 use Rattle.c_elaborate.specs.Functions.{local_of, declares_locals}
@@ -82,13 +82,13 @@ module _ (p : Program) (home : ℕ → Option ℕ) (f : Function) (structs : ℕ
 
   module _ (values : AreValuesSound p home f) (wanted : AreWantedSound p home f) where
     -- the word of one cell, whose type may not be known
-    word_sound : (h : Here) (t : Option ObjectType) (e : Exp) → Suits p home f h → Have p h.frame h.source.sites (addressed h.numbers e) (allocations h.known no_target e) → faults h.known no_target e ≡ []
+    word_sound : (h : Context) (t : Option ObjectType) (e : Exp) → Suits p home f h → Have p h.frame h.source.sites (addressed h.numbers e) (allocations h.known no_target e) → faults h.known no_target e ≡ []
         → starts_as t (operand_of (standing h.known no_target e)) ≡ true → IsSoundExp p home f (wanted_of h (is_pointer_type t) no_target e)
     word_sound h None e s have none fit = value_by_parts p home f values h e s have none
     word_sound h (Some t) e s have none fit = (wanted_by_parts p home f wanted h no_target t e s tt have none fit).1
 
     mutual
-      started_sound : (h : Here) (k : ℕ) (at : Position) (t : Option ObjectType) (offset : ℕ) (place : Position) (i : Init) → Suits p home f h → k < length f.objects
+      started_sound : (h : Context) (k : ℕ) (at : Position) (t : Option ObjectType) (offset : ℕ) (place : Position) (i : Init) → Suits p home f h → k < length f.objects
           → Have p h.frame h.source.sites (initial_addressed h.numbers i) (initial_allocations h.known no_target i) → initial_faults h.known false no_target t place i ≡ [] → AreAllSound (started h k at t offset i)
       started_sound h k at t offset place (value e) s lt have none =
           let parts = three_nil (faults h.known no_target e) (mismatch (not (starts_as t (operand_of (standing h.known no_target e)))) place) (where_global false (global_value_faults h.known t e)) none in
@@ -98,7 +98,7 @@ module _ (p : Program) (home : ℕ → Option ℕ) (f : Function) (structs : ℕ
       started_sound h k at t offset place (mutex_start end) s lt have none = tt
       started_sound h k at t offset place (cond_start end) s lt have none = tt
 
-      parts_started_sound : (h : Here) (k : ℕ) (at : Position) (t : Option ObjectType) (begin i offset : ℕ) (place : Position) (is : Inits) → Suits p home f h → k < length f.objects
+      parts_started_sound : (h : Context) (k : ℕ) (at : Position) (t : Option ObjectType) (begin i offset : ℕ) (place : Position) (is : Inits) → Suits p home f h → k < length f.objects
           → Have p h.frame h.source.sites (initials_addressed h.numbers is) (initials_allocations h.known is) → inits_faults h.known false t i place is ≡ [] → AreAllSound (parts_started h k at t begin i offset is)
       parts_started_sound h k at t begin i offset place no_init s lt have none = cleared_sound k at offset (drop (offset - begin) (kinds_of_some h.source t)) lt
       parts_started_sound h k at t begin i offset place (and_init x is) s lt have none =
@@ -119,7 +119,7 @@ module _ (p : Program) (home : ℕ → Option ℕ) (f : Function) (structs : ℕ
     zero_sound false at = (refl, tt)
 
     mutual
-      first_sound : (h : Here) (t : ObjectType) (w : Target) (at : Position) (place : Position) (i : Init) (s : Suits p home f h) → IsFormedTarget s.structs w → IsScalar t → Have p h.frame h.source.sites (initial_addressed h.numbers i) (initial_allocations h.known w i)
+      first_sound : (h : Context) (t : ObjectType) (w : Target) (at : Position) (place : Position) (i : Init) (s : Suits p home f h) → IsFormedTarget s.structs w → IsScalar t → Have p h.frame h.source.sites (initial_addressed h.numbers i) (initial_allocations h.known w i)
           → initial_faults h.known false w (Some t) place i ≡ [] → IsWord (is_pointing (type_operand t)) (first_word h (is_pointing (type_operand t)) w at i)
       first_sound h t w at place (value e) s formed scalar have none =
           let parts = three_nil (faults h.known w e) (mismatch (not (accepts t (operand_of (standing h.known w e)))) place) (where_global false (global_value_faults h.known (Some t) e)) none in
@@ -128,7 +128,7 @@ module _ (p : Program) (home : ℕ → Option ℕ) (f : Function) (structs : ℕ
       first_sound h t w at place (mutex_start end) s formed scalar have none = zero_sound (is_pointing (type_operand t)) at
       first_sound h t w at place (cond_start end) s formed scalar have none = zero_sound (is_pointing (type_operand t)) at
 
-      braces_sound : (h : Here) (t : ObjectType) (at : Position) (place : Position) (is : Inits) → Suits p home f h → IsScalar t → Have p h.frame h.source.sites (initials_addressed h.numbers is) (initials_allocations h.known is)
+      braces_sound : (h : Context) (t : ObjectType) (at : Position) (place : Position) (is : Inits) → Suits p home f h → IsScalar t → Have p h.frame h.source.sites (initials_addressed h.numbers is) (initials_allocations h.known is)
           → inits_faults h.known false (Some t) 0 place is ≡ [] → IsWord (is_pointing (type_operand t)) (first_of_braces h (is_pointing (type_operand t)) at is)
       braces_sound h t at place no_init s scalar have none = zero_sound (is_pointing (type_operand t)) at
       braces_sound h t at place (and_init x is) s scalar have none =
@@ -139,7 +139,7 @@ module _ (p : Program) (home : ℕ → Option ℕ) (f : Function) (structs : ℕ
 
     -- ---- either
 
-    object_begun_sound : (h : Here) (k : ℕ) (t : ObjectType) (at : Position) (place : Position) (i : Init) (s : Suits p home f h) → IsFormed s.structs t → k < length f.objects
+    object_begun_sound : (h : Context) (k : ℕ) (t : ObjectType) (at : Position) (place : Position) (i : Init) (s : Suits p home f h) → IsFormed s.structs t → k < length f.objects
         → Have p h.frame h.source.sites (initial_addressed h.numbers i) (initial_allocations h.known (value_target (Some t)) i) → start_faults h.known false (Some t) place i ≡ [] → AreAllSound (object_begun h k (Some t) i at)
     object_begun_sound h k t at place (value e) s formed lt have none =
         let w = value_target (Some t) in
@@ -150,7 +150,7 @@ module _ (p : Program) (home : ℕ → Option ℕ) (f : Function) (structs : ℕ
     object_begun_sound h k t at place (mutex_start end) s formed lt have none = tt
     object_begun_sound h k t at place (cond_start end) s formed lt have none = tt
 
-    begun_sound : (h : Here) (x : Home) (t : ObjectType) (at : Position) (place : Position) (i : Init) (s : Suits p home f h) → IsFormed s.structs t → HomeSuits p home f structs x t
+    begun_sound : (h : Context) (x : Home) (t : ObjectType) (at : Position) (place : Position) (i : Init) (s : Suits p home f h) → IsFormed s.structs t → HomeSuits p home f structs x t
         → Have p h.frame h.source.sites (initial_addressed h.numbers i) (initial_allocations h.known (value_target (Some t)) i) → start_faults h.known false (Some t) place i ≡ [] → AreAllSound (begun h (Some x) (Some t) i at)
     begun_sound h (kept_in.Register n) t at place i s formed suited have none =
         let word = first_sound h t (value_target (Some t)) at place i s (target_formed s.structs t formed) suited.1 have none in
@@ -159,7 +159,7 @@ module _ (p : Program) (home : ℕ → Option ℕ) (f : Function) (structs : ℕ
 
     -- ---- the objects of a declaration
 
-    begun_by : (h : Here) (o : Option Home) (q : Option ObjectType) (x : Home) (t : ObjectType) (at : Position) (place : Position) (i : Init) → o ≡ Some x → q ≡ Some t → (s : Suits p home f h) → IsFormed s.structs t → HomeSuits p home f structs x t
+    begun_by : (h : Context) (o : Option Home) (q : Option ObjectType) (x : Home) (t : ObjectType) (at : Position) (place : Position) (i : Init) → o ≡ Some x → q ≡ Some t → (s : Suits p home f h) → IsFormed s.structs t → HomeSuits p home f structs x t
         → Have p h.frame h.source.sites (initial_addressed h.numbers i) (initial_allocations h.known (value_target q) i) → start_faults h.known false q place i ≡ [] → AreAllSound (begun h o q i at)
     begun_by h o q x t at place i is typed s formed suited have none =
         let have' = subst (λ z. Have p h.frame h.source.sites (initial_addressed h.numbers i) (initial_allocations h.known (value_target z) i)) typed have in
@@ -168,7 +168,7 @@ module _ (p : Program) (home : ℕ → Option ℕ) (f : Function) (structs : ℕ
         subst (λ z. AreAllSound (begun h z q i at)) (sym is) (subst (λ z. AreAllSound (begun h (Some x) z i at)) (sym typed) one)
 
     module _ (name : Text) (ns : List ℕ) where
-      object_sound : (h : Here) (n : ℕ) (s : Specifier) (o : Object) → Inside p home f structs h → HomeFits f.pointers (length f.objects) (home_numbered h.frame (Some h.numbers.next)) (local_of s o)
+      object_sound : (h : Context) (n : ℕ) (s : Specifier) (o : Object) → Inside p home f structs h → HomeFits f.pointers (length f.objects) (home_numbered h.frame (Some h.numbers.next)) (local_of s o)
           → Have p h.frame h.source.sites (object_addressed h.numbers o) (object_spots (in_function name ns) h.known n s o) → object_faults h.known false s o ≡ [] → AreAllSound (object_elaborated h s o)
       object_sound h n s (plain d) i fit have none = tt
       object_sound h n s (initialised d x at) i fit have none =
@@ -178,7 +178,7 @@ module _ (p : Program) (home : ℕ → Option ℕ) (f : Function) (structs : ℕ
           begun_by (here_after_object h s d) (home_of (here_after_object h s d) (declared_name d).text) (declared_type h.known s d) now.1.2 now.1.0 (position_of at) at x now.1.3 now.1.1
           (suits p home f structs (here_after_object h s d) now.0) (formed_there p home f structs (here_after_object h s d) now.0 now.1.0 now.1.5) now.1.4 two.1 parts.1
 
-      pub objects_sound : (h : Here) (n : ℕ) (s : Specifier) (os : List Object) → Inside p home f structs h → AreHome f.pointers (length f.objects) h.frame h.numbers.next (map (local_of s) os)
+      pub objects_sound : (h : Context) (n : ℕ) (s : Specifier) (os : List Object) → Inside p home f structs h → AreHome f.pointers (length f.objects) h.frame h.numbers.next (map (local_of s) os)
           → Have p h.frame h.source.sites (objects_addressed h.numbers os) (objects_spots (in_function name ns) h.known n s os) → objects_faults h.known false s os ≡ [] → AreAllSound (objects_elaborated h s os)
       objects_sound h n s [] i come have none = tt
       objects_sound h n s (o ∷ os) i come have none =
@@ -189,6 +189,6 @@ module _ (p : Program) (home : ℕ → Option ℕ) (f : Function) (structs : ℕ
           (object_sound h n s o i come.0 two.0 parts.0)
           (objects_sound (here_after_object h s (declared_by o)) (n + 1) s os now.0 (home_after_object p home f structs h s o (map (local_of s) os) come) two.1 parts.1)
 
-      pub declares_sound : (h : Here) (n : ℕ) (d : Declares) → Inside p home f structs h → AreHome f.pointers (length f.objects) h.frame h.numbers.next (declares_locals d)
+      pub declares_sound : (h : Context) (n : ℕ) (d : Declares) → Inside p home f structs h → AreHome f.pointers (length f.objects) h.frame h.numbers.next (declares_locals d)
           → Have p h.frame h.source.sites (declares_addressed h.numbers d) (declares_spots (in_function name ns) h.known n d) → declares_faults h.known d ≡ [] → AreAllSound (declares_elaborated h d)
       declares_sound h n (declares s os at) i come have none = objects_sound h n s os i come have none

@@ -21,7 +21,7 @@ use Rattle.c_types.specs.Standing.{Target, no_target, cast_target, made_int, pre
 use Rattle.rr_base.specs.declared.position.Position.{Position}
 use Rattle.c_core.specs.Core as core
 use Rattle.c_core.specs.Core.{Function, Program}
-use Rattle.c_values.specs.Held.{Held, held_value}
+use Rattle.c_values.specs.Denoted.{Denoted, denoted_value}
 use Rattle.c_values.specs.Expressions.{constant_by}
 use Rattle.source_sound.proofs.Apart.{never, both}
 use Rattle.source_sound.proofs.Standings.{Stands}
@@ -213,11 +213,11 @@ module _ (known : Known) (own : (name : Text) (m : Meaning) → seen known name 
 
 module _ (p : Program) (home : ℕ → Option ℕ) (f : Function) (structs : ℕ) where
   -- its value, if it has one
-  pub value_stands : (b : Bool) (n : ℤ) (s : Standing) (x : Held) (at : Position) → b ≡ true → s ≡ int_value → Stands p home f structs s (constant_by b (Ok n) at x)
-  value_stands true n s x at e is = subst (λ z. Stands p home f structs z (held_value (core.number n at))) (sym is) (tt, refl, tt)
+  pub value_stands : (b : Bool) (n : ℤ) (s : Standing) (x : Denoted) (at : Position) → b ≡ true → s ≡ int_value → Stands p home f structs s (constant_by b (Ok n) at x)
+  value_stands true n s x at e is = subst (λ z. Stands p home f structs z (denoted_value (core.number n at))) (sym is) (tt, refl, tt)
   value_stands false n s x at e is = never e
 
-  pub folded_stands : (b : Bool) (c : Computed) (s : Standing) (x : Held) (at : Position) → (b ≡ true → s ≡ int_value) → Stands p home f structs s x → Stands p home f structs s (constant_by b c at x)
-  folded_stands true (Ok n) s x at is h = subst (λ z. Stands p home f structs z (held_value (core.number n at))) (sym (is refl)) (tt, refl, tt)
+  pub folded_stands : (b : Bool) (c : Computed) (s : Standing) (x : Denoted) (at : Position) → (b ≡ true → s ≡ int_value) → Stands p home f structs s x → Stands p home f structs s (constant_by b c at x)
+  folded_stands true (Ok n) s x at is h = subst (λ z. Stands p home f structs z (denoted_value (core.number n at))) (sym (is refl)) (tt, refl, tt)
   folded_stands true (Err t) s x at is h = h
   folded_stands false c s x at is h = h

@@ -17,7 +17,7 @@ use Rattle.c_sites.specs.Spots.{in_function, formals_spots, parts_spots, definit
 use Rattle.c_core.specs.Core as core
 use Rattle.c_core.specs.Core.{Function, Program, Arrival}
 use Rattle.c_elaborate.specs.declared.local.Local.{Local}
-use Rattle.c_values.specs.Here.{Source, Frame, here_in, home_numbered, site_at}
+use Rattle.c_values.specs.Context.{Source, Frame, context_in, home_numbered, site_at}
 use Rattle.c_elaborate.specs.Functions.{formal_of, parts_locals, marked, one_if, kept_count, local_pointers, pointers_of, sites_of, arrivals_of, frame_of, definition}
 use Rattle.c_core.specs.Sound.{HasSite, IsSoundArrival, IsSoundStatement, IsSoundFunction}
 use Rattle.source_sound.proofs.Among.{AreAmong}
@@ -115,7 +115,7 @@ module _ (p : Program) (home : ℕ → Option ℕ) (structs : ℕ) (s : Source) 
   abbrev numbers_here : Numbered
   numbers_here = record { next = n; scopes = [] ∷ [] }
 
-  -- the formals and locals are marked by their numbers, one behind another
+  -- the formals and locals are marked by their numbers, one after another
   marked_here : marked ns n (map formal_of qs ++ parts_locals body) ≡ formals_here ++ locals_here
   marked_here =
       let count : length (map formal_of qs) ≡ length qs = length-map qs formal_of in
@@ -148,10 +148,10 @@ module _ (p : Program) (home : ℕ → Option ℕ) (structs : ℕ) (s : Source) 
       → AreAmong ns (parts_addressed (numbered_from n qs) body) → HaveSpots p s.sites (parts_spots (in_function name.text ns) (after_params (opened known) qs) (n + length qs) body)
       → IsSoundStatement p home function_here function_here.body
   body_here values wanted file no_params none among spots =
-      let start : Inside p home function_here structs (here_in s frame_here (opened known) numbers_here) =
+      let start : Inside p home function_here structs (context_in s frame_here (opened known) numbers_here) =
       record { sizes = file.sizes; members = file.members; struct_names = file.struct_names; scopes = (tt, file.names); is_open = tt; gives = refl } in
-      let inside = formals_inside p home function_here structs (here_in s frame_here (opened known) numbers_here) qs start formals_home no_params in
-      parts_sound p home function_here structs values wanted result refl name.text ns (here_in s frame_here (after_params (opened known) qs) (numbered_from n qs)) false body inside locals_home (n + length qs) (kept_here among, spots) none
+      let inside = formals_inside p home function_here structs (context_in s frame_here (opened known) numbers_here) qs start formals_home no_params in
+      parts_sound p home function_here structs values wanted result refl name.text ns (context_in s frame_here (after_params (opened known) qs) (numbered_from n qs)) false body inside locals_home (n + length qs) (kept_here among, spots) none
 
   objects_here : params_faults (opened known) true qs ≡ [] → HaveSpots p s.sites (formals_spots (in_function name.text ns) (opened known) n qs)
       → HaveSpots p s.sites (parts_spots (in_function name.text ns) (after_params (opened known) qs) (n + length qs) body) → Each (HasSite p) (sites_of s.sites (formals_here ++ locals_here))

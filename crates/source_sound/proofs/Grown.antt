@@ -10,7 +10,7 @@ use Rattle.c_types.specs.Scopes.{Known, Scope, Members, Meaning, variable, funct
 use Rattle.c_programs.specs.Declarators.{with_fields, struct_cells, is_struct_defined, after_struct, declared_type, declared_name}
 use Rattle.c_programs.specs.Statements.{declared_by, after_declared, after_objects}
 use Rattle.c_programs.specs.Programs.{signature_of, after_function, after_outer}
-use Rattle.c_sites.specs.Spots.{known_behind}
+use Rattle.c_sites.specs.Spots.{known_after}
 use Rattle.source_sound.proofs.FileScope.{entry_kept}
 
 -- what a name of the file means
@@ -66,6 +66,6 @@ outer_grows known (structure name fs) = struct_grows known name fs
 outer_grows known (function is_static s stars name ps code) = function_grows known name (signature_of known s stars ps) code
 outer_grows known (objects is_static s os at) = objects_grow known s os
 
-pub outers_grow : (known : Known) (os : List Outer) → Grows known (known_behind known os)
+pub outers_grow : (known : Known) (os : List Outer) → Grows known (known_after known os)
 outers_grow known [] = same_grows known
-outers_grow known (o ∷ os) = grows_on known (after_outer known o) (known_behind (after_outer known o) os) (outer_grows known o) (outers_grow (after_outer known o) os)
+outers_grow known (o ∷ os) = grows_on known (after_outer known o) (known_after (after_outer known o) os) (outer_grows known o) (outers_grow (after_outer known o) os)

@@ -1,4 +1,4 @@
--- Where the global objects lie: one behind another, each with the kinds of its layout, and each name leads to its pointer.
+-- Where the global objects lie: one after another, each with the kinds of its layout, and each name leads to its pointer.
 use Rattle.std.proofs.Common.{◌≡◌, ℕ, zero, suc, ◌+◌, ◌<◌, ◌≤◌, Bool, true, false, ◌==◌, if◌then◌else◌, List, [], ◌∷◌, ◌++◌, map, length, Option, Some, None, is_some, slice_get, slice_index_or, ◌⊎◌, inl, inr, refl, sym, ap, ◌∙◌, subst, arith, true≢false, length-append}
 use Rattle.std.proofs.lemmas.Bool.Decides.{nat_tests}
 use Rattle.std.proofs.lemmas.Option.{same_Some, none-some}
@@ -11,16 +11,16 @@ use Rattle.c_lexer.specs.Bytes.{Text}
 use Rattle.c_lexer.specs.Names.{entry_of}
 use Rattle.c_types.specs.Scopes.{with_name}
 use Rattle.c_sites.specs.Spots.{Holder, a_global, a_local, an_allocation, Spot, site_of, layout_by}
-use Rattle.c_values.specs.Here.{pointer_or_null}
+use Rattle.c_values.specs.Context.{pointer_or_null}
 use Rattle.c_elaborate.specs.Globals.{with_global, holder_cells, globals_after, holder_kinds, global_kinds, holder_base, global_bases}
 use Rattle.source_sound.proofs.FileLists.{text_same}
 use Rattle.source_sound.proofs.FileScope.{AllOf, all_with, found_entry, entry_kept, entry_new}
 use Rattle.source_sound.proofs.Structs.{layout_length}
 
 -- what lies before the n-th
-got_behind : {A : Type 0} (xs ys : List A) (i : ℕ) → slice_get (xs ++ ys) (length xs + i) ≡ slice_get ys i
-got_behind [] ys i = let e : 0 + i ≡ i = omega arith in ap (λ k. slice_get ys k) e
-got_behind (x ∷ xs) ys i = let e : suc (length xs) + i ≡ suc (length xs + i) = omega arith in ap (λ k. slice_get (x ∷ xs ++ ys) k) e ∙ got_behind xs ys i
+got_after : {A : Type 0} (xs ys : List A) (i : ℕ) → slice_get (xs ++ ys) (length xs + i) ≡ slice_get ys i
+got_after [] ys i = let e : 0 + i ≡ i = omega arith in ap (λ k. slice_get ys k) e
+got_after (x ∷ xs) ys i = let e : suc (length xs) + i ≡ suc (length xs + i) = omega arith in ap (λ k. slice_get (x ∷ xs ++ ys) k) e ∙ got_after xs ys i
 
 got_in_front : {A : Type 0} (xs ys : List A) (i : ℕ) (x : A) → slice_get xs i ≡ Some x → slice_get (xs ++ ys) i ≡ Some x
 got_in_front [] ys i x e = absurd (none-some x e)
@@ -102,7 +102,7 @@ module _ (ks : List (List CellKind)) where
         offset = cells + h.offset;
         place = omega (arith, place);
         within = omega (arith, all, long, within);
-        kinds_are = λ i cell got. let z : cells + h.offset + i ≡ length own + (h.offset + i) = omega (arith, long) in ap (λ j. slice_get (own ++ rest) j) z ∙ got_behind own rest (h.offset + i) ∙ h.kinds_are i cell got;
+        kinds_are = λ i cell got. let z : cells + h.offset + i ≡ length own + (h.offset + i) = omega (arith, long) in ap (λ j. slice_get (own ++ rest) j) z ∙ got_after own rest (h.offset + i) ∙ h.kinds_are i cell got;
       }
 
   pub home_found : (k base : ℕ) (xs : List Spot) (s b : ℕ) → home_from k base xs s ≡ Some b → IsHome k base xs (kinds_in xs) s b

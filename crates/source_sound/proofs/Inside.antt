@@ -14,13 +14,13 @@ use Rattle.rr_base.specs.declared.position.Position.{Position}
 use Rattle.c_core.specs.Core.{Function, Program}
 use Rattle.c_values.specs.declared.home.Home.{Home}
 use Rattle.c_values.specs.declared.home.Home.TheVariants as kept_in
-use Rattle.c_values.specs.Here.{Source, Frame, Here, home_numbered, global_named, function_counted}
+use Rattle.c_values.specs.Context.{Source, Frame, Context, home_numbered, global_named, function_counted}
 use Rattle.c_values.specs.Calls.{gives_pointer}
-use Rattle.c_values.specs.Expressions.{held_in, variable_held}
+use Rattle.c_values.specs.Expressions.{denoted_in, variable_denoted}
 use Rattle.c_core.specs.Sound.{IsCallable, IsAddress}
 use Rattle.std.proofs.lemmas.Option.{same_Some}
 use Rattle.std.proofs.lemmas.Slice.Eq.{bytes_eq-Decides}
-use Rattle.source_sound.proofs.Environment.{IsFormed, IsFormedResult, HeldFits, AreFitting, wanted_kinds, CallSuits, Suits}
+use Rattle.source_sound.proofs.Environment.{IsFormed, IsFormedResult, DenotedFits, AreFitting, wanted_kinds, CallSuits, Suits}
 use Rattle.source_sound.proofs.Typed.{struct_below}
 
 abbrev pub IsOpen : List (List (Text × ℕ)) → Type 0
@@ -35,7 +35,7 @@ HoldsNoStruct (kept_in.Object k) t = Unit {0}
 module _ (p : Program) (home : ℕ → Option ℕ) (f : Function) (structs : ℕ) where
   -- the number leads to a register or an object that fits the type
   abbrev pub AtHome : Frame → ObjectType → ℕ → Type 0
-  AtHome frame t n = (x : Home) × (home_numbered frame (Some n) ≡ Some x) × ((at : Position) → HeldFits p home f (a_place t) (held_in x at)) × HoldsNoStruct x t
+  AtHome frame t n = (x : Home) × (home_numbered frame (Some n) ≡ Some x) × ((at : Position) → DenotedFits p home f (a_place t) (denoted_in x at)) × HoldsNoStruct x t
 
   -- what a function's own name means, and its number
   abbrev pub EntryFits : Frame → Text → Meaning → ℕ → Type 0
@@ -75,7 +75,7 @@ module _ (p : Program) (home : ℕ → Option ℕ) (f : Function) (structs : ℕ
   ScopesFit source frame defined (x ∷ xs) [] = ⊥
   ScopesFit source frame defined (x ∷ xs) (s ∷ ss) = ScopeFits frame s x × ScopesFit source frame defined xs ss
 
-  pub record Inside (h : Here) : Type 0 where
+  pub record Inside (h : Context) : Type 0 where
     -- the structs of the file
     pub sizes : (t : ObjectType) → IsFormed structs t → 1 ≤ cells_of_type h.source.whole t
     pub members : (k : ℕ) (name : Text) (m : Option ObjectType) → member_of h.known k name ≡ Some m → (t : ObjectType) × (m ≡ Some t) × IsFormed structs t
@@ -86,7 +86,7 @@ module _ (p : Program) (home : ℕ → Option ℕ) (f : Function) (structs : ℕ
     pub gives : h.frame.gives_pointer ≡ f.gives_pointer
 
   -- with other scopes that fit
-  pub moved : (h : Here) (ss : List Scope) (ns : Numbered) → Inside h → ScopesFit h.source h.frame h.known.defined ns.scopes ss → IsOpen ns.scopes
+  pub moved : (h : Context) (ss : List Scope) (ns : Numbered) → Inside h → ScopesFit h.source h.frame h.known.defined ns.scopes ss → IsOpen ns.scopes
       → Inside (record h { known = record h.known { scopes = ss }; numbers = ns })
   moved h ss ns i fit open_one = record { sizes = i.sizes; members = i.members; struct_names = i.struct_names; scopes = fit; is_open = open_one; gives = i.gives }
 
@@ -156,12 +156,12 @@ module _ (p : Program) (home : ℕ → Option ℕ) (f : Function) (structs : ℕ
   seen_own source frame defined name (function_of g) None fit = fit.0
   seen_own source frame defined name (function_of g) (Some n) fit = absurd fit
 
-  seen_held : (h : Here) (name : Text) (t : ObjectType) (at : Position) (q : Option ℕ) → SeenFits h.source h.frame h.known.defined name (Some (variable (Some t))) q
-      → HeldFits p home f (a_place t) (variable_held h name (home_numbered h.frame q) at)
-  seen_held h name t at None fit = (tt, refl, fit.2)
-  seen_held h name t at (Some n) fit = subst (λ o. HeldFits p home f (a_place t) (variable_held h name o at)) (sym fit.2.1) (fit.2.2 at)
+  seen_denoted : (h : Context) (name : Text) (t : ObjectType) (at : Position) (q : Option ℕ) → SeenFits h.source h.frame h.known.defined name (Some (variable (Some t))) q
+      → DenotedFits p home f (a_place t) (variable_denoted h name (home_numbered h.frame q) at)
+  seen_denoted h name t at None fit = (tt, refl, fit.2)
+  seen_denoted h name t at (Some n) fit = subst (λ o. DenotedFits p home f (a_place t) (variable_denoted h name o at)) (sym fit.2.1) (fit.2.2 at)
 
-  seen_register : (h : Here) (name : Text) (t : ObjectType) (r : ℕ) (q : Option ℕ) → SeenFits h.source h.frame h.known.defined name (Some (variable (Some t))) q
+  seen_register : (h : Context) (name : Text) (t : ObjectType) (r : ℕ) (q : Option ℕ) → SeenFits h.source h.frame h.known.defined name (Some (variable (Some t))) q
       → home_numbered h.frame q ≡ Some (kept_in.Register r) → type_struct t ≡ None
   seen_register h name t r None fit e = let no : ⊥ = cc in absurd no
   seen_register h name t r (Some n) fit e =
@@ -172,12 +172,12 @@ module _ (p : Program) (home : ℕ → Option ℕ) (f : Function) (structs : ℕ
   seen_result source frame defined name g None fit = fit.1
   seen_result source frame defined name g (Some n) fit = absurd fit
 
-  seen_function : (h : Here) (name : Text) (g : Signature) (q : Option ℕ) → SeenFits h.source h.frame h.known.defined name (Some (function_of g)) q
+  seen_function : (h : Context) (name : Text) (g : Signature) (q : Option ℕ) → SeenFits h.source h.frame h.known.defined name (Some (function_of g)) q
       → has_name h.known.defined name ≡ true → is_main name ≡ false → CallSuits p home f h name g
   seen_function h name g None fit is other = let both = fit.2 is other in record { params = both.0; callable = both.1 }
   seen_function h name g (Some n) fit is other = absurd fit
 
-  module _ (h : Here) (i : Inside h) where
+  module _ (h : Context) (i : Inside h) where
     seen_here : (name : Text) → SeenFits h.source h.frame h.known.defined name (seen h.known name) (number_seen h.numbers.scopes name)
     seen_here name = all_seen h.source h.frame h.known.defined name h.numbers.scopes h.known.scopes i.scopes
 
@@ -196,7 +196,7 @@ module _ (p : Program) (home : ℕ → Option ℕ) (f : Function) (structs : ℕ
       own = λ name m e. seen_own h.source h.frame h.known.defined name m (number_seen h.numbers.scopes name) (seen_as name (Some m) e);
       typed = λ name e. no_untyped h.source h.frame h.known.defined name (number_seen h.numbers.scopes name) (seen_as name (Some (variable None)) e);
       formed = λ name t e. seen_formed h.source h.frame h.known.defined name t (number_seen h.numbers.scopes name) (seen_as name (Some (variable (Some t))) e);
-      variables = λ name t at e. seen_held h name t at (number_seen h.numbers.scopes name) (seen_as name (Some (variable (Some t))) e);
+      variables = λ name t at e. seen_denoted h name t at (number_seen h.numbers.scopes name) (seen_as name (Some (variable (Some t))) e);
       registers = λ name t r e is. seen_register h name t r (number_seen h.numbers.scopes name) (seen_as name (Some (variable (Some t))) e) is;
       results = λ name g e. seen_result h.source h.frame h.known.defined name g (number_seen h.numbers.scopes name) (seen_as name (Some (function_of g)) e);
       functions = λ name g e is other. seen_function h name g (number_seen h.numbers.scopes name) (seen_as name (Some (function_of g)) e) is other;

@@ -26,7 +26,7 @@ pub mod Folding
 pub mod Formats
 pub mod Functions
 pub mod Grown
-pub mod Held
+pub mod Denoted
 pub mod Homes
 pub mod Inside
 pub mod Law

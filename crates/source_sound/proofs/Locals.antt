@@ -8,7 +8,7 @@ use Rattle.c_sites.specs.Addresses.{is_among, count_of_declares, count_of_start,
 use Rattle.c_values.specs.declared.home.Home.{Home}
 use Rattle.c_values.specs.declared.home.Home.TheVariants as kept_in
 use Rattle.c_elaborate.specs.declared.local.Local.{Local}
-use Rattle.c_values.specs.Here.{Frame, home_numbered, site_at}
+use Rattle.c_values.specs.Context.{Frame, home_numbered, site_at}
 use Rattle.c_elaborate.specs.Functions.{local_of, declares_locals, start_locals, statement_locals, parts_locals, marked, one_if, kept_count, formal_homes, local_homes, homes_of, local_pointers, pointers_of, sites_of}
 use Rattle.source_sound.proofs.Environment.{IsKept}
 use Rattle.source_sound.proofs.NoFaults.{neither}

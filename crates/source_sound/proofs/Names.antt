@@ -25,10 +25,10 @@ use Rattle.c_core.specs.Core as core
 use Rattle.c_core.specs.Core.{Function, Program}
 use Rattle.c_values.specs.declared.home.Home.{Home}
 use Rattle.c_values.specs.declared.home.Home.TheVariants as kept
-use Rattle.c_values.specs.Held.{Held, held_register, held_cells, held_zero, held_value, position_of}
-use Rattle.c_values.specs.Here.{Here, home_of, home_numbered}
+use Rattle.c_values.specs.Denoted.{Denoted, denoted_register, denoted_cells, denoted_zero, denoted_value, position_of}
+use Rattle.c_values.specs.Context.{Context, home_of, home_numbered}
 use Rattle.c_values.specs.Operators.{member_in}
-use Rattle.c_values.specs.Expressions.{constant_by, variable_held, named_held, held}
+use Rattle.c_values.specs.Expressions.{constant_by, variable_denoted, named_denoted, denoted}
 use Rattle.source_sound.proofs.Environment.{IsFormedPointee, IsFormedLayered, IsFormedOrVoid, IsKept, AreKept}
 use Rattle.source_sound.proofs.Apart.{append_nil, comes_not, never, never', both, not_true, not_false}
 use Rattle.source_sound.proofs.Standings.{Stands}
@@ -104,7 +104,7 @@ module _ (p : Program) (home : ℕ → Option ℕ) (f : Function) (structs : ℕ
   IsPlaceOrNone (a_place t) = Unit {0}
   IsPlaceOrNone _ = ⊥
 
-  place_of_some : (s : Standing) (x : Held) → IsPlaceOrNone s → Stands p home f structs s x → IsPlace s
+  place_of_some : (s : Standing) (x : Denoted) → IsPlaceOrNone s → Stands p home f structs s x → IsPlace s
   place_of_some no_type x e h = absurd h
   place_of_some (a_place t) x e h = tt
   place_of_some zero_literal x e h = absurd e
@@ -187,48 +187,48 @@ module _ (p : Program) (home : ℕ → Option ℕ) (f : Function) (structs : ℕ
   some_of known w (null at) h = never h
 
   -- what can be a place, and has no fault, is one
-  pub is_place : (known : Known) (w : Target) (e : Exp) (x : Held) → can_be_place known e ≡ true → Stands p home f structs (standing known w e) x → IsPlace (standing known w e)
+  pub is_place : (known : Known) (w : Target) (e : Exp) (x : Denoted) → can_be_place known e ≡ true → Stands p home f structs (standing known w e) x → IsPlace (standing known w e)
   is_place known w e x h s = place_of_some (standing known w e) x (some_of known w e h) s
 
   -- ---- places in cells
 
   -- a place is in a register or in cells
-  no_value : {A : Type 0} (s : Standing) (e : core.Exp) → IsPlace s → Stands p home f structs s (held_value e) → A
+  no_value : {A : Type 0} (s : Standing) (e : core.Exp) → IsPlace s → Stands p home f structs s (denoted_value e) → A
   no_value no_type e h k = absurd h
   no_value zero_literal e h k = absurd h
   no_value null_literal e h k = absurd h
   no_value (a_value t) e h k = absurd h
   no_value (a_place t) e h k = absurd k
 
-  no_zero : {A : Type 0} (s : Standing) (at : Position) → IsPlace s → Stands p home f structs s (held_zero at) → A
+  no_zero : {A : Type 0} (s : Standing) (at : Position) → IsPlace s → Stands p home f structs s (denoted_zero at) → A
   no_zero no_type at h k = absurd h
   no_zero zero_literal at h k = absurd h
   no_zero null_literal at h k = absurd h
   no_zero (a_value t) at h k = absurd h
   no_zero (a_place t) at h k = absurd k
 
-  member_in_cells : (s : Standing) (x : Held) (by : ℕ) (at : Position) → IsPlace s → Stands p home f structs s (member_in x by at) → IsInCells (member_in x by at)
-  member_in_cells s (held_cells e o) by at h k = tt
-  member_in_cells s (held_register n o) by at h k = no_zero s at h k
-  member_in_cells s (held_zero o) by at h k = no_zero s at h k
-  member_in_cells s (held_value e) by at h k = no_value s e h k
+  member_in_cells : (s : Standing) (x : Denoted) (by : ℕ) (at : Position) → IsPlace s → Stands p home f structs s (member_in x by at) → IsInCells (member_in x by at)
+  member_in_cells s (denoted_cells e o) by at h k = tt
+  member_in_cells s (denoted_register n o) by at h k = no_zero s at h k
+  member_in_cells s (denoted_zero o) by at h k = no_zero s at h k
+  member_in_cells s (denoted_value e) by at h k = no_value s e h k
 
-  kept_name : (h : Here) (o : Option ℕ) → AreKept h (maybe_listed o) → IsKept (home_numbered h.frame o)
+  kept_name : (h : Context) (o : Option ℕ) → AreKept h (maybe_listed o) → IsKept (home_numbered h.frame o)
   kept_name h None k = tt
   kept_name h (Some n) k = k.0
 
-  variable_in_cells : (h : Here) (name : Text) (o : Option Home) (at : Position) → IsKept o → IsInCells (variable_held h name o at)
+  variable_in_cells : (h : Context) (name : Text) (o : Option Home) (at : Position) → IsKept o → IsInCells (variable_denoted h name o at)
   variable_in_cells h name None at k = tt
   variable_in_cells h name (Some (kept.Register n)) at k = absurd k
   variable_in_cells h name (Some (kept.Object n)) at k = tt
 
-  named_in_cells : (h : Here) (s : Standing) (name : Text) (m : Option Meaning) (b : Bool) (n : ℤ) (at : Position) → IsPlace s → AreKept h (maybe_listed (number_seen h.numbers.scopes name)) → Stands p home f structs s (constant_by b (Ok n) at (named_held h name m at)) → IsInCells (constant_by b (Ok n) at (named_held h name m at))
+  named_in_cells : (h : Context) (s : Standing) (name : Text) (m : Option Meaning) (b : Bool) (n : ℤ) (at : Position) → IsPlace s → AreKept h (maybe_listed (number_seen h.numbers.scopes name)) → Stands p home f structs s (constant_by b (Ok n) at (named_denoted h name m at)) → IsInCells (constant_by b (Ok n) at (named_denoted h name m at))
   named_in_cells h s name m true n at place k e = no_value s (core.number n at) place e
   named_in_cells h s name None false n at place k e = no_zero s at place e
   named_in_cells h s name (Some (function_of g)) false n at place k e = no_zero s at place e
   named_in_cells h s name (Some (variable t)) false n at place k e = variable_in_cells h name (home_of h name) at (kept_name h (number_seen h.numbers.scopes name) k)
 
-  prefix_in_cells : (h : Here) (w : Target) (o : PrefixOp) (a : Exp) (at : Position) → can_be_place h.known (prefix o a at) ≡ true → IsInCells (held h w (prefix o a at))
+  prefix_in_cells : (h : Context) (w : Target) (o : PrefixOp) (a : Exp) (at : Position) → can_be_place h.known (prefix o a at) ≡ true → IsInCells (denoted h w (prefix o a at))
   prefix_in_cells h w prefix_op.Indirect a at e = tt
   prefix_in_cells h w prefix_op.Address a at e = never e
   prefix_in_cells h w prefix_op.Plus a at e = never e
@@ -239,10 +239,10 @@ module _ (p : Program) (home : ℕ → Option ℕ) (f : Function) (structs : ℕ
   prefix_in_cells h w prefix_op.Decrement a at e = never e
 
   -- what `&` is applied to is in cells
-  pub in_cells : (h : Here) (w : Target) (e : Exp) → can_be_place h.known e ≡ true → AreKept h (number_of_operand h.numbers e) → Stands p home f structs (standing h.known w e) (held h w e) → IsInCells (held h w e)
+  pub in_cells : (h : Context) (w : Target) (e : Exp) → can_be_place h.known e ≡ true → AreKept h (number_of_operand h.numbers e) → Stands p home f structs (standing h.known w e) (denoted h w e) → IsInCells (denoted h w e)
   in_cells h w (prefix o a at) e k s = prefix_in_cells h w o a at e
   in_cells h w (index a b at) e k s = tt
-  in_cells h w (member a name at) e k s = member_in_cells (standing h.known w (member a name at)) (held h no_target a) _ (position_of at) (is_place h.known w (member a name at) _ e s) s
+  in_cells h w (member a name at) e k s = member_in_cells (standing h.known w (member a name at)) (denoted h no_target a) _ (position_of at) (is_place h.known w (member a name at) _ e s) s
   in_cells h w (arrow a name at) e k s = tt
   in_cells h w (named name at) e k s = named_in_cells h (standing h.known w (named name at)) name (seen h.known name) (is_some (constant_named name)) _ (position_of at) (is_place h.known w (named name at) _ e s) k s
   in_cells h w (paren a at) e k s = in_cells h w a e k s

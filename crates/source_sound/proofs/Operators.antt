@@ -14,8 +14,8 @@ use Rattle.c_types.specs.Standing.{can_index, element_place, index_standing, con
 use Rattle.rr_base.specs.declared.position.Position.{Position}
 use Rattle.c_core.specs.Core as core
 use Rattle.c_core.specs.Core.{Function, Program}
-use Rattle.c_values.specs.Held.{held_cells, held_value, Part, operand_in, is_pointing}
-use Rattle.c_values.specs.Here.{Source, element_of}
+use Rattle.c_values.specs.Denoted.{denoted_cells, denoted_value, Part, operand_in, is_pointing}
+use Rattle.c_values.specs.Context.{Source, element_of}
 use Rattle.c_values.specs.Operators.{element_of_either, operated_in, binary_in, conditional_in, index_in}
 use Rattle.c_core.specs.Sound.{IsSoundExp}
 use Rattle.source_sound.proofs.Environment.{IsFormed, IsFormedOrVoid}
@@ -83,7 +83,7 @@ module _ (p : Program) (home : ℕ → Option ℕ) (f : Function) (structs : ℕ
   -- a number each, or a pointer each
   operated_stands : (o : FlowOp) (a b : Operand) (va qa vb qb : core.Exp) (at : Position) (w : Bool) → are_whole a b ≡ w → gives a va qa → gives b vb qb →
       (w ≡ false → (is_some_pointer a ≡ true) × (is_some_pointer b ≡ true) × (is_comparison o ≡ true)) →
-      Stands p home f structs int_value (held_value (core.binary o (if not w then qa else va) (if not w then qb else vb) at))
+      Stands p home f structs int_value (denoted_value (core.binary o (if not w then qa else va) (if not w then qb else vb) at))
   operated_stands o a b va qa vb qb at true e ga gb h =
       let are = both (is_whole a) (is_whole b) e in
       let one = gives_whole p home f structs a va qa ga are.0 in
@@ -97,7 +97,7 @@ module _ (p : Program) (home : ℕ → Option ℕ) (f : Function) (structs : ℕ
 
   -- an operator on numbers alone
   pub numbers_stand : (o : FlowOp) (a b : Part) (at : Position) → PartGives p home f structs a → PartGives p home f structs b → are_whole (operand_in a) (operand_in b) ≡ true →
-      Stands p home f structs int_value (held_value (operated_in o a b at))
+      Stands p home f structs int_value (denoted_value (operated_in o a b at))
   numbers_stand o a b at ga gb e = operated_stands o (operand_in a) (operand_in b) _ _ _ _ at (are_whole (operand_in a) (operand_in b)) refl ga gb (λ w. never (sym w ∙ e))
 
   compared_by : (o : FlowOp) (a b : Operand) (c : Bool) → is_comparison o ≡ true → (c ≡ true → (is_some_pointer a ≡ true) × (is_some_pointer b ≡ true)) → (are_whole a b || c) ≡ true →
@@ -109,13 +109,13 @@ module _ (p : Program) (home : ℕ → Option ℕ) (f : Function) (structs : ℕ
       by (inr x) = ((h x).0, (h x).1, k)
 
   pub equal_stands : (o : FlowOp) (a b : Part) (at : Position) → PartGives p home f structs a → PartGives p home f structs b → is_comparison o ≡ true → (are_whole (operand_in a) (operand_in b) || are_compatible (operand_in a) (operand_in b)) ≡ true →
-      Stands p home f structs int_value (held_value (operated_in o a b at))
+      Stands p home f structs int_value (denoted_value (operated_in o a b at))
   equal_stands o a b at ga gb k e =
       operated_stands o (operand_in a) (operand_in b) _ _ _ _ at (are_whole (operand_in a) (operand_in b)) refl ga gb
       (compared_by o (operand_in a) (operand_in b) (are_compatible (operand_in a) (operand_in b)) k (compatible_pointers (operand_in a) (operand_in b)) e)
 
   pub ordered_stands : (o : FlowOp) (a b : Part) (at : Position) → PartGives p home f structs a → PartGives p home f structs b → is_comparison o ≡ true → (are_whole (operand_in a) (operand_in b) || are_alike (operand_in a) (operand_in b)) ≡ true →
-      Stands p home f structs int_value (held_value (operated_in o a b at))
+      Stands p home f structs int_value (denoted_value (operated_in o a b at))
   ordered_stands o a b at ga gb k e =
       operated_stands o (operand_in a) (operand_in b) _ _ _ _ at (are_whole (operand_in a) (operand_in b)) refl ga gb
       (compared_by o (operand_in a) (operand_in b) (are_alike (operand_in a) (operand_in b)) k (alike_pointers (operand_in a) (operand_in b)) e)
@@ -141,7 +141,7 @@ module _ (p : Program) (home : ℕ → Option ℕ) (f : Function) (structs : ℕ
   chosen_formed _ _ h k = tt
 
   chosen_stands : (b c : Operand) (va vb qb vc qc : core.Exp) (at : Position) (w : Bool) → are_whole b c ≡ w → (w || are_compatible b c) ≡ true → IsSoundExp p home f va → gives b vb qb → gives c vc qc →
-      Stands p home f structs (if w then int_value else a_value (pointer_to (chosen_target b c))) (held_value (core.conditional va (if not w then qb else vb) (if not w then qc else vc) at))
+      Stands p home f structs (if w then int_value else a_value (pointer_to (chosen_target b c))) (denoted_value (core.conditional va (if not w then qb else vb) (if not w then qc else vc) at))
   chosen_stands b c va vb qb vc qc at true e h s gb gc =
       let are = both (is_whole b) (is_whole c) e in
       let one = gives_whole p home f structs b vb qb gb are.0 in
@@ -154,7 +154,7 @@ module _ (p : Program) (home : ℕ → Option ℕ) (f : Function) (structs : ℕ
       (chosen_formed b c gb.formed gc.formed, one, (one ∙ sym two, s, gb.pointer_sound, gc.pointer_sound))
 
   pub conditional_stands : (a b c : Part) (at : Position) → PartGives p home f structs a → PartGives p home f structs b → PartGives p home f structs c → (is_scalar (operand_in a) && can_choose (operand_in b) (operand_in c)) ≡ true →
-      Stands p home f structs (conditional_standing (operand_in a) (operand_in b) (operand_in c)) (held_value (conditional_in a b c at))
+      Stands p home f structs (conditional_standing (operand_in a) (operand_in b) (operand_in c)) (denoted_value (conditional_in a b c at))
   conditional_stands a b c at ga gb gc h =
       let are = both (is_scalar (operand_in a)) (can_choose (operand_in b) (operand_in c)) h in
       where_true p home f structs (is_scalar (operand_in a) && is_typed (operand_in a)) _ no_type _ (and_from _ _ are.0 ga.typed)
@@ -172,22 +172,22 @@ module _ (p : Program) (home : ℕ → Option ℕ) (f : Function) (structs : ℕ
     sum_by a b va vb at = if is_pointing a then core.move va vb (element_of s a) false at else if is_pointing b then core.advance va vb (element_of s b) at else core.binary flow.Add va vb at
 
     move_stands : (t : ObjectType) (b : Operand) (va qa vb qb : core.Exp) (back : Bool) (at : Position) → gives (pointing t) va qa → gives b vb qb → is_void t ≡ false → is_whole b ≡ true →
-        Stands p home f structs (a_value (pointer_to t)) (held_value (core.move va vb (cells_of_type s.whole t) back at))
+        Stands p home f structs (a_value (pointer_to t)) (denoted_value (core.move va vb (cells_of_type s.whole t) back at))
     move_stands t b va qa vb qb back at ga gb v w = (ga.formed, refl, (ga.kind, gives_whole p home f structs b vb qb gb w, sized t ga.formed v, ga.sound, gb.sound))
 
     advance_stands : (t : ObjectType) (a : Operand) (va qa vb qb : core.Exp) (at : Position) → gives a va qa → gives (pointing t) vb qb → is_void t ≡ false → is_whole a ≡ true →
-        Stands p home f structs (a_value (pointer_to t)) (held_value (core.advance va vb (cells_of_type s.whole t) at))
+        Stands p home f structs (a_value (pointer_to t)) (denoted_value (core.advance va vb (cells_of_type s.whole t) at))
     advance_stands t a va qa vb qb at ga gb v w = (gb.formed, refl, (gives_whole p home f structs a va qa ga w, gb.kind, sized t gb.formed v, ga.sound, gb.sound))
 
     add_stands : (o : FlowOp) (a b : Operand) (va qa vb qb : core.Exp) (at : Position) → gives a va qa → gives b vb qb → is_whole a ≡ true → is_whole b ≡ true →
-        Stands p home f structs int_value (held_value (core.binary o va vb at))
+        Stands p home f structs int_value (denoted_value (core.binary o va vb at))
     add_stands o a b va qa vb qb at ga gb x y =
         let one = gives_whole p home f structs a va qa ga x in
         let two = gives_whole p home f structs b vb qb gb y in
         (tt, refl, ((one ∙ sym two, λ k. never (sym one ∙ k)), ga.sound, gb.sound))
 
     sum_stands : (a b : Operand) (va qa vb qb : core.Exp) (at : Position) → gives a va qa → gives b vb qb → can_add a b ≡ true →
-        Stands p home f structs (sum_of a b) (held_value (sum_by a b va vb at))
+        Stands p home f structs (sum_of a b) (denoted_value (sum_by a b va vb at))
     sum_stands any_operand b va qa vb qb at ga gb h = never ga.typed
     sum_stands (pointing t) b va qa vb qb at ga gb h = move_stands t b va qa vb qb false at ga gb (add_front t b h).0 (add_front t b h).1
     sum_stands null_operand b va qa vb qb at ga gb h = never h
@@ -210,7 +210,7 @@ module _ (p : Program) (home : ℕ → Option ℕ) (f : Function) (structs : ℕ
     element_front t b h = add_front t b h
 
     element_stands : (a b : Operand) (va qa vb qb : core.Exp) (at : Position) → gives a va qa → gives b vb qb → can_index a b ≡ true →
-        Stands p home f structs (element_place a b) (held_cells (sum_by a b va vb at) at)
+        Stands p home f structs (element_place a b) (denoted_cells (sum_by a b va vb at) at)
     element_stands any_operand b va qa vb qb at ga gb h = never ga.typed
     element_stands (pointing t) b va qa vb qb at ga gb h =
         let m = move_stands t b va qa vb qb false at ga gb (element_front t b h).0 (element_front t b h).1 in
@@ -248,14 +248,14 @@ module _ (p : Program) (home : ℕ → Option ℕ) (f : Function) (structs : ℕ
         else core.between qa qb (element_of_either s a b) at
 
     between_stands : (t : ObjectType) (a b : Operand) (va qa vb qb : core.Exp) (at : Position) → gives a va qa → gives b vb qb → is_some_pointer a ≡ true → is_some_pointer b ≡ true → IsFormedOrVoid structs t → is_void t ≡ false →
-        Stands p home f structs int_value (held_value (core.between qa qb (cells_of_type s.whole t) at))
+        Stands p home f structs int_value (denoted_value (core.between qa qb (cells_of_type s.whole t) at))
     between_stands t a b va qa vb qb at ga gb x y h v = (tt, refl, (ga.pointer x, gb.pointer y, sized t h v, ga.pointer_sound, gb.pointer_sound))
 
     null_less : (t : ObjectType) → ((true && not (is_void t)) && not (is_void t)) ≡ true → is_void t ≡ false
     null_less t h = not_true (is_void t) (both _ _ h).1
 
     difference_stands : (a b : Operand) (va qa vb qb : core.Exp) (at : Position) → gives a va qa → gives b vb qb → can_subtract a b ≡ true →
-        Stands p home f structs (difference_of a b) (held_value (difference_by a b va qa vb qb at))
+        Stands p home f structs (difference_of a b) (denoted_value (difference_by a b va qa vb qb at))
     difference_stands any_operand b va qa vb qb at ga gb h = never ga.typed
     difference_stands (pointing t) any_operand va qa vb qb at ga gb h = never gb.typed
     difference_stands (pointing t) whole va qa vb qb at ga gb h = move_stands t _ va qa vb qb true at ga gb (subtract_front t whole h) refl
@@ -290,7 +290,7 @@ module _ (p : Program) (home : ℕ → Option ℕ) (f : Function) (structs : ℕ
     -- ---- all operators with two operands
 
     pub operation_stands : (o : BinaryOp) (a b : Part) (at : Position) → PartGives p home f structs a → PartGives p home f structs b → takes o (operand_in a) (operand_in b) ≡ true →
-        Stands p home f structs (result_of o (operand_in a) (operand_in b)) (held_value (binary_in s o a b at))
+        Stands p home f structs (result_of o (operand_in a) (operand_in b)) (denoted_value (binary_in s o a b at))
     operation_stands op.LogicalOr a b at ga gb h = (tt, refl, (ga.sound, gb.sound))
     operation_stands op.LogicalAnd a b at ga gb h = (tt, refl, (ga.sound, gb.sound))
     operation_stands op.Or a b at ga gb h = numbers_stand flow.Or a b at ga gb h
@@ -311,6 +311,6 @@ module _ (p : Program) (home : ℕ → Option ℕ) (f : Function) (structs : ℕ
     operation_stands op.Remainder a b at ga gb h = numbers_stand flow.Remainder a b at ga gb h
 
     pub binary_stands : (o : BinaryOp) (a b : Part) (at : Position) → PartGives p home f structs a → PartGives p home f structs b → takes o (operand_in a) (operand_in b) ≡ true →
-        Stands p home f structs (binary_standing o (operand_in a) (operand_in b)) (held_value (binary_in s o a b at))
+        Stands p home f structs (binary_standing o (operand_in a) (operand_in b)) (denoted_value (binary_in s o a b at))
     binary_stands o a b at ga gb h =
         settled_stands p home f structs (takes o (operand_in a) (operand_in b)) (operand_in a) (operand_in b) _ _ h ga.typed gb.typed (operation_stands o a b at ga gb h)

@@ -21,8 +21,8 @@ use Rattle.rr_base.specs.declared.position.Position.{Position}
 use Rattle.c_core.specs.Core as core
 use Rattle.c_core.specs.Core.{Function, Program}
 use Rattle.c_core.specs.Meaning.{is_pointer}
-use Rattle.c_values.specs.Held.{Held, held_register, held_cells, held_zero, held_value, Part, part_by, operand_in, is_pointing, value_by, value_in}
-use Rattle.c_values.specs.Here.{Source}
+use Rattle.c_values.specs.Denoted.{Denoted, denoted_register, denoted_cells, denoted_zero, denoted_value, Part, part_by, operand_in, is_pointing, value_by, value_in}
+use Rattle.c_values.specs.Context.{Source}
 use Rattle.c_values.specs.Operators.{address_in, prefix_in, is_some_address, cast_in, member_in, arrow_in}
 use Rattle.c_core.specs.Sound.{IsSoundExp}
 use Rattle.source_sound.proofs.Environment.{IsFormed, IsFormedGiven, IsFormedOrVoid}
@@ -32,12 +32,12 @@ use Rattle.source_sound.proofs.Choices.{gives_whole, where_true, where_false, ma
 use Rattle.source_sound.proofs.Changes.{IsPlace, stepped_stands}
 
 -- it is an object in cells
-abbrev pub IsInCells : Held → Type 0
-IsInCells (held_cells e at) = Unit {0}
+abbrev pub IsInCells : Denoted → Type 0
+IsInCells (denoted_cells e at) = Unit {0}
 IsInCells _ = ⊥
 
 -- what `&`, `++` and `--` are applied to
-abbrev pub SuitsPrefix : PrefixOp → Standing → Held → Type 0
+abbrev pub SuitsPrefix : PrefixOp → Standing → Denoted → Type 0
 SuitsPrefix prefix_op.Address sa x = IsInCells x
 SuitsPrefix prefix_op.Increment sa x = IsPlace sa
 SuitsPrefix prefix_op.Decrement sa x = IsPlace sa
@@ -73,26 +73,26 @@ lacks_none no_operand k t h = h
 module _ (p : Program) (home : ℕ → Option ℕ) (f : Function) (structs : ℕ) where
   -- ---- addresses, and what they lead to
 
-  pub address_stands : (sa : Standing) (x : Held) → Stands p home f structs sa x → IsInCells x → Stands p home f structs (address sa) (address_in x)
+  pub address_stands : (sa : Standing) (x : Denoted) → Stands p home f structs sa x → IsInCells x → Stands p home f structs (address sa) (address_in x)
   address_stands no_type x h c = absurd h
-  address_stands zero_literal (held_zero at) h c = absurd c
-  address_stands zero_literal (held_register n at) h c = absurd c
-  address_stands zero_literal (held_cells e at) h c = absurd h
-  address_stands zero_literal (held_value e) h c = absurd c
-  address_stands null_literal (held_zero at) h c = absurd c
-  address_stands null_literal (held_register n at) h c = absurd c
-  address_stands null_literal (held_cells e at) h c = absurd h
-  address_stands null_literal (held_value e) h c = absurd c
-  address_stands (a_value t) (held_zero at) h c = absurd c
-  address_stands (a_value t) (held_register n at) h c = absurd c
-  address_stands (a_value t) (held_cells e at) h c = absurd h
-  address_stands (a_value t) (held_value e) h c = absurd c
-  address_stands (a_place t) (held_zero at) h c = absurd c
-  address_stands (a_place t) (held_register n at) h c = absurd c
-  address_stands (a_place t) (held_cells e at) h c = (formed_or_void structs t.layers t.base h.0, h.1, h.2)
-  address_stands (a_place t) (held_value e) h c = absurd c
+  address_stands zero_literal (denoted_zero at) h c = absurd c
+  address_stands zero_literal (denoted_register n at) h c = absurd c
+  address_stands zero_literal (denoted_cells e at) h c = absurd h
+  address_stands zero_literal (denoted_value e) h c = absurd c
+  address_stands null_literal (denoted_zero at) h c = absurd c
+  address_stands null_literal (denoted_register n at) h c = absurd c
+  address_stands null_literal (denoted_cells e at) h c = absurd h
+  address_stands null_literal (denoted_value e) h c = absurd c
+  address_stands (a_value t) (denoted_zero at) h c = absurd c
+  address_stands (a_value t) (denoted_register n at) h c = absurd c
+  address_stands (a_value t) (denoted_cells e at) h c = absurd h
+  address_stands (a_value t) (denoted_value e) h c = absurd c
+  address_stands (a_place t) (denoted_zero at) h c = absurd c
+  address_stands (a_place t) (denoted_register n at) h c = absurd c
+  address_stands (a_place t) (denoted_cells e at) h c = (formed_or_void structs t.layers t.base h.0, h.1, h.2)
+  address_stands (a_place t) (denoted_value e) h c = absurd c
 
-  followed_stands : (a : Operand) (v q : core.Exp) (at : Position) → Gives p home f structs a v q → can_follow a ≡ true → Stands p home f structs (pointee a) (held_cells v at)
+  followed_stands : (a : Operand) (v q : core.Exp) (at : Position) → Gives p home f structs a v q → can_follow a ≡ true → Stands p home f structs (pointee a) (denoted_cells v at)
   followed_stands any_operand v q at g h = never g.typed
   followed_stands whole v q at g h = never h
   followed_stands zero_operand v q at g h = never h
@@ -103,7 +103,7 @@ module _ (p : Program) (home : ℕ → Option ℕ) (f : Function) (structs : ℕ
       where_false p home f structs (is_void t) no_type (a_place t) _ some (formed_pointee structs t.layers t.base g.formed some, g.kind, g.sound)
 
   module _ (s : Source) (sizes : (t : ObjectType) → IsFormed structs t → 1 ≤ cells_of_type s.whole t) where
-    pub prefix_stands : (o : PrefixOp) (sa : Standing) (x : Held) (at : Position) → Stands p home f structs sa x → SuitsPrefix o sa x → prefix_takes o sa ≡ true →
+    pub prefix_stands : (o : PrefixOp) (sa : Standing) (x : Denoted) (at : Position) → Stands p home f structs sa x → SuitsPrefix o sa x → prefix_takes o sa ≡ true →
         Stands p home f structs (prefix_standing o sa) (prefix_in s o (part_by sa x) at)
     prefix_stands prefix_op.Address sa x at h w e = address_stands sa x h w
     prefix_stands prefix_op.Indirect sa x at h w e = followed_stands (operand_of sa) _ _ at (stands_gives p home f structs sa x h) e
@@ -133,7 +133,7 @@ module _ (p : Program) (home : ℕ → Option ℕ) (f : Function) (structs : ℕ
   cast_word false false v at k h = (k, h)
 
   pub cast_stands : (t : ObjectType) (stars : ℕ) (a : Part) (at : Position) → IsFormedOrVoid structs t → PartGives p home f structs a → (casts_to (Some t) stars && is_scalar (operand_in a)) ≡ true →
-      Stands p home f structs (cast_standing (Some t) stars (operand_in a)) (held_value (cast_in (is_pointing (type_operand t)) a at))
+      Stands p home f structs (cast_standing (Some t) stars (operand_in a)) (denoted_value (cast_in (is_pointing (type_operand t)) a at))
   cast_stands t stars a at formed g e =
       let word = cast_word (is_pointing (type_operand t)) (is_some_address (operand_in a)) (value_in a) at g.kind g.sound in
       where_true p home f structs (casts_to (Some t) stars && is_scalar (operand_in a) && is_typed (operand_in a)) (type_value t) no_type _ (and_from _ _ e g.typed)
@@ -146,20 +146,20 @@ module _ (p : Program) (home : ℕ → Option ℕ) (f : Function) (structs : ℕ
   -- ---- members
 
   -- a struct stands in cells
-  struct_in_cells : (sa : Standing) (x : Held) (k : ℕ) (by : ℕ) (at : Position) (t : ObjectType) → Stands p home f structs sa x → struct_of sa ≡ Some k → IsFormed structs t → Stands p home f structs (a_place t) (member_in x by at)
+  struct_in_cells : (sa : Standing) (x : Denoted) (k : ℕ) (by : ℕ) (at : Position) (t : ObjectType) → Stands p home f structs sa x → struct_of sa ≡ Some k → IsFormed structs t → Stands p home f structs (a_place t) (member_in x by at)
   struct_in_cells no_type x k by at t h e r = absurd h
   struct_in_cells zero_literal x k by at t h e r = some_not_none _ _ e refl
   struct_in_cells null_literal x k by at t h e r = some_not_none _ _ e refl
-  struct_in_cells (a_value u) (held_value v) k by at t h e r = some_not_none _ _ e (no_struct_given structs u.layers u.base h.0)
-  struct_in_cells (a_value u) (held_zero o) k by at t h e r = absurd h
-  struct_in_cells (a_value u) (held_register n o) k by at t h e r = absurd h
-  struct_in_cells (a_value u) (held_cells v o) k by at t h e r = absurd h
-  struct_in_cells (a_place u) (held_register n o) k by at t h e r = some_not_none _ _ e h.1
-  struct_in_cells (a_place u) (held_cells v o) k by at t h e r = (r, refl, (h.1, h.2))
-  struct_in_cells (a_place u) (held_zero o) k by at t h e r = absurd h
-  struct_in_cells (a_place u) (held_value v) k by at t h e r = absurd h
+  struct_in_cells (a_value u) (denoted_value v) k by at t h e r = some_not_none _ _ e (no_struct_given structs u.layers u.base h.0)
+  struct_in_cells (a_value u) (denoted_zero o) k by at t h e r = absurd h
+  struct_in_cells (a_value u) (denoted_register n o) k by at t h e r = absurd h
+  struct_in_cells (a_value u) (denoted_cells v o) k by at t h e r = absurd h
+  struct_in_cells (a_place u) (denoted_register n o) k by at t h e r = some_not_none _ _ e h.1
+  struct_in_cells (a_place u) (denoted_cells v o) k by at t h e r = (r, refl, (h.1, h.2))
+  struct_in_cells (a_place u) (denoted_zero o) k by at t h e r = absurd h
+  struct_in_cells (a_place u) (denoted_value v) k by at t h e r = absurd h
 
-  pointed_in_cells : (a : Operand) (v q : core.Exp) (k : ℕ) (by : ℕ) (at : Position) (t : ObjectType) → Gives p home f structs a v q → pointed_struct a ≡ Some k → IsFormed structs t → Stands p home f structs (a_place t) (held_cells (core.member v by at) at)
+  pointed_in_cells : (a : Operand) (v q : core.Exp) (k : ℕ) (by : ℕ) (at : Position) (t : ObjectType) → Gives p home f structs a v q → pointed_struct a ≡ Some k → IsFormed structs t → Stands p home f structs (a_place t) (denoted_cells (core.member v by at) at)
   pointed_in_cells any_operand v q k by at t g e r = some_not_none _ _ e refl
   pointed_in_cells whole v q k by at t g e r = some_not_none _ _ e refl
   pointed_in_cells zero_operand v q k by at t g e r = some_not_none _ _ e refl
@@ -179,7 +179,7 @@ module _ (p : Program) (home : ℕ → Option ℕ) (f : Function) (structs : ℕ
         let t = members some.0 name.text m.0 m.1 in
         (some.0, t.0, some.1, ap (λ z. member_standing known z name.text) some.1 ∙ ap place_by (m.1 ∙ ap Some t.1), t.2)
 
-    pub member_stands : (sa : Standing) (x : Held) (name : Name) (at : Position) (by : ℕ) (o : Position) → Stands p home f structs sa x → member_faults known (operand_of sa) (struct_of sa) name at ≡ [] →
+    pub member_stands : (sa : Standing) (x : Denoted) (name : Name) (at : Position) (by : ℕ) (o : Position) → Stands p home f structs sa x → member_faults known (operand_of sa) (struct_of sa) name at ≡ [] →
         Stands p home f structs (member_standing known (struct_of sa) name.text) (member_in x by o)
     member_stands sa x name at by o h none =
         let m = member_known (operand_of sa) (struct_of sa) name at (stands_gives p home f structs sa x h).typed none in

@@ -10,8 +10,8 @@ use Rattle.c_sites.specs.Spots.{Spot, allocations}
 use Rattle.c_sites.specs.Addresses.{addressed}
 use Rattle.c_core.specs.Core.{Function, Program}
 use Rattle.c_core.specs.Meaning.{is_pointer}
-use Rattle.c_values.specs.Held.{is_pointing}
-use Rattle.c_values.specs.Here.{Frame, Here, home_numbered, site_at}
+use Rattle.c_values.specs.Denoted.{is_pointing}
+use Rattle.c_values.specs.Context.{Frame, Context, home_numbered, site_at}
 use Rattle.c_values.specs.Expressions.{value_of, wanted_of}
 use Rattle.c_core.specs.Sound.{HasSite, IsSoundExp}
 use Rattle.source_sound.proofs.Environment.{IsFormedTarget, IsKept, AreKept, places_of, Suits, HaveSites}
@@ -47,30 +47,30 @@ have_parts p frame sites ms ns xs ys have =
 module _ (p : Program) (home : ℕ → Option ℕ) (f : Function) where
   -- the word of an expression
   abbrev pub AreValuesSound : Type 0
-  AreValuesSound = (h : Here) (e : Exp) → Suits p home f h → AreKept h (addressed h.numbers e) → HaveSites p home f h (places_of (allocations h.known no_target e))
+  AreValuesSound = (h : Context) (e : Exp) → Suits p home f h → AreKept h (addressed h.numbers e) → HaveSites p home f h (places_of (allocations h.known no_target e))
       → expression_faults h.known e ≡ [] → IsSoundExp p home f (value_of h e)
 
   -- the word of an expression that an object of the type accepts, where the type tells whether a pointer is wanted
   abbrev pub AreWantedSound : Type 0
-  AreWantedSound = (h : Here) (w : Target) (t : ObjectType) (e : Exp) (s : Suits p home f h) → IsFormedTarget s.structs w → AreKept h (addressed h.numbers e) → HaveSites p home f h (places_of (allocations h.known w e))
+  AreWantedSound = (h : Context) (w : Target) (t : ObjectType) (e : Exp) (s : Suits p home f h) → IsFormedTarget s.structs w → AreKept h (addressed h.numbers e) → HaveSites p home f h (places_of (allocations h.known w e))
       → faults h.known w e ≡ [] → accepts t (operand_of (standing h.known w e)) ≡ true
       → (is_pointer (wanted_of h (is_pointing (type_operand t)) w e) ≡ is_pointing (type_operand t)) × IsSoundExp p home f (wanted_of h (is_pointing (type_operand t)) w e)
 
   -- as the environment of an expression names them
-  have_sites : (h : Here) (spots : List Spot) → HaveSpots p h.source.sites spots → HaveSites p home f h (places_of spots)
+  have_sites : (h : Context) (spots : List Spot) → HaveSpots p h.source.sites spots → HaveSites p home f h (places_of spots)
   have_sites h [] have = tt
   have_sites h (s ∷ ss) have = (have.0, have_sites h ss have.1)
 
-  are_kept : (h : Here) (ns : List ℕ) → AreAllKept h.frame ns → AreKept h ns
+  are_kept : (h : Context) (ns : List ℕ) → AreAllKept h.frame ns → AreKept h ns
   are_kept h [] kept = tt
   are_kept h (n ∷ ns) kept = (kept.0, are_kept h ns kept.1)
 
   -- the same, as they are used here
-  pub value_by_parts : AreValuesSound → (h : Here) (e : Exp) → Suits p home f h → Have p h.frame h.source.sites (addressed h.numbers e) (allocations h.known no_target e)
+  pub value_by_parts : AreValuesSound → (h : Context) (e : Exp) → Suits p home f h → Have p h.frame h.source.sites (addressed h.numbers e) (allocations h.known no_target e)
       → expression_faults h.known e ≡ [] → IsSoundExp p home f (value_of h e)
   value_by_parts values h e s have none = values h e s (are_kept h (addressed h.numbers e) have.0) (have_sites h (allocations h.known no_target e) have.1) none
 
-  pub wanted_by_parts : AreWantedSound → (h : Here) (w : Target) (t : ObjectType) (e : Exp) (s : Suits p home f h) → IsFormedTarget s.structs w
+  pub wanted_by_parts : AreWantedSound → (h : Context) (w : Target) (t : ObjectType) (e : Exp) (s : Suits p home f h) → IsFormedTarget s.structs w
       → Have p h.frame h.source.sites (addressed h.numbers e) (allocations h.known w e) → faults h.known w e ≡ [] → accepts t (operand_of (standing h.known w e)) ≡ true
       → (is_pointer (wanted_of h (is_pointing (type_operand t)) w e) ≡ is_pointing (type_operand t)) × IsSoundExp p home f (wanted_of h (is_pointing (type_operand t)) w e)
   wanted_by_parts wanted h w t e s formed have none fit = wanted h w t e s formed (are_kept h (addressed h.numbers e) have.0) (have_sites h (allocations h.known w e) have.1) none fit

@@ -12,10 +12,10 @@ use Rattle.rr_base.specs.declared.position.Position.{Position}
 use Rattle.c_core.specs.Core as core
 use Rattle.c_core.specs.Core.{Function, Program}
 use Rattle.c_core.specs.Meaning.{is_pointer}
-use Rattle.c_values.specs.Held.{Held, held_register, held_cells, held_zero, held_value, Part, operand_in, is_pointing, value_by, pointer_by, value_in, wanted_in}
+use Rattle.c_values.specs.Denoted.{Denoted, denoted_register, denoted_cells, denoted_zero, denoted_value, Part, operand_in, is_pointing, value_by, pointer_by, value_in, wanted_in}
 use Rattle.c_values.specs.Operators.{is_some_address}
 use Rattle.c_core.specs.Sound.{IsPointer, HasRegister, IsSoundExp}
-use Rattle.source_sound.proofs.Environment.{IsFormedBase, IsFormedPointee, IsFormedLayered, IsFormed, IsFormedOrVoid, IsFormedGiven, IsFormedValue, HeldFits}
+use Rattle.source_sound.proofs.Environment.{IsFormedBase, IsFormedPointee, IsFormedLayered, IsFormed, IsFormedOrVoid, IsFormedGiven, IsFormedValue, DenotedFits}
 use Rattle.source_sound.proofs.Apart.{never'}
 
 -- ---- operands of types
@@ -115,36 +115,36 @@ module _ (p : Program) (home : ℕ → Option ℕ) (f : Function) (structs : ℕ
     pub pointer_sound : IsSoundExp p home f q
 
   -- it has a type, which is formed, and what is held of it is there and is of the kind that is known of it
-  abbrev pub Stands : Standing → Held → Type 0
+  abbrev pub Stands : Standing → Denoted → Type 0
   Stands no_type x = ⊥
-  Stands zero_literal (held_zero at) = Unit {0}
+  Stands zero_literal (denoted_zero at) = Unit {0}
   Stands zero_literal _ = ⊥
-  Stands null_literal (held_value e) = IsPointer e × IsSoundExp p home f e
+  Stands null_literal (denoted_value e) = IsPointer e × IsSoundExp p home f e
   Stands null_literal _ = ⊥
-  Stands (a_value t) (held_value e) = IsFormedValue structs t × (is_pointer e ≡ is_some_address (type_operand t)) × IsSoundExp p home f e
+  Stands (a_value t) (denoted_value e) = IsFormedValue structs t × (is_pointer e ≡ is_some_address (type_operand t)) × IsSoundExp p home f e
   Stands (a_value t) _ = ⊥
-  Stands (a_place t) (held_register n at) = IsFormed structs t × (type_struct t ≡ None) × HasRegister p home f n (is_pointing (type_operand t))
-  Stands (a_place t) (held_cells e at) = IsFormed structs t × IsPointer e × IsSoundExp p home f e
+  Stands (a_place t) (denoted_register n at) = IsFormed structs t × (type_struct t ≡ None) × HasRegister p home f n (is_pointing (type_operand t))
+  Stands (a_place t) (denoted_cells e at) = IsFormed structs t × IsPointer e × IsSoundExp p home f e
   Stands (a_place t) _ = ⊥
 
-  pub stands_held : (s : Standing) (x : Held) → Stands s x → HeldFits p home f s x
-  stands_held no_type x h = absurd h
-  stands_held zero_literal (held_zero at) h = refl
-  stands_held zero_literal (held_register n at) h = absurd h
-  stands_held zero_literal (held_cells e at) h = absurd h
-  stands_held zero_literal (held_value e) h = absurd h
-  stands_held null_literal (held_value e) h = (h.0, h.1)
-  stands_held null_literal (held_zero at) h = absurd h
-  stands_held null_literal (held_register n at) h = absurd h
-  stands_held null_literal (held_cells e at) h = absurd h
-  stands_held (a_value t) (held_value e) h = (h.1, h.2)
-  stands_held (a_value t) (held_zero at) h = absurd h
-  stands_held (a_value t) (held_register n at) h = absurd h
-  stands_held (a_value t) (held_cells e at) h = absurd h
-  stands_held (a_place t) (held_register n at) h = (tt, h.2)
-  stands_held (a_place t) (held_cells e at) h = (tt, h.1, h.2)
-  stands_held (a_place t) (held_zero at) h = absurd h
-  stands_held (a_place t) (held_value e) h = absurd h
+  pub stands_denoted : (s : Standing) (x : Denoted) → Stands s x → DenotedFits p home f s x
+  stands_denoted no_type x h = absurd h
+  stands_denoted zero_literal (denoted_zero at) h = refl
+  stands_denoted zero_literal (denoted_register n at) h = absurd h
+  stands_denoted zero_literal (denoted_cells e at) h = absurd h
+  stands_denoted zero_literal (denoted_value e) h = absurd h
+  stands_denoted null_literal (denoted_value e) h = (h.0, h.1)
+  stands_denoted null_literal (denoted_zero at) h = absurd h
+  stands_denoted null_literal (denoted_register n at) h = absurd h
+  stands_denoted null_literal (denoted_cells e at) h = absurd h
+  stands_denoted (a_value t) (denoted_value e) h = (h.1, h.2)
+  stands_denoted (a_value t) (denoted_zero at) h = absurd h
+  stands_denoted (a_value t) (denoted_register n at) h = absurd h
+  stands_denoted (a_value t) (denoted_cells e at) h = absurd h
+  stands_denoted (a_place t) (denoted_register n at) h = (tt, h.2)
+  stands_denoted (a_place t) (denoted_cells e at) h = (tt, h.1, h.2)
+  stands_denoted (a_place t) (denoted_zero at) h = absurd h
+  stands_denoted (a_place t) (denoted_value e) h = absurd h
 
   -- ---- words
 
@@ -194,24 +194,24 @@ module _ (p : Program) (home : ℕ → Option ℕ) (f : Function) (structs : ℕ
     pointer_sound = s;
   }
 
-  pub stands_gives : (s : Standing) (x : Held) → Stands s x → Gives (operand_of s) (value_by s x) (pointer_by s x)
+  pub stands_gives : (s : Standing) (x : Denoted) → Stands s x → Gives (operand_of s) (value_by s x) (pointer_by s x)
   stands_gives no_type x h = absurd h
-  stands_gives zero_literal (held_zero at) h = record { typed = refl; formed = tt; kind = refl; sound = tt; pointer = λ w. refl; pointer_sound = tt }
-  stands_gives zero_literal (held_register n at) h = absurd h
-  stands_gives zero_literal (held_cells e at) h = absurd h
-  stands_gives zero_literal (held_value e) h = absurd h
-  stands_gives null_literal (held_value e) h = record { typed = refl; formed = tt; kind = h.0; sound = h.1; pointer = λ w. h.0; pointer_sound = h.1 }
-  stands_gives null_literal (held_zero at) h = absurd h
-  stands_gives null_literal (held_register n at) h = absurd h
-  stands_gives null_literal (held_cells e at) h = absurd h
-  stands_gives (a_value t) (held_value e) h = value_gives t e h.0 h.1 h.2
-  stands_gives (a_value t) (held_zero at) h = absurd h
-  stands_gives (a_value t) (held_register n at) h = absurd h
-  stands_gives (a_value t) (held_cells e at) h = absurd h
-  stands_gives (a_place t) (held_register n at) h = register_gives t n at h.0 h.2
-  stands_gives (a_place t) (held_cells e at) h = cells_give t.layers t.base e at h.0 h.1 h.2
-  stands_gives (a_place t) (held_zero at) h = absurd h
-  stands_gives (a_place t) (held_value e) h = absurd h
+  stands_gives zero_literal (denoted_zero at) h = record { typed = refl; formed = tt; kind = refl; sound = tt; pointer = λ w. refl; pointer_sound = tt }
+  stands_gives zero_literal (denoted_register n at) h = absurd h
+  stands_gives zero_literal (denoted_cells e at) h = absurd h
+  stands_gives zero_literal (denoted_value e) h = absurd h
+  stands_gives null_literal (denoted_value e) h = record { typed = refl; formed = tt; kind = h.0; sound = h.1; pointer = λ w. h.0; pointer_sound = h.1 }
+  stands_gives null_literal (denoted_zero at) h = absurd h
+  stands_gives null_literal (denoted_register n at) h = absurd h
+  stands_gives null_literal (denoted_cells e at) h = absurd h
+  stands_gives (a_value t) (denoted_value e) h = value_gives t e h.0 h.1 h.2
+  stands_gives (a_value t) (denoted_zero at) h = absurd h
+  stands_gives (a_value t) (denoted_register n at) h = absurd h
+  stands_gives (a_value t) (denoted_cells e at) h = absurd h
+  stands_gives (a_place t) (denoted_register n at) h = register_gives t n at h.0 h.2
+  stands_gives (a_place t) (denoted_cells e at) h = cells_give t.layers t.base e at h.0 h.1 h.2
+  stands_gives (a_place t) (denoted_zero at) h = absurd h
+  stands_gives (a_place t) (denoted_value e) h = absurd h
 
   -- the words of a part
   abbrev pub PartGives : Part → Type 0

@@ -11,23 +11,23 @@ use Rattle.c_types.specs.Standing.{no_target, standing}
 use Rattle.c_rules.specs.Faults.{mismatch, expression_faults, go_faults}
 use Rattle.c_programs.specs.Statements.{declared_by, after_declares, declares_faults, computed_faults, condition_faults, test_faults, gives_fit, return_faults, start_of_for_faults, after_start, statement_faults, parts_faults}
 use Rattle.c_sites.specs.Spots.{in_function, allocations, maybe_allocations, declares_spots, start_spots, for_spots, statement_spots, parts_spots}
-use Rattle.c_sites.specs.Addresses.{Numbered, addressed, maybe_addressed, start_addressed, for_addressed, declares_addressed, statement_addressed, parts_addressed, after_names, after_name, after_declaration, after_for_start, behind_statement, inside, count_of_declares, count_of_start, count_of_locals}
+use Rattle.c_sites.specs.Addresses.{Numbered, addressed, maybe_addressed, start_addressed, for_addressed, declares_addressed, statement_addressed, parts_addressed, after_names, after_name, after_declaration, after_for_start, past_statement, inside, count_of_declares, count_of_start, count_of_locals}
 use Rattle.c_core.specs.Core.{Function, Program}
 use Rattle.c_core.specs.Meaning.{is_pointer}
 use Rattle.c_elaborate.specs.declared.local.Local.{Local}
-use Rattle.c_values.specs.Held.{is_pointing}
-use Rattle.c_values.specs.Here.{Here}
+use Rattle.c_values.specs.Denoted.{is_pointing}
+use Rattle.c_values.specs.Context.{Context}
 use Rattle.c_values.specs.Calls.{gives_pointer}
 use Rattle.c_values.specs.Expressions.{value_of, wanted_of}
 use Rattle.c_elaborate.specs.Functions.{declares_locals, start_locals, statement_locals, parts_locals}
-use Rattle.c_elaborate.specs.Statements.{here_inside, here_after_declares, here_after_start, here_after, declares_elaborated, computed, maybe_value, given, start_elaborated, elaborated, all_elaborated}
+use Rattle.c_elaborate.specs.Statements.{context_inside, here_after_declares, here_after_start, context_after, declares_elaborated, computed, maybe_value, given, start_elaborated, elaborated, all_elaborated}
 use Rattle.c_core.specs.Sound.{IsSoundExp, IsSoundMaybe, IsSoundResult, IsSoundStatement}
 use Rattle.source_sound.proofs.NoFaults.{append_nil, three_nil, four_nil, fits}
 use Rattle.source_sound.proofs.Premises.{Have, have_parts, AreValuesSound, AreWantedSound, value_by_parts, wanted_by_parts}
 use Rattle.source_sound.proofs.Inside.{Inside, suits}
 use Rattle.source_sound.proofs.Typed.{starred_tells}
 use Rattle.source_sound.proofs.Locals.{AreHome, home_left, home_right, declares_count, start_count, locals_count}
-use Rattle.source_sound.proofs.Declarations.{next_after_name, declares_inside, start_inside, opened_inside, behind_inside, next_behind}
+use Rattle.source_sound.proofs.Declarations.{next_after_name, declares_inside, start_inside, opened_inside, after_inside, next_after}
 use Rattle.source_sound.proofs.FirstValues.{AreAllSound, both_sound, declares_sound}
 
 module _ (p : Program) (home : ℕ → Option ℕ) (f : Function) (structs : ℕ) (values : AreValuesSound p home f) (wanted : AreWantedSound p home f) where
@@ -49,28 +49,28 @@ module _ (p : Program) (home : ℕ → Option ℕ) (f : Function) (structs : ℕ
 
   -- ---- expressions in statements
 
-  value_sound : (h : Here) (e : Exp) → Inside p home f structs h → Have p h.frame h.source.sites (addressed h.numbers e) (allocations h.known no_target e) → expression_faults h.known e ≡ [] → IsSoundExp p home f (value_of h e)
+  value_sound : (h : Context) (e : Exp) → Inside p home f structs h → Have p h.frame h.source.sites (addressed h.numbers e) (allocations h.known no_target e) → expression_faults h.known e ≡ [] → IsSoundExp p home f (value_of h e)
   value_sound h e i have none = value_by_parts p home f values h e (suits p home f structs h i) have none
 
-  condition_sound : (h : Here) (e : Exp) (at : Position) → Inside p home f structs h → Have p h.frame h.source.sites (addressed h.numbers e) (allocations h.known no_target e) → condition_faults h.known at e ≡ [] → IsSoundExp p home f (value_of h e)
+  condition_sound : (h : Context) (e : Exp) (at : Position) → Inside p home f structs h → Have p h.frame h.source.sites (addressed h.numbers e) (allocations h.known no_target e) → condition_faults h.known at e ≡ [] → IsSoundExp p home f (value_of h e)
   condition_sound h e at i have none =
       value_sound h e i have (append_nil (expression_faults h.known e) (mismatch (not (is_scalar (operand_of (standing h.known no_target e)))) at) none).0
 
-  test_sound : (h : Here) (e : Option Exp) (at : Position) → Inside p home f structs h → Have p h.frame h.source.sites (maybe_addressed h.numbers e) (maybe_allocations h.known e) → test_faults h.known at e ≡ [] → IsSoundMaybe p home f (maybe_value h e)
+  test_sound : (h : Context) (e : Option Exp) (at : Position) → Inside p home f structs h → Have p h.frame h.source.sites (maybe_addressed h.numbers e) (maybe_allocations h.known e) → test_faults h.known at e ≡ [] → IsSoundMaybe p home f (maybe_value h e)
   test_sound h None at i have none = tt
   test_sound h (Some e) at i have none = condition_sound h e at i have none
 
-  step_sound : (h : Here) (e : Option Exp) → Inside p home f structs h → Have p h.frame h.source.sites (maybe_addressed h.numbers e) (maybe_allocations h.known e) → computed_faults h.known e ≡ [] → IsSoundMaybe p home f (maybe_value h e)
+  step_sound : (h : Context) (e : Option Exp) → Inside p home f structs h → Have p h.frame h.source.sites (maybe_addressed h.numbers e) (maybe_allocations h.known e) → computed_faults h.known e ≡ [] → IsSoundMaybe p home f (maybe_value h e)
   step_sound h None i have none = tt
   step_sound h (Some e) i have none = value_sound h e i have (append_nil (expression_faults h.known e) (go_faults (standing h.known no_target e) e) none).0
 
-  computed_sound : (h : Here) (e : Option Exp) → Inside p home f structs h → Have p h.frame h.source.sites (maybe_addressed h.numbers e) (maybe_allocations h.known e) → computed_faults h.known e ≡ [] → IsSoundStatement p home f (computed h e)
+  computed_sound : (h : Context) (e : Option Exp) → Inside p home f structs h → Have p h.frame h.source.sites (maybe_addressed h.numbers e) (maybe_allocations h.known e) → computed_faults h.known e ≡ [] → IsSoundStatement p home f (computed h e)
   computed_sound h None i have none = tt
   computed_sound h (Some e) i have none = value_sound h e i have (append_nil (expression_faults h.known e) (go_faults (standing h.known no_target e) e) none).0
 
   module _ (result : StarredType) (is_result : gives_pointer (Some result) ≡ f.gives_pointer) where
     -- what is returned is of the kind that the function gives
-    given_sound : (h : Here) (e : Option Exp) (at : Position) → Inside p home f structs h → Have p h.frame h.source.sites (maybe_addressed h.numbers e) (maybe_allocations h.known e) → return_faults h.known (Some result) at e ≡ [] → IsSoundResult p home f (given h e)
+    given_sound : (h : Context) (e : Option Exp) (at : Position) → Inside p home f structs h → Have p h.frame h.source.sites (maybe_addressed h.numbers e) (maybe_allocations h.known e) → return_faults h.known (Some result) at e ≡ [] → IsSoundResult p home f (given h e)
     given_sound h None at i have none = tt
     given_sound h (Some e) at i have none =
         let t = starred_type result in
@@ -81,34 +81,34 @@ module _ (p : Program) (home : ℕ → Option ℕ) (f : Function) (structs : ℕ
         (here'.0 ∙ i.gives, here'.1)
 
     module _ (name : Text) (ns : List ℕ) where
-      start_sound : (h : Here) (n : ℕ) (s : Start) → Inside p home f structs h → AreHome f.pointers (length f.objects) h.frame h.numbers.next (start_locals s)
+      start_sound : (h : Context) (n : ℕ) (s : Start) → Inside p home f structs h → AreHome f.pointers (length f.objects) h.frame h.numbers.next (start_locals s)
           → Have p h.frame h.source.sites (start_addressed h.numbers s) (start_spots (in_function name ns) h.known n s) → start_of_for_faults h.known s ≡ [] → IsSoundStatement p home f (start_elaborated h s)
       start_sound h n (start_declares d) i come have none = declares_sound p home f structs values wanted name ns h n d i come have none
       start_sound h n (start_computes e) i come have none = computed_sound h e i have none
 
-      -- the second of two statements, whose locals come behind those of the first
-      come_behind : (h : Here) (a : Statement) (ls : List Local) → AreHome f.pointers (length f.objects) h.frame h.numbers.next (statement_locals a ++ ls) → AreHome f.pointers (length f.objects) h.frame (behind_statement h.numbers a).next ls
-      come_behind h a ls come =
-          let next = next_behind p home f structs h.numbers a in
+      -- the second of two statements, whose locals come after those of the first
+      come_after : (h : Context) (a : Statement) (ls : List Local) → AreHome f.pointers (length f.objects) h.frame h.numbers.next (statement_locals a ++ ls) → AreHome f.pointers (length f.objects) h.frame (past_statement h.numbers a).next ls
+      come_after h a ls come =
+          let next = next_after p home f structs h.numbers a in
           let count = locals_count a in
-          home_right f.pointers (length f.objects) h.frame h.numbers.next (behind_statement h.numbers a).next (statement_locals a) ls (omega (arith, next, count)) come
+          home_right f.pointers (length f.objects) h.frame h.numbers.next (past_statement h.numbers a).next (statement_locals a) ls (omega (arith, next, count)) come
 
-      come_after_start : (h : Here) (s : Start) (ls : List Local) → AreHome f.pointers (length f.objects) h.frame h.numbers.next (start_locals s ++ ls) → AreHome f.pointers (length f.objects) h.frame (after_for_start h.numbers s).next ls
+      come_after_start : (h : Context) (s : Start) (ls : List Local) → AreHome f.pointers (length f.objects) h.frame h.numbers.next (start_locals s ++ ls) → AreHome f.pointers (length f.objects) h.frame (after_for_start h.numbers s).next ls
       come_after_start h s ls come =
           let next = next_after_start h.numbers s in
           let count = start_count s in
           home_right f.pointers (length f.objects) h.frame h.numbers.next (after_for_start h.numbers s).next (start_locals s) ls (omega (arith, next, count)) come
 
-      come_after_declares : (h : Here) (d : Declares) (ls : List Local) → AreHome f.pointers (length f.objects) h.frame h.numbers.next (declares_locals d ++ ls) → AreHome f.pointers (length f.objects) h.frame (after_declaration h.numbers d).next ls
+      come_after_declares : (h : Context) (d : Declares) (ls : List Local) → AreHome f.pointers (length f.objects) h.frame h.numbers.next (declares_locals d ++ ls) → AreHome f.pointers (length f.objects) h.frame (after_declaration h.numbers d).next ls
       come_after_declares h d ls come =
           let next = next_after_declares h.numbers d in
           let count = declares_count d in
           home_right f.pointers (length f.objects) h.frame h.numbers.next (after_declaration h.numbers d).next (declares_locals d) ls (omega (arith, next, count)) come
 
       mutual
-        pub statement_sound : (h : Here) (in_loop : Bool) (s : Statement) → Inside p home f structs h → AreHome f.pointers (length f.objects) h.frame h.numbers.next (statement_locals s)
+        pub statement_sound : (h : Context) (in_loop : Bool) (s : Statement) → Inside p home f structs h → AreHome f.pointers (length f.objects) h.frame h.numbers.next (statement_locals s)
             → (n : ℕ) → Have p h.frame h.source.sites (statement_addressed h.numbers s) (statement_spots (in_function name ns) h.known n s) → statement_faults h.known (Some result) in_loop s ≡ [] → IsSoundStatement p home f (elaborated h s)
-        statement_sound h in_loop (block ps at) i come n have none = parts_sound (here_inside h) in_loop ps (opened_inside p home f structs h i) come n have none
+        statement_sound h in_loop (block ps at) i come n have none = parts_sound (context_inside h) in_loop ps (opened_inside p home f structs h i) come n have none
         statement_sound h in_loop (compute e at) i come n have none = computed_sound h e i have none
         statement_sound h in_loop (break_at at) i come n have none = tt
         statement_sound h in_loop (continue_at at) i come n have none = tt
@@ -119,11 +119,11 @@ module _ (p : Program) (home : ℕ → Option ℕ) (f : Function) (structs : ℕ
             (condition_sound h e at i two.0 parts.0, statement_sound h in_loop a i come n two.1 parts.1)
         statement_sound h in_loop (branch_else e a b at) i come n have none =
             let parts = three_nil (condition_faults h.known at e) (statement_faults h.known (Some result) in_loop a) (statement_faults h.known (Some result) in_loop b) none in
-            let last = have_parts p h.frame h.source.sites (addressed h.numbers e ++ statement_addressed h.numbers a) (statement_addressed (behind_statement h.numbers a) b) (allocations h.known no_target e ++ statement_spots (in_function name ns) h.known n a) (statement_spots (in_function name ns) h.known (n + count_of_locals a) b) have in
+            let last = have_parts p h.frame h.source.sites (addressed h.numbers e ++ statement_addressed h.numbers a) (statement_addressed (past_statement h.numbers a) b) (allocations h.known no_target e ++ statement_spots (in_function name ns) h.known n a) (statement_spots (in_function name ns) h.known (n + count_of_locals a) b) have in
             let two = have_parts p h.frame h.source.sites (addressed h.numbers e) (statement_addressed h.numbers a) (allocations h.known no_target e) (statement_spots (in_function name ns) h.known n a) last.0 in (
               condition_sound h e at i two.0 parts.0,
               statement_sound h in_loop a i (home_left f.pointers (length f.objects) h.frame h.numbers.next (statement_locals a) (statement_locals b) come) n two.1 parts.1,
-              statement_sound (here_after h a) in_loop b (behind_inside p home f structs h a i) (come_behind h a (statement_locals b) come) (n + count_of_locals a) last.1 parts.2,
+              statement_sound (context_after h a) in_loop b (after_inside p home f structs h a i) (come_after h a (statement_locals b) come) (n + count_of_locals a) last.1 parts.2,
             )
         statement_sound h in_loop (while_loop e a at) i come n have none =
             let parts = append_nil (condition_faults h.known at e) (statement_faults h.known (Some result) true a) none in
@@ -131,8 +131,8 @@ module _ (p : Program) (home : ℕ → Option ℕ) (f : Function) (structs : ℕ
             (condition_sound h e at i two.0 parts.0, statement_sound h true a i come n two.1 parts.1)
         statement_sound h in_loop (do_loop a e at) i come n have none =
             let parts = append_nil (statement_faults h.known (Some result) true a) (condition_faults h.known at e) none in
-            let two = have_parts p h.frame h.source.sites (statement_addressed h.numbers a) (addressed (behind_statement h.numbers a) e) (statement_spots (in_function name ns) h.known n a) (allocations h.known no_target e) have in
-            (statement_sound h true a i come n two.0 parts.0, condition_sound (here_after h a) e at (behind_inside p home f structs h a i) two.1 parts.1)
+            let two = have_parts p h.frame h.source.sites (statement_addressed h.numbers a) (addressed (past_statement h.numbers a) e) (statement_spots (in_function name ns) h.known n a) (allocations h.known no_target e) have in
+            (statement_sound h true a i come n two.0 parts.0, condition_sound (context_after h a) e at (after_inside p home f structs h a i) two.1 parts.1)
         statement_sound h in_loop (for_loop start test next a at) i come n have none =
             let parts = four_nil (start_of_for_faults (opened h.known) start) (test_faults (after_start (opened h.known) start) at test) (computed_faults (after_start (opened h.known) start) next) (statement_faults (after_start (opened h.known) start) (Some result) true a) none in
             let last = have_parts p h.frame h.source.sites (for_addressed (inside h.numbers) start test next) (statement_addressed (after_for_start (inside h.numbers) start) a) (for_spots (in_function name ns) (opened h.known) n start test next) (statement_spots (in_function name ns) (after_start (opened h.known) start) (n + count_of_start start) a) have in
@@ -140,15 +140,15 @@ module _ (p : Program) (home : ℕ → Option ℕ) (f : Function) (structs : ℕ
             let two = have_parts p h.frame h.source.sites (start_addressed (inside h.numbers) start) (maybe_addressed (after_for_start (inside h.numbers) start) test) (start_spots (in_function name ns) (opened h.known) n start) (maybe_allocations (after_start (opened h.known) start) test) more.0 in
             let own = home_left f.pointers (length f.objects) h.frame h.numbers.next (start_locals start) (statement_locals a) come in
             let i' = opened_inside p home f structs h i in
-            let after = start_inside p home f structs (here_inside h) start i' own parts.0 in (
-              start_sound (here_inside h) n start i' own two.0 parts.0,
-              test_sound (here_after_start (here_inside h) start) test at after two.1 parts.1,
-              step_sound (here_after_start (here_inside h) start) next after more.1 parts.2,
-              statement_sound (here_after_start (here_inside h) start) true a after (come_after_start (here_inside h) start (statement_locals a) come) (n + count_of_start start) last.1 parts.3,
+            let after = start_inside p home f structs (context_inside h) start i' own parts.0 in (
+              start_sound (context_inside h) n start i' own two.0 parts.0,
+              test_sound (here_after_start (context_inside h) start) test at after two.1 parts.1,
+              step_sound (here_after_start (context_inside h) start) next after more.1 parts.2,
+              statement_sound (here_after_start (context_inside h) start) true a after (come_after_start (context_inside h) start (statement_locals a) come) (n + count_of_start start) last.1 parts.3,
             )
 
         -- what stands in a block
-        pub parts_sound : (h : Here) (in_loop : Bool) (ps : Parts) → Inside p home f structs h → AreHome f.pointers (length f.objects) h.frame h.numbers.next (parts_locals ps)
+        pub parts_sound : (h : Context) (in_loop : Bool) (ps : Parts) → Inside p home f structs h → AreHome f.pointers (length f.objects) h.frame h.numbers.next (parts_locals ps)
             → (n : ℕ) → Have p h.frame h.source.sites (parts_addressed h.numbers ps) (parts_spots (in_function name ns) h.known n ps) → parts_faults h.known (Some result) in_loop ps ≡ [] → AreAllSound p home f structs (all_elaborated h ps)
         parts_sound h in_loop no_part i come n have none = tt
         parts_sound h in_loop (and_declares d ps) i come n have none =
@@ -160,7 +160,7 @@ module _ (p : Program) (home : ℕ → Option ℕ) (f : Function) (structs : ℕ
             (parts_sound (here_after_declares h d) in_loop ps (declares_inside p home f structs h d i own parts.0) (come_after_declares h d (parts_locals ps) come) (n + count_of_declares d) two.1 parts.1)
         parts_sound h in_loop (and_does s ps) i come n have none =
             let parts = append_nil (statement_faults h.known (Some result) in_loop s) (parts_faults h.known (Some result) in_loop ps) none in
-            let two = have_parts p h.frame h.source.sites (statement_addressed h.numbers s) (parts_addressed (behind_statement h.numbers s) ps) (statement_spots (in_function name ns) h.known n s) (parts_spots (in_function name ns) h.known (n + count_of_locals s) ps) have in (
+            let two = have_parts p h.frame h.source.sites (statement_addressed h.numbers s) (parts_addressed (past_statement h.numbers s) ps) (statement_spots (in_function name ns) h.known n s) (parts_spots (in_function name ns) h.known (n + count_of_locals s) ps) have in (
               statement_sound h in_loop s i (home_left f.pointers (length f.objects) h.frame h.numbers.next (statement_locals s) (parts_locals ps) come) n two.0 parts.0,
-              parts_sound (here_after h s) in_loop ps (behind_inside p home f structs h s i) (come_behind h s (parts_locals ps) come) (n + count_of_locals s) two.1 parts.1,
+              parts_sound (context_after h s) in_loop ps (after_inside p home f structs h s i) (come_after h s (parts_locals ps) come) (n + count_of_locals s) two.1 parts.1,
             )

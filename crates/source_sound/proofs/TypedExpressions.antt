@@ -35,7 +35,7 @@ use Rattle.c_types.specs.Constants.{constant_named}
 use Rattle.c_types.specs.Scopes.{Known, Scope, Members, Meaning, variable, function_of, seen, seen_in, or_else, has_name, base_of, starred, type_named, member_among, member_of, is_complete}
 use Rattle.c_types.specs.Operands.{Standing, no_type, zero_literal, null_literal, a_value, a_place, Operand, any_operand, whole, zero_operand, null_operand, pointing, no_operand, operand_of, type_value, is_void, layered_is_void, is_typed, is_scalar, accepts, int_value, takes}
 use Rattle.c_types.specs.Library.{starred_type, an_int, wanted_by, given_by, library_named}
-use Rattle.c_types.specs.Standing.{Target, no_target, type_target, assigned_target, cast_target, malloc_standing, pointee, is_sized, sizeof_type_standing, casts_to, cast_standing, can_index, struct_of, pointed_struct, place_by, member_standing, named_standing, is_main, callee, callee_wants, call_standing, given_type, format_of, number_standing, index_standing, prefix_standing, assign_standing, stepped, element_place, some_library_callee, library_callee, function_callee, callee_of, is_root, is_text, is_null, fits_wanted, can_go, let_go, behind, standing, last_standing, fit_wanted}
+use Rattle.c_types.specs.Standing.{Target, no_target, type_target, assigned_target, cast_target, malloc_standing, pointee, is_sized, sizeof_type_standing, casts_to, cast_standing, can_index, struct_of, pointed_struct, place_by, member_standing, named_standing, is_main, callee, callee_wants, call_standing, given_type, format_of, number_standing, index_standing, prefix_standing, assign_standing, stepped, element_place, some_library_callee, library_callee, function_callee, callee_of, is_root, is_text, is_null, fits_wanted, can_go, let_go, following, standing, last_standing, fit_wanted}
 use Rattle.c_rules.specs.Faults.{name_place, mismatch, specifier_faults, is_some_void, name_can_be_place, is_indirect, can_be_place, standing_type, assigns_to, steps, prefix_takes, needs_place, place_faults, lacks_struct, lacks_member, member_faults, named_faults, count_of, count_faults, begins_with_text, printf_wants, some_library_wants, library_wants, wants_of, has_no_target, printf_count_faults, library_call_faults, unseen_call_faults, callee_faults, format_faults, is_named, where_judged, one_argument_faults, condition_takes, go_faults, step_faults, place_of_first, sizeof_type_faults, cast_faults, assign_faults, prefix_faults, call_faults, faults, rest_faults, arguments_faults, root_faults, first_place}
 use Rattle.c_programs.specs.Declarators.{is_void_specifier}
 use Rattle.source_sound.proofs.Environment.{IsFormed}
@@ -44,7 +44,7 @@ use Rattle.source_sound.proofs.DeclaredTypes.{IsFileBase, base_known, complete_s
 use Rattle.source_sound.proofs.FileStructs.{IsMember, AreMembers, AllMembers}
 use Rattle.source_sound.proofs.Signatures.{IsKnown, IsSomeResult}
 use Rattle.source_sound.proofs.FileScope.{AllOf, found_entry}
-use Rattle.source_sound.proofs.Typing.{pointers_declarable, IsGood, IsGoodOperand, IsGoodTarget, IsObjectStanding, NeedsObject, good_operand, good_typed, as_value_good, given_good, place_target, malloc_good, where_good, made_good, binary_good, conditional_good, index_good, stepped_good, assign_good, prefix_good, let_go_good, behind_good}
+use Rattle.source_sound.proofs.Typing.{pointers_declarable, IsGood, IsGoodOperand, IsGoodTarget, IsObjectStanding, NeedsObject, good_operand, good_typed, as_value_good, given_good, place_target, malloc_good, where_good, made_good, binary_good, conditional_good, index_good, stepped_good, assign_good, prefix_good, let_go_good, after_good}
 
 -- ---- the names in reach
 
@@ -561,7 +561,7 @@ module _ (n : ℕ) where
       rest_good s g (and_exp e es) h =
           let p = nil3 (faults known no_target e) (go_faults (standing known no_target e) e) (rest_faults known es) h in
           let one = let_go_good n (standing known no_target e) (exp_good no_target tt e p.0) (not_nil (can_go (standing known no_target e)) _ _ p.1) in
-          rest_good (behind s (let_go (standing known no_target e))) (behind_good n s (let_go (standing known no_target e)) g one) es p.2
+          rest_good (following s (let_go (standing known no_target e))) (after_good n s (let_go (standing known no_target e)) g one) es p.2
 
       all_fit : (ws : List Wanted) (at : Position) (es : Exps) → count_of es ≡ length ws → arguments_faults known ws at es ≡ [] → Fit known ws es
       all_fit [] at no_exp many h = refl

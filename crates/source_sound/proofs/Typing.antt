@@ -15,7 +15,7 @@ use Rattle.c_types.specs.declared.library.StarredType.{StarredType}
 use Rattle.c_types.specs.Types.{pointer_to}
 use Rattle.c_types.specs.Operands.{Standing, no_type, zero_literal, null_literal, a_value, a_place, Operand, any_operand, whole, zero_operand, null_operand, pointing, no_operand, base_operand, layered_operand, operand_of, layered_value, type_value, as_value, layered_is_void, is_void, is_typed, is_whole, is_scalar, are_whole, settled, int_value, sum_of, difference_of, result_of, takes, binary_standing, can_choose, voider, chosen_target, chosen, moves, assigns}
 use Rattle.c_types.specs.Library.{starred_type}
-use Rattle.c_types.specs.Standing.{Target, no_target, some_target, target_of, layered_target, malloc_standing, pointee, address, stepped, made_int, prefix_standing, conditional_standing, assign_standing, element_place, can_index, index_standing, let_go, can_go, behind, given_type}
+use Rattle.c_types.specs.Standing.{Target, no_target, some_target, target_of, layered_target, malloc_standing, pointee, address, stepped, made_int, prefix_standing, conditional_standing, assign_standing, element_place, can_index, index_standing, let_go, can_go, following, given_type}
 use Rattle.c_rules.specs.Faults.{standing_type, assigns_to, steps, can_follow, prefix_takes}
 use Rattle.source_sound.proofs.Environment.{IsFormedBase, IsFormedPointee, IsFormedLayered, IsFormed, IsFormedGiven, IsFormedValue}
 use Rattle.source_sound.proofs.DeclaredTypes.{ArePointers, AreDeclarable, only_pointers}
@@ -409,9 +409,9 @@ module _ (n : ℕ) where
   pub let_go_good : (s : Standing) → IsGood s → can_go s ≡ true → IsGood (let_go s)
   let_go_good s h e = where_good (can_go s) s e h
 
-  pub behind_good : (s t : Standing) → IsGood s → IsGood t → IsGood (behind s t)
-  behind_good no_type t h g = absurd h
-  behind_good zero_literal t h g = g
-  behind_good null_literal t h g = g
-  behind_good (a_value u) t h g = g
-  behind_good (a_place u) t h g = g
+  pub after_good : (s t : Standing) → IsGood s → IsGood t → IsGood (following s t)
+  after_good no_type t h g = absurd h
+  after_good zero_literal t h g = g
+  after_good null_literal t h g = g
+  after_good (a_value u) t h g = g
+  after_good (a_place u) t h g = g

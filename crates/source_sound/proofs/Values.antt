@@ -17,14 +17,14 @@ use Rattle.rr_base.specs.declared.position.Position.{Position}
 use Rattle.c_core.specs.Core as core
 use Rattle.c_core.specs.Core.{Function, Program}
 use Rattle.c_core.specs.Meaning.{is_pointer}
-use Rattle.c_values.specs.Held.{Held, held_register, held_cells, held_zero, held_value, is_pointing, value_by}
-use Rattle.c_values.specs.Here.{Here}
+use Rattle.c_values.specs.Denoted.{Denoted, denoted_register, denoted_cells, denoted_zero, denoted_value, is_pointing, value_by}
+use Rattle.c_values.specs.Context.{Context}
 use Rattle.c_values.specs.Operators.{is_some_address}
 use Rattle.c_values.specs.Calls.{is_pointer_wanted}
-use Rattle.c_values.specs.Expressions.{held, part, value_of, wanted_of}
+use Rattle.c_values.specs.Expressions.{denoted, part, value_of, wanted_of}
 use Rattle.c_core.specs.Sound.{IsPointer, IsWhole, IsSoundExp}
-use Rattle.source_sound.proofs.Environment.{IsFormed, IsFormedValue, IsFormedTarget, AreKept, places_of, HeldFits, HaveSites, Suits}
-use Rattle.source_sound.proofs.Standings.{address_layers, Stands, PartGives, stands_held, stands_gives}
+use Rattle.source_sound.proofs.Environment.{IsFormed, IsFormedValue, IsFormedTarget, AreKept, places_of, DenotedFits, HaveSites, Suits}
+use Rattle.source_sound.proofs.Standings.{address_layers, Stands, PartGives, stands_denoted, stands_gives}
 use Rattle.source_sound.proofs.Choices.{gives_whole}
 use Rattle.source_sound.proofs.Changes.{accepted, either_sound}
 use Rattle.source_sound.proofs.Calls.{fitting_word}
@@ -37,18 +37,18 @@ IsFormedStanding n (a_value t) = IsFormedValue n t
 IsFormedStanding n _ = Unit {0}
 
 module _ (p : Program) (home : ℕ → Option ℕ) (f : Function) where
-  formed_standing : (n : ℕ) (s : Standing) (x : Held) → Stands p home f n s x → IsFormedStanding n s
+  formed_standing : (n : ℕ) (s : Standing) (x : Denoted) → Stands p home f n s x → IsFormedStanding n s
   formed_standing n no_type x h = tt
   formed_standing n zero_literal x h = tt
   formed_standing n null_literal x h = tt
-  formed_standing n (a_value t) (held_value e) h = h.0
-  formed_standing n (a_value t) (held_zero at) h = absurd h
-  formed_standing n (a_value t) (held_register r at) h = absurd h
-  formed_standing n (a_value t) (held_cells e at) h = absurd h
-  formed_standing n (a_place t) (held_register r at) h = h.0
-  formed_standing n (a_place t) (held_cells e at) h = h.0
-  formed_standing n (a_place t) (held_zero at) h = absurd h
-  formed_standing n (a_place t) (held_value e) h = absurd h
+  formed_standing n (a_value t) (denoted_value e) h = h.0
+  formed_standing n (a_value t) (denoted_zero at) h = absurd h
+  formed_standing n (a_value t) (denoted_register r at) h = absurd h
+  formed_standing n (a_value t) (denoted_cells e at) h = absurd h
+  formed_standing n (a_place t) (denoted_register r at) h = h.0
+  formed_standing n (a_place t) (denoted_cells e at) h = h.0
+  formed_standing n (a_place t) (denoted_zero at) h = absurd h
+  formed_standing n (a_place t) (denoted_value e) h = absurd h
 
   -- ---- what fits gives a sound word
 
@@ -59,21 +59,21 @@ module _ (p : Program) (home : ℕ → Option ℕ) (f : Function) where
   cells_word (layer.Pointer ∷ ls) b e at k s = (refl, (k, s))
   cells_word (layer.Array m ∷ ls) b e at k s = (k, s)
 
-  pub value_fits : (s : Standing) (x : Held) → HeldFits p home f s x → (is_pointer (value_by s x) ≡ is_some_address (operand_of s)) × IsSoundExp p home f (value_by s x)
-  value_fits no_type (held_register n at) h = absurd h.0
-  value_fits zero_literal (held_register n at) h = absurd h.0
-  value_fits null_literal (held_register n at) h = absurd h.0
-  value_fits (a_value t) (held_register n at) h = absurd h.0
-  value_fits (a_place t) (held_register n at) h = (address_layers t.layers t.base, h.1)
-  value_fits no_type (held_cells e at) h = absurd h.0
-  value_fits zero_literal (held_cells e at) h = absurd h.0
-  value_fits null_literal (held_cells e at) h = absurd h.0
-  value_fits (a_value t) (held_cells e at) h = absurd h.0
-  value_fits (a_place t) (held_cells e at) h = cells_word t.layers t.base e at h.1 h.2
-  value_fits s (held_zero at) h = (ap (λ z. is_some_address (operand_of z)) (sym h), tt)
-  value_fits s (held_value e) h = (h.0, h.1)
+  pub value_fits : (s : Standing) (x : Denoted) → DenotedFits p home f s x → (is_pointer (value_by s x) ≡ is_some_address (operand_of s)) × IsSoundExp p home f (value_by s x)
+  value_fits no_type (denoted_register n at) h = absurd h.0
+  value_fits zero_literal (denoted_register n at) h = absurd h.0
+  value_fits null_literal (denoted_register n at) h = absurd h.0
+  value_fits (a_value t) (denoted_register n at) h = absurd h.0
+  value_fits (a_place t) (denoted_register n at) h = (address_layers t.layers t.base, h.1)
+  value_fits no_type (denoted_cells e at) h = absurd h.0
+  value_fits zero_literal (denoted_cells e at) h = absurd h.0
+  value_fits null_literal (denoted_cells e at) h = absurd h.0
+  value_fits (a_value t) (denoted_cells e at) h = absurd h.0
+  value_fits (a_place t) (denoted_cells e at) h = cells_word t.layers t.base e at h.1 h.2
+  value_fits s (denoted_zero at) h = (ap (λ z. is_some_address (operand_of z)) (sym h), tt)
+  value_fits s (denoted_value e) h = (h.0, h.1)
 
-  module _ (h : Here) (suits : Suits p home f h) where
+  module _ (h : Context) (suits : Suits p home f h) where
     -- an expression without a fault, whose allocations have sites, and which takes the address of no register
     pub record IsApt (w : Target) (e : Exp) : Type 0 where
       pub none : faults h.known w e ≡ []
@@ -81,21 +81,21 @@ module _ (p : Program) (home : ℕ → Option ℕ) (f : Function) where
       pub kept : AreKept h (addressed h.numbers e)
       pub target : IsFormedTarget suits.structs w
 
-    pub stands_here : (w : Target) (e : Exp) → IsApt w e → Stands p home f suits.structs (standing h.known w e) (held h w e)
+    pub stands_here : (w : Target) (e : Exp) → IsApt w e → Stands p home f suits.structs (standing h.known w e) (denoted h w e)
     stands_here w e a = exp_stands p home f h suits e w a.none a.sites a.kept a.target
 
-    pub expression_fits : (w : Target) (e : Exp) → IsApt w e → HeldFits p home f (standing h.known w e) (held h w e)
-    expression_fits w e a = stands_held p home f suits.structs (standing h.known w e) (held h w e) (stands_here w e a)
+    pub expression_fits : (w : Target) (e : Exp) → IsApt w e → DenotedFits p home f (standing h.known w e) (denoted h w e)
+    expression_fits w e a = stands_denoted p home f suits.structs (standing h.known w e) (denoted h w e) (stands_here w e a)
 
     pub expression_gives : (w : Target) (e : Exp) → IsApt w e → PartGives p home f suits.structs (part h w e)
-    expression_gives w e a = stands_gives p home f suits.structs (standing h.known w e) (held h w e) (stands_here w e a)
+    expression_gives w e a = stands_gives p home f suits.structs (standing h.known w e) (denoted h w e) (stands_here w e a)
 
     -- it has a type, which is formed
     pub expression_typed : (w : Target) (e : Exp) → IsApt w e → is_typed (operand_of (standing h.known w e)) ≡ true
     expression_typed w e a = (expression_gives w e a).typed
 
     pub expression_formed : (w : Target) (e : Exp) → IsApt w e → IsFormedStanding suits.structs (standing h.known w e)
-    expression_formed w e a = formed_standing suits.structs (standing h.known w e) (held h w e) (stands_here w e a)
+    expression_formed w e a = formed_standing suits.structs (standing h.known w e) (denoted h w e) (stands_here w e a)
 
     -- ---- words
 

@@ -14,10 +14,10 @@ use Rattle.c_tree.specs.Tree.{Outer}
 use Rattle.c_types.specs.Scopes.{Known}
 use Rattle.c_programs.specs.Programs.{known_at_start}
 use Rattle.c_sites.specs.Addresses.{program_addressed}
-use Rattle.c_sites.specs.Spots.{Spot, site_of, known_behind, kinds_of_structs, program_spots, program_sites}
+use Rattle.c_sites.specs.Spots.{Spot, site_of, known_after, kinds_of_structs, program_spots, program_sites}
 use Rattle.c_sites.specs.Whole.{first_fault}
 use Rattle.c_core.specs.Core.{Program}
-use Rattle.c_values.specs.Here.{Source, global_named}
+use Rattle.c_values.specs.Context.{Source, global_named}
 use Rattle.c_elaborate.specs.Globals.{global_kinds, global_bases}
 use Rattle.c_elaborate.specs.Whole.{outers_functions, outers_words, source_of, core_of_source}
 use Rattle.c_core.specs.Sound.{IsAddress, IsSoundFunction, LiesAt, AreAtHome, IsSound}
@@ -115,10 +115,10 @@ module _ (os : List Outer) (h : IsFaultless os) (members : StructsHaveMembers os
     members = members;
     faults = h.faults;
     names = all_named kinds 1 0 [] spots;
-    behind = refl;
+    following = refl;
   }
 
-  words : GoesOn (source_of os) structs whole (IsAddress p home) good start (known_behind start os) (kinds_in kinds spots) p.globals
+  words : GoesOn (source_of os) structs whole (IsAddress p home) good start (known_after start os) (kinds_in kinds spots) p.globals
   words = words_on (source_of os) structs whole (IsAddress p home) good (program_addressed os) start [] 0 os from_start
 
   cells : length p.global_kinds ≡ length p.globals
@@ -149,7 +149,7 @@ module _ (os : List Outer) (h : IsFaultless os) (members : StructsHaveMembers os
 
   -- ---- functions
 
-  of_file : AllAre (λ f. IsOfFile structs (known_behind start os) f) p.functions
+  of_file : AllAre (λ f. IsOfFile structs (known_after start os) f) p.functions
   of_file = all_of_file (source_of os) structs whole (IsAddress p home) good (program_addressed os) start [] 0 os from_start
 
   names : start.defined ≡ names_of p.functions
@@ -162,7 +162,7 @@ module _ (os : List Outer) (h : IsFaultless os) (members : StructsHaveMembers os
   module _ (definitions : DefinitionsAreSound p home structs (source_of os)) (few : length p.functions ≤ 2 ^ 20) where
     all_functions : AllAre (λ f. IsSoundFunction p home f) p.functions
     all_functions =
-        all_sound p home (source_of os) structs whole many good (program_addressed os) (known_behind start os) ((outers_grow start os).defined ∙ names) of_file refl definitions start [] 0 os from_start refl
+        all_sound p home (source_of os) structs whole many good (program_addressed os) (known_after start os) ((outers_grow start os).defined ∙ names) of_file refl definitions start [] 0 os from_start refl
         (among_all (program_addressed os)) (have_spots p p.sites spots refl (all_sited kinds spots))
 
     pub program_sound : IsSound p
@@ -170,7 +170,7 @@ module _ (os : List Outer) (h : IsFaultless os) (members : StructsHaveMembers os
       homes = at_home;
       functions = λ k f e. one_is (λ z. IsSoundFunction p home z) p.functions all_functions k f e;
       one_main = one_main os p.functions names h.main;
-      main_alone = λ k f e is. (one_is (λ z. IsOfFile structs (known_behind start os) z) p.functions of_file k f e).alone is;
+      main_alone = λ k f e is. (one_is (λ z. IsOfFile structs (known_after start os) z) p.functions of_file k f e).alone is;
       cell_kinds = cells;
       bases = bases_length kinds 0 spots;
       layouts = all_fit kinds spots laid_out;

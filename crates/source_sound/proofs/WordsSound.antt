@@ -10,9 +10,9 @@ use Rattle.c_types.specs.Standing.{no_target, standing}
 use Rattle.c_core.specs.Core as core
 use Rattle.c_core.specs.Core.{Function, Program}
 use Rattle.c_core.specs.Meaning.{is_pointer}
-use Rattle.c_values.specs.Held.{is_pointing, value_by, pointer_by}
+use Rattle.c_values.specs.Denoted.{is_pointing, value_by, pointer_by}
 use Rattle.c_values.specs.Operators.{is_some_address}
-use Rattle.c_values.specs.Expressions.{held}
+use Rattle.c_values.specs.Expressions.{denoted}
 use Rattle.c_core.specs.Sound.{IsSoundExp}
 use Rattle.source_sound.proofs.Standings.{Gives, stands_gives}
 use Rattle.source_sound.proofs.Expressions.{exp_stands}
@@ -53,9 +53,9 @@ module _ (p : Program) (home : ℕ → Option ℕ) (f : Function) where
 
   pub values_sound : AreValuesSound p home f
   values_sound h e s kept sites none =
-      (stands_gives p home f s.structs (standing h.known no_target e) (held h no_target e) (exp_stands p home f h s e no_target none sites kept tt)).sound
+      (stands_gives p home f s.structs (standing h.known no_target e) (denoted h no_target e) (exp_stands p home f h s e no_target none sites kept tt)).sound
 
   pub wanted_sound : AreWantedSound p home f
   wanted_sound h w t e s formed kept sites none fit =
-      accepted s.structs t.layers t.base (operand_of (standing h.known w e)) (value_by (standing h.known w e) (held h w e)) (pointer_by (standing h.known w e) (held h w e))
-      (stands_gives p home f s.structs (standing h.known w e) (held h w e) (exp_stands p home f h s e w none sites kept formed)) fit
+      accepted s.structs t.layers t.base (operand_of (standing h.known w e)) (value_by (standing h.known w e) (denoted h w e)) (pointer_by (standing h.known w e) (denoted h w e))
+      (stands_gives p home f s.structs (standing h.known w e) (denoted h w e) (exp_stands p home f h s e w none sites kept formed)) fit

@@ -25,7 +25,7 @@ fn answer_to(alloc: Global, bytes: &[u8]) -> Answer {
     }
 }
 
-fn behind_start(alloc: Global, rest: &[u8]) -> Result<Vec<u8>, AllocError> {
+fn past_start(alloc: Global, rest: &[u8]) -> Result<Vec<u8>, AllocError> {
     let mut text = Vec::from_slice(alloc, START)?;
     text.extend_from_slice(rest)?;
     Ok(text)
@@ -141,7 +141,7 @@ fn answers_each_row(rt: HostRuntime) -> Result<(), Fail> {
         ),
     ];
     for (rest, want) in rows {
-        let text = behind_start(rt.alloc(), rest)?;
+        let text = past_start(rt.alloc(), rest)?;
         assert_eq!(rt; answer_to(rt.alloc(), text.as_slice()), want, "{rest:?}");
     }
     let heads: [(&[u8], Answer); 12] = [
@@ -192,7 +192,7 @@ fn answers_each_prefix(rt: HostRuntime) -> Result<(), Fail> {
 /// A text of every operation is written as it was read.
 #[test]
 fn writes_what_it_reads(rt: HostRuntime) -> Result<(), Fail> {
-    let text = behind_start(
+    let text = past_start(
         rt.alloc(),
         b"profile 3\npair f g\npair f main\npair main while\ninput 5\n00096affe0\n0 0 lock m16\n0 10 trylock m4194303\n0 10 unlock m0\n0 1 minit m7\n1 2 center c9\n1 2 cwake c9\n1 3 signal c10\n2 0 binit b100\n2 1 arrive b100\n2 2 pass b100\n3 4 take w0.0\n3 4 retake w65471.7\n3 5 give w12.3\n3 5 revoke w12.3\n4 6 draw T\n4 6 start s7\n4 6 begin s1\n4 6 end s1\n5 6 join s1\n5 6 close s2\n5 6 leave T\n6 16777217 halt H\n6 6 trap H\n6 6 stop H\n7 1234567 getchar I\n7 6 print O\n",
     )?;

@@ -2,7 +2,7 @@
 ghost use Rattle.std.specs.Prelude.{◌≡◌, ◌≢◌, ◌<◌, ◌++◌, ◌∷◌, [], true, false, OnOk, IfOk};
 ghost use Rattle.std.specs.Vec.{vec_len, vec_capacity};
 ghost use Rattle.sync_objects.specs.Names.{name_of};
-ghost use Rattle.flow_code.specs.Next.{gave_up, stopped, shut, has_ended, has_begun, holds as holds_stripe};
+ghost use Rattle.flow_code.specs.Next.{gave_up, stopped, slot_closed, has_ended, has_begun, holds as holds_stripe};
 ghost use Rattle.flow_code.specs.Settle.{IsRunnable, settled};
 ghost use Rattle.abstract_machine.specs.Limits.{most_entries, most_revokes};
 ghost use Rattle.core_run.specs.Endings.{ending_of, trap_of};
@@ -66,7 +66,7 @@ impl<'a> Model for ThreadRun<'a> {
     ghost invariant = { λ r. r.thread ≡ r.flow.number };
 }
 
-// Puts an entry behind the others, where there is room.
+// Puts an entry after the others, where there is room.
 fn put_entry(noted: &mut Vec<Noted>, entry: Noted)
     requires { vec_len noted.old < vec_capacity noted.old }
     ensures { noted.new.items ≡ noted.old.items ++ entry ∷ [] }
@@ -77,7 +77,7 @@ fn put_entry(noted: &mut Vec<Noted>, entry: Noted)
     }
 }
 
-// Puts a piece behind the others, where there is room.
+// Puts a piece after the others, where there is room.
 fn put_piece(pieces: &mut Vec<Bytes>, piece: Bytes)
     requires { vec_len pieces.old < vec_capacity pieces.old }
     ensures { pieces.new.items ≡ pieces.old.items ++ piece ∷ [] }
@@ -88,7 +88,7 @@ fn put_piece(pieces: &mut Vec<Bytes>, piece: Bytes)
     }
 }
 
-// Keeps an access behind the others, if it meets the formula and isn't one too many.
+// Keeps an access after the others, if it meets the formula and isn't one too many.
 #[inline(always)]
 fn keep_access(reads: &mut Vec<Access>, formula: &Formula, access: Access)
     requires { vec_len reads.old < vec_capacity reads.old }
@@ -223,7 +223,7 @@ impl<'a> ThreadRun<'a> {
         self.look_ahead(next)
     }
 
-    /// All quiet steps, and room for the step behind them. After an Err some of the quiet steps may be made.
+    /// All quiet steps, and room for the step after them. After an Err some of the quiet steps may be made.
     #[inline(always)]
     pub fn prepare(&mut self) -> Result<(), AllocError>
         ensures same { IsSameRun self.old self.new }
@@ -256,7 +256,7 @@ impl<'a> ThreadRun<'a> {
         put_entry(&mut self.noted, Noted { entry, number });
     }
 
-    // Puts the bytes that are ready behind what was printed.
+    // Puts the bytes that are ready after what was printed.
     fn print(&mut self)
         requires { self.old.has_piece ≡ true }
         ensures flow { self.new.flow ≡ self.old.flow }
@@ -349,16 +349,16 @@ impl<'a> ThreadRun<'a> {
     }
 
     /// What a close of the thread's slot does to it, noted with its number.
-    pub fn shut(&mut self, number: u32)
+    pub fn close_slot(&mut self, number: u32)
         requires room { self.old.has_entry ≡ true }
         requires open { has_ended self.old.flow.kept.thread.phase ≡ false }
         ensures same { IsSameRun self.old self.new }
-        ensures told { told_of self.new ≡ operated (told_of self.old) (shut self.old.flow.kept.thread) (record { entry = entry_of self.old.flow.number self.old.flow.kept.thread name.Close (object.Slot self.old.flow.number); number = number }) [] }
+        ensures told { told_of self.new ≡ operated (told_of self.old) (slot_closed self.old.flow.kept.thread) (record { entry = entry_of self.old.flow.number self.old.flow.kept.thread name.Close (object.Slot self.old.flow.number); number = number }) [] }
         ensures reads { self.new.reads ≡ self.old.reads }
     {
         let slot = self.thread;
         self.note(OpName::Close, ObjId::Slot(slot), number);
-        self.flow.shut();
+        self.flow.close_slot();
     }
 
     /// How many events the thread has made.

@@ -1,4 +1,4 @@
--- An entry's part of a walk puts one piece behind those of its thread if it is a print, and none else.
+-- An entry's part of a walk puts one piece after those of its thread if it is a print, and none else.
 use Rattle.std.proofs.Common.{◌≡◌, ℕ, zero, suc, ◌-◌, Bool, true, false, if◌then◌else◌, nat_lt, List, [], ◌∷◌, ◌++◌, map, Option, Some, None, refl, sym, ap, subst, ◌∙◌, ℤ, pos}
 use Rattle.std.specs.Prelude.{slice_get, slice_set, option_and_then}
 use Rattle.std.specs.Option.{option_map}
@@ -19,7 +19,7 @@ use Rattle.abstract_machine.specs.declared.event.Action.{Action}
 use Rattle.abstract_machine.specs.declared.event.Action.TheVariants as action
 use Rattle.flow_code.specs.declared.code.Code.{Code}
 use Rattle.flow_code.specs.Threads.{Thread}
-use Rattle.flow_code.specs.Next.{act_at, action_at, stepped as thread_stepped, gave_up, stopped, shut}
+use Rattle.flow_code.specs.Next.{act_at, action_at, stepped as thread_stepped, gave_up, stopped, slot_closed}
 use Rattle.flow_code.specs.Settle.{settled}
 use Rattle.core_run.specs.Words.{cells_of, has_object}
 use Rattle.core_run.specs.Pieces.{piece_at, piece_next}
@@ -123,7 +123,7 @@ module _ (code : Code) (s : SetupView) where
   label_adds (Go t) told = subst (Adds told) (sym (effect_go code s t told)) (action_adds t told (settled code s t told.thread) (action_at code s t (settled code s t told.thread)))
   label_adds (Revoke t lock stripe) told = subst (Adds told) (sym (effect_revoke code s t lock stripe told)) (if_adds told (may_revoke told.thread lock stripe) _ (operation_adds t told told op.Revoke (object.Weak lock stripe) [] (λ answer. gave_up told.thread lock stripe) refl refl))
   label_adds (Stop t) told = subst (Adds told) (sym (effect_stop code s t told)) (if_adds told (may_stop told.thread) _ (operation_adds t told told op.Stop object.Halt [] (λ answer. stopped told.thread) refl refl))
-  label_adds (Close t) told = subst (Adds told) (sym (effect_close code s t told)) (if_adds told (may_close told.thread) _ (operation_adds t told told op.Close (object.Slot t) [] (λ answer. shut told.thread) refl refl))
+  label_adds (Close t) told = subst (Adds told) (sym (effect_close code s t told)) (if_adds told (may_close told.thread) _ (operation_adds t told told op.Close (object.Slot t) [] (λ answer. slot_closed told.thread) refl refl))
 
   outcome_adds : (words after : List ℕ) (e : Effect Told) (told q : Told) → Adds told e → outcome (machine code s) words e ≡ Leaves after q → GrowsBy (effect_entry (machine code s) words e) told.pieces q.pieces
   outcome_adds words after Refused told q h e = cc

@@ -35,7 +35,7 @@ left_at t (x ∷ before) (r ∷ left) [] b h at = absurd h
 left_at zero (x ∷ before) (r ∷ left) (a ∷ all) b h at = refl
 left_at (suc t) (x ∷ before) (r ∷ left) (a ∷ all) b h at = left_at t before left all b h.1 at
 
--- the pieces that were put behind those of a thread were to come before
+-- the pieces that were put after those of a thread were to come before
 more_left : (t : ℕ) (before left all : List (List (List ℕ))) (b fresh : List (List ℕ)) → slice_get before t ≡ Some b → AreLeft (slice_set before t (b ++ fresh)) left all → AreLeft before (slice_set left t (fresh ++ pieces_at left t)) all
 more_left t [] left all b fresh at h = cc
 more_left zero (x ∷ before) [] all b fresh at h = absurd h

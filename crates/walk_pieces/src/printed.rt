@@ -26,7 +26,7 @@ fn slices_of<'a>(alloc: Global, remains: &'a [Remains]) -> Result<List<&'a [Byte
     Ok(slices)
 }
 
-// Puts the next piece of a thread behind the bytes, and takes it from those that are still to come.
+// Puts the next piece of a thread after the bytes, and takes it from those that are still to come.
 fn put_next(out: &mut Bytes, slices: &mut List<&[Bytes]>, thread: usize) -> Result<(), AllocError>
     ensures out { OnOk result (out.new ≡ out.old ++ first_piece (pieces_at (pieces_of slices.old) thread)) }
     ensures rest { OnOk result (pieces_of slices.new ≡ slice_set (pieces_of slices.old) thread (drop 1 (pieces_at (pieces_of slices.old) thread))) }

@@ -58,7 +58,7 @@ seat_get ss all n (i ∷ is) (suc k) x e =
     shift : (l q w : ℕ) → (l + 1 + q) + w ≡ l + suc (q + w)
     shift l q w = omega arith
 
--- what stands behind an instruction stands behind it in the weakened code
+-- what stands after an instruction stands after it in the weakened code
 place_above : (ss : List Stretch) (n : ℕ) (is : List Instr) (k to : ℕ) (x : Instr) → slice_get is k ≡ Some x → k < to → place_from ss n is k + length (before ss (n + k) x.act) < place_from ss n is to
 place_above ss n [] k to x e lt = cc
 place_above ss n (i ∷ is) k zero x e lt = absurd (omega (arith, lt))

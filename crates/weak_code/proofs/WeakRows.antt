@@ -54,7 +54,7 @@ number_row = refl
 stretch : (first last : ℕ) → Stretch
 stretch m n = record { first = m; last = n; region = region.Whole [] }
 
--- a function, a loop in a loop, and an access behind the inner loop
+-- a function, a loop in a loop, and an access after the inner loop
 nested : List Stretch
 nested = stretch 0 20 ∷ stretch 2 15 ∷ stretch 3 9 ∷ stretch 10 10 ∷ []
 
@@ -63,7 +63,7 @@ enter_row : before nested 3 act.Mark ≡ act.Take 2 ∷ []
 unfolding nested stretch
 enter_row = refl
 
--- behind the inner loop
+-- after the inner loop
 leave_row : before nested 10 (act.LoadCell 0 0) ≡ act.Give 2 ∷ act.Take 3 ∷ []
 unfolding nested stretch
 leave_row = refl
@@ -73,7 +73,7 @@ return_row : before nested 5 (act.Return None) ≡ act.Give 2 ∷ act.Give 1 ∷
 unfolding nested stretch
 return_row = refl
 
--- a return behind both loops
+-- a return after both loops
 last_row : before nested 16 (act.Return None) ≡ act.Give 1 ∷ act.Give 0 ∷ []
 unfolding nested stretch
 last_row = refl

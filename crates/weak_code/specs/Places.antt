@@ -72,7 +72,7 @@ act_or_mark (Some i) = i.act
 abbrev pub seat_of : List Stretch → List Instr → (k : ℕ) → ℕ
 seat_of ss is k = place_of ss is k + length (before ss k (act_or_mark (slice_get is k)))
 
--- Where a jump from j to k goes. A jump back comes from inside of all regions that begin with its Mark, and from behind those
+-- Where a jump from j to k goes. A jump back comes from inside of all regions that begin with its Mark, and from after those
 -- that end before it, so it goes to the Mark itself; any other goes to the front of what stands before k.
 abbrev pub enter : List Stretch → List Instr → (j k : ℕ) → ℕ
 enter ss is j k = if nat_le k j then seat_of ss is k else place_of ss is k

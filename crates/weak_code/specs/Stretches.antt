@@ -86,7 +86,7 @@ abbrev pub last_of : ℕ → List RacyAccess → ℕ
 last_of at [] = at
 last_of at (a ∷ more) = last_of a.instr more
 
--- ---- the region of the function: from behind the making of its objects on to its end
+-- ---- the region of the function: from after the making of its objects on to its end
 
 abbrev pub function_stretch : Function → List RacyAccess → List Stretch
 function_stretch fn [] = []
@@ -105,18 +105,18 @@ origin_of r (Some (act.Compute into (work.Address w))) = base.Site (site_of w)
 origin_of r _ = base.Register r
 
 -- what the q-th instruction moves: the pointer in a register, or none
-abbrev pub origin_behind : List Instr → (q through : ℕ) → Option ℕ → Base
-origin_behind is q through None = base.Register through
-origin_behind is q through (Some pointer) = origin_of pointer (made_at is q pointer)
+abbrev pub origin_after : List Instr → (q through : ℕ) → Option ℕ → Base
+origin_after is q through None = base.Register through
+origin_after is q through (Some pointer) = origin_of pointer (made_at is q pointer)
 
-abbrev pub base_behind : List Instr → (through : ℕ) → Option ℕ → Base
-base_behind is through None = base.Register through
-base_behind is through (Some q) = origin_behind is q through (moved_from (act_in (slice_get is q)))
+abbrev pub base_after : List Instr → (through : ℕ) → Option ℕ → Base
+base_after is through None = base.Register through
+base_after is through (Some q) = origin_after is q through (moved_from (act_in (slice_get is q)))
 
 -- the base B of an access B[i + shift] at the k-th instruction, as its range has it: that of the pointer that was moved, as
 -- it was in the block in which it was moved
 abbrev pub element_base : List Instr → (k through : ℕ) → Base
-element_base is k through = base_behind is through (last_maker is k through)
+element_base is k through = base_after is through (last_maker is k through)
 
 abbrev pub span_with : List Instr → RacyAccess → ℤ → Span
 span_with is a shift = record { base = element_base is a.instr a.through; shift = shift; locks = a.locks }

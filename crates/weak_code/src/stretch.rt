@@ -14,7 +14,7 @@ pub struct RacyAccess {
     pub locks: List<u16>,
 }
 
-/// A region, which is open from before the first of its instructions to behind the last.
+/// A region, which is open from before the first of its instructions to after the last.
 #[derive(Debug, Drop)]
 pub struct Stretch {
     pub first: usize,

@@ -1,7 +1,7 @@
 -- The counted loops of a code: those of the loops that a function lists which its instructions bear out. The code of
 --     for (..; i < b; i += c) ..
 -- is a Mark; the condition, which puts b into a register where it is a number, compares i with it, and branches to the body or
--- behind the loop; the body; the last part, which copies i, puts c into a register, adds the two, copies the sum to i, and
+-- after the loop; the body; the last part, which copies i, puts c into a register, adds the two, copies the sum to i, and
 -- gives the expression's value, which nothing uses, a register of its own; and a jump back to the Mark. The code of `i++` and
 -- `++i` is the same but for that value, and that of `i = i + c` has no copy of i, which it adds itself. No other form need be
 -- known.
@@ -100,7 +100,7 @@ is_jump k _ = false
 abbrev pub is_within : (a b k : ℕ) → Bool
 is_within a b k = nat_lt a k && nat_le k b
 
--- a jump or branch goes to an instruction behind a and not behind b
+-- a jump or branch goes to an instruction after a and not after b
 abbrev pub goes_into : (a b : ℕ) → Act → Bool
 goes_into a b (act.Jump to) = is_within a b to
 goes_into a b (act.Branch on then_at else_at) = is_within a b then_at || is_within a b else_at
@@ -131,7 +131,7 @@ last_part_at is l = if adds_itself is l then l.last - 3 else l.last - 4
 abbrev pub condition_end : LoopInfo → ℕ
 condition_end l = l.at + 2 + bound_size l.bound
 
--- the condition stands behind the Mark, and the last part behind the body
+-- the condition stands after the Mark, and the last part after the body
 abbrev pub has_places : List Instr → LoopInfo → Bool
 has_places is l = (l.first == condition_end l + 1) && nat_le l.first (last_part_at is l)
 

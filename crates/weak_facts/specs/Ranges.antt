@@ -1,5 +1,5 @@
 -- The accesses of counted loops whose elements are known where the loop is entered: those of an array or a pointer that the
--- loop keeps, at the counter, or so many elements behind it or before it.
+-- loop keeps, at the counter, or so many elements after it or before it.
 use Rattle.std.specs.Prelude.{◌≡◌, ℕ, zero, suc, ◌+◌, ◌-◌, ◌^◌, ◌==◌, nat_lt, nat_le, ◌&&◌, Bool, true, false, not, if◌then◌else◌, ℤ, pos, negsuc, neg_ℤ, List, [], ◌∷◌, ◌++◌, length, drop, Option, Some, None, option_to_list, slice_get, slice_index_or}
 use Rattle.std.specs.List.{list_all, count_by}
 use Rattle.rr_base.specs.Words.{site_of}
@@ -119,7 +119,7 @@ abbrev pub negative_of : Option ℤ → Option ℤ
 negative_of None = None
 negative_of (Some d) = negative d
 
--- how far the sum or difference that the k-th instruction computes is behind the counter i
+-- how far the sum or difference that the k-th instruction computes is after the counter i
 abbrev pub shift_by : List Instr → (i k : ℕ) → Option Act → Option ℤ
 shift_by is i k (Some (act.Compute into (work.Binary op.Add left right))) = if left == i then constant_at is k right else None
 shift_by is i k (Some (act.Compute into (work.Binary op.Subtract left right))) = if left == i then negative_of (constant_at is k right) else None
@@ -131,13 +131,13 @@ made_shift is i k r = do
   m ← maker_at is k r
   shift_by is i m (nth is m)
 
--- how far register r, which may be the counter itself, is behind it at the k-th instruction
+-- how far register r, which may be the counter itself, is after it at the k-th instruction
 abbrev pub shift_at : List Instr → (i k r : ℕ) → Option ℤ
 shift_at is i k r = if r == i then Some (pos 0) else made_shift is i k r
 
 -- ---- ranges
 
--- how far behind the counter the element is to which the k-th instruction moves a pointer
+-- how far after the counter the element is to which the k-th instruction moves a pointer
 abbrev pub moved_shift : List Instr → LoopInfo → (k : ℕ) → Option ℤ
 moved_shift is l k = do
   m ← moved_of (nth is k)

@@ -268,35 +268,35 @@ objects_from ss all n (i ∷ is) h free = go (object_of i.act) refl (λ k f. obj
         ∙ ap (λ c. if c then make_no_objects (blocks ss all (n + 1) is) else objects_are_first (blocks ss all (n + 1) is)) x
         ∙ rec r (λ k lt. let s : n + suc k ≡ (n + 1) + k = omega arith in subst (λ q. turned ss q ≡ []) s (free (suc k) (omega (arith, l))))
 
--- the region begins and ends behind the objects
-abbrev pub IsBehind : ℕ → Stretch → Type 0
-IsBehind m s = (m ≤ s.first) × (m ≤ s.last + 1)
+-- the region begins and ends after the objects
+abbrev pub IsAfter : ℕ → Stretch → Type 0
+IsAfter m s = (m ≤ s.first) × (m ≤ s.last + 1)
 
-abbrev pub AreBehind : ℕ → List Stretch → Type 0
-AreBehind m [] = Unit {0}
-AreBehind m (s ∷ ss) = IsBehind m s × AreBehind m ss
+abbrev pub AreAfter : ℕ → List Stretch → Type 0
+AreAfter m [] = Unit {0}
+AreAfter m (s ∷ ss) = IsAfter m s × AreAfter m ss
 
-none_begins : (m k n : ℕ) (ss : List Stretch) → AreBehind m ss → k < m → numbers_from n (begins_at k) ss ≡ []
+none_begins : (m k n : ℕ) (ss : List Stretch) → AreAfter m ss → k < m → numbers_from n (begins_at k) ss ≡ []
 none_begins m k n [] h lt = refl
 none_begins m k n (s ∷ ss) h lt =
     let no : (s.first == k) ≡ false = grind (arith, nat_tests, h.0.0) in
     ap (λ c. if c then n ∷ numbers_from (n + 1) (begins_at k) ss else numbers_from (n + 1) (begins_at k) ss) no ∙ none_begins m k (n + 1) ss h.1 lt
 
-none_ends : (m k n : ℕ) (ss : List Stretch) → AreBehind m ss → k < m → numbers_from n (ends_before k) ss ≡ []
+none_ends : (m k n : ℕ) (ss : List Stretch) → AreAfter m ss → k < m → numbers_from n (ends_before k) ss ≡ []
 none_ends m k n [] h lt = refl
 none_ends m k n (s ∷ ss) h lt =
     let no : (s.last + 1 == k) ≡ false = grind (arith, nat_tests, h.0.1) in
     ap (λ c. if c then n ∷ numbers_from (n + 1) (ends_before k) ss else numbers_from (n + 1) (ends_before k) ss) no ∙ none_ends m k (n + 1) ss h.1 lt
 
-pub none_turned : (m k : ℕ) (ss : List Stretch) → AreBehind m ss → k < m → turned ss k ≡ []
+pub none_turned : (m k : ℕ) (ss : List Stretch) → AreAfter m ss → k < m → turned ss k ≡ []
 none_turned m k ss h lt = ap (λ z. gives z ++ takes (beginning ss k)) (none_ends m k 0 ss h lt) ∙ ap (λ z. takes z) (none_begins m k 0 ss h lt)
 
-pub objects : (ss : List Stretch) (is : List Instr) → AreBehind (length (objects_of is)) ss → objects_are_first is ≡ true → objects_are_first (weakened_instrs ss is) ≡ true
+pub objects : (ss : List Stretch) (is : List Instr) → AreAfter (length (objects_of is)) ss → objects_are_first is ≡ true → objects_are_first (weakened_instrs ss is) ≡ true
 objects ss is b h = objects_from ss is 0 is h (λ k lt. let e : k ≡ 0 + k = omega arith in subst (λ q. turned ss q ≡ []) e (none_turned (length (objects_of is)) k ss b lt))
 
 -- ---- all of it
 
-pub order : (ss : List Stretch) (is : List Instr) → ArePlain (length is) is → AreBehind (length (objects_of is)) ss → order_fits is ≡ true → order_fits (weakened_instrs ss is) ≡ true
+pub order : (ss : List Stretch) (is : List Instr) → ArePlain (length is) is → AreAfter (length (objects_of is)) ss → order_fits is ≡ true → order_fits (weakened_instrs ss is) ≡ true
 order ss is p b h =
     let c = both (ends_in_itself is && jumps_fit is 0 is) (objects_are_first is) h in
     let d = both (ends_in_itself is) (jumps_fit is 0 is) c.0 in

@@ -36,14 +36,14 @@ use Rattle.weak_facts.specs.Loops.{nth, is_jump, adds_itself, last_part_at, cond
 use Rattle.weak_code.specs.declared.stretch.RacyAccess.{RacyAccess}
 use Rattle.weak_code.specs.declared.stretch.Stretch.{Stretch}
 use Rattle.weak_facts.specs.Ranges.{last_maker, maker_at, made_at}
-use Rattle.weak_code.specs.Stretches.{same_grain, with_grain, all_locks, last_of, function_stretch, moved_from, origin_of, origin_behind, base_behind, element_base, span_with, span_of, spans_of, loop_stretch, loop_stretches, block_stretch, block_from, block_stretches, access_stretch, access_stretches, stretches_of}
+use Rattle.weak_code.specs.Stretches.{same_grain, with_grain, all_locks, last_of, function_stretch, moved_from, origin_of, origin_after, base_after, element_base, span_with, span_of, spans_of, loop_stretch, loop_stretches, block_stretch, block_from, block_stretches, access_stretch, access_stretches, stretches_of}
 use Rattle.weak_sound.proofs.Tests.{both, two}
-use Rattle.weak_sound.proofs.OrderFits.{IsBehind, AreBehind}
+use Rattle.weak_sound.proofs.OrderFits.{IsAfter, AreAfter}
 use Rattle.weak_sound.proofs.ActsFit.{function_with, code_with}
 use Rattle.weak_sound.proofs.AddressesFit.{address_global}
 use Rattle.weak_sound.proofs.Accesses.{Each, each_append, each_filter, each_at, each_filter_map, AreLocks, all_are, IsFit, grain_at}
 
--- ---- behind a function's objects
+-- ---- after a function's objects
 
 pub past_objects : (is : List Instr) (k : ℕ) (i : Instr) → slice_get is k ≡ Some i → object_of i.act ≡ None → length (objects_of is) ≤ k
 past_objects [] k i h n = cc
@@ -66,8 +66,8 @@ pub access_object : (a : Act) (x : Access) → access_of a ≡ Some x → object
 access_object (act.Alloc into site size) x h = cc
 access_object _ x h = refl
 
-mark_behind : (is : List Instr) (k : ℕ) → is_mark (nth is k) ≡ true → length (objects_of is) ≤ k
-mark_behind is k h = go (slice_get is k) refl h
+mark_after : (is : List Instr) (k : ℕ) → is_mark (nth is k) ≡ true → length (objects_of is) ≤ k
+mark_after is k h = go (slice_get is k) refl h
   where
     object : (a : Act) → is_mark (Some a) ≡ true → object_of a ≡ None
     object (act.Alloc into site size) h = cc
@@ -77,8 +77,8 @@ mark_behind is k h = go (slice_get is k) refl h
     go None e h = cc
     go (Some i) e h = past_objects is k i e (object i.act h)
 
-jump_behind : (is : List Instr) (to k : ℕ) → is_jump to (nth is k) ≡ true → length (objects_of is) ≤ k
-jump_behind is to k h = go (slice_get is k) refl h
+jump_after : (is : List Instr) (to k : ℕ) → is_jump to (nth is k) ≡ true → length (objects_of is) ≤ k
+jump_after is to k h = go (slice_get is k) refl h
   where
     object : (a : Act) → is_jump to (Some a) ≡ true → object_of a ≡ None
     object (act.Alloc into site size) h = cc
@@ -180,20 +180,20 @@ module _ (code : Code) (fns : List Function) (locks : List LockInfo)
   origin_fits r (Some (act.Compute into (work.Address w))) p d = addressed into w (d (act.Compute into (work.Address w)) refl)
   origin_fits r _ p d = p
 
-  behind_fits : (q through : ℕ) (o : Option Act) → has_pointer fn through ≡ true → ((a : Act) → o ≡ Some a → Does fn.instrs a) → base_fits Weak New (origin_behind fn.instrs q through (moved_from o)) ≡ true
-  behind_fits q through (Some (act.Compute into (work.Move pointer by element back))) p d =
+  after_fits : (q through : ℕ) (o : Option Act) → has_pointer fn through ≡ true → ((a : Act) → o ≡ Some a → Does fn.instrs a) → base_fits Weak New (origin_after fn.instrs q through (moved_from o)) ≡ true
+  after_fits q through (Some (act.Compute into (work.Move pointer by element back))) p d =
       let w = does_fit (act.Compute into (work.Move pointer by element back)) (d (act.Compute into (work.Move pointer by element back)) refl) in
       let v = both (has_pointer fn into && has_pointer fn pointer && has_whole fn by) (nat_le 1 element) w in
       let u = both (has_pointer fn into && has_pointer fn pointer) (has_whole fn by) v.0 in
       origin_fits pointer (made_at fn.instrs q pointer) (both (has_pointer fn into) (has_pointer fn pointer) u.0).1 (λ a e. made_does fn.instrs q pointer a e)
-  behind_fits q through _ p d = p
+  after_fits q through _ p d = p
 
   element_fits : (k through : ℕ) → has_pointer fn through ≡ true → base_fits Weak New (element_base fn.instrs k through) ≡ true
   element_fits k through p = by (last_maker fn.instrs k through)
     where
-      by : (o : Option ℕ) → base_fits Weak New (base_behind fn.instrs through o) ≡ true
+      by : (o : Option ℕ) → base_fits Weak New (base_after fn.instrs through o) ≡ true
       by None = p
-      by (Some q) = behind_fits q through (act_in (slice_get fn.instrs q)) p (λ a e. does_at fn.instrs q a e)
+      by (Some q) = after_fits q through (act_in (slice_get fn.instrs q)) p (λ a e. does_at fn.instrs q a e)
 
   fit_pointer : (a : RacyAccess) → IsFit fn (length locks) a → has_pointer fn a.through ≡ true
   fit_pointer a h = subst (λ z. has_pointer fn z ≡ true) h.through (access_pointer code fn h.instr.act h.access (acts a.instr h.instr h.at) h.is)
@@ -201,7 +201,7 @@ module _ (code : Code) (fns : List Function) (locks : List LockInfo)
   -- ---- one region
 
   abbrev IsRight : Stretch → Type 0
-  IsRight s = IsBehind (length (objects_of fn.instrs)) s × (region_fits Weak New s.region ≡ true)
+  IsRight s = IsAfter (length (objects_of fn.instrs)) s × (region_fits Weak New s.region ≡ true)
 
   fit_locks : (xs : List ℕ) → AreLocks (length locks) xs → locks_fit Weak xs ≡ true
   fit_locks xs h = two (ascend xs) (are_locks Weak xs) h.0 h.1
@@ -210,8 +210,8 @@ module _ (code : Code) (fns : List Function) (locks : List LockInfo)
   their_locks [] h = tt
   their_locks (a ∷ more) h = (h.0.locks, their_locks more h.1)
 
-  fit_behind : (a : RacyAccess) → IsFit fn (length locks) a → length (objects_of fn.instrs) ≤ a.instr
-  fit_behind a h = past_objects fn.instrs a.instr h.instr h.at (access_object h.instr.act h.access h.is)
+  fit_after : (a : RacyAccess) → IsFit fn (length locks) a → length (objects_of fn.instrs) ≤ a.instr
+  fit_after a h = past_objects fn.instrs a.instr h.instr h.at (access_object h.instr.act h.access h.is)
 
   function_right : (accesses : List RacyAccess) → Each (IsFit fn (length locks)) accesses → Each IsRight (function_stretch fn accesses)
   function_right [] h = tt
@@ -241,7 +241,7 @@ module _ (code : Code) (fns : List Function) (locks : List LockInfo)
   loop_right l (x ∷ spans) s c h e =
       let k = counted_loop fn l (c x refl) in
       subst IsRight (same_Some (record { first = l.at; last = l.last + 1; region = region.Ranged l.counter l.bound (x ∷ spans) }) s e) (
-        (mark_behind fn.instrs l.at k.begins, (let q = jump_behind fn.instrs l.at (l.last + 1) k.ends in omega arith)),
+        (mark_after fn.instrs l.at k.begins, (let q = jump_after fn.instrs l.at (l.last + 1) k.ends in omega arith)),
         two (has_whole fn l.counter && bound_is_whole New l.bound) (spans_fit Weak New (x ∷ spans)) (two (has_whole fn l.counter) (bound_is_whole New l.bound) k.counter (bound_same l.bound k.bound)) (all_spans (x ∷ spans) h),
       )
 
@@ -258,9 +258,9 @@ module _ (code : Code) (fns : List Function) (locks : List LockInfo)
           let r = grain_at (grain.Loop l.at) accesses 0 s.0 s.1 in
           (each_at (IsFit fn (length locks)) accesses r.0 s.0 h r.1).counted k l g r.2
 
-  last_behind : (n : ℕ) (accesses : List RacyAccess) → length (objects_of fn.instrs) ≤ n → Each (IsFit fn (length locks)) accesses → length (objects_of fn.instrs) ≤ last_of n accesses
-  last_behind n [] le h = le
-  last_behind n (a ∷ more) le h = last_behind a.instr more (fit_behind a h.0) h.1
+  last_after : (n : ℕ) (accesses : List RacyAccess) → length (objects_of fn.instrs) ≤ n → Each (IsFit fn (length locks)) accesses → length (objects_of fn.instrs) ≤ last_of n accesses
+  last_after n [] le h = le
+  last_after n (a ∷ more) le h = last_after a.instr more (fit_after a h.0) h.1
 
   block_right : (accesses : List RacyAccess) (a : RacyAccess) (s : Stretch) → Each (IsFit fn (length locks)) accesses → IsFit fn (length locks) a → block_from accesses a ≡ Some s → IsRight s
   block_right accesses a s h g e = go (same_grain (grain.Block a.instr) a.grain) e
@@ -272,7 +272,7 @@ module _ (code : Code) (fns : List Function) (locks : List LockInfo)
       go false e = cc
       go true e =
           subst IsRight (same_Some (block_stretch a.instr (with_grain (grain.Block a.instr) accesses)) s e) (
-            (fit_behind a g, (let q = last_behind a.instr (with_grain (grain.Block a.instr) accesses) (fit_behind a g) part in omega arith)),
+            (fit_after a g, (let q = last_after a.instr (with_grain (grain.Block a.instr) accesses) (fit_after a g) part in omega arith)),
             fit_locks (all_locks (with_grain (grain.Block a.instr) accesses)) (all_are (length locks) (with_grain (grain.Block a.instr) accesses) (their_locks (with_grain (grain.Block a.instr) accesses) part)),
           )
 
@@ -280,7 +280,7 @@ module _ (code : Code) (fns : List Function) (locks : List LockInfo)
   blocks_right accesses h = each_filter_map IsRight (block_from accesses) accesses (λ k a s g e. block_right accesses a s h (each_at (IsFit fn (length locks)) accesses k a h g) e)
 
   access_right : (a : RacyAccess) → IsFit fn (length locks) a → IsRight (access_stretch a)
-  access_right a h = ((fit_behind a h, (let q = fit_behind a h in omega arith)), two (has_pointer fn a.through) (locks_fit Weak a.locks) (fit_pointer a h) (fit_locks a.locks h.locks))
+  access_right a h = ((fit_after a h, (let q = fit_after a h in omega arith)), two (has_pointer fn a.through) (locks_fit Weak a.locks) (fit_pointer a h) (fit_locks a.locks h.locks))
 
   alone_right : (accesses : List RacyAccess) → Each (IsFit fn (length locks)) accesses → Each IsRight (map access_stretch accesses)
   alone_right [] h = tt
@@ -296,6 +296,6 @@ module _ (code : Code) (fns : List Function) (locks : List LockInfo)
       (each_append IsRight (block_stretches accesses) (access_stretches accesses) (blocks_right accesses h)
       (alone_right (with_grain grain.Instruction accesses) (each_filter (IsFit fn (length locks)) (λ a. same_grain grain.Instruction a.grain) accesses h))))
 
-  pub regions_right : (ss : List Stretch) → Each IsRight ss → (AreBehind (length (objects_of fn.instrs)) ss) × (list_all (region_fits Weak New) (map (λ s. s.region) ss) ≡ true)
+  pub regions_right : (ss : List Stretch) → Each IsRight ss → (AreAfter (length (objects_of fn.instrs)) ss) × (list_all (region_fits Weak New) (map (λ s. s.region) ss) ≡ true)
   regions_right [] h = (tt, refl)
   regions_right (s ∷ ss) h = let r = regions_right ss h.1 in ((h.0.0, r.0), two (region_fits Weak New s.region) (list_all (region_fits Weak New) (map (λ s. s.region) ss)) h.0.1 r.1)

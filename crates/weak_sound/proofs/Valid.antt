@@ -38,7 +38,7 @@ use Rattle.weak_code.proofs.Stripping.{ArePlain, IsWithin, AreWithin, plain_acts
 use Rattle.weak_sound.specs.Answers.{AreAnswers}
 use Rattle.weak_sound.specs.Apart.{loops_are_apart}
 use Rattle.weak_sound.proofs.Tests.{both, two, all_at, length_map}
-use Rattle.weak_sound.proofs.OrderFits.{AreBehind, order}
+use Rattle.weak_sound.proofs.OrderFits.{AreAfter, order}
 use Rattle.weak_sound.proofs.ActsFit.{function_with, code_with, bare, seat_within, place_within, acts}
 use Rattle.weak_sound.proofs.AddressesFit.{globals}
 use Rattle.weak_sound.proofs.PlacesFit.{IsPlaceOf, place_of_code}
@@ -111,7 +111,7 @@ module _ (code : Code) (t : Tables) (locked : List Place) (rs : List Range) (row
       (weakened_instrs ss fn.instrs) (map (moved_loop ss fn.instrs) fn.loops) (map (λ s. s.region) ss) (racy_accesses code t locked rs rows f) (subst (λ n. Each (IsFit fn n) (racy_accesses code t locked rs rows f)) (sym many) fit) in
       let r = regions_right code Functions locks fn (λ k i g. all_at (λ j. act_fits code fn j.act) fn.instrs k i p.acts g)
       (weakened_instrs ss fn.instrs) (map (moved_loop ss fn.instrs) fn.loops) (map (λ s. s.region) ss) (stretches_of fn (racy_accesses code t locked rs rows f)) each in
-      let s = subst (λ (z : List Stretch). AreBehind (length (objects_of fn.instrs)) z × (list_all (region_fits Weak (function_with fn (weakened_instrs ss fn.instrs) (map (moved_loop ss fn.instrs) fn.loops) (map (λ s. s.region) ss))) (map (λ s. s.region) z) ≡ true)) (sym e) r in
+      let s = subst (λ (z : List Stretch). AreAfter (length (objects_of fn.instrs)) z × (list_all (region_fits Weak (function_with fn (weakened_instrs ss fn.instrs) (map (moved_loop ss fn.instrs) fn.loops) (map (λ s. s.region) ss))) (map (λ s. s.region) z) ≡ true)) (sym e) r in
       five (registers_fit (with_stretches fn ss)) (order_fits (weakened_instrs ss fn.instrs)) (acts_fit Weak (with_stretches fn ss) (weakened_instrs ss fn.instrs)) (loops_fit (with_stretches fn ss) (map (moved_loop ss fn.instrs) fn.loops)) (regions_fit Weak (with_stretches fn ss) (map (λ s. s.region) ss)) p.registers (order ss fn.instrs pl s.0 p.order)
       (acts code fn Functions locks ss (map (moved_loop ss fn.instrs) fn.loops) (map (λ s. s.region) ss) (bare_from 0 code.functions) (length_map (λ s. s.region) ss) pl p.acts)
       (loops_move fn ss (map (moved_loop ss fn.instrs) fn.loops) (map (λ s. s.region) ss) fn.loops (loops_within fn fn.loops p.loops) p.loops) s.1

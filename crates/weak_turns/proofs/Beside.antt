@@ -17,8 +17,8 @@ use Rattle.flow_code.specs.declared.act.Act.TheVariants as act
 use Rattle.flow_code.specs.declared.code.Code.{Code}
 use Rattle.flow_code.specs.declared.region.Region.{Region}
 use Rattle.flow_code.specs.declared.thread.Stripe.{Stripe}
-use Rattle.flow_code.specs.Holding.{region_of, is_listed, lacked, left_from, take_or_quiet, taken, open_place, to_give, give_or_quiet, gives_at, parting, parting_due, left_behind}
-use Rattle.flow_code.specs.Next.{act_due, act_after, caller, call_after, computed, went_on, end_onward, back_in, on_unless, pointers_of, value_of}
+use Rattle.flow_code.specs.Holding.{region_of, is_listed, lacked, left_from, take_or_quiet, taken, open_place, to_give, give_or_quiet, gives_at, parting, parting_due, left_after}
+use Rattle.flow_code.specs.Next.{act_due, act_after, caller, call_after, computed, resumed, end_onward, back_in, on_unless, pointers_of, value_of}
 use Rattle.flow_code.specs.Stripes.{end_lock, first_from, wants_number}
 use Rattle.flow_code.specs.Threads.{Frame, Thread, is_main}
 use Rattle.flow_code.specs.Works.{work_of}
@@ -42,7 +42,7 @@ module _ (xs : List Stripe) (e r : ℕ) where
   computed_beside th into (Ok w) = refl
   computed_beside th into (Err k) = refl
 
-  went_beside : (th : Thread) (into : Option ℕ) (o : Onward) → went_on (beside th xs e r) into o ≡ beside (went_on th into o) xs e r
+  went_beside : (th : Thread) (into : Option ℕ) (o : Onward) → resumed (beside th xs e r) into o ≡ beside (resumed th into o) xs e r
   went_beside th into (onward.Stays kept) = refl
   went_beside th into (onward.Gives w) = refl
   went_beside th into onward.Ends = refl
@@ -112,9 +112,9 @@ module _ (code : Code) (s : SetupView) (t : ℕ) (th : Thread) (xs : List Stripe
   act_after_beside (Some act.Mark) z h q = refl
   act_after_beside (Some (act.Call function arguments into)) z h q = refl
   act_after_beside (Some (act.Library c arguments into)) z h q =
-      ap (λ ys. left_behind (beside th xs e r) ys (call_after code s t (beside th xs e r) c arguments into z)) (stays_on c arguments into th.top.made xs h)
+      ap (λ ys. left_after (beside th xs e r) ys (call_after code s t (beside th xs e r) c arguments into z)) (stays_on c arguments into th.top.made xs h)
       ∙ went_beside xs e r (record th { printed = th.printed + length (piece_of c (words_of th.top.registers arguments)) }) into (library_onward (caller code s t th) c (words_of th.top.registers arguments) th.top.made th.top.kept z)
-      ∙ sym (ap (λ ys. beside (left_behind th ys (call_after code s t th c arguments into z)) xs e r) (stays_on c arguments into th.top.made th.stripes h))
+      ∙ sym (ap (λ ys. beside (left_after th ys (call_after code s t th c arguments into z)) xs e r) (stays_on c arguments into th.top.made th.stripes h))
   act_after_beside (Some (act.Jump to)) z h q = refl
   act_after_beside (Some (act.Branch on then_at else_at)) z h q = refl
   act_after_beside (Some (act.Return value)) z h q =

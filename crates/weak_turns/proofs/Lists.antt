@@ -37,10 +37,10 @@ same_numbers lock stripe x e = by (x.lock == lock) (x.stripe == stripe) refl ref
     by false b p q r = cc
 
 module _ (lock stripe : ℕ) where
-  -- behind the stripe with this number there is none of it
-  none_behind : (n : ℕ) (xs : List Stripe) → 8 * lock + stripe < n → Sorted n xs → others (same_stripe lock stripe) (held xs) ≡ held xs
-  none_behind n [] lt h = refl
-  none_behind n (x ∷ xs) lt h = by x.owed (same_stripe lock stripe x) refl (let at = h.0 in none_behind (number_of_stripe x + 1) xs (omega arith) h.2)
+  -- after the stripe with this number there is none of it
+  none_after : (n : ℕ) (xs : List Stripe) → 8 * lock + stripe < n → Sorted n xs → others (same_stripe lock stripe) (held xs) ≡ held xs
+  none_after n [] lt h = refl
+  none_after n (x ∷ xs) lt h = by x.owed (same_stripe lock stripe x) refl (let at = h.0 in none_after (number_of_stripe x + 1) xs (omega arith) h.2)
     where
       by : (o a : Bool) → same_stripe lock stripe x ≡ a → others (same_stripe lock stripe) (held xs) ≡ held xs → others (same_stripe lock stripe) (if not o then x ∷ held xs else held xs) ≡ (if not o then x ∷ held xs else held xs)
       by true a p e = e
@@ -56,12 +56,12 @@ module _ (lock stripe : ℕ) where
           held (if a then record x { owed = true } ∷ xs else x ∷ marked (same_stripe lock stripe) true xs) ≡ others (same_stripe lock stripe) (if not x.owed then x ∷ held xs else held xs)
       by true o p e = sym (gone x.owed)
         where
-          behind : others (same_stripe lock stripe) (held xs) ≡ held xs
-          behind = let same = same_numbers lock stripe x p in none_behind (number_of_stripe x + 1) xs (omega arith) h.2
+          following : others (same_stripe lock stripe) (held xs) ≡ held xs
+          following = let same = same_numbers lock stripe x p in none_after (number_of_stripe x + 1) xs (omega arith) h.2
 
           gone : (b : Bool) → others (same_stripe lock stripe) (if not b then x ∷ held xs else held xs) ≡ held xs
-          gone true = behind
-          gone false = ap (λ b. if not b then x ∷ others (same_stripe lock stripe) (held xs) else others (same_stripe lock stripe) (held xs)) p ∙ behind
+          gone true = following
+          gone false = ap (λ b. if not b then x ∷ others (same_stripe lock stripe) (held xs) else others (same_stripe lock stripe) (held xs)) p ∙ following
       by false o p e = go x.owed
         where
           go : (b : Bool) → (if not b then x ∷ held (marked (same_stripe lock stripe) true xs) else held (marked (same_stripe lock stripe) true xs)) ≡ others (same_stripe lock stripe) (if not b then x ∷ held xs else held xs)

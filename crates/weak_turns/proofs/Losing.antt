@@ -13,7 +13,7 @@ use Rattle.flow_code.specs.declared.act.Act.TheVariants as act
 use Rattle.flow_code.specs.declared.code.Code.{Code}
 use Rattle.flow_code.specs.declared.thread.Phase.TheVariants as phase
 use Rattle.flow_code.specs.declared.thread.Stripe.{Stripe}
-use Rattle.flow_code.specs.Holding.{number_of_pair, is_listed, held, owes, has_stripes, open_ones, with_pairs, keeping, left_behind, parting, parting_due}
+use Rattle.flow_code.specs.Holding.{number_of_pair, is_listed, held, owes, has_stripes, open_ones, with_pairs, keeping, left_after, parting, parting_due}
 use Rattle.flow_code.specs.Next.{act_at, act_due, act_after, caller, call_after, phase_due, due_of, stepped, gave_up, holds, lost, same_stripe}
 use Rattle.flow_code.specs.Settle.{settled, IsRunnable}
 use Rattle.flow_code.specs.Threads.{OpenRegion, Thread}
@@ -45,7 +45,7 @@ parting_quiet : (xs : List Stripe) (d : Due) → owes xs ≡ true → parting_du
 parting_quiet [] d e = cc
 parting_quiet (x ∷ xs) d e = ap (λ b. if b then due.Quiet else due.Operate op.Give (object.Weak x.lock x.stripe)) e
 
-left_held : (th : Thread) (xs : List Stripe) (q : Thread) → owes xs ≡ true → left_behind th xs q ≡ keeping th (held xs)
+left_held : (th : Thread) (xs : List Stripe) (q : Thread) → owes xs ≡ true → left_after th xs q ≡ keeping th (held xs)
 left_held th [] q e = cc
 left_held th (x ∷ xs) q e = ap (λ b. keeping th (if b then held (x ∷ xs) else drop 1 (x ∷ xs))) e
 
@@ -69,8 +69,8 @@ module _ (code : Code) (s : SetupView) (t : ℕ) where
     due_leaving : act_due code s t p (act_at code p.top) ≡ parting_due p.stripes event
     due_leaving = ap (act_due code s t p) l.call_is ∙ ap (λ k. parting_due (parting call.Exit k p.stripes) event) l.first
 
-    after_leaving : act_after code s t p (act_at code p.top) (pos 0) ≡ left_behind p p.stripes (call_after code s t p call.Exit l.arguments l.into (pos 0))
-    after_leaving = ap (λ o. act_after code s t p o (pos 0)) l.call_is ∙ ap (λ k. left_behind p (parting call.Exit k p.stripes) (call_after code s t p call.Exit l.arguments l.into (pos 0))) l.first
+    after_leaving : act_after code s t p (act_at code p.top) (pos 0) ≡ left_after p p.stripes (call_after code s t p call.Exit l.arguments l.into (pos 0))
+    after_leaving = ap (λ o. act_after code s t p o (pos 0)) l.call_is ∙ ap (λ k. left_after p (parting call.Exit k p.stripes) (call_after code s t p call.Exit l.arguments l.into (pos 0))) l.first
 
     -- while something is owed, it forgets that by a quiet step
     forgets : p.phase ≡ phase.Running → owes p.stripes ≡ true → (due_of code s t p ≡ due.Quiet) × (stepped code s t p (pos 0) ≡ keeping p (held p.stripes))

@@ -17,7 +17,7 @@ use Rattle.abstract_machine.specs.Limits.{most_entries, most_revokes}
 use Rattle.abstract_machine.specs.Values.{number, word}
 use Rattle.abstract_machine.specs.declared.event.Action.{Action}
 use Rattle.abstract_machine.specs.declared.event.Action.TheVariants as action
-use Rattle.flow_code.specs.Next.{has_begun, has_ended, holds, action_at, stepped, gave_up, stopped, shut}
+use Rattle.flow_code.specs.Next.{has_begun, has_ended, holds, action_at, stepped, gave_up, stopped, slot_closed}
 use Rattle.flow_code.specs.Settle.{settled, IsRunnable}
 use Rattle.flow_code.specs.Threads.{Thread}
 use Rattle.flow_code.proofs.Asked.{own_action}
@@ -271,15 +271,15 @@ module _ (v : SeatView) (n : ℕ) (r : Stepping) (c : Carries v n r) where
         stripes = stripes_same told.thread (stopped told.thread) refl refl c.stripes;
       }
 
-      pub shuts : (answer : ℤ) (k : ℕ) → told_of q ≡ operated (told_of r) (shut th) (record { entry = entry_of r.flow.number th name.Close (object.Slot r.flow.number); number = k }) [] → Operated v n op.Close (object.Slot v.from) answer k q
+      pub shuts : (answer : ℤ) (k : ℕ) → told_of q ≡ operated (told_of r) (slot_closed th) (record { entry = entry_of r.flow.number th name.Close (object.Slot r.flow.number); number = k }) [] → Operated v n op.Close (object.Slot v.from) answer k q
       shuts answer k left =
-          let so : told_of q ≡ operated (told_of r) (shut th) (record { entry = entry_of r.flow.number th name.Close (object.Slot v.from); number = k }) [] =
-          left ∙ ap (λ i. operated (told_of r) (shut th) (record { entry = entry_of r.flow.number th name.Close (object.Slot i); number = k }) []) c.shows.number_is in
+          let so : told_of q ≡ operated (told_of r) (slot_closed th) (record { entry = entry_of r.flow.number th name.Close (object.Slot v.from); number = k }) [] =
+          left ∙ ap (λ i. operated (told_of r) (slot_closed th) (record { entry = entry_of r.flow.number th name.Close (object.Slot i); number = k }) []) c.shows.number_is in
           record {
             shows = shows_after (after_operation v.code v.setup v.from told op.Close (object.Slot v.from) answer k)
                 (same_entries name.Close (object.Slot v.from) k (ap (λ (z : Told). z.entries) so)) (same_pieces (ap (λ (z : Told). z.pieces) so)) (kept ∙ c.shows.reads)
                 (inr (ap (λ (z : Told). has_ended z.thread.phase) so, ap (λ (z : Told). z.thread.phase) (sym so)));
-            stripes = stripes_same told.thread (shut told.thread) refl refl c.stripes;
+            stripes = stripes_same told.thread (slot_closed told.thread) refl refl c.stripes;
           }
 
       pub gives_up : (lock stripe : ℕ) (answer : ℤ) (k : ℕ) → IsRunnable v.code → IsSettled r → holds th.stripes lock stripe ≡ true → told_of q ≡ operated (told_of r) (gave_up th lock stripe) (record { entry = entry_of r.flow.number th name.Revoke (object.Weak lock stripe); number = k }) [] → Operated v n op.Revoke (object.Weak lock stripe) answer k q

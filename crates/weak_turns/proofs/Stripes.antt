@@ -46,7 +46,7 @@ module _ (th : Thread) (h : HasItsStripes th) where
   }
 
 module _ (code : Code) (s : SetupView) (t : ℕ) (th : Thread) (h : HasItsStripes th) where
-  -- after the next step, behind all quiet ones
+  -- after the next step, after all quiet ones
   pub stripes_stepped : (answer : ℤ) → HasItsStripes (stepped code s t (settled code s t th) answer)
   stripes_stepped answer = has_its (stepped code s t (settled code s t th) answer) ((stepped_steps code s t (settled code s t th) answer).agrees ((settled_settles code s t th).agrees (agree th h)))
 

@@ -1,4 +1,4 @@
--- A seat and a run of one thread: the run shows the thread that the seat knows, behind the marks that the seat has still to take
+-- A seat and a run of one thread: the run shows the thread that the seat knows, after the marks that the seat has still to take
 -- in.
 use Rattle.std.specs.Prelude.{◌≡◌, ℕ, true, ◌⊎◌}
 use Rattle.sync_objects.specs.Setup.{SetupView}
@@ -30,7 +30,7 @@ pub record Shows (code : Code) (s : SetupView) (t : ℕ) (r : Stepping) (told : 
   pub reads : r.reads ≡ kept_reads r.formula told
   pub thread : IsSameThread code s t r.flow.kept.thread told.thread
 
--- the next so many actions of a seat's thread are marks, and behind them it is what the run shows
+-- the next so many actions of a seat's thread are marks, and after them it is what the run shows
 pub record Carries (v : SeatView) (marks : ℕ) (r : Stepping) : Type 0 where
   pub ahead : AreMarks v.code v.setup v.from marks (own v)
   pub shows : Shows v.code v.setup v.from r (pending v marks)

@@ -29,7 +29,7 @@ use Rattle.weak_turns.specs.declared.played.Played.{Played}
 use Rattle.weak_turns.specs.declared.played.Played.TheVariants as played
 use Rattle.weak_turns.specs.declared.revokes.LockStripe.{LockStripe}
 
--- the thread that a seat knows, behind its marks, and its number
+-- the thread that a seat knows, after its marks, and its number
 abbrev pub thread_of : Seat → Thread
 thread_of seat = (pending (view_of seat) seat.marks).thread
 

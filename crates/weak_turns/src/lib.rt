@@ -13,7 +13,7 @@ mod turn;
 
 pub use acts::{load, mark, store};
 pub use carrier::Carrier;
-pub use operations::{give_up, operate, shut, stop};
+pub use operations::{close_slot, give_up, operate, stop};
 pub use played::Played;
 pub use revokes::LockStripe;
 pub use turn::prepare;

@@ -37,7 +37,7 @@ pub fn stop(cells: &Cells, seat: &mut Seat, run: &mut ThreadRun) -> Attempt
 }
 
 /// Attempts to close the slot of a thread that hasn't begun.
-pub fn shut(cells: &Cells, seat: &mut Seat, run: &mut ThreadRun) -> Attempt
+pub fn close_slot(cells: &Cells, seat: &mut Seat, run: &mut ThreadRun) -> Attempt
     requires carrying { IsCarrying cells.now seat.old run.old }
     requires room { run.old.has_entry ≡ true }
     requires early { has_begun run.old.flow.kept.thread.phase ≡ false }
@@ -48,7 +48,7 @@ pub fn shut(cells: &Cells, seat: &mut Seat, run: &mut ThreadRun) -> Attempt
 {
     match cells.attempt(seat, ObjId::Slot(seat.thread()), Op::Close) {
         Attempt::Done { answer, number } => {
-            run.shut(number);
+            run.close_slot(number);
             Attempt::Done { answer, number }
         }
         Attempt::NotYet { seen } => Attempt::NotYet { seen },

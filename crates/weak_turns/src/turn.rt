@@ -8,7 +8,7 @@ ghost use Rattle.weak_turns.specs.Shown.{IsCarrying, IsSettled};
 
 use crate::acts::act;
 use crate::ends::{End, end_due};
-use crate::operations::{give_up, shut, stop};
+use crate::operations::{close_slot, give_up, stop};
 use crate::played::Played;
 use crate::revokes::{LockStripe, revoke_due};
 use shared_cells::{Cells, Seat};
@@ -48,7 +48,7 @@ fn finish(cells: &Cells, seat: &mut Seat, run: &mut ThreadRun, end: End) -> Play
         }
         End::Close => {
             let obj = ObjId::Slot(seat.thread());
-            let came = shut(cells, seat, run);
+            let came = close_slot(cells, seat, run);
             Played::Tried {
                 op: Op::Close,
                 obj,

@@ -182,7 +182,7 @@ module _ (code : Code) (t : Tables) (locked : List Place) (ps : List Pair) (rs :
         let q = access_mark h.instr.act h.access h.is in
         straight_closed fn.instrs (access_stretch a) es (record {
           long = omega arith;
-          behind = past_objects fn.instrs a.instr h.instr h.at q.2;
+          following = past_objects fn.instrs a.instr h.instr h.at q.2;
           inner = λ k i ge lt g. absurd (omega (arith, ge, lt));
           apart = λ k lt le. absurd (omega (arith, lt, le));
           head = ap (λ o. is_mark (act_in o)) h.at ∙ q.0;

@@ -8,13 +8,13 @@ use Rattle.flow_code.specs.declared.act.Act.TheVariants as act
 use Rattle.flow_code.specs.declared.act.Instr.{Instr}
 use Rattle.flow_code.specs.declared.code.Code.{Code}
 use Rattle.flow_code.specs.declared.thread.Stripe.{Stripe}
-use Rattle.flow_code.specs.Holding.{number_of_stripe, number_of_pair, has_stripe, without_stripe, has_stripes, open_ones, with_pairs, takes, is_open_of, last_place, open_place, first_alone, pairs_behind, region_with, cut}
+use Rattle.flow_code.specs.Holding.{number_of_stripe, number_of_pair, has_stripe, without_stripe, has_stripes, open_ones, with_pairs, takes, is_open_of, last_place, open_place, first_alone, pairs_after, region_with, cut}
 use Rattle.flow_code.specs.Next.{act_in}
 use Rattle.flow_code.specs.Threads.{Thread, OpenRegion, instr_in}
 use Rattle.weak_ways.specs.Ways.{closed}
 use Rattle.weak_ways.proofs.Guarded.{In}
 use Rattle.weak_ways.proofs.Standing.{times, times_closed, times_other}
-use Rattle.weak_ways.proofs.Opened.{many, many_filter, many_without, many_set, some_other, in_filtered, of_filtered, set_other, set_here, of_set, has_some, has_pair, pair_has, Ascends, ascends_filter, none_alone, before_alone, behind_has}
+use Rattle.weak_ways.proofs.Opened.{many, many_filter, many_without, many_set, some_other, in_filtered, of_filtered, set_other, set_here, of_set, has_some, has_pair, pair_has, Ascends, ascends_filter, none_alone, before_alone, after_has}
 use Rattle.weak_ways.proofs.Holdings.{is_of, here, functions_of, Kept, apart, way_on, takes_is, none_here, lessened}
 
 -- ---- the last place
@@ -117,29 +117,29 @@ module _ (code : Code) where
 
   -- ---- a stripe is given
 
-  pub give_one : (th : Thread) (q i : ℕ) (y : ℕ × ℕ) (g : Giving th q i) → act_in (At th) ≡ Some (act.Give q) → first_alone th.regions g.x.stripes ≡ Some y → KeptBy th th.regions th.stripes → KeptBy th (cut th.regions i (pairs_behind (number_of_pair y) g.x.stripes)) (without_stripe (number_of_pair y) th.stripes)
+  pub give_one : (th : Thread) (q i : ℕ) (y : ℕ × ℕ) (g : Giving th q i) → act_in (At th) ≡ Some (act.Give q) → first_alone th.regions g.x.stripes ≡ Some y → KeptBy th th.regions th.stripes → KeptBy th (cut th.regions i (pairs_after (number_of_pair y) g.x.stripes)) (without_stripe (number_of_pair y) th.stripes)
   give_one th q i y g e h k =
-      lessened code th.below th.top.function th.top.instr th.regions (cut th.regions i (pairs_behind (number_of_pair y) g.x.stripes)) th.stripes (without_stripe (number_of_pair y) th.stripes)
-      (λ r. not_taken th q r e) (cut_few th.regions i g.x (pairs_behind (number_of_pair y) g.x.stripes) g.at) (cut_places th.regions i g.x (pairs_behind (number_of_pair y) g.x.stripes) g.at) held
-      (cut_ordered th.regions i g.x (pairs_behind (number_of_pair y) g.x.stripes) g.at (ascends_filter (λ x. nat_lt (number_of_pair y) (number_of_pair x)) g.x.stripes (k.ordered g.x (i, g.at))) k.ordered) k
+      lessened code th.below th.top.function th.top.instr th.regions (cut th.regions i (pairs_after (number_of_pair y) g.x.stripes)) th.stripes (without_stripe (number_of_pair y) th.stripes)
+      (λ r. not_taken th q r e) (cut_few th.regions i g.x (pairs_after (number_of_pair y) g.x.stripes) g.at) (cut_places th.regions i g.x (pairs_after (number_of_pair y) g.x.stripes) g.at) held
+      (cut_ordered th.regions i g.x (pairs_after (number_of_pair y) g.x.stripes) g.at (ascends_filter (λ x. nat_lt (number_of_pair y) (number_of_pair x)) g.x.stripes (k.ordered g.x (i, g.at))) k.ordered) k
     where
-      mine : (z : Stripe) → has_stripe g.x.stripes (number_of_stripe z) ≡ true → (number_of_stripe z ≡ number_of_pair y → ⊥) → (x : OpenRegion) × In x (cut th.regions i (pairs_behind (number_of_pair y) g.x.stripes)) × (has_stripe x.stripes (number_of_stripe z) ≡ true)
+      mine : (z : Stripe) → has_stripe g.x.stripes (number_of_stripe z) ≡ true → (number_of_stripe z ≡ number_of_pair y → ⊥) → (x : OpenRegion) × In x (cut th.regions i (pairs_after (number_of_pair y) g.x.stripes)) × (has_stripe x.stripes (number_of_stripe z) ≡ true)
       mine z s ne =
           let p = has_pair g.x.stripes (number_of_stripe z) s in
           ⊎_elim
-          (λ (lt : number_of_pair p.0 < number_of_pair y). cut_shared th.regions i g.x (pairs_behind (number_of_pair y) g.x.stripes) (number_of_stripe z) g.at (subst (λ n. 2 ≤ many (λ (r : OpenRegion). has_stripe r.stripes n) th.regions) p.2 (before_alone th.regions g.x.stripes y p.0 (k.ordered g.x (i, g.at)) h p.1 lt)))
+          (λ (lt : number_of_pair p.0 < number_of_pair y). cut_shared th.regions i g.x (pairs_after (number_of_pair y) g.x.stripes) (number_of_stripe z) g.at (subst (λ n. 2 ≤ many (λ (r : OpenRegion). has_stripe r.stripes n) th.regions) p.2 (before_alone th.regions g.x.stripes y p.0 (k.ordered g.x (i, g.at)) h p.1 lt)))
           (λ ge.
-          let b : has_stripe (pairs_behind (number_of_pair y) g.x.stripes) (number_of_stripe z) ≡ true = pair_has (pairs_behind (number_of_pair y) g.x.stripes) p.0 (number_of_stripe z) (behind_has (number_of_pair y) g.x.stripes p.0 p.1 (⊎_elim (λ (d : number_of_pair p.0 ≡ number_of_pair y). absurd (ne (sym p.2 ∙ d))) (λ d. above (number_of_pair p.0) (number_of_pair y) ge d) (cases_eq (number_of_pair p.0) (number_of_pair y)))) p.2 in
-          (with_pairs g.x (pairs_behind (number_of_pair y) g.x.stripes), cut_mine th.regions i g.x (pairs_behind (number_of_pair y) g.x.stripes) g.at (number_of_stripe z) b, b))
+          let b : has_stripe (pairs_after (number_of_pair y) g.x.stripes) (number_of_stripe z) ≡ true = pair_has (pairs_after (number_of_pair y) g.x.stripes) p.0 (number_of_stripe z) (after_has (number_of_pair y) g.x.stripes p.0 p.1 (⊎_elim (λ (d : number_of_pair p.0 ≡ number_of_pair y). absurd (ne (sym p.2 ∙ d))) (λ d. above (number_of_pair p.0) (number_of_pair y) ge d) (cases_eq (number_of_pair p.0) (number_of_pair y)))) p.2 in
+          (with_pairs g.x (pairs_after (number_of_pair y) g.x.stripes), cut_mine th.regions i g.x (pairs_after (number_of_pair y) g.x.stripes) g.at (number_of_stripe z) b, b))
           (cases_lt (number_of_pair p.0) (number_of_pair y))
 
-      held : (z : Stripe) → In z (without_stripe (number_of_pair y) th.stripes) → (x : OpenRegion) × In x (cut th.regions i (pairs_behind (number_of_pair y) g.x.stripes)) × (has_stripe x.stripes (number_of_stripe z) ≡ true)
+      held : (z : Stripe) → In z (without_stripe (number_of_pair y) th.stripes) → (x : OpenRegion) × In x (cut th.regions i (pairs_after (number_of_pair y) g.x.stripes)) × (has_stripe x.stripes (number_of_stripe z) ≡ true)
       held z j =
           let f = of_filtered (λ (x : Stripe). not (number_of_stripe x == number_of_pair y)) z th.stripes j in
           let o = k.held z f.0 in
           ⊎_elim
           (λ (w : o.1.0 ≡ i). let u : o.0 ≡ g.x = same_Some o.0 g.x (sym o.1.1 ∙ ap (slice_get th.regions) w ∙ g.at) in mine z (ap (λ (v : OpenRegion). has_stripe v.stripes (number_of_stripe z)) (sym u) ∙ o.2) (differs (number_of_stripe z) (number_of_pair y) f.1))
-          (λ ne. (o.0, cut_other th.regions i g.x (pairs_behind (number_of_pair y) g.x.stripes) g.at o.1.0 o.0 (number_of_stripe z) o.1.1 ne o.2, o.2))
+          (λ ne. (o.0, cut_other th.regions i g.x (pairs_after (number_of_pair y) g.x.stripes) g.at o.1.0 o.0 (number_of_stripe z) o.1.1 ne o.2, o.2))
           (cases_eq o.1.0 i)
         where
           differs : (m n : ℕ) → not (m == n) ≡ true → m ≡ n → ⊥

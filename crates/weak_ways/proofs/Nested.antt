@@ -132,7 +132,7 @@ IsOut s k = (k < s.first) ⊎ (s.last < k)
 
 pub record IsClosed (is : List Instr) (s : Stretch) : Type 0 where
   pub long : s.first ≤ s.last
-  pub behind : length (objects_of is) ≤ s.first
+  pub following : length (objects_of is) ≤ s.first
   pub entered : (k j : ℕ) (i : Instr) → slice_get is k ≡ Some i → Contains (nexts i.act k) j → IsIn s j → IsOut s k → (k < j) × (j ≡ s.first)
   pub ended : (k j : ℕ) (i : Instr) → slice_get is k ≡ Some i → Contains (nexts i.act k) j → IsIn s k → IsOut s j → (k < j) × (j ≡ s.last + 1)
 
@@ -177,7 +177,7 @@ enters_by s k j long lt h = go (ends_before j s) (begins_at j s) refl refl
         h
 
 pub nests : (is : List Instr) (s : Stretch) → IsClosed is s → IsNested is s
-nests is s h = record { long = h.long; behind = h.behind; forth = λ k j i at c lt. enters_by s k j h.long lt (forth k j i at c lt); back = back }
+nests is s h = record { long = h.long; following = h.following; forth = λ k j i at c lt. enters_by s k j h.long lt (forth k j i at c lt); back = back }
   where
     forth : (k j : ℕ) (i : Instr) → slice_get is k ≡ Some i → Contains (nexts i.act k) j → k < j → (s.last + 1 ≡ j) ⊎ ((s.first ≡ j) ⊎ (covers k s ≡ covers j s))
     forth k j i at c lt =
@@ -212,7 +212,7 @@ not_jump (act.Branch on then_at else_at) j e h = cc
 not_jump _ j e h = h
 
 pub whole_closed : (is : List Instr) (s : Stretch) → AreEdges is → s.first ≡ length (objects_of is) → s.last + 1 ≡ length is → IsClosed is s
-whole_closed is s es f l = record { long = omega (arith, f, l, es.begins); behind = omega (arith, f); entered = entered; ended = ended }
+whole_closed is s es f l = record { long = omega (arith, f, l, es.begins); following = omega (arith, f); entered = entered; ended = ended }
   where
     entered : (k j : ℕ) (i : Instr) → slice_get is k ≡ Some i → Contains (nexts i.act k) j → IsIn s j → IsOut s k → (k < j) × (j ≡ s.first)
     entered k j i at c b (inr lt) = absurd (omega (arith, lt, l, slice_get_within is k i at))
@@ -267,7 +267,7 @@ jump_out a b k j p q h out = go (is_inside a b k) (is_inside a b j) (j == b + 1)
     go true false true e f g h = grind (arith, nat_tests, g)
     go true false false e f g h = cc
 
--- back to its Mark from behind
+-- back to its Mark from after
 jump_back : (a b k : ℕ) → b < k → a ≤ b → jump_keeps a b k a ≡ true → ⊥
 jump_back a b k lt le h =
     let e : is_inside a b k ≡ false = (let x : nat_le k b ≡ false = grind (arith, nat_tests, lt) in ap (λ z. nat_le a k && z) x ∙ none (nat_le a k)) in
@@ -328,7 +328,7 @@ dropped_at (suc n) (y ∷ ys) zero x h le = absurd (omega (arith, le))
 dropped_at (suc n) (y ∷ ys) (suc k) x h le = let e : suc k - suc n ≡ k - n = omega arith in ap (slice_get (drop n ys)) e ∙ dropped_at n ys k x h (omega (arith, le))
 
 pub loop_closed : (is : List Instr) (l : LoopInfo) (s : Stretch) → AreEdges is → is_mark (nth is l.at) ≡ true → is_jump l.at (nth is (l.last + 1)) ≡ true → l.at ≤ l.last → is_entered_so is l ≡ true → loop_is_closed is l ≡ true → s.first ≡ l.at → s.last ≡ l.last + 1 → IsClosed is s
-loop_closed is l s es mark jump le so closed f e = record { long = omega (arith, f, e, le); behind = omega (arith, f, mark_late is l.at mark); entered = entered; ended = ended }
+loop_closed is l s es mark jump le so closed f e = record { long = omega (arith, f, e, le); following = omega (arith, f, mark_late is l.at mark); entered = entered; ended = ended }
   where
     entry : is_entered_at is l.at (l.last + 1) ≡ true
     entry = (both (is_entered_at is l.at (l.last + 1)) (is_entered_at is l.at (condition_end l)) (both (is_entered_at is l.at (l.last + 1) && is_entered_at is l.at (condition_end l)) (is_entered_at is (last_part_at is l) (l.last + 1)) so).0).0
@@ -384,7 +384,7 @@ loop_closed is l s es mark jump le so closed f e = record { long = omega (arith,
 -- goes on to the next
 pub record IsStraight (is : List Instr) (first last : ℕ) : Type 0 where
   pub long : first ≤ last
-  pub behind : length (objects_of is) ≤ first
+  pub following : length (objects_of is) ≤ first
   pub inner : (k : ℕ) (i : Instr) → first ≤ k → k < last → slice_get is k ≡ Some i → ends_block i.act ≡ false
   pub apart : (k : ℕ) → first < k → k ≤ last → is_target is k ≡ false
   pub head : is_mark (nth is first) ≡ false
@@ -416,7 +416,7 @@ any_at p (y ∷ ys) (suc k) x h e = ap (λ b. p y || b) (any_at p ys k x h e) �
     any false = refl
 
 pub straight_closed : (is : List Instr) (s : Stretch) → AreEdges is → IsStraight is s.first s.last → IsClosed is s
-straight_closed is s es h = record { long = h.long; behind = h.behind; entered = entered; ended = ended }
+straight_closed is s es h = record { long = h.long; following = h.following; entered = entered; ended = ended }
   where
     goes_on : (k : ℕ) (i : Instr) → slice_get is k ≡ Some i → IsIn s k → is_end (Some i.act) ≡ false
     goes_on k i at a = ⊎_elim (λ (lt : k < s.last). end_block i.act (h.inner k i a.0 lt at)) (λ ge. let e : k ≡ s.last = omega (arith, ge, a.1) in h.tail i (subst (λ n. slice_get is n ≡ Some i) e at)) (cases_lt k s.last)

@@ -4,7 +4,7 @@ use Rattle.std.specs.Prelude.{slice_get, slice_set, if◌then◌else◌, nat_le,
 use Rattle.std.proofs.lemmas.Bool.{cases_lt}
 use Rattle.std.proofs.lemmas.Bool.Decides.{nat_tests}
 use Rattle.std.proofs.lemmas.Option.{same_Some}
-use Rattle.flow_code.specs.Holding.{number_of_pair, has_stripe, has_stripes, nesting, first_alone, pairs_behind, behind_pair, behind_pairs}
+use Rattle.flow_code.specs.Holding.{number_of_pair, has_stripe, has_stripes, nesting, first_alone, pairs_after, after_pair, after_pairs}
 use Rattle.flow_code.specs.Stripes.{stripe_of, first_from, and_stripe, stripes_from}
 use Rattle.flow_code.specs.Threads.{OpenRegion}
 use Rattle.weak_ways.proofs.Guarded.{In}
@@ -233,12 +233,12 @@ ascends_filter test (x ∷ xs) h = go (test x) (each_kept (λ y. number_of_pair 
     go true e r = (e, r)
     go false e r = r
 
-pub below_end : (xs : List (ℕ × ℕ)) → Ascends xs → Each (λ x. number_of_pair x < behind_pairs xs) xs
+pub below_end : (xs : List (ℕ × ℕ)) → Ascends xs → Each (λ x. number_of_pair x < after_pairs xs) xs
 below_end [] h = tt
 below_end (x ∷ []) h = (omega arith, tt)
 below_end (x ∷ y ∷ ys) h =
     let e : length (x ∷ y ∷ ys) - 1 ≡ suc (length (y ∷ ys) - 1) = omega arith in
-    let s : behind_pairs (y ∷ ys) ≡ behind_pairs (x ∷ y ∷ ys) = ap (λ n. behind_pair (slice_get (x ∷ y ∷ ys) n)) (sym e) in
+    let s : after_pairs (y ∷ ys) ≡ after_pairs (x ∷ y ∷ ys) = ap (λ n. after_pair (slice_get (x ∷ y ∷ ys) n)) (sym e) in
     let r = below_end (y ∷ ys) h.1 in
     (omega (arith, h.0.0, r.0, s), subst (λ n. Each (λ z. number_of_pair z < n) (y ∷ ys)) s r)
 
@@ -333,5 +333,5 @@ before_alone rs (z ∷ xs) x y a h i lt = go (nat_le (nesting rs (number_of_pair
     go false e h (zero, g) rec = subst (λ w. 2 ≤ many (λ (r : OpenRegion). has_stripe r.stripes (number_of_pair w)) rs) (same_Some z y g) (not_alone rs (number_of_pair z) e)
     go false e h (suc k, g) rec = rec h (k, g)
 
-pub behind_has : (n : ℕ) (xs : List (ℕ × ℕ)) (y : ℕ × ℕ) → In y xs → n < number_of_pair y → In y (pairs_behind n xs)
-behind_has n xs y i lt = in_filtered (λ x. nat_lt n (number_of_pair x)) y xs i (grind (arith, nat_tests, lt))
+pub after_has : (n : ℕ) (xs : List (ℕ × ℕ)) (y : ℕ × ℕ) → In y xs → n < number_of_pair y → In y (pairs_after n xs)
+after_has n xs y i lt = in_filtered (λ x. nat_lt n (number_of_pair x)) y xs i (grind (arith, nat_tests, lt))

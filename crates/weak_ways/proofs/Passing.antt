@@ -19,7 +19,7 @@ use Rattle.weak_code.proofs.Stripping.{AreWeak, weak_before, IsPlain, ArePlain}
 use Rattle.weak_ways.specs.Ways.{nexts, opened_by, Way, begins, goes}
 use Rattle.weak_sound.proofs.Tests.{both, found}
 use Rattle.weak_sound.proofs.Spots.{place_next, front_at}
-use Rattle.weak_sound.proofs.OrderFits.{weak_at, plain_at, jumps_at, seat_is, at_seat, object_kept, made_here, none_turned, AreBehind}
+use Rattle.weak_sound.proofs.OrderFits.{weak_at, plain_at, jumps_at, seat_is, at_seat, object_kept, made_here, none_turned, AreAfter}
 use Rattle.weak_sound.proofs.RegionsFit.{past_objects}
 use Rattle.weak_ways.proofs.Standing.{times, one_if, has_test, Enters, EntersAt, returns, stays, IsLong, Stands, Follows, stands_past, stands_before, follows_before, follows_drop}
 
@@ -33,7 +33,7 @@ weak_none _ h = cc
 -- a region is entered with its first instruction and left behind its last, and a jump back neither enters nor leaves it
 pub record IsNested (is : List Instr) (s : Stretch) : Type 0 where
   pub long : s.first ≤ s.last
-  pub behind : length (objects_of is) ≤ s.first
+  pub following : length (objects_of is) ≤ s.first
   pub forth : (k j : ℕ) (i : Instr) → slice_get is k ≡ Some i → Contains (nexts i.act k) j → k < j → Enters (ends_before j s) (begins_at j s) (covers j s) (if covers k s then 1 else 0)
   pub back : (k j : ℕ) (i : Instr) → slice_get is k ≡ Some i → Contains (nexts i.act k) j → j ≤ k → covers k s ≡ covers j s
 
@@ -299,11 +299,11 @@ module _ (ss : List Stretch) (is : List Instr) (plain : ArePlain (length is) is)
 
       go : (o : Option Stretch) → slice_get ss r ≡ o → EntersAt o (length (objects_of is)) 0
       go None e = refl
-      go (Some s) e = none s (ends_before (length (objects_of is)) s) (begins_at (length (objects_of is)) s) (covers (length (objects_of is)) s) refl refl refl (nested r s e).behind
+      go (Some s) e = none s (ends_before (length (objects_of is)) s) (begins_at (length (objects_of is)) s) (covers (length (objects_of is)) s) refl refl refl (nested r s e).following
 
-  behind_from : (xs : List Stretch) → ((r : ℕ) (s : Stretch) → slice_get xs r ≡ Some s → IsNested is s) → AreBehind (length (objects_of is)) xs
-  behind_from [] h = tt
-  behind_from (s ∷ xs) h = let n = h 0 s refl in ((n.behind, omega (arith, n.behind, n.long)), behind_from xs (λ r x g. h (suc r) x g))
+  after_from : (xs : List Stretch) → ((r : ℕ) (s : Stretch) → slice_get xs r ≡ Some s → IsNested is s) → AreAfter (length (objects_of is)) xs
+  after_from [] h = tt
+  after_from (s ∷ xs) h = let n = h 0 s refl in ((n.following, omega (arith, n.following, n.long)), after_from xs (λ r x g. h (suc r) x g))
 
   begins_before_end : length (objects_of is) < length is
   begins_before_end = last is (both (ends_in_itself is) (jumps_fit is 0 is) (both (ends_in_itself is && jumps_fit is 0 is) (objects_are_first is) order).0).0
@@ -345,7 +345,7 @@ module _ (ss : List Stretch) (is : List Instr) (plain : ArePlain (length is) is)
           ∙ ap (place_from ss n (i ∷ rest)) (sym l)
 
   starts : length (objects_of Weak) ≡ place_of ss is (length (objects_of is))
-  starts = starts_weak 0 is (λ k lt. let e : k ≡ 0 + k = omega arith in subst (λ q. turned ss q ≡ []) e (none_turned (length (objects_of is)) k ss (behind_from ss nested) lt))
+  starts = starts_weak 0 is (λ k lt. let e : k ≡ 0 + k = omega arith in subst (λ q. turned ss q ≡ []) e (none_turned (length (objects_of is)) k ss (after_from ss nested) lt))
 
   -- ---- ways
 

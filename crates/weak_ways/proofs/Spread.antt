@@ -272,7 +272,7 @@ begun : (is : List Instr) (k : ℕ) → begins_block is k ≡ true → block_at 
 begun is zero h = refl
 begun is (suc k) h = ap (λ b. if b then suc k else block_at is k) h
 
--- no block begins behind the first of two instructions of one block, and not behind the second
+-- no block begins after the first of two instructions of one block, and not after the second
 one_block : (is : List Instr) (first last k : ℕ) → block_at is first ≡ block_at is last → first < k → k ≤ last → begins_block is k ≡ true → ⊥
 one_block is first last k e lt le h =
     let z : k + (last - k) ≡ last = omega (arith, le) in
@@ -306,7 +306,7 @@ straight is first last le e p q =
     let b = cell_act (slice_get is last) q in
     record {
       long = le;
-      behind = past_objects is first a.0 a.1 a.2;
+      following = past_objects is first a.0 a.1 a.2;
       inner = inner;
       apart = λ k lt to. (false_or (follows_end is k) (is_target is k) (λ h. one_block is first last k e lt to h)).1;
       head = ap (λ o. is_mark (act_in o)) a.1 ∙ a.3;

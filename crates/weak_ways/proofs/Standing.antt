@@ -99,7 +99,7 @@ StandsNext true given n rest = n ≡ 0
 StandsNext false true n rest = n ≤ 1
 StandsNext false false n rest = rest
 
--- the region is open so many times before these, behind which it is open or not
+-- the region is open so many times before these, after which it is open or not
 abbrev pub Stands : Bool → ℕ → List Act → ℕ → Type 0
 Stands o r [] n = n ≡ (if o then 1 else 0)
 Stands o r (b ∷ bs) n = StandsNext (takes_it r b) (gives_it r b) n (Stands o r bs n)
@@ -109,7 +109,7 @@ FollowsNext true given P Q = P
 FollowsNext false true P Q = Q
 FollowsNext false false P Q = Unit {0}
 
--- behind each Take of the region it may be open once, and behind each Give not at all
+-- after each Take of the region it may be open once, and after each Give not at all
 abbrev pub Follows : Bool → ℕ → List Act → Type 0
 Follows o r [] = Unit {0}
 Follows o r (b ∷ bs) = FollowsNext (takes_it r b) (gives_it r b) (Stands o r bs 1) (Stands o r bs 0) × Follows o r bs
@@ -211,7 +211,7 @@ one_follow_takes o r (x ∷ xs) bs z s f = go (x == r) z (λ e. one_follow_takes
 
 -- ---- what stands before an instruction
 
--- where the region ends before, begins with and covers the instruction behind which none of these weak ones are left, it is
+-- where the region ends before, begins with and covers the instruction after which none of these weak ones are left, it is
 -- open so many times before them all
 abbrev pub Enters : (ends begins covers : Bool) → ℕ → Type 0
 Enters true begins c n = n ≤ 1

@@ -9,7 +9,7 @@ use Rattle.flow_code.specs.declared.act.Instr.{Instr}
 use Rattle.flow_code.specs.declared.code.Code.{Code}
 use Rattle.flow_code.specs.declared.region.Region.{Region}
 use Rattle.flow_code.specs.declared.thread.Stripe.{Stripe}
-use Rattle.flow_code.specs.Holding.{number_of_stripe, number_of_pair, is_listed, has_stripe, with_stripe, place_for, has_stripes, open_ones, with_pairs, behind_pairs, is_opened_here, latest, pairs_at, taken_pairs, left_from, is_lacked, lacked, taken_before, latest_with, opened, takes_region, takes}
+use Rattle.flow_code.specs.Holding.{number_of_stripe, number_of_pair, is_listed, has_stripe, with_stripe, place_for, has_stripes, open_ones, with_pairs, after_pairs, is_opened_here, latest, pairs_at, taken_pairs, left_from, is_lacked, lacked, taken_before, latest_with, opened, takes_region, takes}
 use Rattle.flow_code.specs.Next.{act_in}
 use Rattle.flow_code.specs.Stripes.{stripe_of, wants_number, end_lock, stripes_from}
 use Rattle.flow_code.specs.Threads.{Frame, Thread, OpenRegion, instr_in}
@@ -187,7 +187,7 @@ module _ (code : Code) where
       (pairs_ascend th h) (from_ascends (wants_number code th.top.registers r) (to - left_from th r) (left_from th r))
       (below (taken_pairs th) (below_end (taken_pairs th) (pairs_ascend th h))) (from_above (wants_number code th.top.registers r) (to - left_from th r) (left_from th r))
     where
-      below : (xs : List (ℕ × ℕ)) → Each (λ x. number_of_pair x < behind_pairs (taken_pairs th)) xs → Each (λ x. number_of_pair x < left_from th r) xs
+      below : (xs : List (ℕ × ℕ)) → Each (λ x. number_of_pair x < after_pairs (taken_pairs th)) xs → Each (λ x. number_of_pair x < left_from th r) xs
       below [] e = tt
       below (x ∷ xs) e = (omega (arith, e.0), below xs e.1)
 

@@ -22,8 +22,8 @@ use Rattle.flow_code.specs.declared.region.Region.{Region}
 use Rattle.flow_code.specs.declared.thread.Phase.{Phase}
 use Rattle.flow_code.specs.declared.thread.Phase.TheVariants as phase
 use Rattle.flow_code.specs.declared.thread.Stripe.{Stripe}
-use Rattle.flow_code.specs.Holding.{number_of_stripe, number_of_pair, is_listed, has_stripe, has_stripes, open_ones, with_pairs, lacked, taken_before, opened, region_of, taken, open_place, first_alone, alone_at, pairs_at, to_give, gives_at, parting, owes, held, left_of, left_behind, with_stripe, without_stripe, cut, pairs_behind}
-use Rattle.flow_code.specs.Next.{act_in, act_at, pointers_of, past, given, computed, entered, back_in, one_made, end_onward, returned, went_on, branch_to, call_after, on_unless, act_after, begun_after, phase_after, owed_at, with_owed, after_due, same_stripe, due_of, caller, result_of, value_of, stepped}
+use Rattle.flow_code.specs.Holding.{number_of_stripe, number_of_pair, is_listed, has_stripe, has_stripes, open_ones, with_pairs, lacked, taken_before, opened, region_of, taken, open_place, first_alone, alone_at, pairs_at, to_give, gives_at, parting, owes, held, left_of, left_after, with_stripe, without_stripe, cut, pairs_after}
+use Rattle.flow_code.specs.Next.{act_in, act_at, pointers_of, past, given, computed, entered, back_in, one_made, end_onward, returned, resumed, branch_to, call_after, on_unless, act_after, begun_after, phase_after, owed_at, with_owed, after_due, same_stripe, due_of, caller, result_of, value_of, stepped}
 use Rattle.flow_code.specs.Stripes.{end_lock}
 use Rattle.flow_code.specs.Threads.{Frame, Thread, OpenRegion, instr_in, objects_in, is_main}
 use Rattle.flow_code.specs.Works.{work_of}
@@ -177,12 +177,12 @@ module _ (code : Code) where
     compute_kept th into a (Ok w) e at q c k = onward_by th a e at q c k
     compute_kept th into a (Err kind) e at q c k = stay th e k
 
-    library_kept : (th : Thread) (a : Act) (into : Option ℕ) (o : Onward) → is_early th.phase ≡ false → act_at code th.top ≡ Some a → is_still a ≡ true → Contains (nexts a th.top.instr) (th.top.instr + 1) → Now th → IsKept code (went_on th into o)
+    library_kept : (th : Thread) (a : Act) (into : Option ℕ) (o : Onward) → is_early th.phase ≡ false → act_at code th.top ≡ Some a → is_still a ≡ true → Contains (nexts a th.top.instr) (th.top.instr + 1) → Now th → IsKept code (resumed th into o)
     library_kept th a into (onward.Stays kept) e at q c k = stay th e k
     library_kept th a into (onward.Gives w) e at q c k = given_on th th.top into w th.below e (moved code th.below th.top.function th.top.instr th.regions th.stripes a (th.top.instr + 1) at q c k)
     library_kept th a into onward.Ends e at q c k = tt
 
-    parting_kept : (th q : Thread) (c : LibraryCall) (a : Act) (xs : List Stripe) → parting c th.top.made th.stripes ≡ xs → is_early th.phase ≡ false → act_at code th.top ≡ Some a → is_still a ≡ true → Now th → IsKept code q → IsKept code (left_behind th xs q)
+    parting_kept : (th q : Thread) (c : LibraryCall) (a : Act) (xs : List Stripe) → parting c th.top.made th.stripes ≡ xs → is_early th.phase ≡ false → act_at code th.top ≡ Some a → is_still a ≡ true → Now th → IsKept code q → IsKept code (left_after th xs q)
     parting_kept th q c a [] p e at h k l = l
     parting_kept th q c a (x ∷ xs) p e at h k l = ⊎_elim
         (λ (z : x ∷ xs ≡ []). cc)
@@ -222,9 +222,9 @@ module _ (code : Code) where
     give_kept th q (Some i) (Some y) p l e at k =
         let g = giving code th q i p in
         let r = give_one code th q i y g at (ap (λ o. first_alone th.regions (pairs_at o)) (sym g.at) ∙ l) k in
-        kept_late th.phase (Kept code th.below th.top.function th.top.instr (cut th.regions i (pairs_behind (number_of_pair y) (pairs_at (slice_get th.regions i)))) (without_stripe (number_of_pair y) th.stripes))
-        ((cut th.regions i (pairs_behind (number_of_pair y) (pairs_at (slice_get th.regions i))) ≡ []) × (without_stripe (number_of_pair y) th.stripes ≡ [])) e
-        (subst (λ o. Kept code th.below th.top.function th.top.instr (cut th.regions i (pairs_behind (number_of_pair y) (pairs_at o))) (without_stripe (number_of_pair y) th.stripes)) (sym g.at) r)
+        kept_late th.phase (Kept code th.below th.top.function th.top.instr (cut th.regions i (pairs_after (number_of_pair y) (pairs_at (slice_get th.regions i)))) (without_stripe (number_of_pair y) th.stripes))
+        ((cut th.regions i (pairs_after (number_of_pair y) (pairs_at (slice_get th.regions i))) ≡ []) × (without_stripe (number_of_pair y) th.stripes ≡ [])) e
+        (subst (λ o. Kept code th.below th.top.function th.top.instr (cut th.regions i (pairs_after (number_of_pair y) (pairs_at o))) (without_stripe (number_of_pair y) th.stripes)) (sym g.at) r)
 
     branch_in : (w a b n : ℕ) → Contains (a ∷ b ∷ []) (branch_to w a b)
     branch_in w a b n = go (w == 0)

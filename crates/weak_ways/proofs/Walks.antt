@@ -108,7 +108,7 @@ plain_zero : (is : List Instr) → plain_of is 0 ≡ 0
 plain_zero [] = refl
 plain_zero (i ∷ is) = refl
 
--- the plain place behind an instruction
+-- the plain place after an instruction
 pub plain_next : (is : List Instr) (w : ℕ) (i : Instr) → slice_get is w ≡ Some i → plain_of is (w + 1) ≡ (if is_weak i.act then plain_of is w else suc (plain_of is w))
 plain_next [] w i h = cc
 plain_next (x ∷ is) zero i h = ap (λ n. if is_weak x.act then n else suc n) (plain_zero is) ∙ ap (λ (y : Instr). if is_weak y.act then 0 else 1) (same_Some x i h)

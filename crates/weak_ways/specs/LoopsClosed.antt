@@ -10,7 +10,7 @@ use Rattle.flow_code.specs.declared.code.LoopInfo.{LoopInfo}
 abbrev pub is_inside : (a b k : ℕ) → Bool
 is_inside a b k = nat_le a k && nat_le k b
 
--- A jump of one of the instructions from a to b goes to one of them or to the first behind them. A later instruction doesn't
+-- A jump of one of the instructions from a to b goes to one of them or to the first after them. A later instruction doesn't
 -- jump back to the first of them.
 abbrev pub jump_keeps : (a b k to : ℕ) → Bool
 jump_keeps a b k to = if is_inside a b k then is_inside a b to || (to == b + 1) else (nat_lt k a || not (to == a))

@@ -5,7 +5,7 @@ use Rattle.flow_code.specs.declared.code.Code.{Code}
 use Rattle.flow_code.specs.declared.thread.Phase.{Phase}
 use Rattle.flow_code.specs.declared.thread.Phase.TheVariants as phase
 use Rattle.flow_code.specs.Threads.{Thread}
-use Rattle.flow_code.specs.Next.{stepped, gave_up, stopped, shut}
+use Rattle.flow_code.specs.Next.{stepped, gave_up, stopped, slot_closed}
 
 -- the thread has no frame yet
 abbrev pub is_early : Phase → Bool
@@ -20,4 +20,4 @@ pub data Reached (code : Code) (s : SetupView) (t : ℕ) : Thread → Type 0 whe
   steps : {th : Thread} (answer : ℤ) → Reached code s t th → Reached code s t (stepped code s t th answer)
   loses : {th : Thread} (lock stripe : ℕ) → Reached code s t th → Reached code s t (gave_up th lock stripe)
   stops : {th : Thread} → Reached code s t th → Reached code s t (stopped th)
-  shuts : {th : Thread} → Reached code s t th → Reached code s t (shut th)
+  shuts : {th : Thread} → Reached code s t th → Reached code s t (slot_closed th)

@@ -6,7 +6,7 @@ use Rattle.flow_code.specs.declared.act.Act.TheVariants as act
 use Rattle.flow_code.specs.declared.act.Instr.{Instr}
 use Rattle.flow_code.specs.Threads.{objects_of}
 
--- where control may be behind an instruction at this place
+-- where control may be after an instruction at this place
 abbrev pub nexts : Act → (w : ℕ) → List ℕ
 nexts (act.Jump to) w = to ∷ []
 nexts (act.Branch on then_at else_at) w = then_at ∷ else_at ∷ []
@@ -18,13 +18,13 @@ abbrev pub closed : ℕ → List ℕ → List ℕ
 closed r [] = []
 closed r (x ∷ xs) = if x == r then xs else x ∷ closed r xs
 
--- the open regions behind an instruction, the latest first
+-- the open regions after an instruction, the latest first
 abbrev pub opened_by : Act → List ℕ → List ℕ
 opened_by (act.Take r) opened = r ∷ opened
 opened_by (act.Give r) opened = closed r opened
 opened_by _ opened = opened
 
--- a way from a function's beginning, behind its objects, to a place, with the regions that are open there then
+-- a way from a function's beginning, after its objects, to a place, with the regions that are open there then
 pub data Way (is : List Instr) : (w : ℕ) → (opened : List ℕ) → Type 0 where
   begins : Way is (length (objects_of is)) []
   goes : {w : ℕ} {opened : List ℕ} (i : Instr) (v : ℕ) → Way is w opened → slice_get is w ≡ Some i → Contains (nexts i.act w) v → Way is v (opened_by i.act opened)

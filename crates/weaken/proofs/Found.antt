@@ -191,7 +191,7 @@ lock_found qs p i below h = is_position (λ q. place_same p q) qs i (first_passe
 pub lock_absent : (qs : List Place) (p : Place) (i : ℕ) → are_ascending qs ≡ true → ((k : ℕ) (d : Place) → k < i → is_before (get_or qs k d) p ≡ true) → ((k : ℕ) (d : Place) → i ≤ k → k < length qs → is_before (get_or qs k d) p ≡ false) → (slice_get qs i ≡ Some p → ⊥) → lock_at qs p ≡ None
 lock_absent qs p i up below above absent = no_position (λ q. place_same p q) qs (none_passes (λ q. place_same p q) qs each)
   where
-    -- none is p: those before i come before it; if the i-th isn't p it comes behind, as those after it do
+    -- none is p: those before i come before it; if the i-th isn't p it comes after, as those after it do
     same_at : (k : ℕ) (d : Place) → k < length qs → (b : Bool) → place_same p (get_or qs k d) ≡ b → b ≡ true → i < k → ⊥
     same_at k d lt b e t gt =
         let s : p ≡ get_or qs k d = same_place p (get_or qs k d) (e ∙ t) in

@@ -35,7 +35,7 @@ fn beginning(
     Ok(groups)
 }
 
-fn behind(stretch: &Stretch) -> Result<usize, AllocError>
+fn following(stretch: &Stretch) -> Result<usize, AllocError>
     ensures { IfOk result (λ n. n ≡ stretch.now.last + 1) }
 {
     length_sum(stretch.last, 1)
@@ -49,7 +49,7 @@ fn ending(alloc: Global, stretches: &[Stretch], count: usize) -> Result<Vec<List
     let mut groups = empty_groups(alloc, count)?;
     for number in 0..stretches.len() {
         let region = region_number(number)?;
-        let after = behind(&stretches[number])?;
+        let after = following(&stretches[number])?;
         put(&mut groups, after, region)?;
     }
     Ok(groups)
@@ -79,12 +79,12 @@ fn put_return(
     Ok(())
 }
 
-/// The place behind the last instruction that a region covers.
+/// The place after the last instruction that a region covers.
 fn end_in(instrs: &[Instr], stretch: &Stretch) -> Result<usize, AllocError>
     ensures bound { IfOk result (λ end. end ≤ length instrs.now) }
     ensures covers { IfOk result (λ end. (k : ℕ) → k < length instrs.now → nat_lt k end ≡ nat_le k stretch.now.last) }
 {
-    let end = behind(stretch)?;
+    let end = following(stretch)?;
     if end < instrs.len() {
         Ok(end)
     } else {
@@ -127,8 +127,8 @@ fn left(
     Ok(groups)
 }
 
-/// The place behind an instruction with so many weak ones before it.
-fn behind_block(place: usize, ends: usize, begins: usize, left: usize) -> Result<usize, AllocError>
+/// The place after an instruction with so many weak ones before it.
+fn after_block(place: usize, ends: usize, begins: usize, left: usize) -> Result<usize, AllocError>
     ensures { IfOk result (λ n. n ≡ place + (ends + begins + left + 1)) }
 {
     let ended = length_sum(place, ends)?;
@@ -159,7 +159,7 @@ fn places(
     let mut place = 0usize;
     for at in 0.._instrs.len() {
         places.push(place)?;
-        let next = behind_block(place, ends[at].len(), begins[at].len(), left[at].len())?;
+        let next = after_block(place, ends[at].len(), begins[at].len(), left[at].len())?;
         place = next;
     }
     Ok(places)

@@ -156,7 +156,7 @@ fn put_before(
     put_gives(written, instr, plan.left[at].as_slice())
 }
 
-/// Puts an instruction, behind what stands before it.
+/// Puts an instruction, after what stands before it.
 fn put_block(
     alloc: Global,
     stretches: &[Stretch],

@@ -45,7 +45,7 @@ use Rattle.words_point.proofs.Frames.{kept_zero, registers_stay, frames_stay}
 use Rattle.words_point.proofs.Laying.{Lays, lays_none, lays_one, lays_good, new_object, is_new, size_is}
 use Rattle.words_point.proofs.Moving.{good_to}
 use Rattle.words_point.proofs.Reaching.{Reaches, good_reaches, good_fits}
-use Rattle.words_point.proofs.Registers.{set_other, set_here, good_set, act_there, begins_behind, begins_there, constants_at_begin, constants_past}
+use Rattle.words_point.proofs.Registers.{set_other, set_here, good_set, act_there, begins_after, begins_there, constants_at_begin, constants_past}
 
 -- what may be answered to what is due, where the machine makes the step
 abbrev pub Answers : Code → List ℕ → Due → ℤ → Type 0
@@ -88,7 +88,7 @@ module _ (code : Code) (s : SetupView) (t : ℕ) (made : List Object) (words : L
       (subst (GoodPhase code s made (in_frame th (record { function = th.top.function; instr = instr; made = n; kept = kept; registers = registers }))) (sym runs)
       (record { frames = (good, g.frames.1, constants.all, g.frames.3); constants = constants; kept = k }))
 
-  -- behind an instruction that has assigned a register or none, and no constant
+  -- after an instruction that has assigned a register or none, and no constant
   past_good : (a : Act) (registers : List ℕ) → act_at code th.top ≡ Some a → constant_of (Some a) ≡ None → length registers ≡ length th.top.registers → ((r : ℕ) → assigns r (Some a) ≡ false → register registers r ≡ register th.top.registers r) → GoodRegisters code s made th.top.function registers → Leaves code s t made th (in_frame th (past (record th.top { registers = registers })))
   past_good a registers at none e same good =
       in_place (th.top.instr + 1) 0 (pos 0) registers good
@@ -111,11 +111,11 @@ module _ (code : Code) (s : SetupView) (t : ℕ) (made : List Object) (words : L
   pub jump_good : (to : ℕ) (a : Act) → act_at code th.top ≡ Some a → goes_to to a ≡ true → Leaves code s t made th (in_frame th (jumped th.top to))
   jump_good to a at goes = block_good to th.top.registers (begins_there (instrs_in (slice_get code.functions th.top.function)) th.top.instr to a (there a at) goes) refl g.frames.0
 
-  -- behind an instruction that ends its block
-  pub behind_good : (a : Act) (registers : List ℕ) → act_at code th.top ≡ Some a → ends_block a ≡ true → length registers ≡ length th.top.registers → GoodRegisters code s made th.top.function registers → Leaves code s t made th (in_frame th (past (record th.top { registers = registers })))
-  behind_good a registers at ends e good =
+  -- after an instruction that ends its block
+  pub after_good : (a : Act) (registers : List ℕ) → act_at code th.top ≡ Some a → ends_block a ≡ true → length registers ≡ length th.top.registers → GoodRegisters code s made th.top.function registers → Leaves code s t made th (in_frame th (past (record th.top { registers = registers })))
+  after_good a registers at ends e good =
       block_good (th.top.instr + 1) registers
-      (subst (λ k. begins_block (instrs_in (slice_get code.functions th.top.function)) k ≡ true) (sym (next_is th.top.instr)) (begins_behind (instrs_in (slice_get code.functions th.top.function)) th.top.instr a (there a at) ends))
+      (subst (λ k. begins_block (instrs_in (slice_get code.functions th.top.function)) k ≡ true) (sym (next_is th.top.instr)) (begins_after (instrs_in (slice_get code.functions th.top.function)) th.top.instr a (there a at) ends))
       e good
 
   -- ---- a register is assigned

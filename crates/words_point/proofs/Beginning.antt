@@ -20,8 +20,8 @@ use Rattle.flow_code.specs.declared.region.Region.{Region}
 use Rattle.flow_code.specs.declared.thread.Phase.{Phase}
 use Rattle.flow_code.specs.declared.thread.Phase.TheVariants as phase
 use Rattle.flow_code.specs.declared.thread.Stripe.{Stripe}
-use Rattle.flow_code.specs.Holding.{region_of, lacked, taken, gives_at, open_place, to_give, parting, left_behind}
-use Rattle.flow_code.specs.Next.{act_at, pointers_of, computed, returned, end_onward, back_in, value_of, went_on, caller, call_after, on_unless, act_after, begun_after, phase_due, phase_after, due_of, after_due, stepped}
+use Rattle.flow_code.specs.Holding.{region_of, lacked, taken, gives_at, open_place, to_give, parting, left_after}
+use Rattle.flow_code.specs.Next.{act_at, pointers_of, computed, returned, end_onward, back_in, value_of, resumed, caller, call_after, on_unless, act_after, begun_after, phase_due, phase_after, due_of, after_due, stepped}
 use Rattle.flow_code.specs.Threads.{Frame, Thread, is_main}
 use Rattle.flow_code.specs.Works.{work_of}
 use Rattle.flow_code.proofs.Counts.{stepped_is, operate_after}
@@ -59,12 +59,12 @@ module _ (code : Code) (s : SetupView) (t : ℕ) (th : Thread) where
         by true = end_not (is_main code th.top.function) th.top.made
         by false = back_not w (slice_get th.below (length th.below - 1))
 
-    went_not : (n : ℕ) (into : Option ℕ) (o : Onward) → NotBegun (went_on (record th { printed = n }) into o).phase
+    went_not : (n : ℕ) (into : Option ℕ) (o : Onward) → NotBegun (resumed (record th { printed = n }) into o).phase
     went_not n into (onward.Stays k) = same_not
     went_not n into (onward.Gives w) = same_not
     went_not n into onward.Ends = tt
 
-    parted_not : (xs : List Stripe) (q : Thread) → NotBegun q.phase → NotBegun (left_behind th xs q).phase
+    parted_not : (xs : List Stripe) (q : Thread) → NotBegun q.phase → NotBegun (left_after th xs q).phase
     parted_not [] q h = h
     parted_not (y ∷ ys) q h = same_not
 

@@ -31,7 +31,7 @@ use Rattle.words_point.proofs.Fitting.{stands_fit, kind_is}
 use Rattle.words_point.proofs.Frames.{below_is, below_more, kept_zero, frames_stay}
 use Rattle.words_point.proofs.Laying.{Lays, lays_good}
 use Rattle.words_point.proofs.Moving.{good_included}
-use Rattle.words_point.proofs.Registers.{good_set, act_there, begins_behind, none_at_begin}
+use Rattle.words_point.proofs.Registers.{good_set, act_there, begins_after, none_at_begin}
 
 -- ---- kinds of arguments
 
@@ -149,15 +149,15 @@ module _ (code : Code) (s : SetupView) (t : ℕ) (made : List Object) (words : L
     given_length f None w = refl
     given_length f (Some r) w = length-set f.registers r w
 
-    -- a block begins behind a call
-    behind : (f : Frame) (c : Calls code f th.top.function) (r : ℕ) (z : ℤ) → constant_at (instrs_in (slice_get code.functions f.function)) (f.instr + 1) r ≡ Some z → ⊥
-    behind f c r z h = none_at_begin (instrs_in (slice_get code.functions f.function)) (f.instr + 1) r z
-        (subst (λ k. begins_block (instrs_in (slice_get code.functions f.function)) k ≡ true) (sym (next_is f.instr)) (begins_behind (instrs_in (slice_get code.functions f.function)) f.instr (act.Call th.top.function c.arguments c.into) (act_there (slice_get code.functions f.function) f.instr ∙ c.at) refl)) h
+    -- a block begins after a call
+    following : (f : Frame) (c : Calls code f th.top.function) (r : ℕ) (z : ℤ) → constant_at (instrs_in (slice_get code.functions f.function)) (f.instr + 1) r ≡ Some z → ⊥
+    following f c r z h = none_at_begin (instrs_in (slice_get code.functions f.function)) (f.instr + 1) r z
+        (subst (λ k. begins_block (instrs_in (slice_get code.functions f.function)) k ≡ true) (sym (next_is f.instr)) (begins_after (instrs_in (slice_get code.functions f.function)) f.instr (act.Call th.top.function c.arguments c.into) (act_there (slice_get code.functions f.function) f.instr ∙ c.at) refl)) h
 
-    -- the frame below goes on behind its call
+    -- the frame below goes on after its call
     given_past : (f : Frame) (into : Option ℕ) (w : ℕ) (fs : List Frame) → Calls code f th.top.function → GoodRegisters code s made f.function (given f into w).registers → IsWhole code f → Linked code f.function fs → GoodFrames code s made fs → GoodFrames code s made (past (given f into w) ∷ fs) × HoldsConstants code (past (given f into w))
-    given_past f None w fs c good whole link rest = ((good, link, whole, rest), record { all = whole; constants = λ r z h. absurd (behind f c r z h) })
-    given_past f (Some q) w fs c good whole link rest = ((good, link, length-set f.registers q w ∙ whole, rest), record { all = length-set f.registers q w ∙ whole; constants = λ r z h. absurd (behind f c r z h) })
+    given_past f None w fs c good whole link rest = ((good, link, whole, rest), record { all = whole; constants = λ r z h. absurd (following f c r z h) })
+    given_past f (Some q) w fs c good whole link rest = ((good, link, length-set f.registers q w ∙ whole, rest), record { all = length-set f.registers q w ∙ whole; constants = λ r z h. absurd (following f c r z h) })
 
     back_good : (value : Option ℕ) (o : Option Frame) → act_at code th.top ≡ Some (act.Return value) → slice_get th.below (length th.below - 1) ≡ o → Leaves code s t made th (back_in code th (value_of th.top.registers value) o)
     back_good value None at is = leaves_same code s t made th th refl (subst (GoodPhase code s made th) (sym runs) g)

@@ -24,8 +24,8 @@ use Rattle.flow_code.specs.declared.region.Region.{Region}
 use Rattle.flow_code.specs.declared.thread.Phase.{Phase}
 use Rattle.flow_code.specs.declared.thread.Phase.TheVariants as phase
 use Rattle.flow_code.specs.declared.thread.Stripe.{Stripe}
-use Rattle.flow_code.specs.Holding.{region_of, lacked, taken, gives_at, open_place, to_give, parting, left_behind}
-use Rattle.flow_code.specs.Next.{act_at, pointers_of, computed, entered, one_made, returned, end_onward, back_in, value_of, went_on, caller, call_after, on_unless, act_due, act_after, begun_after, phase_due, phase_after}
+use Rattle.flow_code.specs.Holding.{region_of, lacked, taken, gives_at, open_place, to_give, parting, left_after}
+use Rattle.flow_code.specs.Next.{act_at, pointers_of, computed, entered, one_made, returned, end_onward, back_in, value_of, resumed, caller, call_after, on_unless, act_due, act_after, begun_after, phase_due, phase_after}
 use Rattle.flow_code.specs.Threads.{Frame, Thread, is_main}
 use Rattle.flow_code.specs.Works.{work_of}
 use Rattle.words_point.specs.Creations.{creation_at, creation_in, creation}
@@ -118,21 +118,21 @@ module _ (code : Code) (s : SetupView) (t : ℕ) (th : Thread) where
 
     -- ---- calls of the library
 
-    went_creates : (n : ℕ) (into : Option ℕ) (o : Onward) (d : Due) (answer : ℤ) (a : Act) → act_at code th.top ≡ Some a → CreatesNone (Some a) → Creates code s th (went_on (record th { printed = n }) into o) d answer
+    went_creates : (n : ℕ) (into : Option ℕ) (o : Onward) (d : Due) (answer : ℤ) (a : Act) → act_at code th.top ≡ Some a → CreatesNone (Some a) → Creates code s th (resumed (record th { printed = n }) into o) d answer
     went_creates n into (onward.Stays k) d answer a at idle = idle_frame _ d answer (Some a) refl at idle
     went_creates n into (onward.Gives w) d answer a at idle = fresh_frame _ d answer refl refl
     went_creates n into onward.Ends d answer a at idle = left_frames _ d answer refl
 
-    parted_creates : (xs : List Stripe) (d : Due) (q : Thread) (answer : ℤ) (a : Act) → act_at code th.top ≡ Some a → CreatesNone (Some a) → Creates code s th q d answer → Creates code s th (left_behind th xs q) d answer
+    parted_creates : (xs : List Stripe) (d : Due) (q : Thread) (answer : ℤ) (a : Act) → act_at code th.top ≡ Some a → CreatesNone (Some a) → Creates code s th q d answer → Creates code s th (left_after th xs q) d answer
     parted_creates [] d q answer a at idle c = c
     parted_creates (y ∷ ys) d q answer a at idle c = idle_frame _ d answer (Some a) refl at idle
 
-    other_creates : (c : LibraryCall) (arguments : List ℕ) (into : Option ℕ) (d : Due) (answer : ℤ) → act_at code th.top ≡ Some (act.Library c arguments into) → CreatesNone (Some (act.Library c arguments into)) → Creates code s th (left_behind th (parting c th.top.made th.stripes) (call_after code s t th c arguments into answer)) d answer
+    other_creates : (c : LibraryCall) (arguments : List ℕ) (into : Option ℕ) (d : Due) (answer : ℤ) → act_at code th.top ≡ Some (act.Library c arguments into) → CreatesNone (Some (act.Library c arguments into)) → Creates code s th (left_after th (parting c th.top.made th.stripes) (call_after code s t th c arguments into answer)) d answer
     other_creates c arguments into d answer at idle =
         parted_creates (parting c th.top.made th.stripes) d (call_after code s t th c arguments into answer) answer (act.Library c arguments into) at idle
         (went_creates (th.printed + length (piece_of c (words_of th.top.registers arguments))) into (library_onward (caller code s t th) c (words_of th.top.registers arguments) th.top.made th.top.kept answer) d answer (act.Library c arguments into) at idle)
 
-    drawn : (f : ℕ) (arguments : List ℕ) (into : Option ℕ) (n : ℕ) (kept answer : ℤ) (r : Result ℕ Trap) → act_at code th.top ≡ Some (act.Library (call.Create f) arguments into) → th.top.made ≡ 0 → IsLive (at_cell r (λ c. due.Operate (op.Draw s.slots) object.Threads)) → Creates code s th (went_on (record th { printed = n }) into (create_onward zero kept answer)) (at_cell r (λ c. due.Operate (op.Draw s.slots) object.Threads)) answer
+    drawn : (f : ℕ) (arguments : List ℕ) (into : Option ℕ) (n : ℕ) (kept answer : ℤ) (r : Result ℕ Trap) → act_at code th.top ≡ Some (act.Library (call.Create f) arguments into) → th.top.made ≡ 0 → IsLive (at_cell r (λ c. due.Operate (op.Draw s.slots) object.Threads)) → Creates code s th (resumed (record th { printed = n }) into (create_onward zero kept answer)) (at_cell r (λ c. due.Operate (op.Draw s.slots) object.Threads)) answer
     drawn f arguments into n kept answer (Err e) at m live = absurd live
     drawn f arguments into n kept (pos zero) (Ok c) at m live = fresh_frame _ _ _ refl refl
     drawn f arguments into n kept (pos (suc k)) (Ok c) at m live = draws f refl (λ e. cc) (ap (creation_in code (one_made th.top (pos (suc k)))) runs ∙ ap (λ a. creation_at a (th.top.made + 1) (pos (suc k))) at ∙ ap (λ j. creation_at (Some (act.Library (call.Create f) arguments into)) (j + 1) (pos (suc k))) m)
@@ -142,7 +142,7 @@ module _ (code : Code) (s : SetupView) (t : ℕ) (th : Thread) where
     pub creating_at : (f : ℕ) (arguments : List ℕ) (into : Option ℕ) (n : ℕ) → act_at code th.top ≡ Some (act.Library (call.Create f) arguments into) → th.top.made ≡ n → creation code th ≡ creation_at (Some (act.Library (call.Create f) arguments into)) n th.top.kept
     creating_at f arguments into n at m = ap (creation_in code th.top) runs ∙ ap (λ a. creation_at a th.top.made th.top.kept) at ∙ ap (λ j. creation_at (Some (act.Library (call.Create f) arguments into)) j th.top.kept) m
 
-    create_creates : (f : ℕ) (arguments : List ℕ) (into : Option ℕ) (p n : ℕ) (answer : ℤ) → act_at code th.top ≡ Some (act.Library (call.Create f) arguments into) → th.top.made ≡ n → IsLive (create_due (caller code s t th) f (words_of th.top.registers arguments) n th.top.kept) → Creates code s th (went_on (record th { printed = p }) into (create_onward n th.top.kept answer)) (create_due (caller code s t th) f (words_of th.top.registers arguments) n th.top.kept) answer
+    create_creates : (f : ℕ) (arguments : List ℕ) (into : Option ℕ) (p n : ℕ) (answer : ℤ) → act_at code th.top ≡ Some (act.Library (call.Create f) arguments into) → th.top.made ≡ n → IsLive (create_due (caller code s t th) f (words_of th.top.registers arguments) n th.top.kept) → Creates code s th (resumed (record th { printed = p }) into (create_onward n th.top.kept answer)) (create_due (caller code s t th) f (words_of th.top.registers arguments) n th.top.kept) answer
     create_creates f arguments into p zero answer at m live = drawn f arguments into p th.top.kept answer (cell_of (caller code s t th) (words_of th.top.registers arguments) 0 kind.Whole) at m live
     create_creates f arguments into p (suc zero) answer at m live =
         hands (slot_in th.top.kept) f (argument (words_of th.top.registers arguments) 1) (creating_at f arguments into (suc zero) at m) refl

@@ -153,7 +153,7 @@ module _ (code : Code) (s : SetupView) (valid : is_valid code ≡ true) (t : ℕ
 
 -- ---- constants
 
--- no constant is known behind the instructions that make objects
+-- no constant is known after the instructions that make objects
 object_first : (is : List Instr) (j : ℕ) → j < length (objects_of is) → (into : ℕ) × (site : ℕ) × (act_in (slice_get is j) ≡ Some (act.Alloc into site None))
 object_first [] j lt = absurd (omega arith)
 object_first (x ∷ is) j lt = at x.act refl j lt (λ k. object_first is k)

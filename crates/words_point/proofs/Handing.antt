@@ -21,7 +21,7 @@ use Rattle.abstract_machine.specs.declared.event.Action.TheVariants as action
 use Rattle.abstract_machine.specs.declared.event.Due.{Due}
 use Rattle.abstract_machine.specs.declared.event.Due.TheVariants as due
 use Rattle.flow_code.specs.declared.code.Code.{Code}
-use Rattle.flow_code.specs.Next.{action_of, due_of, stopped, shut}
+use Rattle.flow_code.specs.Next.{action_of, due_of, stopped, slot_closed}
 use Rattle.flow_code.specs.Settle.{IsRunnable, settled}
 use Rattle.flow_code.specs.Threads.{Thread}
 use Rattle.flow_code.proofs.Counts.{IsAccessAction}
@@ -257,7 +257,7 @@ module _ (code : Code) (s : SetupView) (run : IsRunnable code) (limits : IsWithi
         where
           Creation_none : {P : Type 0} → None ≡ Some y → P
           Creation_none z = cc
-      by_makes x (by_close m a b c) = let n : creation code (shut h.before.thread) ≡ None = refl in absurd (Creation_none (sym n ∙ sym (ap (λ z. creation code z) c) ∙ e))
+      by_makes x (by_close m a b c) = let n : creation code (slot_closed h.before.thread) ≡ None = refl in absurd (Creation_none (sym n ∙ sym (ap (λ z. creation code z) c) ∙ e))
         where
           Creation_none : {P : Type 0} → None ≡ Some y → P
           Creation_none z = cc

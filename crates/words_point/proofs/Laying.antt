@@ -20,7 +20,7 @@ use Rattle.words_point.specs.Objects.{Object, IsObject, made_one, IsSized}
 use Rattle.words_point.specs.Pointing.{IsGood, points}
 use Rattle.words_point.proofs.Moving.{good_more, same_place}
 
--- objects are laid one behind the other from the first free cell on
+-- objects are laid one after the other from the first free cell on
 pub data Lays (code : Code) (s : SetupView) (t : ℕ) (made : List Object) (from : ℕ) : List Object → ℕ → Type 0 where
   lays_none : Lays code s t made from made from
   lays_one : (after : List Object) (at : ℕ) (o : Object) → Lays code s t made from after at → o.base ≡ at → IsSized code o → at + o.cells ≤ arena_end code s t → Lays code s t made from (o ∷ after) (at + o.cells)

@@ -25,10 +25,10 @@ use Rattle.flow_code.specs.declared.code.Function.{Function}
 use Rattle.flow_code.specs.declared.region.Region.{Region}
 use Rattle.flow_code.specs.declared.thread.Phase.TheVariants as phase
 use Rattle.flow_code.specs.declared.thread.Stripe.{Stripe}
-use Rattle.flow_code.specs.Holding.{taken, gives_at, parting, parting_due, left_of, keeping, left_behind}
+use Rattle.flow_code.specs.Holding.{taken, gives_at, parting, parting_due, left_of, keeping, left_after}
 use Rattle.flow_code.specs.Kinds.{have_kinds, library_value_fits, library_fits, starts_fit}
 use Rattle.abstract_machine.specs.Kinds.{library_kinds}
-use Rattle.flow_code.specs.Next.{past, act_at, in_frame, pointers_in, went_on, caller, call_after, on_unless}
+use Rattle.flow_code.specs.Next.{past, act_at, in_frame, pointers_in, resumed, caller, call_after, on_unless}
 use Rattle.flow_code.specs.Threads.{Thread}
 use Rattle.flow_code.specs.Works.{is_pointer}
 use Rattle.flow_code.proofs.ValidParts.{left, right}
@@ -36,7 +36,7 @@ use Rattle.facts.specs.Blocks.{constant_of}
 use Rattle.facts.specs.declared.constraint.Node.TheVariants.{Ended}
 use Rattle.words_point.specs.Objects.{Object}
 use Rattle.words_point.specs.Pointing.{IsGood, joined, GoodKept, GoodRunning, GoodPhase}
-use Rattle.words_point.proofs.Acting.{Answers, Knows, Leaves, leaves_same, next_is, in_place, passed_good, behind_good}
+use Rattle.words_point.proofs.Acting.{Answers, Knows, Leaves, leaves_same, next_is, in_place, passed_good, after_good}
 use Rattle.words_point.proofs.Classes.{word_number}
 use Rattle.words_point.proofs.Finding.{Stands, stands}
 use Rattle.words_point.proofs.Fitting.{stands_fit, whole_is}
@@ -107,14 +107,14 @@ module _ (code : Code) (s : SetupView) (t : ℕ) (made : List Object) (words : L
   -- ---- a call goes on
 
   module _ (th : Thread) (runs : th.phase ≡ phase.Running) (g : GoodRunning code s made th) where
-    went_good : (c : LibraryCall) (arguments : List ℕ) (into : Option ℕ) (o : Onward) → act_at code th.top ≡ Some (act.Library c arguments into) → ((k : ℤ) → o ≡ onward.Stays k → GoodKept code s made th.top.registers (Some (act.Library c arguments into)) (suc th.top.made) k) → Leaves code s t made th (went_on th into o)
+    went_good : (c : LibraryCall) (arguments : List ℕ) (into : Option ℕ) (o : Onward) → act_at code th.top ≡ Some (act.Library c arguments into) → ((k : ℤ) → o ≡ onward.Stays k → GoodKept code s made th.top.registers (Some (act.Library c arguments into)) (suc th.top.made) k) → Leaves code s t made th (resumed th into o)
     went_good c arguments into (onward.Stays k) at kept =
         in_place code s t made words x th runs g th.top.instr (th.top.made + 1) k th.top.registers g.frames.0
         (record { all = g.constants.all; constants = g.constants.constants })
         (subst (λ o. GoodKept code s made th.top.registers o (th.top.made + 1) k) (sym at) (subst (λ n. GoodKept code s made th.top.registers (Some (act.Library c arguments into)) n k) (sym (next_is th.top.made)) (kept k refl)))
-    went_good c arguments None (onward.Gives w) at kept = behind_good code s t made words x th runs g (act.Library c arguments None) th.top.registers at refl refl g.frames.0
+    went_good c arguments None (onward.Gives w) at kept = after_good code s t made words x th runs g (act.Library c arguments None) th.top.registers at refl refl g.frames.0
     went_good c arguments (Some r) (onward.Gives w) at kept =
-        behind_good code s t made words x th runs g (act.Library c arguments (Some r)) (slice_set th.top.registers r w) at refl (length-set th.top.registers r w)
+        after_good code s t made words x th runs g (act.Library c arguments (Some r)) (slice_set th.top.registers r w) at refl (length-set th.top.registers r w)
         (good_set code s made th.top.function th.top.registers r w (λ p. absurd (true≢false (sym p ∙ whole))) g.frames.0)
       where
         y : Stands code th.top.function th.top.instr (act.Library c arguments (Some r))
@@ -125,7 +125,7 @@ module _ (code : Code) (s : SetupView) (t : ℕ) (made : List Object) (words : L
 
         whole : is_pointer (pointers_in (slice_get code.functions th.top.function)) r ≡ false
         whole = ap (λ o. is_pointer (pointers_in o) r) y.is_function ∙ value_whole y.function (Some r) c r (right (starts_fit code c && have_kinds y.function arguments (library_kinds c)) (library_value_fits y.function (Some r) c) fit) refl
-    went_good c arguments into onward.Ends at kept = leaves_same code s t made th (went_on th into onward.Ends) refl tt
+    went_good c arguments into onward.Ends at kept = leaves_same code s t made th (resumed th into onward.Ends) refl tt
 
   module _ (th : Thread) (runs : th.phase ≡ phase.Running) (g : GoodRunning code s made th) where
     -- the same thread in its frames, where nothing but other parts has changed
@@ -139,11 +139,11 @@ module _ (code : Code) (s : SetupView) (t : ℕ) (made : List Object) (words : L
         (λ k e. call_kept (caller code s t th) c th.top.registers arguments into th.top.made th.top.kept answer k refl (subst (λ o. GoodKept code s made th.top.registers o th.top.made th.top.kept) at g.kept) h e) in
         record { after = l.after; lays = l.lays; good = l.good }
 
-    parted_good : (xs : List Stripe) (d : Due) (q : Thread) (answer : ℤ) → (Answers code words d answer → Leaves code s t made th q) → Answers code words (parting_due xs d) answer → Leaves code s t made th (left_behind th xs q)
+    parted_good : (xs : List Stripe) (d : Due) (q : Thread) (answer : ℤ) → (Answers code words d answer → Leaves code s t made th q) → Answers code words (parting_due xs d) answer → Leaves code s t made th (left_after th xs q)
     parted_good [] d q answer f h = f h
     parted_good (y ∷ ys) d q answer f h = beside_good (keeping th (left_of (y ∷ ys))) refl refl refl refl
 
-    pub library_good : (c : LibraryCall) (arguments : List ℕ) (into : Option ℕ) (answer : ℤ) → act_at code th.top ≡ Some (act.Library c arguments into) → Answers code words (parting_due (parting c th.top.made th.stripes) (library_due (caller code s t th) c (words_of th.top.registers arguments) th.top.made th.top.kept)) answer → Leaves code s t made th (left_behind th (parting c th.top.made th.stripes) (call_after code s t th c arguments into answer))
+    pub library_good : (c : LibraryCall) (arguments : List ℕ) (into : Option ℕ) (answer : ℤ) → act_at code th.top ≡ Some (act.Library c arguments into) → Answers code words (parting_due (parting c th.top.made th.stripes) (library_due (caller code s t th) c (words_of th.top.registers arguments) th.top.made th.top.kept)) answer → Leaves code s t made th (left_after th (parting c th.top.made th.stripes) (call_after code s t th c arguments into answer))
     library_good c arguments into answer at h =
         parted_good (parting c th.top.made th.stripes) (library_due (caller code s t th) c (words_of th.top.registers arguments) th.top.made th.top.kept) (call_after code s t th c arguments into answer) answer
         (λ a. called_good c arguments into answer at a) h

@@ -42,7 +42,7 @@ use Rattle.flow_code.proofs.ValidParts.{left, few_functions}
 use Rattle.core_run.specs.Histories.{IsReachable}
 use Rattle.core_run.specs.Machine.{Told, machine}
 use Rattle.core_run.specs.Words.{cells_of, has_object}
-use Rattle.core_run.proofs.Places.{place_behind}
+use Rattle.core_run.proofs.Places.{place_past}
 use Rattle.core_run.proofs.Reached.{kept}
 use Rattle.runs.specs.Labels.{Label, label_thread}
 use Rattle.runs.specs.Ordered.{Did, event_of}
@@ -418,7 +418,7 @@ module _ (code : Code) (s : SetupView) (x : Sets code s) (st st1 : State Told) (
 
   module _ (o : IsOperationStep code s st.words st1.words (event_of (machine code s) st l) l th q) where
     cells_same : (i : ℕ) → i < cells_of code s → slice_get st1.words i ≡ slice_get st.words i
-    cells_same i few = let behind = place_behind (cells_of code s) o.obj in ap (λ ws. slice_get ws i) o.changes ∙ slice_get-set_other st.words (place code s o.obj) i o.new (λ n. absurd (omega arith))
+    cells_same i few = let following = place_past (cells_of code s) o.obj in ap (λ ws. slice_get ws i) o.changes ∙ slice_get-set_other st.words (place code s o.obj) i o.new (λ n. absurd (omega arith))
 
     -- a begin finds its slot started
     begin_row : (j : ℕ) → o.op ≡ op.Begin → o.obj ≡ object.Slot j → (f : ℕ) × (slot_state code s st j ≡ Started f) × (o.answer ≡ pos f)

@@ -71,8 +71,8 @@ pub or_right : (a b : Bool) → b ≡ true → (a || b) ≡ true
 or_right true b e = refl
 or_right false b e = e
 
-pub begins_behind : (is : List Instr) (k : ℕ) (a : Act) → act_in (slice_get is k) ≡ Some a → ends_block a ≡ true → begins_block is (suc k) ≡ true
-begins_behind is k a e b = or_left (follows_end is (suc k)) (is_target is (suc k)) (by (act_in (slice_get is k)) e)
+pub begins_after : (is : List Instr) (k : ℕ) (a : Act) → act_in (slice_get is k) ≡ Some a → ends_block a ≡ true → begins_block is (suc k) ≡ true
+begins_after is k a e b = or_left (follows_end is (suc k)) (is_target is (suc k)) (by (act_in (slice_get is k)) e)
   where
     by : (o : Option Act) → o ≡ Some a → may_end_block o ≡ true
     by None h = refl
@@ -96,7 +96,7 @@ module _ (code : Code) (f : Frame) (h : HoldsConstants code f) where
   pub constants_at_begin : (k : ℕ) (made : ℕ) (kept : ℤ) (registers : List ℕ) → length registers ≡ length f.registers → begins_block (instrs_in (slice_get code.functions f.function)) k ≡ true → HoldsConstants code (record { function = f.function; instr = k; made = made; kept = kept; registers = registers })
   constants_at_begin k made kept registers e b = record { all = e ∙ h.all; constants = λ r z c. absurd (none_at_begin (instrs_in (slice_get code.functions f.function)) k r z b c) }
 
-  -- the frame behind an instruction, which may have assigned a register
+  -- the frame after an instruction, which may have assigned a register
   pub constants_past : (registers : List ℕ) (o : Option Act) → act_of code f.function f.instr ≡ o → length registers ≡ length f.registers →
       ((r : ℕ) → assigns r o ≡ false → register registers r ≡ register f.registers r) →
       ((r : ℕ) (z : ℤ) → assigns r o ≡ true → constant_of o ≡ Some z → number (register registers r) ≡ z) →

@@ -29,7 +29,7 @@ pub record HasCell (o : Object) (c : ℕ) : Type 0 where
   pub from : o.base ≤ c
   pub to : c < o.base + o.cells
 
--- the word points to a cell of the object, or right behind the last one
+-- the word points to a cell of the object, or right after the last one
 pub record PointsInto (o : Object) (w : ℕ) : Type 0 where
   pub site : site_of w ≡ o.site
   pub base : base_of w ≡ o.base
@@ -53,7 +53,7 @@ pub record IsLeft (code : Code) (s : SetupView) (marks : List ℕ) (c : ℕ) : T
   pub from : mark ≤ c
   pub to : c < arena_end code s thread
 
--- how objects lie: each is of a site and of cells that are behind the hand-off cells, no two have a cell in common, none has
+-- how objects lie: each is of a site and of cells that are after the hand-off cells, no two have a cell in common, none has
 -- a cell that is left in an arena, and what is left holds 0
 pub record AreLaidOut (code : Code) (s : SetupView) (made : List Object) (words marks : List ℕ) : Type 0 where
   pub sized : (o : Object) → IsObject code s made o → IsSized code o

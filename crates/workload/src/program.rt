@@ -5,7 +5,7 @@ ghost use Rattle.workload.specs.Program as program;
 use rr_base::{Bytes, List};
 use std::alloc::{AllocError, Global};
 
-// A number behind a word.
+// A number after a word.
 fn push_numbered(out: &mut Bytes, word: &[u8], number: u32) -> Result<(), AllocError>
     ensures { OnOk result (out.new ≡ out.old ++ (word.now ++ decimal number)) }
 {

@@ -4,18 +4,18 @@ use Rattle.c_tree.specs.Tree.{Statement, Parts, block as block_tree, listed_part
 use Rattle.rr_base.specs.Positions.{position_at}
 use Rattle.c_tree.specs.View.{start_of, maybe_of, stmt_of, part_of}
 use Rattle.c_tree.proofs.Views.{parts_of_row-list}
-use Rattle.c_sites.specs.Addresses.{behind_statement, count_of_locals}
+use Rattle.c_sites.specs.Addresses.{past_statement, count_of_locals}
 use Rattle.c_sites.specs.NumberTables.{numbered_of}
 use Rattle.c_types.specs.Scopes.{closed}
 use Rattle.c_programs.specs.Statements.{after_start, after_parts}
 use Rattle.c_programs.specs.Table.{known_of}
-use Rattle.c_sites.proofs.Numbering.{behind_none, block_numbers, for_numbers}
+use Rattle.c_sites.proofs.Numbering.{after_none, block_numbers, for_numbers}
 use Rattle.c_programs.proofs.Within.{closed_parts, closed_start}
 use Rattle.c_core.specs.View as core_view
-use Rattle.c_values.specs.Here.{here_in}
+use Rattle.c_values.specs.Context.{context_in}
 use Rattle.c_elaborate.specs.Statements.{elaborated}
 use Rattle.c_values.specs.Views.{frame_in, source_in}
-use Rattle.c_elaborate.proofs.Nested.{block_made, for_made, numbers_behind, whenever}
+use Rattle.c_elaborate.proofs.Nested.{block_made, for_made, numbers_past, whenever}
 use Rattle.c_elaborate.proofs.statement.+statement.Goals as goal
 
 pub block-returns-clause-known : goal.block-returns-clause-known
@@ -57,32 +57,32 @@ for_statement-returns-clause-statement t c =
 pub statement-returns-in-Block-clause-numbers : goal.statement-returns-in-Block-clause-numbers
 statement-returns-in-Block-clause-numbers t c =
     let same = ap (λ (z : Parts). block_tree z (position_at c.in-Block.line c.in-Block.column)) (ap (λ z. listed_parts (map part_of z)) c.as_slice.ensures ∙ sym (parts_of_row-list c.in-Block.parts)) ∙ sym (ap stmt_of c.in-Block.is) in
-    subst (λ (z : Statement). OnOk c.block.result (numbered_of c.block.new.numbers ≡ behind_statement (numbered_of c.args.numbers.now) z)) same c.block.ensures.numbers
+    subst (λ (z : Statement). OnOk c.block.result (numbered_of c.block.new.numbers ≡ past_statement (numbered_of c.args.numbers.now) z)) same c.block.ensures.numbers
 
 pub statement-returns-in-Block-clause-statement : goal.statement-returns-in-Block-clause-statement
 statement-returns-in-Block-clause-statement t c =
     let same = ap (λ (z : Parts). block_tree z (position_at c.in-Block.line c.in-Block.column)) (ap (λ z. listed_parts (map part_of z)) c.as_slice.ensures ∙ sym (parts_of_row-list c.in-Block.parts)) ∙ sym (ap stmt_of c.in-Block.is) in
-    subst (λ (z : Statement). IfOk c.block.result (λ s. core_view.stmt_of s.value ≡ elaborated (here_in (source_in c.args.source.now) (frame_in c.args.frame.now) (known_of c.args.table.now) (numbered_of c.args.numbers.now)) z)) same c.block.ensures.statement
+    subst (λ (z : Statement). IfOk c.block.result (λ s. core_view.stmt_of s.value ≡ elaborated (context_in (source_in c.args.source.now) (frame_in c.args.frame.now) (known_of c.args.table.now) (numbered_of c.args.numbers.now)) z)) same c.block.ensures.statement
 
 pub statement-returns-in-Expression-clause-numbers : goal.statement-returns-in-Expression-clause-numbers
 statement-returns-in-Expression-clause-numbers t c =
     let n = numbered_of c.args.numbers.now in
-    whenever c.computed.result (sym (behind_none n) ∙ ap (behind_statement n) (sym (ap stmt_of c.in-Expression.is)))
+    whenever c.computed.result (sym (after_none n) ∙ ap (past_statement n) (sym (ap stmt_of c.in-Expression.is)))
 
 pub statement-returns-in-Break-clause-numbers : goal.statement-returns-in-Break-clause-numbers
 statement-returns-in-Break-clause-numbers t c =
     let n = numbered_of c.args.numbers.now in
-    whenever c.break_at.result (sym (behind_none n) ∙ ap (behind_statement n) (sym (ap stmt_of c.in-Break.is)))
+    whenever c.break_at.result (sym (after_none n) ∙ ap (past_statement n) (sym (ap stmt_of c.in-Break.is)))
 
 pub statement-returns-in-Continue-clause-numbers : goal.statement-returns-in-Continue-clause-numbers
 statement-returns-in-Continue-clause-numbers t c =
     let n = numbered_of c.args.numbers.now in
-    whenever c.continue_at.result (sym (behind_none n) ∙ ap (behind_statement n) (sym (ap stmt_of c.in-Continue.is)))
+    whenever c.continue_at.result (sym (after_none n) ∙ ap (past_statement n) (sym (ap stmt_of c.in-Continue.is)))
 
 pub statement-returns-in-Return-clause-numbers : goal.statement-returns-in-Return-clause-numbers
 statement-returns-in-Return-clause-numbers t c =
     let n = numbered_of c.args.numbers.now in
-    whenever c.returned.result (sym (behind_none n) ∙ ap (behind_statement n) (sym (ap stmt_of c.in-Return.is)))
+    whenever c.returned.result (sym (after_none n) ∙ ap (past_statement n) (sym (ap stmt_of c.in-Return.is)))
 
 pub statement-returns-in_ok-no-in-Some-clause-numbers : goal.statement-returns-in_ok-no-in-Some-clause-numbers
-statement-returns-in_ok-no-in-Some-clause-numbers t c = grind (arith, common_steps, numbers_behind)
+statement-returns-in_ok-no-in-Some-clause-numbers t c = grind (arith, common_steps, numbers_past)

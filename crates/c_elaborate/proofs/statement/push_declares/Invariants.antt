@@ -5,7 +5,7 @@ use Rattle.c_sites.specs.NumberTables.{numbered_of}
 use Rattle.c_programs.specs.Statements.{after_objects}
 use Rattle.c_programs.specs.Table.{known_of}
 use Rattle.c_core.specs.View.{stmt_of}
-use Rattle.c_values.specs.Here.{here_in}
+use Rattle.c_values.specs.Context.{context_in}
 use Rattle.c_elaborate.specs.Statements.{objects_elaborated}
 use Rattle.c_values.specs.Views.{frame_in, source_in}
 use Rattle.c_elaborate.proofs.statement.push_declares.Given as goal
@@ -20,6 +20,6 @@ invariant-loop-item l = record {
       after_names (numbered_of l.numbers) (map object_of (drop l.item-index l.declaration.items))
       ≡ after_names (numbered_of l.fn.numbers) (map object_of l.declaration.items);
   out :
-      map stmt_of l.out ++ objects_elaborated (here_in (source_in l.source) (frame_in l.frame) (known_of l.table) (numbered_of l.numbers)) l.declaration.specifier (map object_of (drop l.item-index l.declaration.items))
-      ≡ map stmt_of l.fn.out ++ objects_elaborated (here_in (source_in l.source) (frame_in l.frame) (known_of l.fn.table) (numbered_of l.fn.numbers)) l.declaration.specifier (map object_of l.declaration.items);
+      map stmt_of l.out ++ objects_elaborated (context_in (source_in l.source) (frame_in l.frame) (known_of l.table) (numbered_of l.numbers)) l.declaration.specifier (map object_of (drop l.item-index l.declaration.items))
+      ≡ map stmt_of l.fn.out ++ objects_elaborated (context_in (source_in l.source) (frame_in l.frame) (known_of l.fn.table) (numbered_of l.fn.numbers)) l.declaration.specifier (map object_of l.declaration.items);
 }

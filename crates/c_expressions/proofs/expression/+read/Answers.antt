@@ -9,14 +9,14 @@ use Rattle.c_expressions.proofs.expression.+read.Goals as goal
 
 pub more-loop-found-smaller : goal.more-loop-found-smaller
 more-loop-found-smaller t c =
-    let comma = rw c.in-Some.is at c.in_ok-behind.ensures in
-    omega (arith, comma.3, no_longer (phrase.assignment c.args.level) c.in-Some.behind.now c.in_ok-e.next.now (exp_of c.in_ok-e.e) c.in_ok-e.ensures)
+    let comma = rw c.in-Some.is at c.in_ok-following.ensures in
+    omega (arith, comma.3, no_longer (phrase.assignment c.args.level) c.in-Some.following.now c.in_ok-e.next.now (exp_of c.in_ok-e.e) c.in_ok-e.ensures)
 
 pub more-loop-found-preserved : goal.more-loop-found-preserved
 more-loop-found-preserved t c =
-    let comma = rw c.in-Some.is at c.in_ok-behind.ensures in
+    let comma = rw c.in-Some.is at c.in_ok-following.ensures in
     rw (c.in_ok-push.ensures.ok, map_push)
-    (sym (more_turn c.args.level (map exp_of c.loop-found.found) (lexemes c.loop-found.rest.now) (lexemes c.in-Some.behind.now) (lexemes c.in_ok-e.next.now) _ (exp_of c.in_ok-e.e) comma.0 comma.1 c.in_ok-e.ensures) ∙ c.loop-found.invariant)
+    (sym (more_turn c.args.level (map exp_of c.loop-found.found) (lexemes c.loop-found.rest.now) (lexemes c.in-Some.following.now) (lexemes c.in_ok-e.next.now) _ (exp_of c.in_ok-e.e) comma.0 comma.1 c.in_ok-e.ensures) ∙ c.loop-found.invariant)
 
 pub enclosed-returns-in_err-rest : goal.enclosed-returns-in_err-rest
 enclosed-returns-in_err-rest t c =

@@ -20,12 +20,12 @@ returns-in_err-name-clause-head c =
 
 pub returns-in-Some-clause-head : goal.returns-in-Some-clause-head
 returns-in-Some-clause-head c =
-    let open_paren = rw c.in-Some.is at c.in_ok-behind.ensures in
-    a_function (lexemes c.args.tokens.now) (lexemes c.in_ok-stars.rest.now) c.in_ok-stars.stars c.in_ok-stars.ensures c.in_ok-name.name.text (name_place c.in_ok-name.name) (lexemes c.in_ok-name.rest.now) c.in_ok-name.ensures.taken (lexemes c.in-Some.behind.now) _ open_paren.0 open_paren.1
+    let open_paren = rw c.in-Some.is at c.in_ok-following.ensures in
+    a_function (lexemes c.args.tokens.now) (lexemes c.in_ok-stars.rest.now) c.in_ok-stars.stars c.in_ok-stars.ensures c.in_ok-name.name.text (name_place c.in_ok-name.name) (lexemes c.in_ok-name.rest.now) c.in_ok-name.ensures.taken (lexemes c.in-Some.following.now) _ open_paren.0 open_paren.1
 
 pub returns-then-not-follows_declarator-clause-head : goal.returns-then-not-follows_declarator-clause-head
 returns-then-not-follows_declarator-clause-head c =
-    let none = rw c.in_default.is at c.in_ok-behind.ensures in
+    let none = rw c.in_default.is at c.in_ok-following.ensures in
     neither (lexemes c.args.tokens.now) (lexemes c.in_ok-stars.rest.now) c.in_ok-stars.stars c.in_ok-stars.ensures c.in_ok-name.name.text (name_place c.in_ok-name.name) (lexemes c.in_ok-name.rest.now) c.in_ok-name.ensures.taken none cc
 
 pub tokens_from-requires : goal.tokens_from-requires
@@ -33,12 +33,12 @@ tokens_from-requires c = omega (arith, stars_small c.args.tokens.now c.in_ok-sta
 
 pub returns-then-stars-clause-head : goal.returns-then-stars-clause-head
 returns-then-stars-clause-head c =
-    let none = rw c.in_default.is at c.in_ok-behind.ensures in
+    let none = rw c.in_default.is at c.in_ok-following.ensures in
     rw c.tokens_from.ensures
     (too_many (lexemes c.args.tokens.now) (lexemes c.in_ok-stars.rest.now) c.in_ok-stars.stars c.in_ok-stars.ensures c.in_ok-name.name.text (name_place c.in_ok-name.name) (lexemes c.in_ok-name.rest.now) c.in_ok-name.ensures.taken none (cc) (omega arith)
     ∙ ap (λ z. Stuck Nesting z) (drop-map lexeme_of 256 c.args.tokens.now))
 
 pub returns-clause-head : goal.returns-clause-head
 returns-clause-head c =
-    let none = rw c.in_default.is at c.in_ok-behind.ensures in
+    let none = rw c.in_default.is at c.in_ok-following.ensures in
     an_object (lexemes c.args.tokens.now) (lexemes c.in_ok-stars.rest.now) c.in_ok-stars.stars c.in_ok-stars.ensures c.in_ok-name.name.text (name_place c.in_ok-name.name) (lexemes c.in_ok-name.rest.now) c.in_ok-name.ensures.taken none (cc) (omega arith)

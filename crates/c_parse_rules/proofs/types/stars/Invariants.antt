@@ -5,11 +5,11 @@ use Rattle.c_grammar.specs.Rules.{read}
 use Rattle.c_parse_rules.proofs.types.stars.Given as goal
 
 -- the stars so far and those of the rest are all
-abbrev pub invariant-loop-behind : goal.invariant-loop-behind
-invariant-loop-behind l = record {
+abbrev pub invariant-loop-following : goal.invariant-loop-following
+invariant-loop-following l = record {
   read : read limit (phrase.stars l.level l.count) (lexemes l.rest) ≡ read limit (phrase.stars l.level 0) (lexemes l.tokens);
   count : l.count + length l.rest ≤ length l.tokens;
 }
 
-abbrev pub decreases-loop-behind : goal.decreases-loop-behind
-decreases-loop-behind l = length l.rest
+abbrev pub decreases-loop-following : goal.decreases-loop-following
+decreases-loop-following l = length l.rest

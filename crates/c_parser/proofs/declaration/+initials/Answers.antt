@@ -8,11 +8,11 @@ use Rattle.c_parser.proofs.declaration.+initials.Goals as goal
 
 pub more_initials-loop-found-smaller : goal.more_initials-loop-found-smaller
 more_initials-loop-found-smaller t c =
-    let comma = rw c.in-Some.is at c.in_ok-behind.ensures in
-    omega (arith, comma.3, no_longer (phrase.initial c.args.level) c.in-Some.behind.now c.in_ok-i.next.now (init_of c.in_ok-i.i) c.in_ok-i.ensures)
+    let comma = rw c.in-Some.is at c.in_ok-following.ensures in
+    omega (arith, comma.3, no_longer (phrase.initial c.args.level) c.in-Some.following.now c.in_ok-i.next.now (init_of c.in_ok-i.i) c.in_ok-i.ensures)
 
 pub more_initials-loop-found-preserved : goal.more_initials-loop-found-preserved
 more_initials-loop-found-preserved t c =
-    let comma = rw c.in-Some.is at c.in_ok-behind.ensures in
+    let comma = rw c.in-Some.is at c.in_ok-following.ensures in
     rw (c.in_ok-push.ensures.ok, map_push)
-    (sym (more_initials_turn c.args.level (map init_of c.loop-found.found) (lexemes c.loop-found.rest.now) (lexemes c.in-Some.behind.now) (lexemes c.in_ok-i.next.now) _ (init_of c.in_ok-i.i) comma.0 comma.1 (sym c.begins_with.ensures ∙ c.if-begins_with.false) c.in_ok-i.ensures) ∙ c.loop-found.invariant)
+    (sym (more_initials_turn c.args.level (map init_of c.loop-found.found) (lexemes c.loop-found.rest.now) (lexemes c.in-Some.following.now) (lexemes c.in_ok-i.next.now) _ (init_of c.in_ok-i.i) comma.0 comma.1 (sym c.begins_with.ensures ∙ c.if-begins_with.false) c.in_ok-i.ensures) ∙ c.loop-found.invariant)

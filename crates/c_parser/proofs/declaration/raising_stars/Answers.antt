@@ -3,10 +3,10 @@ use Rattle.c_parse_rules.specs.Gives.{lexemes}
 use Rattle.c_parse_rules.proofs.Turns.{raising_stars_turn}
 use Rattle.c_parser.proofs.declaration.raising_stars.Goals as goal
 
-pub loop-behind-preserved : goal.loop-behind-preserved
-loop-behind-preserved c =
-    let star = rw c.in-Some.is at c.in_ok-behind.ensures in
+pub loop-following-preserved : goal.loop-following-preserved
+loop-following-preserved c =
+    let star = rw c.in-Some.is at c.in_ok-following.ensures in
     record {
-      read = sym (raising_stars_turn c.args.level c.loop-behind.count (c.args.level + c.loop-behind.count + 1) (lexemes c.loop-behind.rest.now) (lexemes c.in-Some.behind.now) _ (omega arith) star.0 star.1) ∙ c.loop-behind.invariant.read;
+      read = sym (raising_stars_turn c.args.level c.loop-following.count (c.args.level + c.loop-following.count + 1) (lexemes c.loop-following.rest.now) (lexemes c.in-Some.following.now) _ (omega arith) star.0 star.1) ∙ c.loop-following.invariant.read;
       within = omega (arith, star.2);
     }

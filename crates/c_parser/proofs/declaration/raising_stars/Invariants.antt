@@ -5,11 +5,11 @@ use Rattle.c_grammar.specs.Rules.{read}
 use Rattle.c_parser.proofs.declaration.raising_stars.Given as goal
 
 -- the stars so far and those of the rest are all
-abbrev pub invariant-loop-behind : goal.invariant-loop-behind
-invariant-loop-behind l = record {
+abbrev pub invariant-loop-following : goal.invariant-loop-following
+invariant-loop-following l = record {
   read : read limit (phrase.raising_stars l.level l.count) (lexemes l.rest) ≡ read limit (phrase.raising_stars l.level 0) (lexemes l.tokens);
   within : l.level + l.count ≤ limit;
 }
 
-abbrev pub decreases-loop-behind : goal.decreases-loop-behind
-decreases-loop-behind l = length l.rest
+abbrev pub decreases-loop-following : goal.decreases-loop-following
+decreases-loop-following l = length l.rest

@@ -11,10 +11,10 @@ use Rattle.c_parser.proofs.external.more_members.Goals as goal
 pub members-preserved : goal.members-preserved
 members-preserved c =
     rw (c.in_ok-push.ensures.ok, map_push)
-    (sym (members_turn (map fields_of c.members.found) (lexemes c.members.rest.now) (lexemes c.in_ok-next.behind.now) (fields_of c.in_ok-next.next) (cc) c.in_ok-next.ensures) ∙ c.members.invariant)
+    (sym (members_turn (map fields_of c.members.found) (lexemes c.members.rest.now) (lexemes c.in_ok-next.following.now) (fields_of c.in_ok-next.next) (cc) c.in_ok-next.ensures) ∙ c.members.invariant)
 
 pub members-smaller : goal.members-smaller
-members-smaller c = omega (arith, shorter phrase.member c.members.rest.now c.in_ok-next.behind.now (fields_of c.in_ok-next.next) refl c.in_ok-next.ensures)
+members-smaller c = omega (arith, shorter phrase.member c.members.rest.now c.in_ok-next.following.now (fields_of c.in_ok-next.next) refl c.in_ok-next.ensures)
 
 pub returns-in_err-next : goal.returns-in_err-next
 returns-in_err-next c =

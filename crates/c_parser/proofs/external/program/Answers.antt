@@ -12,10 +12,10 @@ use Rattle.c_parser.proofs.external.program.Goals as goal
 pub externals-preserved : goal.externals-preserved
 externals-preserved c =
     rw (c.in_ok-push.ensures.ok, map_push)
-    (sym (program_next (map outer_of c.externals.found) c.externals.rest.now (lexemes c.in_ok-next.behind.now) (outer_of c.in_ok-next.next) (λ e. grind (arith, common_steps)) c.in_ok-next.ensures) ∙ c.externals.invariant)
+    (sym (program_next (map outer_of c.externals.found) c.externals.rest.now (lexemes c.in_ok-next.following.now) (outer_of c.in_ok-next.next) (λ e. grind (arith, common_steps)) c.in_ok-next.ensures) ∙ c.externals.invariant)
 
 pub externals-smaller : goal.externals-smaller
-externals-smaller c = omega (arith, shorter phrase.outer c.externals.rest.now c.in_ok-next.behind.now (outer_of c.in_ok-next.next) refl c.in_ok-next.ensures)
+externals-smaller c = omega (arith, shorter phrase.outer c.externals.rest.now c.in_ok-next.following.now (outer_of c.in_ok-next.next) refl c.in_ok-next.ensures)
 
 pub returns-in_err-next : goal.returns-in_err-next
 returns-in_err-next c =

@@ -6,7 +6,7 @@ use Rattle.c_tree.specs.Tree.{Statement}
 use Rattle.c_tree.specs.View.{exp_of, stmt_of, part_of}
 use Rattle.c_parse_rules.specs.Gives.{lexemes, Gives}
 use Rattle.c_grammar.specs.Parse.{Outcome}
-use Rattle.c_parse_rules.proofs.Behind.{if_then, no_block}
+use Rattle.c_parse_rules.proofs.After.{if_then, no_block}
 use Rattle.c_parse_rules.proofs.HeadSteps.{stops_from}
 use Rattle.c_parse_rules.proofs.Rounds.{part_shorter, parts_turn, parts_stuck, parts_over}
 use Rattle.c_parser.proofs.statement.+statements.Goals as goal
@@ -14,10 +14,10 @@ use Rattle.c_parser.proofs.statement.+statements.Goals as goal
 pub parts-parts-preserved : goal.parts-parts-preserved
 parts-parts-preserved t c =
     rw (c.in_ok-push.ensures.ok, map_push)
-    (sym (parts_turn c.args.level (map part_of c.parts.found) (lexemes c.parts.rest.now) (cc) (part_of c.in_ok-next.next) (lexemes c.in_ok-next.behind.now) c.in_ok-next.ensures) ∙ c.parts.invariant)
+    (sym (parts_turn c.args.level (map part_of c.parts.found) (lexemes c.parts.rest.now) (cc) (part_of c.in_ok-next.next) (lexemes c.in_ok-next.following.now) c.in_ok-next.ensures) ∙ c.parts.invariant)
 
 pub parts-parts-smaller : goal.parts-parts-smaller
-parts-parts-smaller t c = omega (arith, part_shorter c.args.level c.parts.rest.now c.in_ok-next.behind.now (part_of c.in_ok-next.next) c.in_ok-next.ensures)
+parts-parts-smaller t c = omega (arith, part_shorter c.args.level c.parts.rest.now c.in_ok-next.following.now (part_of c.in_ok-next.next) c.in_ok-next.ensures)
 
 pub parts-returns-in_err-next : goal.parts-returns-in_err-next
 parts-returns-in_err-next t c =

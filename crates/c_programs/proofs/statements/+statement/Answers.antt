@@ -7,7 +7,7 @@ use Rattle.c_types.specs.Found.{first_among}
 use Rattle.c_types.specs.Scopes.{closed}
 use Rattle.c_programs.specs.Statements.{after_start, statement_faults, after_parts}
 use Rattle.c_programs.specs.Table.{known_of}
-use Rattle.c_programs.proofs.Parts.{after_part, part_faults, shown_parts, known_behind, first_behind, first_of_block, first_of_for}
+use Rattle.c_programs.proofs.Parts.{after_part, part_faults, shown_parts, known_after, first_after, first_of_block, first_of_for}
 use Rattle.c_programs.proofs.Within.{closed_parts, closed_start}
 use Rattle.c_programs.proofs.statements.+statement.Goals as goal
 use Rattle.c_programs.proofs.statements.+statement.Goals.{note_parts-in-Declares+in_ok-note_declaration-in-Declares, note_parts-in-Does+in_ok-note_statement-in-Does}
@@ -32,8 +32,8 @@ note_parts-loop-part-preserved t c =
           w.first-is ∙ w.in_ok-note_statement-in-Does.ensures.first ∙ ap (λ p. first_among c.loop-part.first (part_faults before c.args.gives c.args.in_loop (part_of p))) (sym w.in-Does.is)
     ] in
     record {
-      known = known_behind _ _ _ _ x lt c.part-item.is after ∙ c.loop-part.invariant.known;
-      first = first_behind _ _ _ _ _ _ _ _ x lt c.part-item.is after more ∙ c.loop-part.invariant.first;
+      known = known_after _ _ _ _ x lt c.part-item.is after ∙ c.loop-part.invariant.known;
+      first = first_after _ _ _ _ _ _ _ _ x lt c.part-item.is after more ∙ c.loop-part.invariant.first;
     }
 
 pub note_statement-returns-in_ok-note_parts-in-Block-clause-known : goal.note_statement-returns-in_ok-note_parts-in-Block-clause-known

@@ -28,7 +28,7 @@ judge-returns-in-Call-clause-first g t c =
 
 pub judge_rest-loop-e-preserved : goal.judge_rest-loop-e-preserved
 judge_rest-loop-e-preserved g t c = record {
-  standing = rest_standing (g.N.Names.known c.args.names.now) c.args.rest.now c.loop-e.e-index c.e-item.result (shown_standing c.loop-e.last) (shown_standing c.judge_going.result) (shown_standing c.behind-last.result) _ c.loop-e-test.true c.e-item.is c.judge_going.ensures.standing c.behind-last.ensures c.loop-e.invariant.standing;
+  standing = rest_standing (g.N.Names.known c.args.names.now) c.args.rest.now c.loop-e.e-index c.e-item.result (shown_standing c.loop-e.last) (shown_standing c.judge_going.result) (shown_standing c.following-last.result) _ c.loop-e-test.true c.e-item.is c.judge_going.ensures.standing c.following-last.ensures c.loop-e.invariant.standing;
   faults = rest_faulty (g.N.Names.known c.args.names.now) c.args.rest.now c.loop-e.e-index c.e-item.result c.loop-e.first c.judge_going.new.first _ c.loop-e-test.true c.e-item.is c.judge_going.ensures.first c.loop-e.invariant.faults;
 }
 

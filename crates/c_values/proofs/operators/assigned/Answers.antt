@@ -4,8 +4,8 @@ use Rattle.c_tree.specs.declared.expr.AssignOp.TheVariants as assign_op
 use Rattle.rr_base.specs.declared.position.Position.{Position}
 use Rattle.c_core.specs.Core as core
 use Rattle.c_core.specs.View.{exp_of}
-use Rattle.c_values.specs.Held.{Part, value_in}
-use Rattle.c_values.specs.Here.{Source}
+use Rattle.c_values.specs.Denoted.{Part, value_in}
+use Rattle.c_values.specs.Context.{Source}
 use Rattle.c_values.specs.Operators as spec
 use Rattle.c_values.specs.Views.{part_of, source_in}
 use Rattle.c_values.proofs.operators.assigned.Goals as goal

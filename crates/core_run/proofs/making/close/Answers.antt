@@ -3,7 +3,7 @@ use Rattle.std.specs.Prelude.{slice_set}
 use Rattle.sync_objects.specs.Names.{name_of}
 use Rattle.sync_objects.specs.declared.object.ObjId.TheVariants as object
 use Rattle.sync_objects.specs.declared.operation.Op.TheVariants as op
-use Rattle.flow_code.specs.Next.{shut}
+use Rattle.flow_code.specs.Next.{slot_closed}
 use Rattle.runs.specs.Same.{same_entry}
 use Rattle.core_run.specs.Machine.{entry_of, may_close}
 use Rattle.core_run.specs.Words.{cells_of, place_of}
@@ -14,16 +14,16 @@ use Rattle.core_run.proofs.making.close.Goals as goal
 pub returns-then-not-may_close-clause-made : goal.returns-then-not-may_close-clause-made
 returns-then-not-may_close-clause-made c = λ told is.
     let never : may_close c.args.flow.now.kept.thread ≡ false = cc in
-    forbidden c.args.flow.now.code c.args.flow.now.setup c.args.entry.thread told op.Close (object.Slot c.args.entry.thread) (shut c.args.flow.now.kept.thread) c.args.words.now.items c.args.entry (may_close c.args.flow.now.kept.thread) (close_effect c.args.flow.now.code c.args.flow.now.setup told c.args.flow.now.kept.thread c.args.entry is c.requires.label) never
+    forbidden c.args.flow.now.code c.args.flow.now.setup c.args.entry.thread told op.Close (object.Slot c.args.entry.thread) (slot_closed c.args.flow.now.kept.thread) c.args.words.now.items c.args.entry (may_close c.args.flow.now.kept.thread) (close_effect c.args.flow.now.code c.args.flow.now.setup told c.args.flow.now.kept.thread c.args.entry is c.requires.label) never
 
 pub returns-then-not-same_entry-clause-made : goal.returns-then-not-same_entry-clause-made
 returns-then-not-same_entry-clause-made c = λ told is.
     let same : same_entry (entry_of c.args.entry.thread c.args.flow.now.kept.thread (name_of op.Close) (object.Slot c.args.entry.thread)) c.args.entry ≡ false = cc in
-    other_entry_than c.args.flow.now.code c.args.flow.now.setup c.args.entry.thread told op.Close (object.Slot c.args.entry.thread) (shut c.args.flow.now.kept.thread) c.args.words.now.items c.args.entry (may_close c.args.flow.now.kept.thread) (close_effect c.args.flow.now.code c.args.flow.now.setup told c.args.flow.now.kept.thread c.args.entry is c.requires.label) (ap (λ z. same_entry (entry_of c.args.entry.thread z (name_of op.Close) (object.Slot c.args.entry.thread)) c.args.entry) is ∙ same)
+    other_entry_than c.args.flow.now.code c.args.flow.now.setup c.args.entry.thread told op.Close (object.Slot c.args.entry.thread) (slot_closed c.args.flow.now.kept.thread) c.args.words.now.items c.args.entry (may_close c.args.flow.now.kept.thread) (close_effect c.args.flow.now.code c.args.flow.now.setup told c.args.flow.now.kept.thread c.args.entry is c.requires.label) (ap (λ z. same_entry (entry_of c.args.entry.thread z (name_of op.Close) (object.Slot c.args.entry.thread)) c.args.entry) is ∙ same)
 
 pub returns-in_default-clause-made : goal.returns-in_default-clause-made
 returns-in_default-clause-made c = λ told is.
-    lacking c.args.flow.now.code c.args.flow.now.setup c.args.entry.thread told op.Close (object.Slot c.args.entry.thread) (shut c.args.flow.now.kept.thread) c.args.words.now.items c.args.entry (may_close c.args.flow.now.kept.thread) (close_effect c.args.flow.now.code c.args.flow.now.setup told c.args.flow.now.kept.thread c.args.entry is c.requires.label) (subst (λ (z : List ℕ). LacksWord c.args.flow.now.code c.args.flow.now.setup c.args.entry.thread op.Close (object.Slot c.args.entry.thread) z) c.deref.ensures.value c.in_default.ensures)
+    lacking c.args.flow.now.code c.args.flow.now.setup c.args.entry.thread told op.Close (object.Slot c.args.entry.thread) (slot_closed c.args.flow.now.kept.thread) c.args.words.now.items c.args.entry (may_close c.args.flow.now.kept.thread) (close_effect c.args.flow.now.code c.args.flow.now.setup told c.args.flow.now.kept.thread c.args.entry is c.requires.label) (subst (λ (z : List ℕ). LacksWord c.args.flow.now.code c.args.flow.now.setup c.args.entry.thread op.Close (object.Slot c.args.entry.thread) z) c.deref.ensures.value c.in_default.ensures)
 
 pub returns-clause-made : goal.returns-clause-made
 returns-clause-made c = λ told is.
@@ -31,4 +31,4 @@ returns-clause-made c = λ told is.
     let allowed : may_close c.args.flow.now.kept.thread ≡ true = cc in
     let place : c.place_of.result ≡ place_of (cells_of c.args.flow.now.code c.args.flow.now.setup) (object.Slot c.args.entry.thread) = c.place_of.ensures ∙ ap (λ z. place_of z (object.Slot c.args.entry.thread)) c.requires.cells in
     let words_are : c.set_word.new.words.items ≡ slice_set c.args.words.now.items (place_of (cells_of c.args.flow.now.code c.args.flow.now.setup) (object.Slot c.args.entry.thread)) c.in-Some.next = c.set_word.ensures ∙ ap (λ z. slice_set c.args.words.now.items z c.in-Some.next) place in
-    making c.args.flow.now.code c.args.flow.now.setup c.args.entry.thread told op.Close (object.Slot c.args.entry.thread) (shut c.args.flow.now.kept.thread) c.args.words.now.items c.args.entry (may_close c.args.flow.now.kept.thread) (close_effect c.args.flow.now.code c.args.flow.now.setup told c.args.flow.now.kept.thread c.args.entry is c.requires.label) c.in-Some.next c.set_word.new.words.items c.shut.new.self.kept.thread allowed (ap (λ z. same_entry (entry_of c.args.entry.thread z (name_of op.Close) (object.Slot c.args.entry.thread)) c.args.entry) is ∙ same) (subst (λ (z : List ℕ). HasWord c.args.flow.now.code c.args.flow.now.setup c.args.entry.thread op.Close (object.Slot c.args.entry.thread) z c.in-Some.next) c.deref.ensures.value c.in-Some.ensures) words_are c.shut.ensures.thread
+    making c.args.flow.now.code c.args.flow.now.setup c.args.entry.thread told op.Close (object.Slot c.args.entry.thread) (slot_closed c.args.flow.now.kept.thread) c.args.words.now.items c.args.entry (may_close c.args.flow.now.kept.thread) (close_effect c.args.flow.now.code c.args.flow.now.setup told c.args.flow.now.kept.thread c.args.entry is c.requires.label) c.in-Some.next c.set_word.new.words.items c.close_slot.new.self.kept.thread allowed (ap (λ z. same_entry (entry_of c.args.entry.thread z (name_of op.Close) (object.Slot c.args.entry.thread)) c.args.entry) is ∙ same) (subst (λ (z : List ℕ). HasWord c.args.flow.now.code c.args.flow.now.setup c.args.entry.thread op.Close (object.Slot c.args.entry.thread) z c.in-Some.next) c.deref.ensures.value c.in-Some.ensures) words_are c.close_slot.ensures.thread

@@ -33,7 +33,7 @@ push_choice-returns-in_ok-other-in-Conditional-clause-register t c =
     let yes' = kept (exp_of c.in-Conditional.yes.value) in
     let no' = kept (exp_of c.in-Conditional.no.value) in
     let all = choice_registers (is_pointer yes') (exp_kinds test) (exp_kinds yes') (exp_kinds no') c.args.from.register
-    c.in_ok-tested-in-Conditional.tested.behind.register c.in_ok-second-in-Conditional.second.register c.in_ok-third-in-Conditional.third.register c.in_ok-other-in-Conditional.other.behind.register
+    c.in_ok-tested-in-Conditional.tested.following.register c.in_ok-second-in-Conditional.second.register c.in_ok-third-in-Conditional.third.register c.in_ok-other-in-Conditional.other.following.register
     (rw c.deref-in-Conditional.ensures at c.in_ok-tested-in-Conditional.ensures.register) c.in_ok-second-in-Conditional.ensures.register
     (c.in_ok-third-in-Conditional.ensures.register ∙ rw c.deref-in-Conditional-4.ensures at c.in_ok-one-in-Conditional.ensures.register)
     (rw c.deref-in-Conditional-5.ensures at c.in_ok-other-in-Conditional.ensures.register) in
@@ -48,7 +48,7 @@ push_choice-returns-in_ok-other-in-Conditional-clause-out t c =
     let first' = rw c.deref-in-Conditional-4.ensures at c.in_ok-one-in-Conditional.ensures.out in
     let second' = rw c.deref-in-Conditional-5.ensures at c.in_ok-other-in-Conditional.ensures.out in
     let whole = choice_code c.args.first test yes' no' c.in-Conditional.at c.args.from.register c.args.from.place
-    c.in_ok-tested-in-Conditional.tested.register c.in_ok-tested-in-Conditional.tested.behind.register c.in_ok-tested-in-Conditional.tested.behind.place
+    c.in_ok-tested-in-Conditional.tested.register c.in_ok-tested-in-Conditional.tested.following.register c.in_ok-tested-in-Conditional.tested.following.place
     c.in_ok-then_at-in-Conditional.then_at c.in_ok-then_at-in-Conditional.else_at c.in_ok-then_at-in-Conditional.to
     c.in_ok-second-in-Conditional.second.register c.in_ok-second-in-Conditional.second.place c.in_ok-one-in-Conditional.one.register
     c.in_ok-third-in-Conditional.third.register c.in_ok-third-in-Conditional.third.place c.in_ok-other-in-Conditional.other.register

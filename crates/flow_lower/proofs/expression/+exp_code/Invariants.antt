@@ -8,8 +8,8 @@ use Rattle.flow_lower.proofs.expression.+exp_code.Given as goal
 -- what is done and the rest make the whole
 abbrev pub invariant-push_values-loop-index : goal.invariant-push_values-loop-index
 invariant-push_values-loop-index l = record {
-  register : l.behind.register + length (exps_kinds (all_kept l.at (listed (map exp_of (drop l.index l.es))))) ≡ l.fn.from.register + 1 + length (exps_kinds (all_kept l.fn.at (listed (map exp_of l.fn.es))));
-  place : l.behind.place + exps_size (all_kept l.at (listed (map exp_of (drop l.index l.es)))) ≡ l.fn.from.place + exps_size (all_kept l.fn.at (listed (map exp_of l.fn.es)));
-  registers : l.registers ++ value_registers l.first l.behind.register (all_kept l.at (listed (map exp_of (drop l.index l.es)))) ≡ value_registers l.fn.first (l.fn.from.register + 1) (all_kept l.fn.at (listed (map exp_of l.fn.es)));
-  out : l.out ++ exps_code l.first (all_kept l.at (listed (map exp_of (drop l.index l.es)))) l.behind.register l.behind.place ≡ l.fn.out ++ exps_code l.fn.first (all_kept l.fn.at (listed (map exp_of l.fn.es))) (l.fn.from.register + 1) l.fn.from.place;
+  register : l.following.register + length (exps_kinds (all_kept l.at (listed (map exp_of (drop l.index l.es))))) ≡ l.fn.from.register + 1 + length (exps_kinds (all_kept l.fn.at (listed (map exp_of l.fn.es))));
+  place : l.following.place + exps_size (all_kept l.at (listed (map exp_of (drop l.index l.es)))) ≡ l.fn.from.place + exps_size (all_kept l.fn.at (listed (map exp_of l.fn.es)));
+  registers : l.registers ++ value_registers l.first l.following.register (all_kept l.at (listed (map exp_of (drop l.index l.es)))) ≡ value_registers l.fn.first (l.fn.from.register + 1) (all_kept l.fn.at (listed (map exp_of l.fn.es)));
+  out : l.out ++ exps_code l.first (all_kept l.at (listed (map exp_of (drop l.index l.es)))) l.following.register l.following.place ≡ l.fn.out ++ exps_code l.fn.first (all_kept l.fn.at (listed (map exp_of l.fn.es))) (l.fn.from.register + 1) l.fn.from.place;
 }

@@ -2,7 +2,7 @@ use Rattle.std.proofs.Common.{◌≡◌, ◌<◌, ◌≤◌, ◌∙◌, ⊎_elim
 use Rattle.std.proofs.lemmas.Bool.{cases_lt, lt-ltb, le-ltb}
 use Rattle.loop_bounds.specs.Tables.{sole_maker, the_one}
 use Rattle.weak_facts.specs.Loops.{is_entered_at}
-use Rattle.loop_bounds.proofs.Soles.{only_none, only_behind, only_before}
+use Rattle.loop_bounds.proofs.Soles.{only_none, only_past, only_before}
 use Rattle.loop_bounds.proofs.makers.only_maker.Goals.{else-counted-maker-via-then-counted-maker+then-maker-before+else-is_entered_at, else-counted-maker-via-then-counted-maker+else-maker-before, else-counted-maker-via-else-counted-maker}
 use Rattle.loop_bounds.proofs.makers.only_maker.Goals as goal
 
@@ -27,9 +27,9 @@ returns-else-counted-maker-clause-maker c =
     let sole : sole_maker is c.args.register ≡ Some q = ap the_one (sym (c.requires.makers c.args.register)) ∙ sym c.sole_maker.ensures ∙ c.in_ok-maker.was in
     elim c.else-counted-maker.branch [
       | else-counted-maker-via-then-counted-maker+then-maker-before+else-is_entered_at w ↦ sym (only_before is l c.args.before c.args.register q true false sole (omega (arith, c.requires.before)) (omega (arith, w.if-maker-before.true)) (lt-ltb l.at q (omega (arith, w.if-counted-maker.true))) (sym w.is_entered_at.ensures ∙ w.if-is_entered_at.false))
-      | else-counted-maker-via-then-counted-maker+else-maker-before w ↦ sym (only_behind is l c.args.before c.args.register q sole (omega (arith, c.requires.before)) (omega (arith, w.if-maker-before.false)))
+      | else-counted-maker-via-then-counted-maker+else-maker-before w ↦ sym (only_past is l c.args.before c.args.register q sole (omega (arith, c.requires.before)) (omega (arith, w.if-maker-before.false)))
       | else-counted-maker-via-else-counted-maker w ↦ ⊎_elim
           (λ (lt : q < c.args.before). sym (only_before is l c.args.before c.args.register q false (is_entered_at is q c.args.before) sole (omega (arith, c.requires.before)) lt (le-ltb l.at q (omega (arith, w.if-counted-maker.false))) refl))
-          (λ (le : c.args.before ≤ q). sym (only_behind is l c.args.before c.args.register q sole (omega (arith, c.requires.before)) le))
+          (λ (le : c.args.before ≤ q). sym (only_past is l c.args.before c.args.register q sole (omega (arith, c.requires.before)) le))
           (cases_lt q c.args.before)
     ]

@@ -8,9 +8,9 @@ use Rattle.order_log.specs.Text.{number_text, hex_text, entry_line, profile_line
 use Rattle.order_log.proofs.Written.{written}
 use Rattle.order_log.proofs.write.write_log.Goals as goal
 
--- a text, and a line of a number behind it
-abbrev behind : Text → Text → ℕ → Text
-behind out word n = out ++ ((word ++ number_text n) ++ 10 ∷ [])
+-- a text, and a line of a number after it
+abbrev following : Text → Text → ℕ → Text
+following out word n = out ++ ((word ++ number_text n) ++ 10 ∷ [])
 
 pub returns : goal.returns
 returns c =
@@ -24,11 +24,11 @@ returns c =
     written c.args.log.now c.extend_from_slice.new.self c.push_number_line.new.out c.push_number_line-2.new.out c.push_number_line-3.new.out c.push_profile_lines.new.out c.push_number_line-4.new.out c.push_hex.new.out c.push.new.self
     c.push_entry_lines.new.out
     (c.in_ok-extend_from_slice.ensures.ok ∙ ap (λ (t : Text). t ++ codes "chimera log 1\n") c.new-out.ensures)
-    (c.in_ok-push_number_line.ensures ∙ ap (behind c.extend_from_slice.new.self (codes "slots ")) slots)
-    (c.in_ok-push_number_line-2.ensures ∙ ap (behind c.push_number_line.new.out (codes "cells ")) cells)
-    (c.in_ok-push_number_line-3.ensures ∙ ap (behind c.push_number_line-2.new.out (codes "limit ")) limit)
+    (c.in_ok-push_number_line.ensures ∙ ap (following c.extend_from_slice.new.self (codes "slots ")) slots)
+    (c.in_ok-push_number_line-2.ensures ∙ ap (following c.push_number_line.new.out (codes "cells ")) cells)
+    (c.in_ok-push_number_line-3.ensures ∙ ap (following c.push_number_line-2.new.out (codes "limit ")) limit)
     (c.in_ok-push_profile_lines.ensures ∙ ap (λ (p : Profile). c.push_number_line-3.new.out ++ text_of (profile_lines p)) c.profile.ensures.value)
-    (c.in_ok-push_number_line-4.ensures ∙ ap (behind c.push_profile_lines.new.out (codes "input ")) size)
+    (c.in_ok-push_number_line-4.ensures ∙ ap (following c.push_profile_lines.new.out (codes "input ")) size)
     (c.in_ok-push_hex.ensures ∙ ap (λ (bs : List ℕ). c.push_number_line-4.new.out ++ hex_text bs) input)
     c.in_ok-push.ensures.ok
     (c.in_ok-push_entry_lines.ensures ∙ ap (λ (es : List Entry). c.push.new.self ++ text_of (map entry_line es)) entries)

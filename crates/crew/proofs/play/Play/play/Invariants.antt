@@ -2,7 +2,7 @@ use Rattle.std.proofs.Common.{ℕ, ◌+◌, ◌*◌, length}
 use Rattle.crew.specs.Schedule.{Reached, whose}
 use Rattle.crew.proofs.play.Play.play.Given as goal
 
--- behind the order lie so many whole rounds
+-- after the order lie so many whole rounds
 abbrev pub invariant-loop-self : goal.invariant-loop-self
 invariant-loop-self g l =
     let jobs = length l.fn.self.jobs in

@@ -2,8 +2,8 @@
 ghost use Rattle.std.specs.Prelude.{◌≡◌, IfOk, position, slice_get};
 ghost use Rattle.c_types.specs.Shown.{shown_operand, shown_maybe};
 ghost use Rattle.c_types.specs.Scopes.{cells_of_some, members_of};
-ghost use Rattle.c_values.specs.Here as spec;
-ghost use Rattle.c_values.specs.Views.{source_in, frame_in, here_of};
+ghost use Rattle.c_values.specs.Context as spec;
+ghost use Rattle.c_values.specs.Views.{source_in, frame_in, context_of};
 
 use crate::home::Home;
 use c_programs::Table;
@@ -16,7 +16,7 @@ use std::alloc::AllocError;
 /// What is known of the whole source.
 #[derive(Drop)]
 pub struct Source<'a> {
-    /// The table behind the whole source: each struct has its members and its size.
+    /// The table after the whole source: each struct has its members and its size.
     pub whole: Table<'a>,
     /// The cells of each struct.
     pub kinds: List<List<CellKind>>,
@@ -38,7 +38,7 @@ pub struct Frame {
 
 /// Where an expression stands: its source, its function, and what is seen at its place.
 #[derive(Clone, Copy)]
-pub struct Here<'h, 'a> {
+pub struct Context<'h, 'a> {
     pub source: &'h Source<'a>,
     pub frame: &'h Frame,
     pub table: &'h Table<'a>,
@@ -167,10 +167,10 @@ impl<'a> Source<'a> {
     }
 }
 
-impl<'h, 'a> Here<'h, 'a> {
+impl<'h, 'a> Context<'h, 'a> {
     /// Where the name is kept, if it is a formal or a local.
     pub fn home_of(self, name: &[u8]) -> Option<Home>
-        ensures { result ≡ spec.home_of (here_of self.entry) name.now }
+        ensures { result ≡ spec.home_of (context_of self.entry) name.now }
     {
         self.frame.home_numbered(self.numbers.seen(name))
     }

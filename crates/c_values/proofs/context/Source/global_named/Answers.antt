@@ -1,7 +1,7 @@
 use Rattle.std.proofs.Common.{ap, ◌∙◌}
 use Rattle.c_types.proofs.Keyed.{lookup-entry_of}
-use Rattle.c_values.specs.Here.{pointer_or_null}
-use Rattle.c_values.proofs.here.Source.global_named.Goals as goal
+use Rattle.c_values.specs.Context.{pointer_or_null}
+use Rattle.c_values.proofs.context.Source.global_named.Goals as goal
 
 pub returns-in-Some : goal.returns-in-Some
 returns-in-Some c =

@@ -8,22 +8,22 @@ use Rattle.c_core.specs.Core as core
 abbrev pub position_of : Position → Position
 position_of at = record { line = at.line; column = at.column }
 
-pub data Held : Type 0 where
+pub data Denoted : Type 0 where
   -- a local or formal that is a register
-  held_register : ℕ → Position → Held
+  denoted_register : ℕ → Position → Denoted
   -- an object in cells: the pointer to it, and where it is loaded
-  held_cells : core.Exp → Position → Held
+  denoted_cells : core.Exp → Position → Denoted
   -- the literal `0`, which is a null pointer where a pointer is wanted
-  held_zero : Position → Held
-  held_value : core.Exp → Held
+  denoted_zero : Position → Denoted
+  denoted_value : core.Exp → Denoted
 
 -- an expression with what it is
 pub record Part : Type 0 where
   pub standing : Standing
-  pub held : Held
+  pub denoted : Denoted
 
-abbrev pub part_by : Standing → Held → Part
-part_by s h = record { standing = s; held = h }
+abbrev pub part_by : Standing → Denoted → Part
+part_by s h = record { standing = s; denoted = h }
 
 abbrev pub operand_in : Part → Operand
 operand_in p = operand_of p.standing
@@ -44,21 +44,21 @@ is_array null_literal = false
 is_array (a_value t) = false
 
 -- the word that it gives: an array gives the pointer to its first element, and any other object what it holds
-abbrev pub value_by : Standing → Held → core.Exp
-value_by s (held_register n at) = core.register n (is_pointing (operand_of s)) at
-value_by s (held_cells e at) = if is_array s then e else core.load e (is_pointing (operand_of s)) at
-value_by s (held_zero at) = core.number (pos 0) at
-value_by s (held_value e) = e
+abbrev pub value_by : Standing → Denoted → core.Exp
+value_by s (denoted_register n at) = core.register n (is_pointing (operand_of s)) at
+value_by s (denoted_cells e at) = if is_array s then e else core.load e (is_pointing (operand_of s)) at
+value_by s (denoted_zero at) = core.number (pos 0) at
+value_by s (denoted_value e) = e
 
-abbrev pub pointer_by : Standing → Held → core.Exp
-pointer_by s (held_register n at) = value_by s (held_register n at)
-pointer_by s (held_cells e at) = value_by s (held_cells e at)
-pointer_by s (held_zero at) = core.null at
-pointer_by s (held_value e) = e
+abbrev pub pointer_by : Standing → Denoted → core.Exp
+pointer_by s (denoted_register n at) = value_by s (denoted_register n at)
+pointer_by s (denoted_cells e at) = value_by s (denoted_cells e at)
+pointer_by s (denoted_zero at) = core.null at
+pointer_by s (denoted_value e) = e
 
 abbrev pub value_in : Part → core.Exp
-value_in p = value_by p.standing p.held
+value_in p = value_by p.standing p.denoted
 
 -- the word where a pointer is wanted or not
 abbrev pub wanted_in : Bool → Part → core.Exp
-wanted_in pointer p = if pointer then pointer_by p.standing p.held else value_in p
+wanted_in pointer p = if pointer then pointer_by p.standing p.denoted else value_in p

@@ -1,7 +1,7 @@
 use Rattle.std.proofs.Common.{◌≡◌, ◌<◌, ℕ, false, length}
 use Rattle.std.specs.Prelude.{slice_index_or}
 use Rattle.facts.specs.Blocks as spec
-use Rattle.facts.proofs.blocks.behind_ends.Given as goal
+use Rattle.facts.proofs.blocks.after_ends.Given as goal
 
 abbrev pub invariant-loop-instr : goal.invariant-loop-instr
 invariant-loop-instr l = record {

@@ -1,4 +1,4 @@
--- A rule behind another is run on what the first leaves.
+-- A rule after another is run on what the first leaves.
 use Rattle.std.proofs.Common.{◌≡◌, ℕ, suc, Bool, true, false, cond, List, [], ◌∷◌, refl, sym, ◌∙◌, ap}
 use Rattle.c_lexer.specs.declared.token.Punct.TheVariants as punct
 use Rattle.c_tree.specs.Tree.{Exp, Statement, while_loop, do_loop, for_loop}
@@ -49,7 +49,7 @@ pub do_by_end : (l : ℕ) (at : Position) (a : Statement) (us mid : List Lexeme)
     → run 256 (read 256) (do_rule l at) us ≡ and_then (run 256 (read 256) (do_end_rule l) mid) (λ e. run 256 (read 256) (ret (do_loop a e at)))
 do_by_end l at a us mid e = rw e (run_bind (do_end_rule l) (λ e. ret (do_loop a e at)) mid)
 
--- behind the test of an `if` and its statement
+-- after the test of an `if` and its statement
 pub if_then : (l : ℕ) (at : Position) (us mid rest : List Lexeme) (e : Exp) (a : Statement) → run 256 (read 256) (test_rule l) us ≡ Got e mid → read 256 (phrase.statement l) mid ≡ Got a rest
     → run 256 (read 256) (if_rule l at) us ≡ run 256 (read 256) (else_rule l e a at) rest
 if_then l at us mid rest e a h k =

@@ -1,8 +1,8 @@
 use Rattle.std.proofs.Common.{◌≡◌, ◌+◌, ◌-◌, drop, slice_get}
 use Rattle.c_types.specs.Scopes.{members_of}
 use Rattle.c_programs.specs.Table.{known_of}
-use Rattle.c_values.specs.Here.{cells_of_first}
-use Rattle.c_values.proofs.here.Source.cells_of_first.Given as goal
+use Rattle.c_values.specs.Context.{cells_of_first}
+use Rattle.c_values.proofs.context.Source.cells_of_first.Given as goal
 
 -- the cells so far and those of the members that are left make all
 abbrev pub invariant-loop-index : goal.invariant-loop-index

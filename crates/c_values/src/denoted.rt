@@ -2,8 +2,8 @@
 ghost use Rattle.std.specs.Prelude.{◌≡◌, IfOk};
 ghost use Rattle.c_types.specs.Shown.{shown_operand, shown_standing};
 ghost use Rattle.c_core.specs.View.{exp_of};
-ghost use Rattle.c_values.specs.Held as spec;
-ghost use Rattle.c_values.specs.Views.{held_of, part_of};
+ghost use Rattle.c_values.specs.Denoted as spec;
+ghost use Rattle.c_values.specs.Views.{denoted_of, part_of};
 
 use crate::constant::Constant;
 use crate::make;
@@ -15,7 +15,7 @@ use std::alloc::{AllocError, Global};
 
 /// What stands for an expression.
 #[derive(Drop)]
-pub enum Held {
+pub enum Denoted {
     /// A local or formal that is a register.
     Register { number: u32, at: Position },
     /// An object in cells, by a pointer to it, and the place at which it is loaded.
@@ -48,37 +48,39 @@ fn is_in_array(of: Standing) -> bool
     }
 }
 
-impl Held {
+impl Denoted {
     /// The word that an expression of this standing gives: an array gives the pointer to its first element, and any
     /// other object what it holds.
     pub fn into_value(self, alloc: Global, of: Standing) -> Result<Box<Value>, AllocError>
-        ensures { IfOk result (λ v. exp_of v.value ≡ spec.value_by (shown_standing of.entry) (held_of self)) }
+        ensures { IfOk result (λ v. exp_of v.value ≡ spec.value_by (shown_standing of.entry) (denoted_of self)) }
     {
         match self {
-            Held::Register { number, at } => {
+            Denoted::Register { number, at } => {
                 make::register(alloc, number, is_pointing(Operand::of(of)), at)
             }
-            Held::Cells { through, at } => {
+            Denoted::Cells { through, at } => {
                 if is_in_array(of) {
                     Ok(through)
                 } else {
                     make::load(alloc, through, is_pointing(Operand::of(of)), at)
                 }
             }
-            Held::Zero { at } => make::number(alloc, 0, at),
-            Held::Value(value) => Ok(value),
+            Denoted::Zero { at } => make::number(alloc, 0, at),
+            Denoted::Value(value) => Ok(value),
         }
     }
 
     /// The same where a pointer is wanted.
     pub fn into_pointer(self, alloc: Global, of: Standing) -> Result<Box<Value>, AllocError>
-        ensures { IfOk result (λ v. exp_of v.value ≡ spec.pointer_by (shown_standing of.entry) (held_of self)) }
+        ensures { IfOk result (λ v. exp_of v.value ≡ spec.pointer_by (shown_standing of.entry) (denoted_of self)) }
     {
         match self {
-            Held::Zero { at } => make::null(alloc, at),
-            Held::Register { number, at } => Held::Register { number, at }.into_value(alloc, of),
-            Held::Cells { through, at } => Held::Cells { through, at }.into_value(alloc, of),
-            Held::Value(value) => Ok(value),
+            Denoted::Zero { at } => make::null(alloc, at),
+            Denoted::Register { number, at } => Denoted::Register { number, at }.into_value(
+                alloc, of,
+            ),
+            Denoted::Cells { through, at } => Denoted::Cells { through, at }.into_value(alloc, of),
+            Denoted::Value(value) => Ok(value),
         }
     }
 }
@@ -87,7 +89,7 @@ impl Held {
 #[derive(Drop)]
 pub struct Part<'a> {
     pub standing: Standing<'a>,
-    pub held: Held,
+    pub denoted: Denoted,
     pub constant: Constant,
 }
 
@@ -103,19 +105,27 @@ impl<'a> Part<'a> {
     pub fn into_value(self, alloc: Global) -> Result<Box<Value>, AllocError>
         ensures { IfOk result (λ v. exp_of v.value ≡ spec.value_in (part_of self.entry)) }
     {
-        let Part { standing, held, .. } = self;
-        held.into_value(alloc, standing)
+        let Part {
+            standing,
+            denoted,
+            ..
+        } = self;
+        denoted.into_value(alloc, standing)
     }
 
     /// The word that it gives where a pointer is wanted or not.
     pub fn into_wanted(self, alloc: Global, pointer: bool) -> Result<Box<Value>, AllocError>
         ensures { IfOk result (λ v. exp_of v.value ≡ spec.wanted_in pointer (part_of self.entry)) }
     {
-        let Part { standing, held, .. } = self;
+        let Part {
+            standing,
+            denoted,
+            ..
+        } = self;
         if pointer {
-            held.into_pointer(alloc, standing)
+            denoted.into_pointer(alloc, standing)
         } else {
-            held.into_value(alloc, standing)
+            denoted.into_value(alloc, standing)
         }
     }
 }

@@ -1,6 +1,6 @@
 use Rattle.std.proofs.Common.{◌≡◌, length, map, string_bytes}
 use Rattle.answers.specs.Arguments as spec
-use Rattle.answers.proofs.arguments.behind_positional.Given as goal
+use Rattle.answers.proofs.arguments.after_positional.Given as goal
 
 -- the words that are passed have no positional one
 abbrev pub invariant-loop-words : goal.invariant-loop-words

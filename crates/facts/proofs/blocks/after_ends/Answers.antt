@@ -3,7 +3,7 @@ use Rattle.std.specs.Prelude.{slice_index_or}
 use Rattle.std.proofs.lemmas.Option.{slice_get-get_or}
 use Rattle.facts.specs.Blocks as spec
 use Rattle.facts.proofs.Marked.{follows_next, each_pushed}
-use Rattle.facts.proofs.blocks.behind_ends.Goals as goal
+use Rattle.facts.proofs.blocks.after_ends.Goals as goal
 
 pub loop-instr-preserved : goal.loop-instr-preserved
 loop-instr-preserved c = record {

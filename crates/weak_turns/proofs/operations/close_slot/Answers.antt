@@ -4,7 +4,7 @@ use Rattle.sync_objects.specs.declared.operation.Op.TheVariants as op
 use Rattle.shared_cells.specs.Seats.{view_of, AttemptIs}
 use Rattle.shared_cells.specs.declared.attempt.Attempt.TheVariants as attempt
 use Rattle.weak_turns.proofs.Moving.{close_due, shuts, done}
-use Rattle.weak_turns.proofs.operations.shut.Goals as goal
+use Rattle.weak_turns.proofs.operations.close_slot.Goals as goal
 
 pub attempt-requires-clause-due : goal.attempt-requires-clause-due
 attempt-requires-clause-due c =
@@ -14,12 +14,12 @@ attempt-requires-clause-due c =
 pub returns-in-Done-clause-carrying : goal.returns-in-Done-clause-carrying
 returns-in-Done-clause-carrying c =
     let old = c.args.seat.now in
-    let q = c.shut.new.self in
+    let q = c.close_slot.new.self in
     let h = c.requires.carrying in
     let is : c.thread.result ≡ (view_of old).from = c.thread.ensures ∙ sym h.seat_of.thread_is in
     let came = subst (λ k. AttemptIs old c.attempt.new.seat op.Close (object.Slot k) (attempt.Done c.in-Done.answer c.in-Done.number)) is c.in-Done.ensures.is in
     record {
       seat_of = c.in-Done.ensures.seat;
       carries = done old c.attempt.new.seat q op.Close (object.Slot (view_of old).from) c.in-Done.answer c.in-Done.number came
-          (shuts (view_of old) old.marks c.args.run.now h.carries q c.shut.ensures.same c.requires.open c.shut.ensures.reads c.in-Done.answer c.in-Done.number c.shut.ensures.told);
+          (shuts (view_of old) old.marks c.args.run.now h.carries q c.close_slot.ensures.same c.requires.open c.close_slot.ensures.reads c.in-Done.answer c.in-Done.number c.close_slot.ensures.told);
     }

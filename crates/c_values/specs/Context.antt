@@ -12,7 +12,7 @@ use Rattle.c_types.specs.Operands.{Operand, pointing}
 use Rattle.c_values.specs.declared.home.Home.{Home}
 
 pub record Source : Type 0 where
-  -- what is known behind the whole source: each struct has its members and sizes
+  -- what is known after the whole source: each struct has its members and sizes
   pub whole : Known
   -- the cells of each struct
   pub kinds : List (List CellKind)
@@ -27,14 +27,14 @@ pub record Frame : Type 0 where
   -- whether the function gives a pointer
   pub gives_pointer : Bool
 
-pub record Here : Type 0 where
+pub record Context : Type 0 where
   pub source : Source
   pub frame : Frame
   pub known : Known
   pub numbers : Numbered
 
-abbrev pub here_in : Source → Frame → Known → Numbered → Here
-here_in s f known numbers = record { source = s; frame = f; known = known; numbers = numbers }
+abbrev pub context_in : Source → Frame → Known → Numbered → Context
+context_in s f known numbers = record { source = s; frame = f; known = known; numbers = numbers }
 
 -- ---- sites
 
@@ -57,7 +57,7 @@ abbrev pub home_numbered : Frame → Option ℕ → Option Home
 home_numbered f None = None
 home_numbered f (Some n) = if nat_le f.first n then slice_get f.homes (n - f.first) else None
 
-abbrev pub home_of : Here → Text → Option Home
+abbrev pub home_of : Context → Text → Option Home
 home_of h name = home_numbered h.frame (number_seen h.numbers.scopes name)
 
 abbrev pub pointer_or_null : Option ℕ → ℕ
