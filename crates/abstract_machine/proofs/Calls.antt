@@ -22,7 +22,7 @@ use Rattle.abstract_machine.specs.declared.event.Onward.{Onward}
 use Rattle.abstract_machine.specs.declared.event.Onward.TheVariants as onward
 use Rattle.abstract_machine.specs.Values.{number, word}
 use Rattle.abstract_machine.specs.Library.{IsSoundCall}
-use Rattle.abstract_machine.specs.Library.{Caller, argument, slot_in, count_in, is_misuse, is_serial, at_cell, cell_of, printed_piece, piece_of, most_printed, print_due, create_due, is_joinable, join_thread_due, join_due, exit_due, mutex_due, try_due, wait_due_at, wait_due, barrier_count, barrier_init_due, barrier_wait_due, asks_for, library_due, create_onward, join_onward, checked_onward, try_onward, wait_onward, barrier_wait_onward, library_onward}
+use Rattle.abstract_machine.specs.Library.{Caller, argument, slot_in, count_in, is_misuse, is_serial, at_cell, cell_of, printed_piece, piece_of, most_printed, print_due, create_due, is_joinable, join_thread_due, join_due, exit_due, mutex_due, try_due, wait_due_at, wait_due, barrier_count, barrier_init_due, barrier_wait_due, asks_for, library_due, create_onward, join_onward, checked_onward, wait_onward, barrier_wait_onward, library_onward}
 
 -- what holds of both parts of a choice, or at each cell and of a trap, holds of what is due
 

@@ -1,10 +1,10 @@
 -- The job of the values that `clap` matched is the job of the words.
-use Rattle.std.proofs.Common.{◌≡◌, refl, sym, ◌∙◌, ◌==◌, ap, ℕ, true, false, List, [], ◌∷◌, length, Option, Some, None, codes, IfOk}
+use Rattle.std.proofs.Common.{◌≡◌, refl, ◌∙◌, ◌==◌, ap, ℕ, true, false, List, [], ◌∷◌, length, Option, Some, None, codes}
 use Rattle.std.specs.Prelude.{option_and_then, option_map, slice_get}
 use Rattle.std.proofs.lemmas.Bool.{eqb-false}
 use Rattle.clap.specs.Matches.{first_value}
 use Rattle.clap.specs.Simple.{App, new_rule, with_rule}
-use Rattle.clap.specs.Walk.{Row, Text, first_of, rows_of}
+use Rattle.clap.specs.Walk.{Text, first_of, rows_of}
 use Rattle.clap.specs.declared.parser.matches.Found.{Found}
 use Rattle.clap.proofs.WalkLemmas.{first_value-rows}
 use Rattle.answers.specs.Arguments.{Argument, are_fit, positional, value_of, number_within, number_or}

@@ -1,22 +1,22 @@
 -- What the commands of `clap` make of words that are fit for a command.
-use Rattle.std.proofs.Common.{◌≡◌, refl, sym, ◌∙◌, ap, subst, ℕ, ◌+◌, ◌≤◌, suc, Bool, true, false, cond, ◌&&◌, List, [], ◌∷◌, ◌++◌, length, map, Option, Some, None, bytes_eq, codes, arith, inl, inr}
-use Rattle.std.specs.Prelude.{⊤, option_map, slice_get}
+use Rattle.std.proofs.Common.{◌≡◌, refl, sym, ◌∙◌, ap, subst, Bool, true, false, cond, List, [], ◌∷◌, length, map, Option, None, bytes_eq, codes, arith, inl, inr}
+use Rattle.std.specs.Prelude.{⊤}
 use Rattle.std.specs.List.{fold, list_all, list_any}
 use Rattle.std.proofs.lemmas.Bool.{and_from, and_parts, cases_Bool}
 use Rattle.std.proofs.lemmas.Slice.Eq.{bytes_eq-Decides}
-use Rattle.clap.specs.Simple.{App, Shape, argument_words, built, is_simple, label_of, matches_of, names_of}
+use Rattle.clap.specs.Simple.{Shape, argument_words, built, is_simple, label_of, matches_of, names_of}
 use Rattle.clap.specs.Takes.{built_takes, default_passes, is_valid, settle_passes, takes as clap_takes}
-use Rattle.clap.specs.Walk.{Row, Rule, Text, Walk, finished, first_of, has_row, is_empty, nothing_held, rows_after, settled, walk, with_default}
+use Rattle.clap.specs.Walk.{Row, Rule, Text, Walk, finished, has_row, is_empty, nothing_held, rows_after, settled, walk, with_default}
 use Rattle.clap.proofs.SimpleLemmas.{is_nil}
 use Rattle.clap.proofs.TakesLemmas.{leaf_takes}
-use Rattle.answers.specs.Arguments.{Argument, arguments, are_fit, positional, value_of, number_within}
-use Rattle.answers.specs.Jobs.{Asked, asked_of, takes}
-use Rattle.answers.specs.Reader.{Pair, asked_by, options_of, pairs, reader_of, row_of, rows_read, words_of}
+use Rattle.answers.specs.Arguments.{arguments, are_fit, positional}
+use Rattle.answers.specs.Jobs.{takes}
+use Rattle.answers.specs.Reader.{Pair, options_of, pairs, reader_of, row_of, rows_read, words_of}
 use Rattle.answers.specs.declared.command.Command.{Command}
 use Rattle.answers.specs.declared.command.Command.TheVariants as command
-use Rattle.answers.proofs.Pairs.{are_apart, distinct_pairs, first_in_rows, or_parts, value_apart, value_in, word_at}
-use Rattle.answers.proofs.Steps.{FitsOption, FitsWord, held_at, set_rule, settle_is_taken, settled_is, so_far, walk_at}
-use Rattle.answers.proofs.Walks.{FitsOptions, FitsWords, Walked, walks}
+use Rattle.answers.proofs.Pairs.{are_apart, distinct_pairs}
+use Rattle.answers.proofs.Steps.{FitsOption, FitsWord, settle_is_taken, settled_is, so_far}
+use Rattle.answers.proofs.Walks.{FitsOptions, FitsWords, walks}
 
 -- ---- defaults
 

@@ -1,5 +1,5 @@
 -- How `clap` walks over words that are fit for a command: it takes them all, and holds their pairs.
-use Rattle.std.proofs.Common.{◌≡◌, refl, sym, ◌∙◌, ap, subst, ℕ, ◌+◌, ◌≤◌, zero, suc, Bool, true, false, not, cond, ◌==◌, ◌||◌, ◌&&◌, List, [], ◌∷◌, ◌++◌, length, map, take, drop, Option, Some, None, arith, append-nil, append_assoc, take_all, inl, inr}
+use Rattle.std.proofs.Common.{◌≡◌, refl, sym, ◌∙◌, ap, subst, ℕ, ◌+◌, ◌≤◌, zero, suc, Bool, true, false, cond, ◌&&◌, List, [], ◌∷◌, ◌++◌, length, take, drop, Option, Some, None, arith, append-nil, append_assoc, take_all, inl, inr}
 use Rattle.std.specs.Prelude.{⊤}
 use Rattle.std.specs.List.{after_first, before_first, fold, list_any, position_or_len}
 use Rattle.std.proofs.lemmas.Bool.{and_from, cases_Bool}
@@ -8,7 +8,7 @@ use Rattle.clap.specs.Simple.{Shape}
 use Rattle.clap.specs.Takes.{turn_passes, walk_passes}
 use Rattle.clap.specs.Walk.{Rule, Text, Walk, walked}
 use Rattle.answers.specs.Arguments.{Argument, Positional, Setting, Wrong, arguments, are_fit, is_equals, is_name, is_option, positional, setting}
-use Rattle.answers.specs.Reader.{Pair, pairs, row_of}
+use Rattle.answers.specs.Reader.{Pair, pairs}
 use Rattle.answers.proofs.FirstWords.{name_first}
 use Rattle.answers.proofs.Pairs.{are_distinct, is_new, or_parts, setting_taken}
 use Rattle.answers.proofs.Steps.{FitsOption, FitsWord, Settles, apart_is_taken, joined_is_taken, so_far, step_apart, step_joined, step_value, step_word, value_is_taken, waits_at, walk_at, word_is_taken}

@@ -5,7 +5,7 @@ use Rattle.answers.specs.Jobs.{Asked}
 use Rattle.answers.specs.Jobs.Asked.{Races, Weaken, Record, Replay, Profile, Make}
 use Rattle.answers.specs.declared.command.Command.{Command}
 use Rattle.answers.specs.declared.command.Command.TheVariants as command
-use Rattle.clap.specs.Simple.{App, new_app, new_rule, new_shape}
+use Rattle.clap.specs.Simple.{App, new_rule, new_shape}
 use Rattle.clap.specs.Walk.{Row, Rule, Text}
 use Rattle.clap.specs.declared.builder.value_parser.Reading.TheVariants.{AsWritten}
 use Rattle.clap.specs.declared.parser.matches.ValueSource.TheVariants.{CommandLine}

@@ -1,5 +1,5 @@
 -- How the program may end.
-use Rattle.std.specs.Prelude.{◌≡◌, ℕ, List, None}
+use Rattle.std.specs.Prelude.{ℕ, List, None}
 use Rattle.answers.specs.Jobs.{job_of}
 use Rattle.outcomes.specs.Endings.{Ends, Outside}
 use Rattle.jobs.specs.Jobs.{IsOutcome, PutsBefore, ReadsInput, RunsThreads, UsesShelf}

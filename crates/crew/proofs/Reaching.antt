@@ -1,11 +1,11 @@
 -- What holds of jobs that got their chances by a schedule.
-use Rattle.std.proofs.Common.{◌≡◌, ◌≢◌, refl, sym, ◌∙◌, subst, ap, ℕ, zero, suc, ◌+◌, ◌-◌, ◌*◌, ◌%◌, ◌<◌, ◌≤◌, ◌⊎◌, inl, inr, Bool, true, false, List, [], ◌∷◌, length, replicate, get_or, Some, None, IsTrue, MatchBool, below_more, arith}
+use Rattle.std.proofs.Common.{◌≡◌, ◌≢◌, refl, sym, ◌∙◌, subst, ap, ℕ, suc, ◌+◌, ◌-◌, ◌*◌, ◌%◌, ◌<◌, ◌≤◌, ◌⊎◌, inl, inr, Bool, true, false, List, [], ◌∷◌, length, replicate, get_or, Some, IsTrue, MatchBool, below_more, arith}
 use Rattle.std.specs.List.{AllZip, AllPass, slice_get, slice_set}
 use Rattle.std.specs.Option.{unwrap_or}
-use Rattle.std.proofs.lemmas.Option.{slice_get_past, slice_get-get_or, slice_get_within, same_Some}
+use Rattle.std.proofs.lemmas.Option.{slice_get_past, slice_get-get_or}
 use Rattle.std.proofs.lemmas.Nat.{mod-mul-add}
 use Rattle.std.proofs.lemmas.List.{length-set}
-use Rattle.crew.specs.Counts.{RoseBy, rises, total}
+use Rattle.crew.specs.Counts.{rises, total}
 use Rattle.crew.specs.Turns.{Turned, Finished}
 use Rattle.crew.specs.Schedule.{PlayState, begin, whose, Chance, passes, gives, Reached, begins, goes_on, Ends, Played, IsOver, IsSpent}
 use Rattle.crew.specs.declared.job.Job as Job

@@ -1,5 +1,5 @@
 -- Sums of turns over a part of the jobs.
-use Rattle.std.proofs.Common.{◌≡◌, refl, sym, ◌∙◌, ap, ℕ, zero, suc, ◌+◌, ◌<◌, List, [], ◌∷◌, length, take, get_or, zero-add, arith}
+use Rattle.std.proofs.Common.{◌≡◌, ℕ, zero, suc, ◌+◌, ◌<◌, List, [], ◌∷◌, length, take, get_or, arith}
 use Rattle.crew.specs.Counts.{total}
 
 pub total_more : {J : Type 0} (turns : J → ℕ) (jobs : List J) (at : ℕ) (d : J) → at < length jobs → total turns (take (suc at) jobs) ≡ total turns (take at jobs) + turns (get_or jobs at d)

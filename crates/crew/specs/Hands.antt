@@ -1,5 +1,5 @@
 -- Who has a job while a crew with a thread for each job runs it.
-use Rattle.std.specs.Prelude.{◌≡◌, ◌≤◌, List, Bool, true, Some, slice_get, IsTrue}
+use Rattle.std.specs.Prelude.{◌≡◌, ◌≤◌, List, true, Some, slice_get, IsTrue}
 use Rattle.crew.specs.declared.job.Job as Job
 use Rattle.crew.specs.declared.hand.Hand.{Hand}
 use Rattle.crew.specs.declared.hand.Hand.TheVariants.{There, Here}

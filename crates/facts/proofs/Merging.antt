@@ -6,7 +6,7 @@ use Rattle.std.proofs.lemmas.List.{drop_all}
 use Rattle.facts.specs.declared.locks.LockPath.{LockPath}
 use Rattle.facts.specs.Locks.{is_less, is_same, with, union, are_ascending}
 use Rattle.facts.specs.Merges.{comes_first, before_path, after_path, merge}
-use Rattle.facts.proofs.PathSets.{same_is, same_self, less_trans, less_other}
+use Rattle.facts.proofs.PathSets.{same_is, less_trans, less_other}
 use Rattle.facts.proofs.Orders.{path_irr}
 
 pub ascending_step : (p : LockPath) (ps : List LockPath) → are_ascending (p ∷ ps) ≡ (comes_first p ps && are_ascending ps)

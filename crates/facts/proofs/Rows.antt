@@ -8,7 +8,7 @@ use Rattle.facts.specs.declared.known.Reach.TheVariants as reach
 use Rattle.facts.specs.declared.locks.LockPath.TheVariants.{Cell, Formal}
 use Rattle.facts.specs.declared.locks.Minus.TheVariants.{All, Listed}
 use Rattle.facts.specs.declared.locks.Naming.TheVariants.{Unknown, Named}
-use Rattle.facts.specs.Paths.{global, formal, are_small, are_small_actuals, argument_namings}
+use Rattle.facts.specs.Paths.{formal, are_small, are_small_actuals, argument_namings}
 use Rattle.facts.specs.Locks.{with, union, through, locks_are_small, locks_are_sized, unlocked}
 use Rattle.facts.specs.Blocks.{amount_by}
 use Rattle.facts.specs.Carried.{put_or_formal}

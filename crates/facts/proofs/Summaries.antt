@@ -1,7 +1,7 @@
 -- The summaries of a code, and its race pairs, are the only ones.
-use Rattle.std.proofs.Common.{◌≡◌, ℕ, zero, suc, ◌+◌, ◌<◌, ◌&&◌, ◌||◌, Bool, true, false, List, [], ◌∷◌, map, length, refl, sym, ap, ◌∙◌, subst, ◌⊎◌, inl, inr, arith}
-use Rattle.std.specs.Prelude.{◌↔◌, slice_get, slice_index_or, Option, Some, None}
-use Rattle.std.specs.List.{list_all, list_any, Contains}
+use Rattle.std.proofs.Common.{◌≡◌, ℕ, zero, suc, ◌+◌, ◌||◌, Bool, true, false, List, [], ◌∷◌, length, refl, sym, ap, ◌∙◌, subst, inl, inr, arith}
+use Rattle.std.specs.Prelude.{◌↔◌, slice_get, Some}
+use Rattle.std.specs.List.{list_all, Contains}
 use Rattle.flow_code.specs.declared.code.Code.{Code}
 use Rattle.facts.specs.declared.locks.Guarded.{Guarded}
 use Rattle.facts.specs.declared.locks.LockPath.{LockPath}
@@ -13,7 +13,7 @@ use Rattle.facts.specs.declared.pair.Pair.{Pair}
 use Rattle.facts.specs.Locks.{is_less, is_same, has, are_ascending, minus_ascends, ascends, MinusBelow, Below, Points, PointsBelow}
 use Rattle.facts.specs.Pairs.{pair_less, pairs_ascend, ArePairs}
 use Rattle.facts.specs.PointsTo.{Tables}
-use Rattle.facts.specs.Summaries.{ListsKnown, AllListsKnown, AreSolution, AreGreatest, in_order, guarded_less, guarded_ascend, IsSummary, AreSummaries}
+use Rattle.facts.specs.Summaries.{ListsKnown, AllListsKnown, AreGreatest, in_order, guarded_less, guarded_ascend, IsSummary, AreSummaries}
 use Rattle.profiles.proofs.Ascending as ascending
 use Rattle.profiles.proofs.Ascending.{and_left, and_right}
 use Rattle.facts.proofs.Orders.{path_irr, path_trans, path_same, path_self, guarded_irr, guarded_trans, pair_irr, pair_trans}

@@ -1,5 +1,5 @@
 -- One step of what goes over numbers, from one to before another.
-use Rattle.std.proofs.Common.{◌≡◌, ℕ, suc, ◌+◌, ◌-◌, ◌<◌, ◌||◌, Bool, if◌then◌else◌, List, Option, Some, ap, arith}
+use Rattle.std.proofs.Common.{◌≡◌, ℕ, suc, ◌+◌, ◌-◌, ◌<◌, ◌||◌, Bool, if◌then◌else◌, Some, ap, arith}
 use Rattle.flow_code.specs.Stripes.{any_from, first_from, and_stripe, stripes_from}
 
 one_less : (k following : ℕ) → k < following → following - k ≡ suc (following - (k + 1))

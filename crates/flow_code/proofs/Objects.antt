@@ -10,7 +10,7 @@ use Rattle.rr_base.specs.declared.layout.Site.{Site}
 use Rattle.abstract_machine.specs.Pointers.{site_at, base_at}
 use Rattle.abstract_machine.specs.Cells.{size_in, size_of}
 use Rattle.flow_code.specs.declared.code.Code.{Code}
-use Rattle.flow_code.specs.Addresses.{whole_object, address_of, names_it, is_address, begin_with, lies_apart, all_apart, object_fits, objects_fit, words_fit, globals_fit}
+use Rattle.flow_code.specs.Addresses.{whole_object, is_given, is_address, begin_with, lies_apart, all_apart, object_fits, objects_fit, words_fit, globals_fit}
 use Rattle.flow_code.specs.Kinds.{is_site}
 use Rattle.flow_code.specs.Valid.{is_valid}
 use Rattle.flow_code.proofs.ValidParts.{left, right, some_is, few_globals, layout_is_fit, globals_are_fit}
@@ -148,7 +148,7 @@ pub record IsAddressOf (code : Code) (w : ℕ) : Type 0 where
 pub address_parts : (code : Code) (w : ℕ) → is_address code w ≡ true → IsAddressOf code w
 address_parts code w h = by (site_at code.sites (site_of w)) (base_at code.global_bases (site_of w)) refl refl h
   where
-    by : (o : Option Site) (b : Option ℕ) → site_at code.sites (site_of w) ≡ o → base_at code.global_bases (site_of w) ≡ b → names_it w (whole_object (site_of w) o b) ≡ true → IsAddressOf code w
+    by : (o : Option Site) (b : Option ℕ) → site_at code.sites (site_of w) ≡ o → base_at code.global_bases (site_of w) ≡ b → is_given w (whole_object (site_of w) o b) ≡ true → IsAddressOf code w
     by None b e f g = cc
     by (Some site) None e f g = cc
     by (Some site) (Some base) e f g = record { base = base; site = site; is_site = e; is_base = f; is_word = eqb-true w (pack (site_of w) base site.layout.size 0) g }

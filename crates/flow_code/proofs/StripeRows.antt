@@ -9,7 +9,6 @@ use Rattle.flow_code.specs.declared.act.Instr.{Instr}
 use Rattle.abstract_machine.specs.declared.library_call.LibraryCall.TheVariants as call
 use Rattle.flow_code.specs.declared.code.Code.{Code}
 use Rattle.flow_code.specs.declared.code.Function.{Function}
-use Rattle.flow_code.specs.declared.code.LockInfo.{LockInfo}
 use Rattle.flow_code.specs.declared.region.Base.TheVariants as base
 use Rattle.flow_code.specs.declared.region.Bound.TheVariants as bound
 use Rattle.flow_code.specs.declared.region.Region.{Region}

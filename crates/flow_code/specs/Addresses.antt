@@ -36,13 +36,14 @@ address_of code s = whole_object s (site_at code.sites s) (base_at code.global_b
 abbrev pub is_global : Code → ℕ → Bool
 is_global code s = is_some (address_of code s)
 
-abbrev pub names_it : ℕ → Option ℕ → Bool
-names_it w None = false
-names_it w (Some v) = w == v
+-- the word is the given one, if one is given
+abbrev pub is_given : ℕ → Option ℕ → Bool
+is_given w None = false
+is_given w (Some v) = w == v
 
 -- the word is the pointer to the whole object of a global site
 abbrev pub is_address : Code → ℕ → Bool
-is_address code w = names_it w (address_of code (site_of w))
+is_address code w = is_given w (address_of code (site_of w))
 
 -- ---- how the objects of globals lie
 

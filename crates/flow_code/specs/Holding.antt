@@ -1,7 +1,7 @@
 -- How a thread takes and gives the stripes of its regions. It holds or owes a stripe exactly while one of its open regions
 -- has it; how many have it is the stripe's nesting number. Only the first of these regions takes the stripe by an operation,
 -- and only the last one gives it by one.
-use Rattle.std.specs.Prelude.{ℕ, zero, suc, ◌+◌, ◌-◌, ◌*◌, ◌==◌, nat_lt, nat_le, max, ◌&&◌, Bool, true, false, not, if◌then◌else◌, List, [], ◌∷◌, ◌++◌, length, map, drop, insert, filter, count_by, position, unwrap_or, Option, Some, None, slice_get, slice_set}
+use Rattle.std.specs.Prelude.{ℕ, zero, ◌+◌, ◌-◌, ◌*◌, ◌==◌, nat_lt, nat_le, max, ◌&&◌, Bool, false, not, if◌then◌else◌, List, [], ◌∷◌, ◌++◌, length, map, drop, insert, filter, count_by, position, unwrap_or, Option, Some, None, slice_get, slice_set}
 use Rattle.std.specs.List.{list_any}
 use Rattle.sync_objects.specs.declared.object.ObjId.TheVariants as object
 use Rattle.sync_objects.specs.declared.operation.Op.TheVariants as op

@@ -1,5 +1,5 @@
 -- Which codes are valid.
-use Rattle.std.specs.Prelude.{ℕ, ◌%◌, ◌^◌, ◌==◌, nat_le, ◌&&◌, ◌||◌, Bool, not, List, length, count_by, Some}
+use Rattle.std.specs.Prelude.{ℕ, ◌^◌, ◌==◌, nat_le, ◌&&◌, ◌||◌, Bool, not, List, length, count_by, Some}
 use Rattle.std.specs.List.{list_all}
 use Rattle.flow_code.specs.declared.act.Instr.{Instr}
 use Rattle.flow_code.specs.declared.code.Code.{Code}

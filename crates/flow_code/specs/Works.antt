@@ -1,6 +1,5 @@
 -- What an instruction that computes gives, from the registers of its frame.
-use Rattle.std.specs.Prelude.{ℕ, ◌+◌, ◌-◌, ◌*◌, ◌%◌, ◌^◌, ◌==◌, nat_lt, nat_le, Bool, true, false, pos, ◌-ℤ◌, ◌*ℤ◌, List, slice_index_or, Result, Ok}
-use Rattle.rr_base.specs.Words.{offset_of}
+use Rattle.std.specs.Prelude.{ℕ, ◌-◌, ◌*◌, ◌^◌, ◌==◌, Bool, false, pos, ◌-ℤ◌, ◌*ℤ◌, List, slice_index_or, Result, Ok}
 use Rattle.rr_base.specs.declared.trap.Trap.{Trap}
 use Rattle.rr_base.specs.declared.layout.Site.{Site}
 use Rattle.flow_code.specs.declared.work.Work.{Work}

@@ -15,7 +15,7 @@ use Rattle.flow_code.specs.Threads.{Frame, Thread, line_of, instr_at, line_in}
 use Rattle.abstract_machine.specs.Cells.{result_cell}
 use Rattle.flow_code.specs.Threads as threads
 use Rattle.flow_code.specs.Next as next
-use Rattle.flow_code.specs.Next.{in_frame, act_at, act_in, act_due, act_after, due_of, action_at, stepped, listed, limited, owing, first_owed, phase_due, phase_after, after_due, one_more, one_made, counted, value_of, end_due, end_onward}
+use Rattle.flow_code.specs.Next.{in_frame, act_at, act_due, act_after, due_of, stepped, listed, limited, owing, first_owed, phase_due, phase_after, after_due, one_more, one_made, value_of, end_due, end_onward}
 use Rattle.abstract_machine.specs.Limits.{most_entries, is_free_of_limit}
 use Rattle.c_core.specs.Core.{Function, Program}
 use Rattle.c_core.specs.Runs.{Run, does, traps, ends, State, is_free}

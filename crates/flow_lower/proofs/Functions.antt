@@ -15,7 +15,7 @@ use Rattle.abstract_machine.specs.declared.event.Due.TheVariants as due
 use Rattle.abstract_machine.specs.declared.event.Action.TheVariants as action
 use Rattle.abstract_machine.specs.Registers.{register}
 use Rattle.flow_code.specs.Threads.{Frame, Thread, instrs_in, registers_in, objects_in, objects_of, fitted, placed, with_arguments, first_frame, arena_end, line_of, is_main}
-use Rattle.flow_code.specs.Next.{past, given, in_frame, act_at, act_due, act_after, due_of, action_at, stepped, listed, limited, owing, first_owed, phase_due, phase_after, after_due, one_more, one_made, enter_due, mark_if, or_else, value_of, return_due, returned, back_in, result_of}
+use Rattle.flow_code.specs.Next.{past, given, in_frame, act_at, act_due, act_after, due_of, action_at, stepped, listed, limited, owing, first_owed, phase_due, phase_after, after_due, one_more, one_made, enter_due, mark_if, or_else, value_of, back_in, result_of}
 use Rattle.abstract_machine.specs.Limits.{most_entries, most_frames}
 use Rattle.abstract_machine.specs.Registers.{words_of}
 use Rattle.abstract_machine.specs.Cells.{access_kind}

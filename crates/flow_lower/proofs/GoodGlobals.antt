@@ -1,5 +1,5 @@
 -- The global cells of a sound core tree fit its code.
-use Rattle.std.proofs.Common.{◌≡◌, ◌⊎◌, ⊎_elim, ℕ, zero, suc, ◌+◌, ◌<◌, ◌≤◌, ◌^◌, Bool, true, false, ◌&&◌, ◌||◌, ◌==◌, nat_le, cond, List, [], ◌∷◌, length, drop, Option, Some, None, slice_get, slice_index_or, refl, sym, ◌∙◌, ap, subst, arith}
+use Rattle.std.proofs.Common.{◌≡◌, ◌⊎◌, ⊎_elim, ℕ, zero, suc, ◌+◌, ◌<◌, ◌≤◌, ◌^◌, Bool, true, false, ◌&&◌, ◌==◌, nat_le, cond, List, [], ◌∷◌, length, drop, Option, Some, None, slice_get, slice_index_or, refl, sym, ◌∙◌, ap, subst, arith}
 use Rattle.std.proofs.lemmas.Bool.{and_parts, and_from, or_left, or_right, leb-true, le-leb, eqb-false, eq-eqb}
 use Rattle.rr_base.proofs.Lists.{slice_get-drop}
 use Rattle.rr_base.specs.Words.{pack, site_of}
@@ -11,7 +11,7 @@ use Rattle.rr_base.specs.declared.layout.Site.{Site}
 use Rattle.abstract_machine.specs.Pointers.{site_at, base_at, same_kind}
 use Rattle.abstract_machine.specs.Cells.{size_in, size_of}
 use Rattle.abstract_machine.specs.Layouts.{layout_fits, sites_fit}
-use Rattle.flow_code.specs.Addresses.{address_at, whole_object, address_of, names_it, is_address, lies_apart, all_apart, begin_with, object_fits, objects_fit, word_fits, words_fit, globals_fit}
+use Rattle.flow_code.specs.Addresses.{address_at, whole_object, address_of, is_given, is_address, lies_apart, all_apart, begin_with, object_fits, objects_fit, word_fits, words_fit, globals_fit}
 use Rattle.c_core.specs.Core.{Program}
 use Rattle.flow_lower.specs.Lowered.{lowered}
 use Rattle.c_core.specs.Sound.{IsAddress, AreAtHome}
@@ -70,9 +70,9 @@ module _ (p : Program) (homes : AreAtHome p (base_at p.global_bases)) (layouts :
       let base = h.1 in
       let there = homes.there s base h.2 in
       let size : size_of p.sites s ≡ there.0.layout.size = ap size_in there.1 in
-      ap (λ t. names_it w (address_of (lowered p) t)) (site_is w s base h.2 h.3)
-      ∙ ap (λ o. names_it w (whole_object s o (home s))) there.1
-      ∙ ap (λ o. names_it w (whole_object s (Some there.0) o)) h.2
+      ap (λ t. is_given w (address_of (lowered p) t)) (site_is w s base h.2 h.3)
+      ∙ ap (λ o. is_given w (whole_object s o (home s))) there.1
+      ∙ ap (λ o. is_given w (whole_object s (Some there.0) o)) h.2
       ∙ eq-eqb w (pack s base there.0.layout.size 0) (h.3 ∙ ap (λ n. pack s base n 0) size)
 
   -- ---- start words

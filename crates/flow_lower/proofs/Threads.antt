@@ -14,7 +14,7 @@ use Rattle.abstract_machine.specs.declared.event.Due.TheVariants as due
 use Rattle.abstract_machine.specs.declared.event.Action.TheVariants as action
 use Rattle.abstract_machine.specs.Values.{word}
 use Rattle.abstract_machine.specs.Library.{count_in}
-use Rattle.flow_code.specs.Threads.{Frame, Thread, line_of, line_of_function}
+use Rattle.flow_code.specs.Threads.{Thread, line_of, line_of_function}
 use Rattle.abstract_machine.specs.Cells.{argument_cell}
 use Rattle.flow_code.specs.Next.{due_of, action_of, action_at, stepped, listed, limited, owing, first_owed, phase_due, phase_after, after_due, one_more, or_else, enter_due, counted}
 use Rattle.abstract_machine.specs.Limits.{most_entries}

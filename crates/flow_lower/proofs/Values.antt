@@ -25,10 +25,10 @@ use Rattle.c_core.specs.declared.value.UnaryOp.TheVariants as unary_op
 use Rattle.c_core.specs.declared.value.Change.{Change}
 use Rattle.c_core.specs.declared.value.Change.TheVariants as change
 use Rattle.c_core.specs.Core as core
-use Rattle.c_core.specs.Core.{Exp, null, object, global, load, unary, binary, move, advance, member, between, to_pointer, to_number, copy, both, either, conditional, comma, set_register, store, change_register, change_cell, Exps, no_exp, and_exp, Function, Program}
+use Rattle.c_core.specs.Core.{Exp, null, object, global, load, unary, binary, move, advance, member, between, to_pointer, to_number, copy, both, either, conditional, comma, set_register, store, change_register, change_cell, Function, Program}
 use Rattle.c_core.specs.Runs.{Run, State, ◌>>=◌, result_at, counted, with_value}
 use Rattle.c_core.specs.Meaning as meaning
-use Rattle.c_core.specs.Meaning.{Calls, value, unary_of, changed, load_at, store_at}
+use Rattle.c_core.specs.Meaning.{Calls, value, unary_of, changed}
 use Rattle.flow_lower.specs.Kept.{assigns, loses, copied_if}
 use Rattle.flow_lower.specs.Lowered.{held, body_kept, statement_kinds, instr, lowered, function_kinds, body_code, exp_kinds, width, exp_size, exp_code, unary_work, change_work, computes, truth_code}
 use Rattle.flow_lower.specs.Follows.{Follows}

@@ -1,5 +1,5 @@
 -- How many operations an object can have had, where the thread of a log's entry hasn't made it.
-use Rattle.std.proofs.Common.{◌≡◌, ◌≢◌, ℕ, suc, ◌+◌, ◌<◌, ◌≤◌, true, List, [], ◌∷◌, ◌++◌, Some, refl, sym, ap, ◌∙◌, subst, arith, append_assoc, ⊎_elim, inl, inr, ◌⊎◌, pos}
+use Rattle.std.proofs.Common.{◌≡◌, ℕ, suc, ◌+◌, ◌<◌, ◌≤◌, true, List, [], ◌∷◌, ◌++◌, Some, refl, sym, ap, ◌∙◌, subst, arith, append_assoc, ⊎_elim, inl, inr, ◌⊎◌, pos}
 use Rattle.std.specs.Prelude.{slice_get, slice_index}
 use Rattle.std.proofs.lemmas.Bool.{cases_eq, cases_lt}
 use Rattle.std.proofs.lemmas.List.{get_or-set_other}
@@ -11,14 +11,13 @@ use Rattle.runs.specs.Laws.{IsLawfulEffect, IsLawful}
 use Rattle.runs.specs.Merge.{entries_at}
 use Rattle.runs.specs.Steps.{Becomes, Leaves, Effect, Refused, Marks, Loads, Stores, Operates, Machine, State, outcome, stepped, added, effect_entry, run, trace, entries_of, number_at}
 use Rattle.runs.proofs.Apart.{run_more, trace_more}
-use Rattle.runs.proofs.Lists.{AllIn, AllIn-append, AllIn-entries_of, AllIn-front, AllIn-map, AllIn-of_threads, own_in, own_out}
+use Rattle.runs.proofs.Lists.{AllIn, own_in, own_out}
 use Rattle.runs.proofs.Numbers.{draws}
 use Rattle.runs.proofs.SameEntries.{object_cases}
 use Rattle.runs.proofs.Swap.{steps_of, adds_of, load_inv, change_inv}
 use Rattle.runs.proofs.Written.{entries_at-append, one_here}
 use Rattle.followed_logs.specs.Following.{Follows, IsFresh}
 use Rattle.followed_logs.specs.Numbered.{numbered, numbered_after, with_number}
-use Rattle.followed_logs.proofs.Fronts.{AllIn-prefix}
 use Rattle.followed_logs.proofs.Numbers.{IsAfter, are_after, numbered-append}
 
 -- one of the entries

@@ -9,7 +9,7 @@ use Rattle.runs.specs.Labels.{Go, label_thread, label_of}
 use Rattle.runs.specs.Laws.{IsLawfulEffect, IsLawful}
 use Rattle.runs.specs.Merge.{entries_at}
 use Rattle.runs.specs.Same.{same_entry}
-use Rattle.runs.specs.Steps.{Change, NotAllowed, Becomes, Outcome, Blocked, Effect, Refused, Marks, Loads, Stores, Operates, Machine, State, changed_outcome, outcome, with_thread, step_of_thread, stepped, added, effect_entry, entry_of_thread, run, trace, entries_of, count_of, count_or_zero, number_at}
+use Rattle.runs.specs.Steps.{Change, NotAllowed, Blocked, Effect, Refused, Marks, Loads, Stores, Operates, Machine, State, changed_outcome, outcome, with_thread, step_of_thread, stepped, added, effect_entry, entry_of_thread, run, entries_of, count_of, count_or_zero, number_at}
 use Rattle.runs.specs.Walk.{if_nothing, if_only, alone, made, part}
 use Rattle.runs.proofs.Apart.{thread_of_label}
 use Rattle.runs.proofs.SameEntries.{same_entry-true}

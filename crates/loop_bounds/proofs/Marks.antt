@@ -1,5 +1,5 @@
 -- One step of the search for the Mark of the loop round an instruction.
-use Rattle.std.proofs.Common.{◌≡◌, ℕ, zero, suc, ◌-◌, ◌<◌, Bool, true, false, cond, List, Option, Some, None, refl, sym, ap, subst, ◌∙◌, arith}
+use Rattle.std.proofs.Common.{◌≡◌, ℕ, suc, ◌-◌, true, false, cond, List, Some, ap, ◌∙◌}
 use Rattle.flow_code.specs.declared.act.Instr.{Instr}
 use Rattle.weak_facts.specs.Ranges.{begins_round, mark_before}
 

@@ -1,11 +1,11 @@
 -- What the pointer of a range is at its access.
-use Rattle.std.proofs.Common.{◌≡◌, ◌≢◌, ℕ, zero, suc, ◌+◌, ◌-◌, ◌<◌, ◌≤◌, ◌^◌, Bool, true, false, cond, ◌&&◌, ℤ, pos, negsuc, ◌+ℤ◌, ◌-ℤ◌, ◌*ℤ◌, neg_ℤ, List, length, set, Option, Some, None, Ok, Err, Result, refl, sym, ap, subst, ◌∙◌, arith, ◌⊎◌, inl, inr, ⊎_elim, eqb-true, ltb-true, eq-eqb, to_z-of_z}
-use Rattle.std.specs.Prelude.{slice_get, slice_set, ◌==◌, nat_lt, FitsSigned}
+use Rattle.std.proofs.Common.{◌≡◌, ℕ, suc, ◌+◌, ◌-◌, ◌<◌, ◌≤◌, ◌^◌, Bool, true, false, cond, ◌&&◌, ℤ, pos, negsuc, ◌+ℤ◌, ◌-ℤ◌, ◌*ℤ◌, neg_ℤ, List, length, set, Option, Some, None, Ok, Err, refl, sym, ap, subst, ◌∙◌, arith, ◌⊎◌, ⊎_elim, eqb-true, ltb-true, eq-eqb, to_z-of_z}
+use Rattle.std.specs.Prelude.{slice_set, ◌==◌, nat_lt, FitsSigned}
 use mir.Syntax.{w64}
 use Rattle.std.specs.Option.{option_and_then}
 use Rattle.std.proofs.lemmas.Bool.{cases_lt}
 use Rattle.std.proofs.lemmas.List.{get_or-set_same}
-use Rattle.std.proofs.Math.IntN.{+ℤ_idr, *ℤ-one, neg_ℤ-neg_ℤ}
+use Rattle.std.proofs.Math.IntN.{+ℤ_idr, *ℤ-one}
 use Rattle.rr_base.specs.declared.layout.Site.{Site}
 use Rattle.rr_base.specs.declared.trap.Trap.{Trap}
 use Rattle.rr_base.specs.declared.trap.Trap.TheVariants.{Overflow}
@@ -24,16 +24,16 @@ use Rattle.abstract_machine.specs.Pointers.{directed, moved_by}
 use Rattle.flow_code.specs.Works.{is_pointer, work_of}
 use Rattle.abstract_machine.specs.Registers.{register}
 use Rattle.abstract_machine.specs.Operators.{based, either_binary_of}
-use Rattle.facts.specs.Blocks.{assigns, is_register, is_target, constant_at, goes_to}
+use Rattle.facts.specs.Blocks.{assigns, is_target, constant_at}
 use Rattle.weak_facts.specs.Loops.{nth, keeps, is_entered_at}
 use Rattle.weak_facts.specs.Ranges.{maker_at, made_at, base_of, base_at, negative, negative_of, shift_by, made_shift, shift_at, moved_of, moved_shift, last_maker, has_one_maker, only_maker, pointer_of}
 use Rattle.loop_bounds.specs.Forms.{IsBorneOut}
-use Rattle.loop_bounds.specs.Turns.{Setting, Goes, Computes, Comes, AreFit, IsBaseWord, IsMoved}
+use Rattle.loop_bounds.specs.Turns.{Setting, Goes, Comes, AreFit, IsBaseWord, IsMoved}
 use Rattle.loop_bounds.proofs.Steps.{both_true, kept, is_entered}
-use Rattle.loop_bounds.proofs.Regions.{IsEntered, comes_in, holds_in}
+use Rattle.loop_bounds.proofs.Regions.{comes_in, holds_in}
 use Rattle.loop_bounds.proofs.Borne.{cond_some, chained, kept_there}
 use Rattle.loop_bounds.proofs.Turning.{stays}
-use Rattle.loop_bounds.proofs.Making.{IsMade, made, IsConstant, constant_made, constant_act, IsLastMaker, last_made, targeted, after_target, made_value, as_long_as}
+use Rattle.loop_bounds.proofs.Making.{IsMade, made, constant_made, constant_act, IsLastMaker, last_made, targeted, after_target, made_value, as_long_as}
 
 -- ---- numbers
 

@@ -1,5 +1,5 @@
 -- What the counter is where the loop jumps back.
-use Rattle.std.proofs.Common.{◌≡◌, ◌≢◌, ℕ, ◌+◌, ◌-◌, ◌<◌, ◌≤◌, true, false, ℤ, ◌+ℤ◌, List, length, Option, Some, Ok, refl, sym, ap, subst, ◌∙◌, arith, ◌⊎◌, ⊎_elim, ne_eqb, to_z-of_z}
+use Rattle.std.proofs.Common.{◌≡◌, ◌≢◌, ℕ, ◌+◌, ◌-◌, ◌<◌, ◌≤◌, false, ℤ, ◌+ℤ◌, List, length, Option, Some, sym, ap, subst, ◌∙◌, arith, ◌⊎◌, ⊎_elim, ne_eqb, to_z-of_z}
 use Rattle.std.proofs.lemmas.Bool.{cases_lt}
 use Rattle.flow_code.specs.declared.act.Act.{Act}
 use Rattle.flow_code.specs.declared.act.Act.TheVariants as act
@@ -10,7 +10,7 @@ use Rattle.flow_code.specs.declared.work.Work.TheVariants as work
 use Rattle.abstract_machine.specs.declared.operator.BinaryOp.TheVariants as op
 use Rattle.abstract_machine.specs.Values.{number, word}
 use Rattle.abstract_machine.specs.Registers.{register}
-use Rattle.facts.specs.Blocks.{assigns, is_register}
+use Rattle.facts.specs.Blocks.{assigns}
 use Rattle.weak_facts.specs.Loops.{nth}
 use Rattle.loop_bounds.specs.Forms.{IsBorneOut, IsLastPart}
 use Rattle.loop_bounds.specs.Turns.{Setting, Goes, Comes, AreFit}

@@ -1,7 +1,7 @@
 -- What one step of a frame assigns, and where it goes.
-use Rattle.std.proofs.Common.{◌≡◌, ◌≢◌, ℕ, zero, suc, ◌+◌, ◌-◌, ◌<◌, ◌≤◌, Bool, true, false, cond, ◌&&◌, ◌||◌, not, List, [], ◌∷◌, length, get_or, set, take, drop, Option, Some, None, refl, sym, ap, subst, ◌∙◌, arith, ◌⊎◌, inl, inr, ⊎_elim, eq-eqb, eqb-true, lt-ltb, le-leb}
+use Rattle.std.proofs.Common.{◌≡◌, ◌≢◌, ℕ, zero, suc, ◌+◌, ◌-◌, ◌<◌, ◌≤◌, Bool, true, false, cond, ◌&&◌, ◌||◌, not, List, [], ◌∷◌, length, get_or, set, take, drop, Option, Some, None, refl, sym, ap, ◌∙◌, arith, ◌⊎◌, inl, inr, ⊎_elim, eq-eqb, eqb-true, lt-ltb, le-leb}
 use Rattle.std.specs.Prelude.{slice_get, slice_set, slice_range, nat_lt, nat_le, ◌==◌}
-use Rattle.std.specs.List.{list_all, list_any}
+use Rattle.std.specs.List.{list_all}
 use Rattle.std.proofs.lemmas.Bool.{cases_lt}
 use Rattle.std.proofs.lemmas.List.{get_or-set_other, length-set}
 use Rattle.flow_code.specs.declared.act.Act.{Act}
@@ -9,11 +9,11 @@ use Rattle.flow_code.specs.declared.act.Act.TheVariants as act
 use Rattle.flow_code.specs.declared.act.Instr.{Instr}
 use Rattle.flow_code.specs.Next.{act_in, branch_to}
 use Rattle.abstract_machine.specs.Registers.{register}
-use Rattle.facts.specs.Blocks.{assigns, assigned, is_register, goes_to, is_target}
+use Rattle.facts.specs.Blocks.{assigns, assigned, is_register, goes_to}
 use Rattle.facts.specs.Paths.{is_never_assigned}
 use Rattle.weak_facts.specs.Loops.{nth, goes_into, none_goes_into, is_entered_at, is_within}
 use Rattle.loop_bounds.specs.Forms.{IsEnteredAt}
-use Rattle.loop_bounds.specs.Turns.{Setting, Goes, Puts, Computes}
+use Rattle.loop_bounds.specs.Turns.{Setting, Goes}
 
 -- ---- what is assigned
 

@@ -1,5 +1,5 @@
 -- What a range says of the pointer of its access.
-use Rattle.std.proofs.Common.{◌≡◌, ◌≢◌, ℕ, ◌+◌, ◌-◌, ◌<◌, ◌≤◌, Bool, true, false, cond, ◌&&◌, ℤ, List, [], ◌∷◌, length, Option, Some, None, refl, sym, ap, subst, ◌∙◌, arith, ◌⊎◌, ⊎_elim, leb-true}
+use Rattle.std.proofs.Common.{◌≡◌, ◌≢◌, ℕ, ◌-◌, ◌≤◌, Bool, true, false, cond, ◌&&◌, ℤ, List, [], ◌∷◌, length, Option, Some, None, refl, sym, ap, subst, ◌∙◌, arith, ◌⊎◌, ⊎_elim, leb-true}
 use Rattle.std.specs.Prelude.{nat_le}
 use Rattle.std.specs.List.{filter}
 use Rattle.std.specs.Option.{option_and_then}
@@ -20,7 +20,7 @@ use Rattle.loop_bounds.specs.Forms.{IsBorneOut}
 use Rattle.loop_bounds.specs.Turns.{Setting, Comes, AreFit, IsElement}
 use Rattle.loop_bounds.proofs.Steps.{both_true}
 use Rattle.loop_bounds.proofs.Borne.{cond_some, chained, borne_out}
-use Rattle.loop_bounds.proofs.Pointing.{IsTurn, pointer_word}
+use Rattle.loop_bounds.proofs.Pointing.{pointer_word}
 
 record IsRound (fn : Function) (k : ℕ) (l : LoopInfo) : Type 0 where
   pub bears_out : is_counted fn l ≡ true

@@ -1,6 +1,6 @@
 -- What a valid code's instructions fit: registers, constants and addresses.
-use Rattle.std.proofs.Common.{◌≡◌, ℕ, ◌+◌, ◌^◌, ◌<◌, ◌≤◌, ◌&&◌, ◌||◌, Bool, true, false, not, List, length, Option, Some, None, refl, sym, ◌∙◌, subst, arith, eqb-true}
-use Rattle.std.specs.Prelude.{slice_get, nat_le, ◌==◌}
+use Rattle.std.proofs.Common.{◌≡◌, ℕ, ◌^◌, ◌<◌, ◌≤◌, ◌&&◌, ◌||◌, Bool, true, false, not, List, length, Option, Some, None, refl, sym, ◌∙◌, subst, arith, eqb-true}
+use Rattle.std.specs.Prelude.{slice_get, nat_le}
 use Rattle.std.proofs.lemmas.Bool.Decides.{nat_tests}
 use Rattle.rr_base.specs.Words.{site_of, base_of, length_of, offset_of}
 use Rattle.flow_code.specs.declared.act.Act.{Act}
@@ -16,7 +16,7 @@ use Rattle.flow_code.specs.Kinds.{has_register, has_pointer, has_whole, has_kind
 use Rattle.abstract_machine.specs.Kinds.{is_comparison, library_kinds}
 use Rattle.flow_code.specs.Next.{act_in}
 use Rattle.flow_code.specs.Threads.{is_main_in}
-use Rattle.flow_code.specs.Valid.{is_valid, is_within_limits, all_locks_fit, has_one_main, functions_fit, function_fits, most_locks}
+use Rattle.flow_code.specs.Valid.{is_valid, is_within_limits, all_locks_fit, has_one_main, functions_fit, function_fits}
 use Rattle.flow_code.proofs.Objects.{address_site, address_whole}
 use Rattle.flow_code.proofs.ValidParts.{few_sites, few_globals}
 use Rattle.abstract_machine.specs.Layouts.{sites_fit}

@@ -1,5 +1,5 @@
 -- The order of pairs, and lists of pairs as sets.
-use Rattle.std.proofs.Common.{◌≡◌, ℕ, zero, suc, ◌<◌, ◌||◌, Bool, true, false, List, [], ◌∷◌, length, Ordering, Less, Equal, Greater, nat_cmp, is_eq, cond, refl, sym, ap, ap₂, ◌∙◌, subst, ◌⊎◌, inl, inr, arith}
+use Rattle.std.proofs.Common.{◌≡◌, zero, suc, ◌||◌, Bool, true, false, List, [], ◌∷◌, Ordering, Less, Equal, Greater, is_eq, cond, refl, sym, ap, ◌∙◌, subst, ◌⊎◌, inl, inr, arith}
 use Rattle.std.proofs.lemmas.Bool.{or_cases}
 use Rattle.std.proofs.lemmas.Cmp.{nat_list_cmp_total, then_total, on_total, tied_itself}
 use Rattle.std.proofs.lemmas.Map.Text.{is_eq-slice_cmp}
@@ -9,7 +9,7 @@ use Rattle.std.specs.Cmp.{IsTotalOrder}
 use Rattle.std.specs.List.{Contains, list_any, AllByRecursion}
 use Rattle.std.specs.List.Sorted.{IsStrictlySortedBy}
 use Rattle.std.specs.Ordering.{ordering_then, ordering_reverse, is_lt, is_le}
-use Rattle.profiles.proofs.Ascending.{one_list, Up, Before, before_less, In_at, at_In}
+use Rattle.profiles.proofs.Ascending.{one_list, Up, before_less, In_at, at_In}
 use Rattle.profiles.specs.Profile.{Text, Pair, text_order, pair_order, AreAscending, IsLesserFirst}
 use Rattle.profile_book.specs.Listing.{IsSetOf, lesser_first}
 

@@ -1,5 +1,5 @@
 -- What is written of pairs is read back.
-use Rattle.std.proofs.Common.{◌≡◌, ℕ, true, false, ◌≤◌, ◌++◌, List, [], ◌∷◌, codes, map, max, Option, Some, option_and_then, refl, sym, ap, ◌∙◌, arith, append-nil}
+use Rattle.std.proofs.Common.{◌≡◌, true, false, ◌≤◌, List, [], ◌∷◌, codes, max, Option, Some, option_and_then, refl, sym, ap, ◌∙◌, arith, append-nil}
 use Rattle.std.specs.List.{AllByRecursion}
 use Rattle.std.specs.Str.{IsUtf8}
 use Rattle.std.proofs.lemmas.Str.{IsUtf8-append}

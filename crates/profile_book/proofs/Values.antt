@@ -1,8 +1,8 @@
 -- The parts of a value that lists pairs.
-use Rattle.std.proofs.Common.{◌≡◌, ℕ, ◌||◌, Bool, true, false, List, [], ◌∷◌, length, map, codes, Option, Some, None, option_and_then, String, Global, refl, sym, ap, ◌∙◌, subst, arith}
+use Rattle.std.proofs.Common.{◌≡◌, ◌||◌, false, List, [], ◌∷◌, length, codes, Option, Some, None, option_and_then, String, Global, refl, sym, ap, ◌∙◌, subst, arith}
 use Rattle.std.specs.List.{AllByRecursion}
 use Rattle.profiles.specs.Profile.{Text, Pair, IsLesserFirst}
-use Rattle.serde_json.specs.Data.{Data, null, boolean, number, string, array, object, Items, no_items, item, Members, no_members, member}
+use Rattle.serde_json.specs.Data.{Data, null, boolean, number, string, array, object, Items, no_items, item, Members, member}
 use Rattle.serde_json.specs.Find.{get, get_member, as_object, as_array, as_str}
 use Rattle.serde_json.specs.View.{items_view, members_view, items_of}
 use Rattle.serde_json.specs.Written.{has_float, items_have_float}

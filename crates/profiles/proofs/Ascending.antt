@@ -1,6 +1,6 @@
 -- Lists that ascend strictly are equal where they have the same members.
-use Rattle.std.proofs.Common.{◌≡◌, ℕ, zero, suc, ◌<◌, ◌&&◌, Bool, true, false, List, [], ◌∷◌, length, refl, sym, ap, ◌∙◌, subst, ◌⊎◌, inl, inr, arith}
-use Rattle.std.specs.Prelude.{slice_get, slice_index_or, Option, Some, None}
+use Rattle.std.proofs.Common.{◌≡◌, ℕ, zero, suc, ◌&&◌, Bool, true, false, List, [], ◌∷◌, length, refl, sym, ap, ◌∙◌, subst, ◌⊎◌, inl, inr, arith}
+use Rattle.std.specs.Prelude.{slice_get, slice_index_or, None}
 use Rattle.std.specs.List.{Contains}
 
 module _ {X : Type 0} (less : X → X → Bool) (irr : (x : X) → less x x ≡ true → ⊥) (trans : (x y z : X) → less x y ≡ true → less y z ≡ true → less x z ≡ true) where

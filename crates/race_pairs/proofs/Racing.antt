@@ -15,7 +15,7 @@ use Rattle.facts.specs.declared.locks.Summary.{Summary}
 use Rattle.facts.specs.declared.pair.AccessAt.{AccessAt}
 use Rattle.facts.specs.declared.pair.Pair.{Pair}
 use Rattle.facts.specs.PointsTo.{Tables}
-use Rattle.facts.specs.Pairs.{is_root, places_of, stands, guarded_in, share_lock, MayRace, ArePairs, pairs_ascend, access_less}
+use Rattle.facts.specs.Pairs.{is_root, places_of, stands, guarded_in, MayRace, ArePairs, pairs_ascend, access_less}
 use Rattle.facts.specs.Pairs as facts_pairs
 use Rattle.facts.proofs.TotalOrders.{orders_numbers}
 use Rattle.race_pairs.specs.declared.touch.Reached.{Reached}

@@ -30,7 +30,7 @@ use Rattle.runs.specs.Labels.{Go, Revoke, Stop, Close, label_of}
 use Rattle.runs.specs.Steps.{Change, NotAllowed, Becomes, Refused, Operates}
 use Rattle.shared_cells.specs.Rule.{Board}
 use Rattle.shared_cells.specs.Seats.{view_of, IsSeatOf, place_in, AttemptIs, IsDone, IsRefused, HasMoved}
-use Rattle.shared_cells.specs.Threads.{Way, Own, way_of, after_operation, pending}
+use Rattle.shared_cells.specs.Threads.{Own, way_of, after_operation, pending}
 use Rattle.shared_cells.specs.Views.{SeatView, looked, missed, with_thread}
 use Rattle.shared_cells.specs.declared.attempt.Attempt.{Attempt}
 use Rattle.shared_cells.specs.declared.attempt.Attempt.TheVariants as attempt

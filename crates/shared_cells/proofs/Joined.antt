@@ -10,7 +10,7 @@ use Rattle.atomic_table.specs.Seated.{TableId}
 use Rattle.atomic_table.specs.Table.{Joins}
 use Rattle.atomic_table.specs.declared.shared.Seat.{Seat as TableSeat}
 use Rattle.atomic_table.proofs.Lists.{at_set, set_here, set_else}
-use Rattle.rr_base.proofs.Lists.{slice_get-append_left, slice_get-append_right, slice_get-append_found}
+use Rattle.rr_base.proofs.Lists.{slice_get-append_right, slice_get-append_found}
 use Rattle.sync_objects.specs.Setup.{SetupView}
 use Rattle.flow_code.specs.declared.code.Code.{Code}
 use Rattle.core_run.specs.Machine.{start_told}

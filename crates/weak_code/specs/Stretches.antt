@@ -1,7 +1,7 @@
 -- The regions of a function, and the instructions during which each is open: one for the accesses that are guarded with the
 -- function, one for each loop and each block with accesses that are guarded with it, and one for each other access that may
 -- race. They are numbered in this order, so a region within another has the greater number.
-use Rattle.std.specs.Prelude.{ℕ, zero, suc, ◌+◌, ◌-◌, ◌==◌, ◌&&◌, Bool, true, false, if◌then◌else◌, ℤ, List, [], ◌∷◌, ◌++◌, length, map, filter, find, slice_get, Option, Some, None, option_map}
+use Rattle.std.specs.Prelude.{ℕ, ◌+◌, ◌-◌, ◌==◌, ◌&&◌, Bool, true, false, if◌then◌else◌, ℤ, List, [], ◌∷◌, ◌++◌, length, map, filter, find, slice_get, Option, Some, None, option_map}
 use Rattle.std.specs.List.{filter_map}
 use Rattle.rr_base.specs.Words.{site_of}
 use Rattle.rr_base.specs.declared.layout.Place.{Place}
@@ -20,7 +20,6 @@ use Rattle.flow_code.specs.Next.{act_in}
 use Rattle.flow_code.specs.Threads.{objects_of}
 use Rattle.facts.specs.declared.pair.AccessAt.{AccessAt}
 use Rattle.facts.specs.Accesses.{Access}
-use Rattle.facts.specs.Blocks.{assigns}
 use Rattle.facts.specs.PointsTo.{Tables}
 use Rattle.facts.specs.Pairs.{access_in, act_of, places_of}
 use Rattle.weak_facts.specs.declared.grain.Grain.{Grain}

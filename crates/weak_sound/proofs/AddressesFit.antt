@@ -1,5 +1,5 @@
 -- The globals of a weakened code are those of the code, and so are their addresses.
-use Rattle.std.proofs.Common.{◌≡◌, ℕ, ◌&&◌, Bool, true, List, [], ◌∷◌, length, refl, ap, ◌∙◌, Option, Some, None}
+use Rattle.std.proofs.Common.{◌≡◌, ℕ, ◌&&◌, true, List, [], ◌∷◌, length, refl, ap, ◌∙◌, Option, Some, None}
 use Rattle.std.specs.Prelude.{◌==◌, is_some}
 use Rattle.rr_base.specs.Words.{site_of}
 use Rattle.rr_base.specs.declared.layout.CellKind.{CellKind}
@@ -7,7 +7,7 @@ use Rattle.rr_base.specs.declared.layout.Site.{Site}
 use Rattle.flow_code.specs.declared.code.Code.{Code}
 use Rattle.flow_code.specs.declared.code.Function.{Function}
 use Rattle.flow_code.specs.declared.code.LockInfo.{LockInfo}
-use Rattle.flow_code.specs.Addresses.{address_at, address_of, is_global, names_it, is_address, object_fits, objects_fit, word_fits, words_fit, globals_fit}
+use Rattle.flow_code.specs.Addresses.{address_at, address_of, is_global, is_given, is_address, object_fits, objects_fit, word_fits, words_fit, globals_fit}
 use Rattle.weak_sound.proofs.ActsFit.{code_with}
 
 module _ (code : Code) (fns : List Function) (locks : List LockInfo) where
@@ -38,6 +38,6 @@ module _ (code : Code) (fns : List Function) (locks : List LockInfo) where
 pub address_global : (code : Code) (w : ℕ) → is_address code w ≡ true → is_global code (site_of w) ≡ true
 address_global code w h = by (address_of code (site_of w)) h
   where
-    by : (o : Option ℕ) → names_it w o ≡ true → is_some o ≡ true
+    by : (o : Option ℕ) → is_given w o ≡ true → is_some o ≡ true
     by None e = cc
     by (Some v) e = refl

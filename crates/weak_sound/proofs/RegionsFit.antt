@@ -1,8 +1,7 @@
 -- The regions of a weakened function.
-use Rattle.std.proofs.Common.{◌≡◌, ℕ, zero, suc, ◌+◌, ◌-◌, ◌≤◌, ◌&&◌, Bool, true, false, ℤ, pos, List, [], ◌∷◌, ◌++◌, length, map, refl, sym, ap, ◌∙◌, subst, arith, eqb-true, leb-true, Option, Some, None, option_map, option_and_then}
+use Rattle.std.proofs.Common.{◌≡◌, ℕ, zero, suc, ◌+◌, ◌-◌, ◌≤◌, ◌&&◌, Bool, true, false, ℤ, pos, List, [], ◌∷◌, ◌++◌, length, map, refl, ap, ◌∙◌, subst, arith, eqb-true, leb-true, Option, Some, None, option_map, option_and_then}
 use Rattle.std.specs.Prelude.{slice_get, if◌then◌else◌, nat_le, ◌==◌, int_lt}
 use Rattle.std.specs.List.{list_all, filter_map}
-use Rattle.std.proofs.lemmas.Bool.Decides.{nat_tests}
 use Rattle.std.proofs.lemmas.Option.{same_Some}
 use Rattle.rr_base.specs.Words.{site_of}
 use Rattle.abstract_machine.specs.declared.library_call.LibraryCall.{LibraryCall}
@@ -24,13 +23,11 @@ use Rattle.flow_code.specs.declared.work.Work.TheVariants as work
 use Rattle.flow_code.specs.Next.{act_in}
 use Rattle.flow_code.specs.Order.{is_mark}
 use Rattle.flow_code.specs.Addresses.{is_address}
-use Rattle.flow_code.specs.Kinds.{has_register, has_pointer, has_whole, has_kind, have_kinds, starts_fit, library_value_fits, act_fits}
+use Rattle.flow_code.specs.Kinds.{has_register, has_pointer, has_whole, have_kinds, starts_fit, library_value_fits, act_fits}
 use Rattle.abstract_machine.specs.Kinds.{library_kinds}
 use Rattle.flow_code.specs.Regions.{ascend, are_locks, locks_fit, base_fits, bound_is_whole, span_fits, spans_fit, region_fits}
 use Rattle.flow_code.specs.Threads.{Object, object_of, and_objects, objects_of}
-use Rattle.flow_code.specs.Works.{is_pointer}
 use Rattle.facts.specs.Accesses.{Access, access_of}
-use Rattle.facts.specs.Blocks.{assigns}
 use Rattle.weak_facts.specs.declared.grain.Grain.TheVariants as grain
 use Rattle.weak_facts.specs.Loops.{nth, is_jump, adds_itself, last_part_at, condition_end, are_numbers, has_places, begins_so, tested, is_branch, raised, is_copy, is_any_copy, ends_so, has_form, keeps_numbers, is_entered_so, is_counted}
 use Rattle.weak_code.specs.declared.stretch.RacyAccess.{RacyAccess}

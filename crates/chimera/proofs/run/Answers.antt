@@ -1,4 +1,4 @@
-use Rattle.std.proofs.Common.{map, string_bytes, ◌≡◌, sym, subst}
+use Rattle.std.proofs.Common.{map, string_bytes, sym, subst}
 use Rattle.chimera.specs.Mains.{IsEndOf}
 use Rattle.chimera.proofs.run.Goals as goal
 

@@ -7,5 +7,5 @@ use Rattle.c_elaborate.proofs.functions.kept_in.Goals as goal
 pub returns-clause-last : goal.returns-clause-last
 returns-clause-last c =
     definition_after c.args.marks.now.numbers c.args.first c.in_ok-middle.middle _ c.args.params.now (listed_parts (map part_of c.args.parts.now)) c.in_ok-locals.locals
-    c.in_ok-middle.ensures c.in_ok-locals.ensures
-    (c.in_ok-last.ensures ∙ ap (λ (z : ℕ). c.in_ok-middle.middle + z) c.len.ensures)
+    c.in_ok-middle.ensures.is c.in_ok-locals.ensures
+    (c.in_ok-last.ensures.is ∙ ap (λ (z : ℕ). c.in_ok-middle.middle + z) c.len.ensures)

@@ -1,6 +1,6 @@
-use Rattle.std.proofs.Common.{◌≡◌, ◌≤◌, ◌+◌, ◌++◌, ◌∷◌, [], subst, sym, suc, length, take, drop, vec_len, vec_capacity, arith}
+use Rattle.std.proofs.Common.{◌≡◌, ◌+◌, ◌++◌, ◌∷◌, [], subst, sym, suc, length, take, drop, vec_len, arith}
 use Rattle.std.specs.List.{AllZip}
-use Rattle.std.specs.Vec.Iter.{into_iter_items, into_iter_len}
+use Rattle.std.specs.Vec.Iter.{into_iter_items}
 use Rattle.std.proofs.lemmas.Slice.Zip.{AllZip-long}
 use Rattle.crew.specs.Turns.{Finished}
 use Rattle.crew.specs.Hands.{IsReady, IsReadyHandOf}

@@ -1,5 +1,5 @@
-use Rattle.std.proofs.Common.{◌≡◌, ◌<◌, ◌∙◌, sym, ap, length, true, false, IsTrue, Some, get_or, vec_len, arith}
-use Rattle.std.specs.List.{AllZip, slice_get}
+use Rattle.std.proofs.Common.{◌≡◌, ◌<◌, ◌∙◌, sym, ap, length, true, false, Some, get_or, arith}
+use Rattle.std.specs.List.{slice_get}
 use Rattle.std.proofs.lemmas.Option.{slice_get-get_or, slice_get_within}
 use Rattle.crew.specs.Hands.{IsHandOf, IsReady}
 use Rattle.crew.proofs.Zips.{zip_set, zip_both, below_set}

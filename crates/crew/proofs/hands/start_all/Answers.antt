@@ -1,4 +1,4 @@
-use Rattle.std.proofs.Common.{◌≡◌, ◌≤◌, ◌<◌, ◌+◌, ◌++◌, ◌∷◌, [], subst, sym, suc, length, take, vec_len, vec_capacity, add-one, arith}
+use Rattle.std.proofs.Common.{◌<◌, ◌+◌, ◌++◌, ◌∷◌, [], subst, sym, suc, length, take, add-one, arith}
 use Rattle.std.specs.List.{AllZip}
 use Rattle.rr_base.proofs.Lists.{slice_get_inside}
 use Rattle.crew.specs.Hands.{IsHandOf}

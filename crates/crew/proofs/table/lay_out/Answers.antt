@@ -1,4 +1,4 @@
-use Rattle.std.proofs.Common.{◌≡◌, Some, slice_get, ◌+◌, subst, sym, ◌∙◌, ap, suc, drop, vec_len, arith}
+use Rattle.std.proofs.Common.{◌≡◌, Some, slice_get, subst, sym, ◌∙◌, ap, suc, drop, vec_len, arith}
 use Rattle.std.specs.Vec.Iter.{into_iter_items}
 use Rattle.crew.proofs.Zips.{drop_next}
 use Rattle.crew.proofs.table.lay_out.Goals as goal

@@ -1,4 +1,4 @@
-use Rattle.std.proofs.Common.{◌≡◌, ◌≤◌, ◌+◌, ◌*◌, get_or, suc, take, add-one, ap, ◌∙◌, arith}
+use Rattle.std.proofs.Common.{◌≡◌, get_or, add-one, ap, ◌∙◌, arith}
 use Rattle.crew.specs.Counts.{total}
 use Rattle.crew.proofs.Totals.{total_more}
 use Rattle.crew.proofs.tally.total_turns.Goals as goal

@@ -1,4 +1,4 @@
-use Rattle.std.proofs.Common.{◌≡◌, ◌+◌, ap, ◌∙◌, arith}
+use Rattle.std.proofs.Common.{◌≡◌, ap, ◌∙◌, arith}
 use Rattle.crew.specs.Counts.{rises, total}
 use Rattle.crew.proofs.Reaching.{rises_finished}
 use Rattle.crew.proofs.threads.in_threads.Goals as goal

@@ -1,7 +1,6 @@
-use Rattle.std.proofs.Common.{◌≡◌, ◌<◌, ◌++◌, [], ◌∷◌, ℕ, ℤ, List, Option, Some, sym, subst, ap, ◌∙◌, arith, length, length-append, false}
+use Rattle.std.proofs.Common.{◌≡◌, ◌<◌, [], ◌∷◌, ℕ, ℤ, List, Option, Some, sym, subst, ap, arith, length, length-append, false}
 use Rattle.std.specs.Prelude.{slice_get, slice_index_or}
 use Rattle.std.proofs.lemmas.Option.{slice_get-get_or}
-use Rattle.flow_code.specs.declared.act.Instr.{Instr}
 use Rattle.facts.specs.Blocks.{amount_at, constant_at}
 use Rattle.facts.specs.Carried.{constant_in}
 use Rattle.facts.proofs.Carrying.{start_is, constants_entered, constants_next, amount_here, amounts_pushed}

@@ -1,4 +1,4 @@
-use Rattle.std.proofs.Common.{◌≡◌, Bool, map, ◌<◌, ◌++◌, ◌+◌, ℕ, ℤ, List, Option, Some, sym, subst, ap, ◌∙◌, drop, arith, length, false}
+use Rattle.std.proofs.Common.{◌≡◌, Bool, map, ◌<◌, ◌++◌, ◌+◌, ℕ, List, Option, Some, sym, subst, ap, ◌∙◌, drop, arith, length}
 use Rattle.std.specs.Prelude.{if◌then◌else◌, slice_get, slice_index_or}
 use Rattle.std.proofs.lemmas.Option.{slice_get-get_or}
 use Rattle.flow_code.specs.declared.act.Instr.{Instr}

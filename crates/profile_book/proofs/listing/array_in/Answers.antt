@@ -1,4 +1,4 @@
-use Rattle.std.proofs.Common.{sym, ◌∙◌, ap, arith}
+use Rattle.std.proofs.Common.{sym, ◌∙◌}
 use Rattle.profile_book.proofs.Values.{no_array, array_found}
 use Rattle.profile_book.proofs.listing.array_in.Goals as goal
 

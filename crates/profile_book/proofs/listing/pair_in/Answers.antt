@@ -1,4 +1,4 @@
-use Rattle.std.proofs.Common.{sym, ◌∙◌, ap, arith}
+use Rattle.std.proofs.Common.{arith}
 use Rattle.std.proofs.lemmas.Grind.{common_steps}
 use Rattle.profile_book.proofs.Values.{no_pair}
 use Rattle.profile_book.proofs.listing.pair_in.Goals as goal
