@@ -5,7 +5,7 @@ use Rattle.c_tree.specs.declared.name.Name.{Name}
 use Rattle.c_tree.specs.declared.program.Param.{Param}
 use Rattle.c_tree.specs.Tree.{Declares, declares, Start, start_declares, start_computes, Statement, block, compute, break_at, continue_at, gives, branch, branch_else, while_loop, do_loop, for_loop, Parts, no_part, and_declares, and_does}
 use Rattle.c_types.specs.declared.library.StarredType.{StarredType}
-use Rattle.c_sites.specs.Addresses.{count_of_declares, count_of_start, count_of_locals, count_of_parts, numbered_from}
+use Rattle.c_locals.specs.Addresses.{count_of_declares, count_of_start, count_of_locals, count_of_parts, numbered_from}
 use Rattle.c_programs.specs.Declarators.{after_params}
 use Rattle.c_types.specs.Scopes.{Known}
 use Rattle.c_core.specs.Core as core

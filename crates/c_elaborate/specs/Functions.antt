@@ -13,7 +13,7 @@ use Rattle.c_rules.specs.Faults.{name_place}
 use Rattle.c_programs.specs.Declarators.{after_params}
 use Rattle.c_programs.specs.Statements.{declared_by}
 use Rattle.c_sites.specs.Spots.{is_kept}
-use Rattle.c_sites.specs.Addresses.{is_among, numbered_from}
+use Rattle.c_locals.specs.Addresses.{is_among, numbered_from}
 use Rattle.c_core.specs.Core as core
 use Rattle.c_values.specs.declared.home.Home.{Home}
 use Rattle.c_values.specs.declared.home.Home.TheVariants as home

@@ -8,7 +8,7 @@ use Rattle.c_types.specs.Scopes.{opened}
 use Rattle.c_types.specs.Standing.{no_target}
 use Rattle.c_programs.specs.Declarators.{declared_type, declared_name}
 use Rattle.c_programs.specs.Statements.{declared_by, after_declared, after_declares, after_start}
-use Rattle.c_sites.specs.Addresses.{after_name, after_declaration, after_for_start, past_statement, inside}
+use Rattle.c_locals.specs.Addresses.{after_name, after_declaration, after_for_start, past_statement, inside}
 use Rattle.c_core.specs.Core as core
 use Rattle.c_values.specs.Denoted.{position_of}
 use Rattle.c_values.specs.Context.{Context, home_of}

@@ -2,7 +2,7 @@
 ghost use Rattle.std.specs.Prelude.{◌≡◌, ◌+◌, ◌++◌, ◌∷◌, [], IfOk, OnOk, length, map};
 ghost use Rattle.c_tree.specs.Tree.{listed_parts};
 ghost use Rattle.c_tree.specs.View.{code_of, fields_of, outer_of, part_of, program_of};
-ghost use Rattle.c_sites.specs.Addresses.{count_of_code, count_of_outer, count_of_parts, program_addressed};
+ghost use Rattle.c_locals.specs.Addresses.{count_of_code, count_of_outer, count_of_parts, program_addressed};
 ghost use Rattle.c_programs.specs.Declarators.{after_struct, listed_params};
 ghost use Rattle.c_programs.specs.Programs as programs;
 ghost use Rattle.c_types.specs.Scopes.{opened};
@@ -19,7 +19,8 @@ use crate::functions::definition;
 use crate::globals::{global_bases, global_kinds, globals_in, push_objects};
 use c_core::{Core, CoreFunction};
 use c_programs::{Table, declare_function, listed, note_struct, signature_of};
-use c_sites::{Marks, Typed, addressed_in, kinds_of_structs, spots_in};
+use c_locals::{Marks, addressed_in};
+use c_sites::{Typed, kinds_of_structs, spots_in};
 use c_tree::{Body, External, Member, Name, Param, Params, Part, Program, Specifier};
 use c_types::StarredType;
 use c_values::Source;

@@ -3,7 +3,7 @@ use Rattle.std.proofs.Common.{◌≡◌, ◌+◌, List, length, map, refl, arith
 use Rattle.std.proofs.lemmas.List.{length-map}
 use Rattle.c_tree.specs.declared.program.Param.{Param}
 use Rattle.c_tree.specs.Tree.{Declares, declares, Start, start_declares, start_computes, Statement, block, compute, break_at, continue_at, gives, branch, branch_else, while_loop, do_loop, for_loop, Parts, no_part, and_declares, and_does}
-use Rattle.c_sites.specs.Addresses.{count_of_declares, count_of_start, count_of_locals, count_of_parts}
+use Rattle.c_locals.specs.Addresses.{count_of_declares, count_of_start, count_of_locals, count_of_parts}
 use Rattle.c_sites.specs.Functions.{object_kept, declares_kept, start_kept, statement_kept, parts_kept, param_kept, definition_kept}
 
 declares_length : (d : Declares) → length (declares_kept d) ≡ count_of_declares d

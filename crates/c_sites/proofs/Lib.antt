@@ -1,7 +1,5 @@
 pub mod FunctionRows
 pub mod Kept
-pub mod Marking
-pub mod Numbering
 pub mod Programs
 pub mod SiteRows
 pub mod Sizing

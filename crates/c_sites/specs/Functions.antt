@@ -8,12 +8,10 @@ use Rattle.c_tree.specs.declared.program.Param.{Param}
 use Rattle.c_tree.specs.Tree.{Object, Declares, declares, Start, start_declares, start_computes, Statement, block, compute, break_at, continue_at, gives, branch, branch_else, while_loop, do_loop, for_loop, Parts, no_part, and_declares, and_does, Code, defined, prototype, Outer, structure, function, objects}
 use Rattle.c_sites.specs.declared.function_info.FunctionInfo.{FunctionInfo}
 use Rattle.c_programs.specs.Declarators.{listed_params}
-use Rattle.c_types.specs.Standing.{is_main}
 use Rattle.c_programs.specs.Statements.{declared_by}
-use Rattle.c_types.specs.Scopes.{has_name}
 use Rattle.c_sites.specs.Spots.{is_kept, is_kept_declared}
-use Rattle.c_sites.specs.Addresses.{program_addressed, is_among, count_of_outer}
-use Rattle.c_sites.specs.Roots.{program_starts}
+use Rattle.c_locals.specs.Addresses.{program_addressed, is_among, count_of_outer}
+use Rattle.c_locals.specs.Roots.{program_starts, is_root_among}
 
 -- ---- for each formal and local in the order of the text, whether its type keeps it in cells
 
@@ -60,10 +58,6 @@ register_where kept = if kept then 0 else 1
 abbrev pub registers_from : List ℕ → ℕ → List Bool → ℕ
 registers_from ns n [] = 0
 registers_from ns n (kept ∷ more) = register_where (kept || is_among ns n) + registers_from ns (n + 1) more
-
--- a thread begins with `main`, and with what a `pthread_create` names
-abbrev pub is_root_among : List Text → Text → Bool
-is_root_among starts name = is_main name || has_name starts name
 
 abbrev pub info_of : List ℕ → List Text → ℕ → Name → List Param → Parts → FunctionInfo
 info_of ns starts n name ps parts = record {

@@ -1,9 +1,6 @@
-pub mod Addresses
 pub mod Answers
 pub mod Functions
 pub mod Layouts
-pub mod NumberTables
-pub mod Roots
 pub mod SpotViews
 pub mod Spots
 pub mod Typed

@@ -23,7 +23,7 @@ use Rattle.c_programs.specs.Declarators.{declared_type, declared_name, listed_pa
 use Rattle.c_programs.specs.Initials.{value_target}
 use Rattle.c_programs.specs.Statements.{declared_by, after_declared, after_declares, after_start}
 use Rattle.c_programs.specs.Programs.{after_outer, after_function, known_at_start, signature_of}
-use Rattle.c_sites.specs.Addresses.{program_addressed, is_among, count_of_locals, count_of_start, count_of_declares, count_of_outer}
+use Rattle.c_locals.specs.Addresses.{program_addressed, is_among, count_of_locals, count_of_start, count_of_declares, count_of_outer}
 
 -- what holds cells
 pub data Holder : Type 0 where

@@ -1,30 +1,22 @@
 //! A checked C source: the first rule that it breaks, or its objects with their layouts, and its functions. It stands on
-//! `c_programs` and `number_text`.
+//! `c_locals` and `number_text`.
 #![tactic(auto)]
 
-mod addresses;
 mod allocations;
 mod checking;
 mod function_info;
 mod layouts;
-mod marks;
-mod number_table;
 mod program_spots;
-mod roots;
 mod sites;
 mod source;
 mod spot;
 mod spots;
 mod typed;
 
-pub use addresses::addressed_in;
 pub use checking::TypeFault;
 pub use function_info::FunctionInfo;
 pub use layouts::layout_of;
-pub use marks::Marks;
-pub use number_table::NumberTable;
 pub use program_spots::spots_in;
-pub use roots::third_name;
 pub use sites::kinds_of_structs;
 pub use source::check;
 pub use spot::{Holder, Spot, is_kept};

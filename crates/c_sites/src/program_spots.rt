@@ -2,7 +2,7 @@
 ghost use Rattle.std.specs.Prelude.{◌≡◌, ◌+◌, ◌++◌, IfOk, OnOk, map, length};
 ghost use Rattle.c_tree.specs.Tree.{listed_parts};
 ghost use Rattle.c_tree.specs.View.{code_of, fields_of, part_of, outer_of, program_of};
-ghost use Rattle.c_sites.specs.Addresses.{count_of_parts, count_of_code, count_of_outer};
+ghost use Rattle.c_locals.specs.Addresses.{count_of_parts, count_of_code, count_of_outer};
 ghost use Rattle.c_programs.specs.Declarators.{after_struct, after_params, listed_params};
 ghost use Rattle.c_programs.specs.Programs as programs;
 ghost use Rattle.c_programs.specs.Programs.{known_at_start};
@@ -12,9 +12,9 @@ ghost use Rattle.c_sites.specs.SpotViews.{shown_owner, shown_spots};
 ghost use Rattle.c_programs.specs.Table.{known_of};
 
 use crate::allocations::push_fields_allocations;
-use crate::marks::Marks;
 use crate::spot::{Owner, Spot, Where, is_kept, push_kept};
 use crate::spots::{advance, push_objects, push_parts};
+use c_locals::Marks;
 use c_programs::{
     Table, declare_function, declare_param, listed, note_struct, param_type, signature_of,
 };

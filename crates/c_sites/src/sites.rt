@@ -11,11 +11,10 @@ ghost use Rattle.c_programs.specs.Table.{known_of};
 ghost use Rattle.c_types.specs.Types.{struct_kinds};
 ghost use Rattle.c_sites.specs.Whole as whole;
 
-use crate::addresses::addressed_in;
-use crate::marks::Marks;
 use crate::program_spots::spots_in;
 use crate::spot::{Holder, Spot, object_of};
 use crate::spots::advance;
+use c_locals::{Marks, addressed_in};
 use c_programs::Table;
 use c_tree::Program;
 use c_types::{

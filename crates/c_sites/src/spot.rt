@@ -7,7 +7,7 @@ ghost use Rattle.c_sites.specs.Spots as spec;
 ghost use Rattle.c_sites.specs.SpotViews.{shown_holder, shown_spots, shown_where};
 ghost use Rattle.c_types.specs.Shown.{shown_type, shown_target};
 
-use crate::marks::Marks;
+use c_locals::Marks;
 use c_programs::{copy_of, put_pointers};
 use c_rules::name_place;
 use c_tree::{Expr, Name, Specifier};

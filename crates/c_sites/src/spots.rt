@@ -2,7 +2,7 @@
 ghost use Rattle.std.specs.Prelude.{◌≡◌, ◌+◌, ◌++◌, OnOk, map, length};
 ghost use Rattle.c_tree.specs.Tree.{listed_parts};
 ghost use Rattle.c_tree.specs.View.{maybe_of, declared_of, init_of, object_of, declares_of, start_of, stmt_of, part_of};
-ghost use Rattle.c_sites.specs.Addresses.{count_of_declares, count_of_start, count_of_locals, count_of_parts};
+ghost use Rattle.c_locals.specs.Addresses.{count_of_declares, count_of_start, count_of_locals, count_of_parts};
 ghost use Rattle.c_programs.specs.Declarators.{declared_type};
 ghost use Rattle.c_programs.specs.Statements as statements;
 ghost use Rattle.c_sites.specs.Spots as spec;

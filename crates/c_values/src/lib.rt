@@ -1,4 +1,4 @@
-//! What an expression of a C source does, as a core tree, and what is known where it stands. It stands on `c_sites` and
+//! What an expression of a C source does, as a core tree, and what is known where it stands. It stands on `c_locals` and
 //! `c_core`.
 #![tactic(auto)]
 

@@ -1,7 +1,7 @@
 -- Numbers that are all among others.
 use Rattle.std.proofs.Common.{◌≡◌, ℕ, ◌==◌, Bool, true, false, ◌||◌, List, [], ◌∷◌, ◌++◌, refl, ap, arith}
 use Rattle.std.proofs.lemmas.Bool.Decides.{nat_tests}
-use Rattle.c_sites.specs.Addresses.{is_among}
+use Rattle.c_locals.specs.Addresses.{is_among}
 
 -- each of the second is among the first
 abbrev pub AreAmong : List ℕ → List ℕ → Type 0

@@ -11,7 +11,7 @@ use Rattle.c_types.specs.declared.names.Signature.{Signature}
 use Rattle.c_types.specs.Scopes.{Known, Scope, Members, function_of, with_name}
 use Rattle.c_programs.specs.Declarators.{struct_faults, after_struct, listed_params}
 use Rattle.c_programs.specs.Programs.{signature_of, after_function, function_faults, outer_faults, after_outer, outers_faults}
-use Rattle.c_sites.specs.Addresses.{count_of_outer}
+use Rattle.c_locals.specs.Addresses.{count_of_outer}
 use Rattle.c_sites.specs.Spots.{in_function, code_spots, fields_allocations, outer_spots, outers_spots, known_after}
 use Rattle.c_values.specs.Context.{Source, global_named}
 use Rattle.c_elaborate.specs.Whole.{outer_words, outers_words}

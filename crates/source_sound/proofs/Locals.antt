@@ -4,7 +4,7 @@ use Rattle.std.proofs.lemmas.List.{length-map}
 use Rattle.rr_base.proofs.Lists.{slice_get-append_at}
 use Rattle.rr_base.specs.declared.layout.Site.{Site}
 use Rattle.c_tree.specs.Tree.{Declares, declares, Start, start_declares, start_computes, Statement, block, compute, break_at, continue_at, gives, branch, branch_else, while_loop, do_loop, for_loop, Parts, no_part, and_declares, and_does}
-use Rattle.c_sites.specs.Addresses.{is_among, count_of_declares, count_of_start, count_of_locals, count_of_parts}
+use Rattle.c_locals.specs.Addresses.{is_among, count_of_declares, count_of_start, count_of_locals, count_of_parts}
 use Rattle.c_values.specs.declared.home.Home.{Home}
 use Rattle.c_values.specs.declared.home.Home.TheVariants as kept_in
 use Rattle.c_elaborate.specs.declared.local.Local.{Local}

@@ -20,7 +20,7 @@ use Rattle.c_types.specs.Standing.{Target, no_target, stepped, prefix_standing, 
 use Rattle.c_types.specs.Found.{where_it_comes, found_at}
 use Rattle.c_rules.specs.Faults.{mismatch, own_place, place_faults, can_be_place, go_faults, steps, standing_type, assigns_to, needs_place, prefix_takes, step_faults, assign_faults, prefix_faults, named_faults}
 use Rattle.c_programs.specs.Initials.{is_address}
-use Rattle.c_sites.specs.Addresses.{where_address, number_of_operand}
+use Rattle.c_locals.specs.Addresses.{where_address, number_of_operand}
 use Rattle.rr_base.specs.declared.position.Position.{Position}
 use Rattle.c_core.specs.Core as core
 use Rattle.c_core.specs.Core.{Function, Program}

@@ -1,7 +1,7 @@
 use Rattle.std.proofs.Common.{◌≡◌, drop}
-use Rattle.c_sites.specs.Addresses.{after_formals}
+use Rattle.c_locals.specs.Addresses.{after_formals}
 use Rattle.c_programs.specs.Declarators.{after_params}
-use Rattle.c_sites.specs.NumberTables.{numbered_of}
+use Rattle.c_locals.specs.NumberTables.{numbered_of}
 use Rattle.c_programs.specs.Table.{known_of}
 use Rattle.c_elaborate.proofs.functions.pass_formals.Given as goal
 

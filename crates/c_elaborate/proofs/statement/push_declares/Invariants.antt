@@ -1,7 +1,7 @@
 use Rattle.std.proofs.Common.{◌≡◌, ◌++◌, false, drop, map}
 use Rattle.c_tree.specs.View.{object_of}
-use Rattle.c_sites.specs.Addresses.{after_names}
-use Rattle.c_sites.specs.NumberTables.{numbered_of}
+use Rattle.c_locals.specs.Addresses.{after_names}
+use Rattle.c_locals.specs.NumberTables.{numbered_of}
 use Rattle.c_programs.specs.Statements.{after_objects}
 use Rattle.c_programs.specs.Table.{known_of}
 use Rattle.c_core.specs.View.{stmt_of}

@@ -1,7 +1,7 @@
 use Rattle.std.proofs.Common.{◌≡◌, ◌+◌, ◌++◌, drop, map}
 use Rattle.c_tree.specs.Tree.{listed_parts}
 use Rattle.c_tree.specs.View.{part_of}
-use Rattle.c_sites.specs.Addresses.{count_of_parts}
+use Rattle.c_locals.specs.Addresses.{count_of_parts}
 use Rattle.c_programs.specs.Statements.{after_parts}
 use Rattle.c_sites.specs.Spots.{parts_spots}
 use Rattle.c_sites.specs.SpotViews.{shown_owner, shown_spots}

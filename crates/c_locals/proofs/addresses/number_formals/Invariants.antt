@@ -1,0 +1,7 @@
+use Rattle.std.proofs.Common.{◌≡◌, drop}
+use Rattle.c_locals.specs.Addresses.{after_formals}
+use Rattle.c_locals.specs.NumberTables.{numbered_of}
+use Rattle.c_locals.proofs.addresses.number_formals.Given as goal
+
+abbrev pub invariant-loop-param : goal.invariant-loop-param
+invariant-loop-param l = after_formals (numbered_of l.table) (drop l.param-index l.params) ≡ after_formals (numbered_of l.fn.table) l.fn.params

@@ -1,7 +1,0 @@
-use Rattle.std.proofs.Common.{◌≡◌, drop}
-use Rattle.c_sites.specs.Addresses.{after_formals}
-use Rattle.c_sites.specs.NumberTables.{numbered_of}
-use Rattle.c_sites.proofs.addresses.number_formals.Given as goal
-
-abbrev pub invariant-loop-param : goal.invariant-loop-param
-invariant-loop-param l = after_formals (numbered_of l.table) (drop l.param-index l.params) ≡ after_formals (numbered_of l.fn.table) l.fn.params
