@@ -340,59 +340,56 @@ fn stores(
     add(instrs, store(pointer, value))
 }
 
-// A function that holds its region over a mutex, one that calls a function with a region under the mutex, and that one.
-fn revoked_code(alloc: Global) -> Result<Code, AllocError> {
-    let mut first = List::new(alloc);
-    stores(&mut first, 1, 2, 1)?;
-    add(&mut first, address(3, 1))?;
-    add(&mut first, call(alloc, LibraryCall::MutexLock, &[3])?)?;
-    add(&mut first, call(alloc, LibraryCall::MutexUnlock, &[3])?)?;
-    add(&mut first, constant(4, 0))?;
-    add(&mut first, Act::Give(0))?;
-    add(&mut first, Act::Return { value: Some(4) })?;
-    let mut second = List::new(alloc);
-    add(&mut second, address(1, 1))?;
-    add(&mut second, call(alloc, LibraryCall::MutexLock, &[1])?)?;
+// Holds its region over a mutex.
+fn holding(alloc: Global) -> Result<Function, AllocError> {
+    let mut instrs = List::new(alloc);
+    stores(&mut instrs, 1, 2, 1)?;
+    add(&mut instrs, address(3, 1))?;
+    add(&mut instrs, call(alloc, LibraryCall::MutexLock, &[3])?)?;
+    add(&mut instrs, call(alloc, LibraryCall::MutexUnlock, &[3])?)?;
+    add(&mut instrs, constant(4, 0))?;
+    add(&mut instrs, Act::Give(0))?;
+    add(&mut instrs, Act::Return { value: Some(4) })?;
+    let regions = lone(alloc, whole(alloc)?)?;
+    let pointers = [true, false, true, true, true];
+    function(alloc, b"f", 1, &pointers, instrs, regions)
+}
+
+// Calls the fourth function under the mutex.
+fn calling(alloc: Global) -> Result<Function, AllocError> {
+    let mut instrs = List::new(alloc);
+    add(&mut instrs, address(1, 1))?;
+    add(&mut instrs, call(alloc, LibraryCall::MutexLock, &[1])?)?;
     add(
-        &mut second,
+        &mut instrs,
         Act::Call {
             function: 3,
             arguments: List::new(alloc),
             into: None,
         },
     )?;
-    add(&mut second, call(alloc, LibraryCall::MutexUnlock, &[1])?)?;
-    returns(&mut second, 2)?;
-    let mut third = List::new(alloc);
-    stores(&mut third, 0, 1, 2)?;
-    add(&mut third, Act::Give(0))?;
-    add(&mut third, Act::Return { value: None })?;
+    add(&mut instrs, call(alloc, LibraryCall::MutexUnlock, &[1])?)?;
+    returns(&mut instrs, 2)?;
+    let pointers = [true, true, true];
+    function(alloc, b"g", 1, &pointers, instrs, List::new(alloc))
+}
+
+// Stores in a region of its own.
+fn called(alloc: Global) -> Result<Function, AllocError> {
+    let mut instrs = List::new(alloc);
+    stores(&mut instrs, 0, 1, 2)?;
+    add(&mut instrs, Act::Give(0))?;
+    add(&mut instrs, Act::Return { value: None })?;
+    let regions = lone(alloc, whole(alloc)?)?;
+    function(alloc, b"h", 0, &[false, true], instrs, regions)
+}
+
+// A function that holds its region over a mutex, one that calls a function with a region under the mutex, and that one.
+fn revoked_code(alloc: Global) -> Result<Code, AllocError> {
     let mut functions = lone(alloc, plain_main(alloc, [3, 4], 2)?)?;
-    let pointers = [true, false, true, true, true];
-    functions.push(function(
-        alloc,
-        b"f",
-        1,
-        &pointers,
-        first,
-        lone(alloc, whole(alloc)?)?,
-    )?)?;
-    functions.push(function(
-        alloc,
-        b"g",
-        1,
-        &[true, true, true],
-        second,
-        List::new(alloc),
-    )?)?;
-    functions.push(function(
-        alloc,
-        b"h",
-        0,
-        &[false, true],
-        third,
-        lone(alloc, whole(alloc)?)?,
-    )?)?;
+    functions.push(holding(alloc)?)?;
+    functions.push(calling(alloc)?)?;
+    functions.push(called(alloc)?)?;
     code_of(
         alloc,
         functions,

@@ -27,23 +27,22 @@ const START: Position = Position { line: 1, column: 1 };
 // The address of the one global, an object of two cells.
 const GLOBAL: u64 = (1 << 54) + (2 << 16);
 
-fn good() -> Shape {
-    Shape {
-        size: 2,
-        element: 2,
-        kind: CellKind::Whole,
-        word: GLOBAL,
-        bases: [Some(0), None],
-        stripes: 8,
-        locks: [0, 1],
-        counter: 1,
-        base: Base::Site(1),
-        two_mains: false,
-        formals: 0,
-        registers: 4,
-        jump: 1,
-    }
-}
+// A valid code.
+const GOOD: Shape = Shape {
+    size: 2,
+    element: 2,
+    kind: CellKind::Whole,
+    word: GLOBAL,
+    bases: [Some(0), None],
+    stripes: 8,
+    locks: [0, 1],
+    counter: 1,
+    base: Base::Site(1),
+    two_mains: false,
+    formals: 0,
+    registers: 4,
+    jump: 1,
+};
 
 fn lone<T: Drop>(alloc: Global, item: T) -> Result<List<T>, AllocError> {
     let mut list = List::new(alloc);
@@ -167,115 +166,116 @@ fn code_of(alloc: Global, shape: Shape, first: Act) -> Result<Code, AllocError> 
     })
 }
 
+// The shape of a code, and whether it is valid.
+const CODES: [(Shape, bool); 25] = [
+    (GOOD, true),
+    (Shape { word: 0, ..GOOD }, true),
+    (Shape { jump: 3, ..GOOD }, true),
+    (
+        Shape {
+            base: Base::Register(2),
+            ..GOOD
+        },
+        true,
+    ),
+    (Shape { size: 3, ..GOOD }, false),
+    (Shape { element: 0, ..GOOD }, false),
+    (Shape { element: 4, ..GOOD }, false),
+    (
+        Shape {
+            kind: CellKind::Mutex,
+            ..GOOD
+        },
+        false,
+    ),
+    (
+        Shape {
+            word: GLOBAL + 1,
+            ..GOOD
+        },
+        false,
+    ),
+    (
+        Shape {
+            word: GLOBAL + (1 << 54),
+            ..GOOD
+        },
+        false,
+    ),
+    (
+        Shape {
+            bases: [None, None],
+            ..GOOD
+        },
+        false,
+    ),
+    (
+        Shape {
+            bases: [Some(0), Some(0)],
+            ..GOOD
+        },
+        false,
+    ),
+    (
+        Shape {
+            bases: [Some(1), None],
+            ..GOOD
+        },
+        false,
+    ),
+    (Shape { stripes: 2, ..GOOD }, false),
+    (
+        Shape {
+            locks: [1, 0],
+            ..GOOD
+        },
+        false,
+    ),
+    (
+        Shape {
+            locks: [1, 2],
+            ..GOOD
+        },
+        false,
+    ),
+    (Shape { counter: 2, ..GOOD }, false),
+    (
+        Shape {
+            base: Base::Site(2),
+            ..GOOD
+        },
+        false,
+    ),
+    (
+        Shape {
+            base: Base::Register(1),
+            ..GOOD
+        },
+        false,
+    ),
+    (
+        Shape {
+            two_mains: true,
+            ..GOOD
+        },
+        false,
+    ),
+    (Shape { formals: 1, ..GOOD }, false),
+    (
+        Shape {
+            registers: 3,
+            ..GOOD
+        },
+        false,
+    ),
+    (Shape { jump: 0, ..GOOD }, false),
+    (Shape { jump: 2, ..GOOD }, false),
+    (Shape { jump: 4, ..GOOD }, false),
+];
+
 #[test]
 fn codes_are_valid(rt: HostRuntime) -> Result<(), Fail> {
-    let good = good();
-    let rows = [
-        (good, true),
-        (Shape { word: 0, ..good }, true),
-        (Shape { jump: 3, ..good }, true),
-        (
-            Shape {
-                base: Base::Register(2),
-                ..good
-            },
-            true,
-        ),
-        (Shape { size: 3, ..good }, false),
-        (Shape { element: 0, ..good }, false),
-        (Shape { element: 4, ..good }, false),
-        (
-            Shape {
-                kind: CellKind::Mutex,
-                ..good
-            },
-            false,
-        ),
-        (
-            Shape {
-                word: GLOBAL + 1,
-                ..good
-            },
-            false,
-        ),
-        (
-            Shape {
-                word: GLOBAL + (1 << 54),
-                ..good
-            },
-            false,
-        ),
-        (
-            Shape {
-                bases: [None, None],
-                ..good
-            },
-            false,
-        ),
-        (
-            Shape {
-                bases: [Some(0), Some(0)],
-                ..good
-            },
-            false,
-        ),
-        (
-            Shape {
-                bases: [Some(1), None],
-                ..good
-            },
-            false,
-        ),
-        (Shape { stripes: 2, ..good }, false),
-        (
-            Shape {
-                locks: [1, 0],
-                ..good
-            },
-            false,
-        ),
-        (
-            Shape {
-                locks: [1, 2],
-                ..good
-            },
-            false,
-        ),
-        (Shape { counter: 2, ..good }, false),
-        (
-            Shape {
-                base: Base::Site(2),
-                ..good
-            },
-            false,
-        ),
-        (
-            Shape {
-                base: Base::Register(1),
-                ..good
-            },
-            false,
-        ),
-        (
-            Shape {
-                two_mains: true,
-                ..good
-            },
-            false,
-        ),
-        (Shape { formals: 1, ..good }, false),
-        (
-            Shape {
-                registers: 3,
-                ..good
-            },
-            false,
-        ),
-        (Shape { jump: 0, ..good }, false),
-        (Shape { jump: 2, ..good }, false),
-        (Shape { jump: 4, ..good }, false),
-    ];
-    for (shape, want) in rows {
+    for (shape, want) in CODES {
         let first = Act::Compute {
             into: 1,
             work: Work::Constant(0),
@@ -286,93 +286,108 @@ fn codes_are_valid(rt: HostRuntime) -> Result<(), Fail> {
     Ok(())
 }
 
+// Whether a code whose `main` begins with the given instruction is valid.
+fn is_valid_with(alloc: Global, first: Act) -> Result<bool, AllocError> {
+    let code = code_of(alloc, GOOD, first)?;
+    Ok(is_valid(&code))
+}
+
+// The register that a work fills, the work, and whether it is valid there.
+const WORKS: [(u32, Work, bool); 16] = [
+    (1, Work::Constant(5), true),
+    (0, Work::Constant(0), true),
+    (0, Work::Constant(5), false),
+    (4, Work::Constant(0), false),
+    (1, Work::Copy(3), true),
+    (1, Work::Copy(0), false),
+    (1, Work::Minus(0), false),
+    (1, Work::Not(0), true),
+    (
+        1,
+        Work::Binary {
+            op: BinaryOp::Less,
+            left: 0,
+            right: 2,
+        },
+        true,
+    ),
+    (
+        1,
+        Work::Binary {
+            op: BinaryOp::Add,
+            left: 0,
+            right: 2,
+        },
+        false,
+    ),
+    (
+        1,
+        Work::Binary {
+            op: BinaryOp::Equal,
+            left: 0,
+            right: 3,
+        },
+        false,
+    ),
+    (
+        2,
+        Work::Move {
+            pointer: 0,
+            by: 1,
+            element: 1,
+            back: true,
+        },
+        true,
+    ),
+    (
+        2,
+        Work::Move {
+            pointer: 0,
+            by: 1,
+            element: 0,
+            back: true,
+        },
+        false,
+    ),
+    (
+        1,
+        Work::Between {
+            left: 0,
+            right: 2,
+            element: 0,
+        },
+        false,
+    ),
+    (0, Work::ToPointer(1), true),
+    (1, Work::ToNumber(1), false),
+];
+
 #[test]
 fn works_are_valid(rt: HostRuntime) -> Result<(), Fail> {
-    let (left, right) = (0, 2);
-    let rows = [
-        (1, Work::Constant(5), true),
-        (0, Work::Constant(0), true),
-        (0, Work::Constant(5), false),
-        (4, Work::Constant(0), false),
-        (0, Work::Address(PtrWord::from_word(GLOBAL)), true),
-        (1, Work::Address(PtrWord::from_word(GLOBAL)), false),
-        (
-            0,
-            Work::Address(PtrWord::from_word(GLOBAL + (1 << 32))),
-            false,
-        ),
-        (1, Work::Copy(3), true),
-        (1, Work::Copy(0), false),
-        (1, Work::Minus(0), false),
-        (1, Work::Not(0), true),
-        (
-            1,
-            Work::Binary {
-                op: BinaryOp::Less,
-                left,
-                right,
-            },
-            true,
-        ),
-        (
-            1,
-            Work::Binary {
-                op: BinaryOp::Add,
-                left,
-                right,
-            },
-            false,
-        ),
-        (
-            1,
-            Work::Binary {
-                op: BinaryOp::Equal,
-                left,
-                right: 3,
-            },
-            false,
-        ),
-        (
-            2,
-            Work::Move {
-                pointer: 0,
-                by: 1,
-                element: 1,
-                back: true,
-            },
-            true,
-        ),
-        (
-            2,
-            Work::Move {
-                pointer: 0,
-                by: 1,
-                element: 0,
-                back: true,
-            },
-            false,
-        ),
-        (
-            1,
-            Work::Between {
-                left,
-                right,
-                element: 0,
-            },
-            false,
-        ),
-        (0, Work::ToPointer(1), true),
-        (1, Work::ToNumber(1), false),
-    ];
-    for (into, work, want) in rows {
-        let code = code_of(rt.alloc(), good(), Act::Compute { into, work })?;
-        assert_eq!(rt; is_valid(&code), want, "{work:?} into {into}");
+    for (into, work, want) in WORKS {
+        let found = is_valid_with(rt.alloc(), Act::Compute { into, work })?;
+        assert_eq!(rt; found, want, "{work:?} into {into}");
     }
     Ok(())
 }
 
 #[test]
-fn calls_are_valid(rt: HostRuntime) -> Result<(), Fail> {
+fn addresses_are_valid(rt: HostRuntime) -> Result<(), Fail> {
+    let rows = [
+        (0, GLOBAL, true),
+        (1, GLOBAL, false),
+        (0, GLOBAL + (1 << 32), false),
+    ];
+    for (into, word, want) in rows {
+        let work = Work::Address(PtrWord::from_word(word));
+        let found = is_valid_with(rt.alloc(), Act::Compute { into, work })?;
+        assert_eq!(rt; found, want, "{word} into {into}");
+    }
+    Ok(())
+}
+
+#[test]
+fn library_calls_are_valid(rt: HostRuntime) -> Result<(), Fail> {
     let alloc = rt.alloc();
     let format = List::from_slice(alloc, &[Piece::Byte(b'x'), Piece::Number])?;
     let rows = [
@@ -410,10 +425,15 @@ fn calls_are_valid(rt: HostRuntime) -> Result<(), Fail> {
             arguments,
             into,
         };
-        let code = code_of(alloc, good(), act)?;
-        assert_eq!(rt; is_valid(&code), want);
+        assert_eq!(rt; is_valid_with(alloc, act)?, want);
     }
-    let calls = [
+    Ok(())
+}
+
+#[test]
+fn calls_are_valid(rt: HostRuntime) -> Result<(), Fail> {
+    let alloc = rt.alloc();
+    let rows = [
         (1, [0].as_slice(), Some(2), true),
         (1, [0].as_slice(), Some(1), false),
         (1, [1].as_slice(), None, false),
@@ -421,104 +441,79 @@ fn calls_are_valid(rt: HostRuntime) -> Result<(), Fail> {
         (0, [].as_slice(), None, false),
         (2, [].as_slice(), None, false),
     ];
-    for (function, arguments, into, want) in calls {
+    for (function, arguments, into, want) in rows {
         let arguments = List::from_slice(alloc, arguments)?;
         let act = Act::Call {
             function,
             arguments,
             into,
         };
-        let code = code_of(alloc, good(), act)?;
-        assert_eq!(rt; is_valid(&code), want);
+        assert_eq!(rt; is_valid_with(alloc, act)?, want);
     }
     Ok(())
 }
 
 #[test]
-fn acts_are_valid(rt: HostRuntime) -> Result<(), Fail> {
-    let (into, site) = (0, 2);
+fn allocations_are_valid(rt: HostRuntime) -> Result<(), Fail> {
     let rows = [
-        (
-            Act::Alloc {
-                into,
-                site,
-                size: None,
-            },
-            true,
-        ),
-        (
-            Act::Alloc {
-                into,
-                site: 3,
-                size: None,
-            },
-            false,
-        ),
-        (
-            Act::Alloc {
-                into,
-                site,
-                size: Some(1),
-            },
-            true,
-        ),
-        (
-            Act::Alloc {
-                into,
-                site,
-                size: Some(2),
-            },
-            false,
-        ),
-        (
-            Act::Alloc {
-                into: 1,
-                site,
-                size: None,
-            },
-            false,
-        ),
-        (Act::LoadCell { into, through: 2 }, true),
-        (Act::LoadCell { into, through: 1 }, false),
-        (
-            Act::StoreCell {
-                through: 1,
-                from: 0,
-            },
-            false,
-        ),
-        (
-            Act::Branch {
-                on: 0,
-                then_at: 1,
-                else_at: 3,
-            },
-            true,
-        ),
-        (
-            Act::Branch {
-                on: 4,
-                then_at: 1,
-                else_at: 3,
-            },
-            false,
-        ),
-        (
-            Act::Branch {
-                on: 1,
-                then_at: 0,
-                else_at: 3,
-            },
-            false,
-        ),
-        (Act::Return { value: Some(1) }, true),
-        (Act::Return { value: Some(0) }, false),
-        (Act::Take(0), true),
-        (Act::Give(1), false),
+        (0, 2, None, true),
+        (0, 3, None, false),
+        (0, 2, Some(1), true),
+        (0, 2, Some(2), false),
+        (1, 2, None, false),
     ];
-    for (act, want) in rows {
-        let code = code_of(rt.alloc(), good(), act)?;
-        assert_eq!(rt; is_valid(&code), want);
+    for (into, site, size, want) in rows {
+        let found = is_valid_with(rt.alloc(), Act::Alloc { into, site, size })?;
+        assert_eq!(rt; found, want, "{size:?} of {site} into {into}");
     }
+    Ok(())
+}
+
+#[test]
+fn loads_and_stores_are_valid(rt: HostRuntime) -> Result<(), Fail> {
+    let alloc = rt.alloc();
+    for (through, want) in [(2, true), (1, false)] {
+        let found = is_valid_with(alloc, Act::LoadCell { into: 0, through })?;
+        assert_eq!(rt; found, want, "through {through}");
+    }
+    let store = Act::StoreCell {
+        through: 1,
+        from: 0,
+    };
+    assert!(rt; !is_valid_with(alloc, store)?);
+    Ok(())
+}
+
+#[test]
+fn branches_are_valid(rt: HostRuntime) -> Result<(), Fail> {
+    let else_at = 3;
+    for (on, then_at, want) in [(0, 1, true), (4, 1, false), (1, 0, false)] {
+        let act = Act::Branch {
+            on,
+            then_at,
+            else_at,
+        };
+        assert_eq!(rt;
+            is_valid_with(rt.alloc(), act)?,
+            want,
+            "to {then_at} on {on}"
+        );
+    }
+    Ok(())
+}
+
+#[test]
+fn returns_are_valid(rt: HostRuntime) -> Result<(), Fail> {
+    for (value, want) in [(1, true), (0, false)] {
+        let found = is_valid_with(rt.alloc(), Act::Return { value: Some(value) })?;
+        assert_eq!(rt; found, want, "{value}");
+    }
+    Ok(())
+}
+
+#[test]
+fn takes_and_gives_are_valid(rt: HostRuntime) -> Result<(), Fail> {
+    assert!(rt; is_valid_with(rt.alloc(), Act::Take(0))?);
+    assert!(rt; !is_valid_with(rt.alloc(), Act::Give(1))?);
     Ok(())
 }

@@ -16,6 +16,134 @@ enum Answer {
     Memory,
 }
 
+// What follows the start of a log, with what reading answers.
+static RESTS: [(&[u8], Answer); 45] = [
+    (
+        b"profile all\ninput 0\n\n0 1 halt H\n1 0 close s1\n",
+        Answer::Read(2),
+    ),
+    (b"profile all\ninput 0\n\n0 01 halt H\n", Answer::Syntax(8)),
+    (b"profile all\ninput 0\n\n00 1 halt H\n", Answer::Syntax(8)),
+    (b"profile all\ninput 0\n\n8 0 close s7\n", Answer::Limit(8)),
+    (b"profile all\ninput 0\n\n0 0 close s8\n", Answer::Limit(8)),
+    (b"profile all\ninput 1\n6a\n", Answer::Read(0)),
+    (b"profile all\ninput 1\n6A\n", Answer::Syntax(7)),
+    (b"profile all\ninput 2\n6a\n", Answer::Syntax(7)),
+    (b"profile all\ninput 1\n6a6a\n", Answer::Syntax(7)),
+    (b"profile all\ninput 1048577\n", Answer::Limit(6)),
+    (b"profile 0\ninput 0\n\n", Answer::Read(0)),
+    (
+        b"profile 2\npair f f\npair f main\ninput 0\n\n",
+        Answer::Read(0),
+    ),
+    (b"profile 1\npair if while\ninput 0\n\n", Answer::Read(0)),
+    (b"profile 2\npair f g\ninput 0\n\n", Answer::Syntax(7)),
+    (
+        b"profile 2\npair f h\npair f g\ninput 0\n\n",
+        Answer::Syntax(7),
+    ),
+    (
+        b"profile 2\npair f g\npair f g\ninput 0\n\n",
+        Answer::Syntax(7),
+    ),
+    (b"profile 1\npair g f\ninput 0\n\n", Answer::Syntax(6)),
+    (b"profile 1\npair 1 f\ninput 0\n\n", Answer::Syntax(6)),
+    (b"profile 99999999999999999999999\n", Answer::Syntax(6)),
+    (b"profile 01\n", Answer::Syntax(5)),
+    (
+        b"profile all\ninput 0\n\n0 1 lock w0.0\n",
+        Answer::Syntax(8),
+    ),
+    (b"profile all\ninput 0\n\n0 1 take w0.8\n", Answer::Limit(8)),
+    (
+        b"profile all\ninput 0\n\n0 1 take w65471.7\n",
+        Answer::Read(1),
+    ),
+    (
+        b"profile all\ninput 0\n\n0 1 take w65472.0\n",
+        Answer::Limit(8),
+    ),
+    (b"profile all\ninput 0\n\n0 1 take w0\n", Answer::Syntax(8)),
+    (
+        b"profile all\ninput 0\n\n0 1 lock m4194303\n",
+        Answer::Read(1),
+    ),
+    (
+        b"profile all\ninput 0\n\n0 1 lock m4194304\n",
+        Answer::Limit(8),
+    ),
+    (
+        b"profile all\ninput 0\n\n0 16777216 draw T\n",
+        Answer::Read(1),
+    ),
+    (
+        b"profile all\ninput 0\n\n0 16777217 draw T\n",
+        Answer::Limit(8),
+    ),
+    (
+        b"profile all\ninput 0\n\n0 16777217 halt H\n",
+        Answer::Read(1),
+    ),
+    (
+        b"profile all\ninput 0\n\n0 16777218 halt H\n",
+        Answer::Limit(8),
+    ),
+    (
+        b"profile all\ninput 0\n\n0 99999999999999999999999 halt H\n",
+        Answer::Limit(8),
+    ),
+    (
+        b"profile all\ninput 0\n\n0 99999999999999999999999 halt T\n",
+        Answer::Syntax(8),
+    ),
+    (b"profile all\ninput 0\n\n0  1 halt H\n", Answer::Syntax(8)),
+    (b"profile all\ninput 0\n\n0 1 halt H\r\n", Answer::Syntax(8)),
+    (b"profile all\ninput 0\n\n0 1 halt H \n", Answer::Syntax(8)),
+    (b"profile all\ninput 0\n\n0 1 halt H", Answer::Syntax(8)),
+    (b"profile all\ninput 0\n\n0 1 halt H\n\n", Answer::Syntax(9)),
+    (
+        b"profile all\ninput 0\n\n0 1 take w0.0-3\n",
+        Answer::Syntax(8),
+    ),
+    (b"profile all\ninput 0\n", Answer::Syntax(7)),
+    (b"profile some\n", Answer::Syntax(5)),
+    (
+        b"profile all\ninput 0\n\n0 1 end s0\n0 1 leave T\n0 1 halt H\n0 1 trap H\n0 1 stop H\n0 1 close s0\n",
+        Answer::Read(6),
+    ),
+    (
+        b"profile all\ninput 0\n\n0 1 end s0\n0 1 leave T\n0 1 halt H\n0 1 trap H\n0 1 stop H\n0 1 close s0\n0 1 end s0\n",
+        Answer::Limit(14),
+    ),
+    (
+        b"profile all\ninput 0\n\n9 1 halt H\n0 01 halt H\n",
+        Answer::Limit(8),
+    ),
+    (
+        b"profile all\ninput 0\n\n0 01 halt H\n9 1 halt H\n",
+        Answer::Syntax(8),
+    ),
+];
+
+// Texts that are refused in the start of a log, with what reading answers.
+static HEADS: [(&[u8], Answer); 12] = [
+    (b"", Answer::Syntax(1)),
+    (b"\n", Answer::Syntax(1)),
+    (b"chimera log 1", Answer::Syntax(1)),
+    (b"chimera log 1\r\n", Answer::Syntax(1)),
+    (b"chimera log 2\nslots 8\n", Answer::Syntax(1)),
+    (b"chimera log 1\n", Answer::Syntax(2)),
+    (b"chimera log 1\nslots 17\nnothing\n", Answer::Limit(2)),
+    (b"chimera log 1\nslots 0\n", Answer::Limit(2)),
+    (b"chimera log 1\nslots 08\n", Answer::Syntax(2)),
+    (b"chimera log 1\nslots 17 \n", Answer::Syntax(2)),
+    (b"chimera log 1\nslots 8\ncells 1023\n", Answer::Limit(3)),
+    (
+        b"chimera log 1\nslots 8\ncells 1024\nlimit 67108865\n",
+        Answer::Limit(4),
+    ),
+];
+
 fn answer_to(alloc: Global, bytes: &[u8]) -> Answer {
     match read_log(alloc, bytes) {
         Ok(log) => Answer::Read(log.entries().len()),
@@ -32,139 +160,19 @@ fn past_start(alloc: Global, rest: &[u8]) -> Result<Vec<u8>, AllocError> {
 }
 
 #[test]
-fn answers_each_row(rt: HostRuntime) -> Result<(), Fail> {
-    let rows: [(&[u8], Answer); 45] = [
-        (
-            b"profile all\ninput 0\n\n0 1 halt H\n1 0 close s1\n",
-            Answer::Read(2),
-        ),
-        (b"profile all\ninput 0\n\n0 01 halt H\n", Answer::Syntax(8)),
-        (b"profile all\ninput 0\n\n00 1 halt H\n", Answer::Syntax(8)),
-        (b"profile all\ninput 0\n\n8 0 close s7\n", Answer::Limit(8)),
-        (b"profile all\ninput 0\n\n0 0 close s8\n", Answer::Limit(8)),
-        (b"profile all\ninput 1\n6a\n", Answer::Read(0)),
-        (b"profile all\ninput 1\n6A\n", Answer::Syntax(7)),
-        (b"profile all\ninput 2\n6a\n", Answer::Syntax(7)),
-        (b"profile all\ninput 1\n6a6a\n", Answer::Syntax(7)),
-        (b"profile all\ninput 1048577\n", Answer::Limit(6)),
-        (b"profile 0\ninput 0\n\n", Answer::Read(0)),
-        (
-            b"profile 2\npair f f\npair f main\ninput 0\n\n",
-            Answer::Read(0),
-        ),
-        (b"profile 1\npair if while\ninput 0\n\n", Answer::Read(0)),
-        (b"profile 2\npair f g\ninput 0\n\n", Answer::Syntax(7)),
-        (
-            b"profile 2\npair f h\npair f g\ninput 0\n\n",
-            Answer::Syntax(7),
-        ),
-        (
-            b"profile 2\npair f g\npair f g\ninput 0\n\n",
-            Answer::Syntax(7),
-        ),
-        (b"profile 1\npair g f\ninput 0\n\n", Answer::Syntax(6)),
-        (b"profile 1\npair 1 f\ninput 0\n\n", Answer::Syntax(6)),
-        (b"profile 99999999999999999999999\n", Answer::Syntax(6)),
-        (b"profile 01\n", Answer::Syntax(5)),
-        (
-            b"profile all\ninput 0\n\n0 1 lock w0.0\n",
-            Answer::Syntax(8),
-        ),
-        (b"profile all\ninput 0\n\n0 1 take w0.8\n", Answer::Limit(8)),
-        (
-            b"profile all\ninput 0\n\n0 1 take w65471.7\n",
-            Answer::Read(1),
-        ),
-        (
-            b"profile all\ninput 0\n\n0 1 take w65472.0\n",
-            Answer::Limit(8),
-        ),
-        (b"profile all\ninput 0\n\n0 1 take w0\n", Answer::Syntax(8)),
-        (
-            b"profile all\ninput 0\n\n0 1 lock m4194303\n",
-            Answer::Read(1),
-        ),
-        (
-            b"profile all\ninput 0\n\n0 1 lock m4194304\n",
-            Answer::Limit(8),
-        ),
-        (
-            b"profile all\ninput 0\n\n0 16777216 draw T\n",
-            Answer::Read(1),
-        ),
-        (
-            b"profile all\ninput 0\n\n0 16777217 draw T\n",
-            Answer::Limit(8),
-        ),
-        (
-            b"profile all\ninput 0\n\n0 16777217 halt H\n",
-            Answer::Read(1),
-        ),
-        (
-            b"profile all\ninput 0\n\n0 16777218 halt H\n",
-            Answer::Limit(8),
-        ),
-        (
-            b"profile all\ninput 0\n\n0 99999999999999999999999 halt H\n",
-            Answer::Limit(8),
-        ),
-        (
-            b"profile all\ninput 0\n\n0 99999999999999999999999 halt T\n",
-            Answer::Syntax(8),
-        ),
-        (b"profile all\ninput 0\n\n0  1 halt H\n", Answer::Syntax(8)),
-        (b"profile all\ninput 0\n\n0 1 halt H\r\n", Answer::Syntax(8)),
-        (b"profile all\ninput 0\n\n0 1 halt H \n", Answer::Syntax(8)),
-        (b"profile all\ninput 0\n\n0 1 halt H", Answer::Syntax(8)),
-        (b"profile all\ninput 0\n\n0 1 halt H\n\n", Answer::Syntax(9)),
-        (
-            b"profile all\ninput 0\n\n0 1 take w0.0-3\n",
-            Answer::Syntax(8),
-        ),
-        (b"profile all\ninput 0\n", Answer::Syntax(7)),
-        (b"profile some\n", Answer::Syntax(5)),
-        (
-            b"profile all\ninput 0\n\n0 1 end s0\n0 1 leave T\n0 1 halt H\n0 1 trap H\n0 1 stop H\n0 1 close s0\n",
-            Answer::Read(6),
-        ),
-        (
-            b"profile all\ninput 0\n\n0 1 end s0\n0 1 leave T\n0 1 halt H\n0 1 trap H\n0 1 stop H\n0 1 close s0\n0 1 end s0\n",
-            Answer::Limit(14),
-        ),
-        (
-            b"profile all\ninput 0\n\n9 1 halt H\n0 01 halt H\n",
-            Answer::Limit(8),
-        ),
-        (
-            b"profile all\ninput 0\n\n0 01 halt H\n9 1 halt H\n",
-            Answer::Syntax(8),
-        ),
-    ];
-    for (rest, want) in rows {
+fn answers_each_rest(rt: HostRuntime) -> Result<(), Fail> {
+    for (rest, want) in RESTS {
         let text = past_start(rt.alloc(), rest)?;
         assert_eq!(rt; answer_to(rt.alloc(), text.as_slice()), want, "{rest:?}");
     }
-    let heads: [(&[u8], Answer); 12] = [
-        (b"", Answer::Syntax(1)),
-        (b"\n", Answer::Syntax(1)),
-        (b"chimera log 1", Answer::Syntax(1)),
-        (b"chimera log 1\r\n", Answer::Syntax(1)),
-        (b"chimera log 2\nslots 8\n", Answer::Syntax(1)),
-        (b"chimera log 1\n", Answer::Syntax(2)),
-        (b"chimera log 1\nslots 17\nnothing\n", Answer::Limit(2)),
-        (b"chimera log 1\nslots 0\n", Answer::Limit(2)),
-        (b"chimera log 1\nslots 08\n", Answer::Syntax(2)),
-        (b"chimera log 1\nslots 17 \n", Answer::Syntax(2)),
-        (b"chimera log 1\nslots 8\ncells 1023\n", Answer::Limit(3)),
-        (
-            b"chimera log 1\nslots 8\ncells 1024\nlimit 67108865\n",
-            Answer::Limit(4),
-        ),
-    ];
-    for (text, want) in heads {
+    Ok(())
+}
+
+#[test]
+fn answers_each_head(rt: HostRuntime) {
+    for (text, want) in HEADS {
         assert_eq!(rt; answer_to(rt.alloc(), text), want, "{text:?}");
     }
-    Ok(())
 }
 
 /// Each front of a log is refused at its first line that isn't whole, but where it ends with the head or an entry.
