@@ -26,7 +26,7 @@ block_of ss = core.block (core.listed_statements ss)
 abbrev sum_source : List Outer
 sum_source =
     objects false (int 1) (plain_at 0 (codes "g") 5 [] ∷ []) (at 1)
-    ∷ function false (specifier.Int 1 8) 0 (name_at (codes "main") 12) params.Nothing (defined (
+    ∷ function false (specifier.Int (at 8)) 0 (name_at (codes "main") 12) params.Nothing (defined (
     and_declares (declares (int 21) (plain_at 0 (codes "x") 25 [] ∷ []) (at 21))
     (and_does (compute (Some (assign (n (codes "x") 28) assign_op.Assign (binary (n (codes "g") 32) binary_op.Add (number (pos 1) (at 36)) (at 34)) (at 30))) (at 28))
     (and_does (gives (Some (n (codes "x") 46)) (at 39)) no_part))) (at 19))

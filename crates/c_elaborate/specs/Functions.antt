@@ -6,7 +6,6 @@ use Rattle.c_tree.specs.declared.ctype.Specifier.{Specifier}
 use Rattle.c_tree.specs.declared.program.Param.{Param}
 use Rattle.c_tree.specs.Tree.{Declared, declared, Object, Declares, declares, Start, start_declares, start_computes, Statement, block, compute, break_at, continue_at, gives, branch, branch_else, while_loop, do_loop, for_loop, Parts, no_part, and_declares, and_does}
 use Rattle.rr_base.specs.declared.position.Position.{Position}
-use Rattle.rr_base.specs.Positions.{position_at}
 use Rattle.c_types.specs.declared.library.StarredType.{StarredType}
 use Rattle.c_types.specs.Scopes.{Known}
 use Rattle.c_rules.specs.Faults.{name_place}
@@ -29,7 +28,7 @@ abbrev pub local_at : Bool → Bool → Position → Local
 local_at kept pointer at = record { is_kept = kept; is_pointer = pointer; at = at }
 
 abbrev pub formal_at : Param → Option Name → Local
-formal_at p None = local_at false (nat_lt 0 p.stars) (position_at p.line p.column)
+formal_at p None = local_at false (nat_lt 0 p.stars) p.at
 formal_at p (Some name) = local_at (is_kept p.specifier p.stars []) (nat_lt 0 p.stars) (name_place name)
 
 abbrev pub formal_of : Param → Local

@@ -18,14 +18,14 @@ use crate::local::Local;
 use crate::make;
 use crate::statement::push_parts;
 use c_core::{Arrival, CoreFunction, Statement};
+use c_locals::{Marks, NumberTable};
 use c_programs::{Table, declare_param};
 use c_rules::name_place;
-use c_locals::{Marks, NumberTable};
 use c_sites::is_kept;
 use c_tree::{Declaration, Declarator, ForStart, Item, Name, Param, Part, Specifier, Stmt};
 use c_types::StarredType;
 use c_values::{Frame, Home, Source, gives_pointer, site_at};
-use rr_base::{Bytes, List, Position, Site, length_sum, sum};
+use rr_base::{Bytes, List, Site, length_sum, sum};
 use std::alloc::{AllocError, Global};
 
 fn formal_of(param: &Param) -> Local
@@ -36,10 +36,7 @@ fn formal_of(param: &Param) -> Local
         None => Local {
             is_kept: false,
             is_pointer,
-            at: Position {
-                line: param.line,
-                column: param.column,
-            },
+            at: param.at,
         },
         Some(name) => Local {
             is_kept: is_kept(&param.specifier, param.stars, &[]),

@@ -19,8 +19,8 @@ ghost use Rattle.c_values.specs.Views.{frame_in, context_of, maybe_word, source_
 use crate::initials::push_begun;
 use crate::make::{self, ForHead};
 use c_core::{Statement, Value};
-use c_programs::{Table, copy_of, declare_object, declared_type};
 use c_locals::NumberTable;
+use c_programs::{Table, copy_of, declare_object, declared_type};
 use c_tree::{Declaration, Declarator, Expr, ForStart, Initial, Item, Part, Specifier, Stmt};
 use c_types::Target;
 use c_values::{Context, Frame, Source, value, wanted};
@@ -105,15 +105,10 @@ fn push_object<'a>(
         Item::Initialised {
             declarator,
             initial,
-            line,
-            column,
+            at,
         } => {
-            let at = Position {
-                line: *line,
-                column: *column,
-            };
             push_initialised(
-                alloc, source, frame, table, numbers, specifier, declarator, initial, at, out,
+                alloc, source, frame, table, numbers, specifier, declarator, initial, *at, out,
             )
         }
     }
@@ -431,18 +426,15 @@ fn place_of(stmt: &Stmt) -> Position
     ensures { result ≡ spec.own_place (tree.stmt_of stmt.now) }
 {
     match stmt {
-        Stmt::Block { line, column, .. }
-        | Stmt::Expression { line, column, .. }
-        | Stmt::Break { line, column }
-        | Stmt::Continue { line, column }
-        | Stmt::Return { line, column, .. }
-        | Stmt::If { line, column, .. }
-        | Stmt::While { line, column, .. }
-        | Stmt::Do { line, column, .. }
-        | Stmt::For { line, column, .. } => Position {
-            line: *line,
-            column: *column,
-        },
+        Stmt::Block { at, .. }
+        | Stmt::Expression { at, .. }
+        | Stmt::Break { at }
+        | Stmt::Continue { at }
+        | Stmt::Return { at, .. }
+        | Stmt::If { at, .. }
+        | Stmt::While { at, .. }
+        | Stmt::Do { at, .. }
+        | Stmt::For { at, .. } => *at,
     }
 }
 

@@ -34,20 +34,17 @@ pub fn first_place(e: &Expr) -> Position
         Expr::PostIncrement { operand, .. } | Expr::PostDecrement { operand, .. } => {
             first_place(operand)
         }
-        Expr::Prefix { line, column, .. }
-        | Expr::SizeofExpr { line, column, .. }
-        | Expr::SizeofType { line, column, .. }
-        | Expr::Cast { line, column, .. }
-        | Expr::Name { line, column, .. }
-        | Expr::Call { line, column, .. }
-        | Expr::Number { line, column, .. }
-        | Expr::Letter { line, column, .. }
-        | Expr::Text { line, column, .. }
-        | Expr::Null { line, column }
-        | Expr::Paren { line, column, .. } => Position {
-            line: *line,
-            column: *column,
-        },
+        Expr::Prefix { at, .. }
+        | Expr::SizeofExpr { at, .. }
+        | Expr::SizeofType { at, .. }
+        | Expr::Cast { at, .. }
+        | Expr::Name { at, .. }
+        | Expr::Call { at, .. }
+        | Expr::Number { at, .. }
+        | Expr::Letter { at, .. }
+        | Expr::Text { at, .. }
+        | Expr::Null { at }
+        | Expr::Paren { at, .. } => *at,
     }
 }
 
@@ -68,8 +65,8 @@ pub fn expression(alloc: Global, level: u32, tokens: &[Token]) -> Result<(Expr, 
     let mut others = List::new(alloc);
     others.push(second)?;
     let (others, rest) = more(alloc, level, others, rest)?;
-    let place = first_place(&first);
-    Ok((make::comma(first, others, place), rest))
+    let at = first_place(&first);
+    Ok((make::comma(first, others, at), rest))
 }
 
 // The assignments with a comma before each, after those that were found.
@@ -101,20 +98,18 @@ pub fn assignment(alloc: Global, level: u32, tokens: &[Token]) -> Result<(Expr, 
     ensures { Reads (phrase.assignment level) (λ e. exp_of e) tokens.now result }
 {
     let (left, rest) = conditional(alloc, level, tokens)?;
-    let Some(((op, place), following)) = next_assign(rest, level + 2)? else {
+    let Some(((op, at), following)) = next_assign(rest, level + 2)? else {
         return Ok((left, rest));
     };
     let left = Box::new(alloc, left)?;
     let (right, rest) = assignment(alloc, level + 2, following)?;
     let right = Box::new(alloc, right)?;
-    let Position { line, column } = place;
     Ok((
         Expr::Assign {
             left,
             op,
             right,
-            line,
-            column,
+            at,
         },
         rest,
     ))
@@ -136,22 +131,13 @@ pub fn conditional(
         return Ok((test, rest));
     }
     let test = Box::new(alloc, test)?;
-    let (Position { line, column }, rest) = punct(rest, Punct::Question, level + 2)?;
+    let (at, rest) = punct(rest, Punct::Question, level + 2)?;
     let (yes, rest) = expression(alloc, level + 2, rest)?;
     let yes = Box::new(alloc, yes)?;
     let (_, rest) = punct(rest, Punct::Colon, level + 2)?;
     let (no, rest) = conditional(alloc, level + 1, rest)?;
     let no = Box::new(alloc, no)?;
-    Ok((
-        Expr::Conditional {
-            test,
-            yes,
-            no,
-            line,
-            column,
-        },
-        rest,
-    ))
+    Ok((Expr::Conditional { test, yes, no, at }, rest))
 }
 
 #[cycle(read)]
@@ -176,11 +162,11 @@ fn chain(
     requires { level ≤ 257 }
     ensures { Reads (phrase.chain level (exp_of left)) (λ e. exp_of e) tokens.now result }
 {
-    let Some(((op, place), following)) = next_binary(tokens, level + 2)? else {
+    let Some(((op, at), following)) = next_binary(tokens, level + 2)? else {
         return Ok((left, tokens));
     };
     let (operand, rest) = unary(alloc, level + 1, following)?;
-    let left = push(alloc, left, op, operand, place)?;
+    let left = push(alloc, left, op, operand, at)?;
     chain(alloc, level + 1, left, rest)
 }
 
@@ -191,7 +177,7 @@ fn unary(alloc: Global, level: u32, tokens: &[Token]) -> Result<(Expr, &[Token])
     ensures { Reads (phrase.unary level) (λ e. exp_of e) tokens.now result }
 {
     match next_punct(tokens, Punct::OpenParen, level + 1)? {
-        Some((place, rest)) => opened(alloc, level, place, rest),
+        Some((at, rest)) => opened(alloc, level, at, rest),
         None => unary_plain(alloc, level, tokens),
     }
 }
@@ -203,12 +189,12 @@ fn unary_plain(alloc: Global, level: u32, tokens: &[Token]) -> Result<(Expr, &[T
     requires { level ≤ 257 }
     ensures { Reads (phrase.unary_plain level) (λ e. exp_of e) tokens.now result }
 {
-    if let Some(((op, place), rest)) = next_prefix(tokens, level + 1)? {
+    if let Some(((op, at), rest)) = next_prefix(tokens, level + 1)? {
         let (operand, rest) = unary(alloc, level + 1, rest)?;
-        return Ok((make::prefix(alloc, op, operand, place)?, rest));
+        return Ok((make::prefix(alloc, op, operand, at)?, rest));
     }
-    if let Some((place, rest)) = next_word(tokens, Word::Sizeof, level + 1)? {
-        return sizeof(alloc, level, place, rest);
+    if let Some((at, rest)) = next_word(tokens, Word::Sizeof, level + 1)? {
+        return sizeof(alloc, level, at, rest);
     }
     let (base, rest) = atom(alloc, level, tokens)?;
     postfix(alloc, level, base, rest)
@@ -219,24 +205,23 @@ fn unary_plain(alloc: Global, level: u32, tokens: &[Token]) -> Result<(Expr, &[T
 fn sizeof(
     alloc: Global,
     level: u32,
-    place: Position,
+    at: Position,
     tokens: &[Token],
 ) -> Result<(Expr, &[Token]), Stop<'_>>
     requires { level ≤ 256 }
-    ensures { Follows (sizeof_rule level place) (λ e. exp_of e) tokens.now result }
+    ensures { Follows (sizeof_rule level at) (λ e. exp_of e) tokens.now result }
 {
     let Some((there, rest)) = next_punct(tokens, Punct::OpenParen, level + 2)? else {
         let (operand, rest) = unary_plain(alloc, level + 1, tokens)?;
-        return Ok((make::sizeof_expr(alloc, operand, place)?, rest));
+        return Ok((make::sizeof_expr(alloc, operand, at)?, rest));
     };
     if begins_type(rest) {
         let (of, rest) = type_name(alloc, level + 2, rest)?;
         let (_, rest) = punct(rest, Punct::CloseParen, level + 2)?;
-        let Position { line, column } = place;
-        return Ok((Expr::SizeofType { of, line, column }, rest));
+        return Ok((Expr::SizeofType { of, at }, rest));
     }
     let (operand, rest) = enclosed(alloc, level + 1, there, rest)?;
-    Ok((make::sizeof_expr(alloc, operand, place)?, rest))
+    Ok((make::sizeof_expr(alloc, operand, at)?, rest))
 }
 
 // After a parenthesis at that place: a cast, or an expression and what follows it.
@@ -245,19 +230,19 @@ fn sizeof(
 fn opened(
     alloc: Global,
     level: u32,
-    place: Position,
+    at: Position,
     tokens: &[Token],
 ) -> Result<(Expr, &[Token]), Stop<'_>>
     requires { level ≤ 256 }
-    ensures { Reads (phrase.opened level place) (λ e. exp_of e) tokens.now result }
+    ensures { Reads (phrase.opened level at) (λ e. exp_of e) tokens.now result }
 {
     if begins_type(tokens) {
         let (to, rest) = type_name(alloc, level + 1, tokens)?;
         let (_, rest) = punct(rest, Punct::CloseParen, level + 1)?;
         let (operand, rest) = unary(alloc, level + 1, rest)?;
-        return Ok((make::cast(alloc, to, operand, place)?, rest));
+        return Ok((make::cast(alloc, to, operand, at)?, rest));
     }
-    enclosed(alloc, level, place, tokens)
+    enclosed(alloc, level, at, tokens)
 }
 
 #[cycle(read)]
@@ -265,21 +250,16 @@ fn opened(
 fn enclosed(
     alloc: Global,
     level: u32,
-    place: Position,
+    at: Position,
     tokens: &[Token],
 ) -> Result<(Expr, &[Token]), Stop<'_>>
     requires { level ≤ 256 }
-    ensures { Reads (phrase.enclosed level place) (λ e. exp_of e) tokens.now result }
+    ensures { Reads (phrase.enclosed level at) (λ e. exp_of e) tokens.now result }
 {
     let (inner, rest) = expression(alloc, level + 1, tokens)?;
     let inner = Box::new(alloc, inner)?;
     let (_, rest) = punct(rest, Punct::CloseParen, level + 1)?;
-    let Position { line, column } = place;
-    let base = Expr::Paren {
-        inner,
-        line,
-        column,
-    };
+    let base = Expr::Paren { inner, at };
     postfix(alloc, level, base, rest)
 }
 
@@ -289,46 +269,24 @@ fn atom(alloc: Global, level: u32, tokens: &[Token]) -> Result<(Expr, &[Token]),
     requires { level ≤ 257 }
     ensures { Reads (phrase.atom level) (λ e. exp_of e) tokens.now result }
 {
-    if let Some((Name { text, line, column }, rest)) = next_name(alloc, tokens, level + 1)? {
+    if let Some((Name { text, at }, rest)) = next_name(alloc, tokens, level + 1)? {
         let Some((_, following)) = next_punct(rest, Punct::OpenParen, level + 1)? else {
-            let name = text;
-            return Ok((Expr::Name { name, line, column }, rest));
+            return Ok((Expr::Name { name: text, at }, rest));
         };
         let (arguments, rest) = arguments(alloc, level + 1, following)?;
-        return Ok((make::call(text, arguments, Position { line, column }), rest));
+        return Ok((make::call(text, arguments, at), rest));
     }
-    if let Some(((value, Position { line, column }), rest)) = next_number(tokens, level + 1)? {
-        return Ok((
-            Expr::Number {
-                value,
-                line,
-                column,
-            },
-            rest,
-        ));
+    if let Some(((value, at), rest)) = next_number(tokens, level + 1)? {
+        return Ok((Expr::Number { value, at }, rest));
     }
-    if let Some(((value, Position { line, column }), rest)) = next_letter(tokens, level + 1)? {
-        return Ok((
-            Expr::Letter {
-                value,
-                line,
-                column,
-            },
-            rest,
-        ));
+    if let Some(((value, at), rest)) = next_letter(tokens, level + 1)? {
+        return Ok((Expr::Letter { value, at }, rest));
     }
-    if let Some(((bytes, Position { line, column }), rest)) = next_text(alloc, tokens, level + 1)? {
-        return Ok((
-            Expr::Text {
-                bytes,
-                line,
-                column,
-            },
-            rest,
-        ));
+    if let Some(((bytes, at), rest)) = next_text(alloc, tokens, level + 1)? {
+        return Ok((Expr::Text { bytes, at }, rest));
     }
-    let (Position { line, column }, rest) = word(tokens, Word::Null, level + 1)?;
-    Ok((Expr::Null { line, column }, rest))
+    let (at, rest) = word(tokens, Word::Null, level + 1)?;
+    Ok((Expr::Null { at }, rest))
 }
 
 // The postfix operators after a base.
@@ -345,68 +303,35 @@ fn postfix(
 {
     if begins_with(tokens, Punct::OpenBracket) {
         let base = Box::new(alloc, base)?;
-        let (Position { line, column }, rest) = punct(tokens, Punct::OpenBracket, level + 2)?;
+        let (at, rest) = punct(tokens, Punct::OpenBracket, level + 2)?;
         let (index, rest) = expression(alloc, level + 2, rest)?;
         let index = Box::new(alloc, index)?;
         let (_, rest) = punct(rest, Punct::CloseBracket, level + 2)?;
-        let base = Expr::Index {
-            base,
-            index,
-            line,
-            column,
-        };
+        let base = Expr::Index { base, index, at };
         return postfix(alloc, level + 1, base, rest);
     }
     if begins_with(tokens, Punct::Dot) {
         let base = Box::new(alloc, base)?;
-        let (Position { line, column }, rest) = punct(tokens, Punct::Dot, level + 2)?;
+        let (at, rest) = punct(tokens, Punct::Dot, level + 2)?;
         let (name, rest) = name(alloc, rest, level + 2)?;
-        return postfix(
-            alloc,
-            level + 1,
-            Expr::Member {
-                base,
-                name,
-                line,
-                column,
-            },
-            rest,
-        );
+        return postfix(alloc, level + 1, Expr::Member { base, name, at }, rest);
     }
     if begins_with(tokens, Punct::Arrow) {
         let base = Box::new(alloc, base)?;
-        let (Position { line, column }, rest) = punct(tokens, Punct::Arrow, level + 2)?;
+        let (at, rest) = punct(tokens, Punct::Arrow, level + 2)?;
         let (name, rest) = name(alloc, rest, level + 2)?;
-        return postfix(
-            alloc,
-            level + 1,
-            Expr::Arrow {
-                base,
-                name,
-                line,
-                column,
-            },
-            rest,
-        );
+        return postfix(alloc, level + 1, Expr::Arrow { base, name, at }, rest);
     }
     if begins_with(tokens, Punct::PlusPlus) {
         let operand = Box::new(alloc, base)?;
-        let (Position { line, column }, rest) = punct(tokens, Punct::PlusPlus, level + 2)?;
-        let base = Expr::PostIncrement {
-            operand,
-            line,
-            column,
-        };
+        let (at, rest) = punct(tokens, Punct::PlusPlus, level + 2)?;
+        let base = Expr::PostIncrement { operand, at };
         return postfix(alloc, level + 1, base, rest);
     }
     if begins_with(tokens, Punct::MinusMinus) {
         let operand = Box::new(alloc, base)?;
-        let (Position { line, column }, rest) = punct(tokens, Punct::MinusMinus, level + 2)?;
-        let base = Expr::PostDecrement {
-            operand,
-            line,
-            column,
-        };
+        let (at, rest) = punct(tokens, Punct::MinusMinus, level + 2)?;
+        let base = Expr::PostDecrement { operand, at };
         return postfix(alloc, level + 1, base, rest);
     }
     Ok((base, tokens))

@@ -7,7 +7,7 @@ use Rattle.c_tree.specs.Kinds.{p}
 use Rattle.c_grammar.specs.Marks.{Lexeme, lexeme, Mark, mark, erase, AllLow}
 use Rattle.c_grammar.specs.Grammar.{OfStars, OfRaisingStars}
 use Rattle.c_grammar.specs.Phrase.{Phrase, TreeOf, Head, function_head, object_head}
-use Rattle.c_grammar.specs.Parse.{Class, Value, kind_of, grab, sign, a_name, follows_declarator, Rule, ret, one, heads, choose, Outcome, Got, Stuck, Spent, Nesting, Syntax, Parser, and_then, taken, token, passes, outer_head, run}
+use Rattle.c_grammar.specs.Parse.{Class, Value, kind_of, grab, follows_declarator, Rule, ret, one, heads, choose, Outcome, Got, Stuck, Spent, Nesting, Parser, and_then, taken, token, passes, outer_head, run}
 use Rattle.c_grammar.specs.Parse as rule
 use Rattle.c_grammar.specs.Rules.{rules, rank, read_within, read}
 use Rattle.c_grammar.proofs.Tokens.{grabs}

@@ -19,7 +19,7 @@ use Rattle.c_grammar.specs.Marks.{Mark, mark, erase}
 use Rattle.c_grammar.specs.Grammar.{ends_open, OfExp}
 use Rattle.c_grammar.specs.Phrase as phrase
 use Rattle.c_grammar.specs.Phrase.{Phrase, TreeOf, Head, function_head, object_head}
-use Rattle.c_grammar.specs.Parse.{Class, sign, key, a_name, a_prefix, a_binary, an_assign, Value, kind_of, is_of, is_type, follows_declarator, passes, Rule, ret, one, heads, choose}
+use Rattle.c_grammar.specs.Parse.{sign, key, a_prefix, a_binary, an_assign, Value, kind_of, is_of, is_type, follows_declarator, passes, Rule, ret, one, heads, choose}
 use Rattle.c_grammar.specs.Parse as rule
 use Rattle.c_grammar.proofs.Language.{OfHead, Of}
 

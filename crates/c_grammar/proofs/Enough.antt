@@ -5,7 +5,7 @@ use Rattle.rr_base.specs.declared.position.Position.{Position}
 use Rattle.c_grammar.specs.Marks.{Lexeme}
 use Rattle.c_grammar.specs.Phrase as phrase
 use Rattle.c_grammar.specs.Phrase.{Phrase, TreeOf, Head, function_head, object_head}
-use Rattle.c_grammar.specs.Parse.{Class, Value, sign, a_name, grab, is_of, follows_declarator, Rule, ret, one, heads, choose, Fault, Syntax, Nesting, Outcome, Got, Stuck, Spent, Parser, and_then, ◌>>=◌, taken, token, passes, star_count, decided, decided_by, outer_head, run}
+use Rattle.c_grammar.specs.Parse.{Class, Value, sign, a_name, grab, is_of, follows_declarator, Rule, ret, one, heads, choose, Syntax, Nesting, Outcome, Got, Stuck, Spent, Parser, and_then, taken, token, passes, star_count, decided, decided_by, outer_head, run}
 use Rattle.c_grammar.specs.Parse as rule
 use Rattle.c_grammar.specs.Rules.{rules, rank, read_within, read}
 

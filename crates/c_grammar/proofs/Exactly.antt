@@ -5,7 +5,7 @@ use Rattle.c_tree.specs.Tree.{Outer}
 use Rattle.c_grammar.specs.Marks.{Lexeme, Mark, erase, AllLow}
 use Rattle.c_grammar.specs.Grammar.{OfProgram}
 use Rattle.c_grammar.specs.Phrase as phrase
-use Rattle.c_grammar.specs.Parse.{Fault, Syntax, Nesting, Outcome, Got, Stuck, Spent, Parser, and_then, run}
+use Rattle.c_grammar.specs.Parse.{Fault, Syntax, Nesting, Outcome, Got, Stuck, Spent, and_then, run}
 use Rattle.c_grammar.specs.Parse as rule
 use Rattle.c_grammar.specs.Rules.{read_within, read}
 use Rattle.c_grammar.specs.Exact.{IsProgram, Begins, IsViable, IsFaultOf, Says, parsed, IsExact}

@@ -15,8 +15,8 @@ use Rattle.c_tree.specs.Kinds.{p, w}
 use Rattle.c_grammar.specs.Grammar.{specifier_place}
 use Rattle.c_grammar.specs.Marks.{Mark, mark}
 use Rattle.c_grammar.specs.Phrase as phrase
-use Rattle.c_grammar.specs.Phrase.{Phrase, TreeOf, object_head, initials}
-use Rattle.c_grammar.specs.Parse.{Class, Value, kind_of, Rule, ret, one, heads, choose}
+use Rattle.c_grammar.specs.Phrase.{Phrase, object_head, initials}
+use Rattle.c_grammar.specs.Parse.{kind_of, Rule, ret, one, heads, choose}
 use Rattle.c_grammar.specs.Parse as rule
 use Rattle.c_grammar.proofs.Tokens.{example}
 use Rattle.c_grammar.proofs.Works.{HasPhrase, spells_both}
@@ -35,13 +35,13 @@ abbrev sign : Punct → ℕ → Mark
 sign x l = mark (p x) at l
 
 abbrev a_name : Name
-a_name = record { text = []; line = 1; column = 1 }
+a_name = record { text = []; at = at }
 
 abbrev name_mark : ℕ → Mark
 name_mark l = mark (kind.Name []) at l
 
 abbrev int : Specifier
-int = specifier.Int 1 1
+int = specifier.Int at
 
 abbrev int_mark : ℕ → Mark
 int_mark l = mark (w word.Int) at l
@@ -58,7 +58,7 @@ some_declared l k = (name_mark (l + 0) ∷ k, refl, (k, refl, refl))
 pub some_of : (n : Phrase) → HasPhrase (Of n)
 some_of (phrase.specifier l) = (int, int_mark l ∷ [], λ k. refl)
 some_of (phrase.stars l n) = (n, [], λ k. (0, same_level n, refl))
-some_of (phrase.type_name l) = (record { specifier = int; stars = 0; line = 1; column = 1 }, int_mark l ∷ [], λ k. (refl, (k, refl, refl)))
+some_of (phrase.type_name l) = (record { specifier = int; stars = 0; at = at }, int_mark l ∷ [], λ k. (refl, (k, refl, refl)))
 some_of (phrase.expression l) = (zero_at, zero_mark l ∷ [], λ k. refl)
 some_of (phrase.more l es) = (es, [], λ k. ([], sym (append-nil es), refl))
 some_of (phrase.assignment l) = (zero_at, zero_mark l ∷ [], λ k. (omega arith, refl))
@@ -89,8 +89,8 @@ some_of (phrase.declaration l) = (
 some_of (phrase.start l) = (start_computes None, sign punct.Semicolon l ∷ [], λ k. (sign punct.Semicolon l ∷ k, refl, (at, refl)))
 some_of (phrase.statement l) = (compute None at, sign punct.Semicolon (suc l) ∷ [], λ k. refl)
 some_of (phrase.parts l ps) = (ps, [], λ k. ([], sym (append-nil ps), refl))
-some_of phrase.param = (record { specifier = int; stars = 0; name = None; line = 1; column = 1 }, int_mark 0 ∷ [], λ k. (refl, (k, refl, (k, refl, refl))))
-some_of (phrase.param_after s) = (record { specifier = s; stars = 0; name = None; line = (specifier_place s).line; column = (specifier_place s).column }, [], λ k. (refl, refl, (k, refl, refl)))
+some_of phrase.param = (record { specifier = int; stars = 0; name = None; at = at }, int_mark 0 ∷ [], λ k. (refl, (k, refl, (k, refl, refl))))
+some_of (phrase.param_after s) = (record { specifier = s; stars = 0; name = None; at = specifier_place s }, [], λ k. (refl, refl, (k, refl, refl)))
 some_of (phrase.more_params xs) = (xs, [], λ k. ([], sym (append-nil xs), refl))
 some_of phrase.params = (params.Nothing, [], λ k. refl)
 some_of phrase.code = (prototype, sign punct.Semicolon 0 ∷ [], λ k. (at, refl))

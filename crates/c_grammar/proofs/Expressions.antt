@@ -11,7 +11,6 @@ use Rattle.c_tree.specs.declared.expr.PrefixOp.{PrefixOp}
 use Rattle.c_tree.specs.declared.expr.PrefixOp.TheVariants as prefix_op
 use Rattle.c_tree.specs.Tree.{Exp, comma, assign, conditional, binary, prefix, sizeof_exp, sizeof_type, cast, named, call, number, letter, text, null, paren, Exps, no_exp, and_exp, listed}
 use Rattle.rr_base.specs.declared.position.Position.{Position}
-use Rattle.rr_base.specs.Positions.{position_at}
 use Rattle.c_tree.specs.Kinds.{p, w}
 use Rattle.c_grammar.specs.Marks.{Mark, mark}
 use Rattle.c_grammar.specs.Grammar.{binds, is_cast, OfSpecifier, OfStars, OfType, OfExp, OfExps, OfMore}
@@ -53,9 +52,9 @@ listed_as (and_exp e es) = ap (and_exp e) (listed_as es)
 -- ---- types
 
 pub chooses_specifier : (l : ℕ) → Chooses (phrase.specifier l)
-chooses_specifier l (specifiers.Int line column) ms rest e ends = inl (ap (reads_word word.Int) e, (tt, position_at line column, rest, e, (refl, refl)))
-chooses_specifier l (specifiers.Long true true line column) ms rest h ends =
-    let at = position_at line column in let m = mark (w word.Long) at l in
+chooses_specifier l (specifiers.Int at) ms rest e ends = inl (ap (reads_word word.Int) e, (tt, at, rest, e, (refl, refl)))
+chooses_specifier l (specifiers.Long true true at) ms rest h ends =
+    let m = mark (w word.Long) at l in
     inr (
       looks (is_of (key word.Int)) false m ms h.0 h.1 refl,
       inl (
@@ -69,8 +68,8 @@ chooses_specifier l (specifiers.Long true true line column) ms rest h ends =
         ),
       ),
     )
-chooses_specifier l (specifiers.Long true false line column) ms rest h ends =
-    let at = position_at line column in let m = mark (w word.Long) at l in
+chooses_specifier l (specifiers.Long true false at) ms rest h ends =
+    let m = mark (w word.Long) at l in
     inr (
       looks (is_of (key word.Int)) false m ms h.0 h.1 refl,
       inl (
@@ -84,8 +83,8 @@ chooses_specifier l (specifiers.Long true false line column) ms rest h ends =
         ),
       ),
     )
-chooses_specifier l (specifiers.Long false true line column) ms rest h ends =
-    let at = position_at line column in let m = mark (w word.Long) at l in
+chooses_specifier l (specifiers.Long false true at) ms rest h ends =
+    let m = mark (w word.Long) at l in
     let e : h.0 ≡ mark (w word.Int) h.2.2.0 l ∷ rest = h.2.1 ∙ h.2.2.1 in
     inr (
       looks (is_of (key word.Int)) false m ms h.0 h.1 refl,
@@ -100,8 +99,8 @@ chooses_specifier l (specifiers.Long false true line column) ms rest h ends =
         ),
       ),
     )
-chooses_specifier l (specifiers.Long false false line column) ms rest h ends =
-    let at = position_at line column in let m = mark (w word.Long) at l in
+chooses_specifier l (specifiers.Long false false at) ms rest h ends =
+    let m = mark (w word.Long) at l in
     let e : h.0 ≡ rest = h.2.1 ∙ h.2.2 in
     inr (
       looks (is_of (key word.Int)) false m ms h.0 h.1 refl,
@@ -116,18 +115,18 @@ chooses_specifier l (specifiers.Long false false line column) ms rest h ends =
         ),
       ),
     )
-chooses_specifier l (specifiers.Void line column) ms rest e ends = inr (ap (reads_word word.Int) e, inr (ap (reads_word word.Long) e, inl (ap (reads_word word.Void) e, (tt, position_at line column, rest, e, (refl, refl)))))
-chooses_specifier l (specifiers.Struct name line column) ms rest h ends =
+chooses_specifier l (specifiers.Void at) ms rest e ends = inr (ap (reads_word word.Int) e, inr (ap (reads_word word.Long) e, inl (ap (reads_word word.Void) e, (tt, at, rest, e, (refl, refl)))))
+chooses_specifier l (specifiers.Struct name at) ms rest h ends =
     let e = h.1 in
-    inr (ap (reads_word word.Int) e, inr (ap (reads_word word.Long) e, inr (ap (reads_word word.Void) e, inl (ap (reads_word word.Struct) e, (tt, position_at line column, h.0, e, (name.text, position_at name.line name.column, rest, h.2, (refl, refl)))))))
-chooses_specifier l (specifiers.PthreadT line column) ms rest e ends =
-    inr (ap (reads_word word.Int) e, inr (ap (reads_word word.Long) e, inr (ap (reads_word word.Void) e, inr (ap (reads_word word.Struct) e, inl (ap (reads_word word.PthreadT) e, (tt, position_at line column, rest, e, (refl, refl)))))))
-chooses_specifier l (specifiers.PthreadMutexT line column) ms rest e ends =
-    inr (ap (reads_word word.Int) e, inr (ap (reads_word word.Long) e, inr (ap (reads_word word.Void) e, inr (ap (reads_word word.Struct) e, inr (ap (reads_word word.PthreadT) e, inl (ap (reads_word word.PthreadMutexT) e, (tt, position_at line column, rest, e, (refl, refl))))))))
-chooses_specifier l (specifiers.PthreadCondT line column) ms rest e ends =
-    inr (ap (reads_word word.Int) e, inr (ap (reads_word word.Long) e, inr (ap (reads_word word.Void) e, inr (ap (reads_word word.Struct) e, inr (ap (reads_word word.PthreadT) e, inr (ap (reads_word word.PthreadMutexT) e, inl (ap (reads_word word.PthreadCondT) e, (tt, position_at line column, rest, e, (refl, refl)))))))))
-chooses_specifier l (specifiers.PthreadBarrierT line column) ms rest e ends =
-    inr (ap (reads_word word.Int) e, inr (ap (reads_word word.Long) e, inr (ap (reads_word word.Void) e, inr (ap (reads_word word.Struct) e, inr (ap (reads_word word.PthreadT) e, inr (ap (reads_word word.PthreadMutexT) e, inr (ap (reads_word word.PthreadCondT) e, (tt, position_at line column, rest, e, (refl, refl)))))))))
+    inr (ap (reads_word word.Int) e, inr (ap (reads_word word.Long) e, inr (ap (reads_word word.Void) e, inl (ap (reads_word word.Struct) e, (tt, at, h.0, e, (name.text, name.at, rest, h.2, (refl, refl)))))))
+chooses_specifier l (specifiers.PthreadT at) ms rest e ends =
+    inr (ap (reads_word word.Int) e, inr (ap (reads_word word.Long) e, inr (ap (reads_word word.Void) e, inr (ap (reads_word word.Struct) e, inl (ap (reads_word word.PthreadT) e, (tt, at, rest, e, (refl, refl)))))))
+chooses_specifier l (specifiers.PthreadMutexT at) ms rest e ends =
+    inr (ap (reads_word word.Int) e, inr (ap (reads_word word.Long) e, inr (ap (reads_word word.Void) e, inr (ap (reads_word word.Struct) e, inr (ap (reads_word word.PthreadT) e, inl (ap (reads_word word.PthreadMutexT) e, (tt, at, rest, e, (refl, refl))))))))
+chooses_specifier l (specifiers.PthreadCondT at) ms rest e ends =
+    inr (ap (reads_word word.Int) e, inr (ap (reads_word word.Long) e, inr (ap (reads_word word.Void) e, inr (ap (reads_word word.Struct) e, inr (ap (reads_word word.PthreadT) e, inr (ap (reads_word word.PthreadMutexT) e, inl (ap (reads_word word.PthreadCondT) e, (tt, at, rest, e, (refl, refl)))))))))
+chooses_specifier l (specifiers.PthreadBarrierT at) ms rest e ends =
+    inr (ap (reads_word word.Int) e, inr (ap (reads_word word.Long) e, inr (ap (reads_word word.Void) e, inr (ap (reads_word word.Struct) e, inr (ap (reads_word word.PthreadT) e, inr (ap (reads_word word.PthreadMutexT) e, inr (ap (reads_word word.PthreadCondT) e, (tt, at, rest, e, (refl, refl)))))))))
 
 pub chooses_stars : (l n : ℕ) → Chooses (phrase.stars l n)
 chooses_stars l n k ms rest (zero, e, h) ends = inr (ap (sees punct.Star) h ∙ ends, (omega (arith, e), h))
@@ -167,20 +166,20 @@ chooses_type l t ms rest h ends = (
     rest,
     (t.stars, zero_plus t.stars, h.1.2),
     by_test (is_of (sign punct.CloseParen)) (is_of (sign punct.Star)) false close_no_star rest ends,
-    (ap (λ (q : Position). record { specifier = t.specifier; stars = t.stars; line = q.line; column = q.column }) h.0, refl),
+    (ap (λ (q : Position). record { specifier = t.specifier; stars = t.stars; at = q }) h.0, refl),
   ),
 )
 
 -- a type begins with its words
 pub type_begins : (l : ℕ) (s : Specifier) (ms rest : List Mark) → OfSpecifier l s ms rest → next_is is_type ms ≡ true
-type_begins l (specifiers.Int line column) ms rest h = ap (next_is is_type) h
-type_begins l (specifiers.Long second int line column) ms rest h = ap (next_is is_type) h.1
-type_begins l (specifiers.Void line column) ms rest h = ap (next_is is_type) h
-type_begins l (specifiers.Struct name line column) ms rest h = ap (next_is is_type) h.1
-type_begins l (specifiers.PthreadT line column) ms rest h = ap (next_is is_type) h
-type_begins l (specifiers.PthreadMutexT line column) ms rest h = ap (next_is is_type) h
-type_begins l (specifiers.PthreadCondT line column) ms rest h = ap (next_is is_type) h
-type_begins l (specifiers.PthreadBarrierT line column) ms rest h = ap (next_is is_type) h
+type_begins l (specifiers.Int at) ms rest h = ap (next_is is_type) h
+type_begins l (specifiers.Long second int at) ms rest h = ap (next_is is_type) h.1
+type_begins l (specifiers.Void at) ms rest h = ap (next_is is_type) h
+type_begins l (specifiers.Struct name at) ms rest h = ap (next_is is_type) h.1
+type_begins l (specifiers.PthreadT at) ms rest h = ap (next_is is_type) h
+type_begins l (specifiers.PthreadMutexT at) ms rest h = ap (next_is is_type) h
+type_begins l (specifiers.PthreadCondT at) ms rest h = ap (next_is is_type) h
+type_begins l (specifiers.PthreadBarrierT at) ms rest h = ap (next_is is_type) h
 
 -- ---- expressions
 
@@ -532,9 +531,9 @@ chooses_postfix l left e ms rest ([], h) ends =
 chooses_postfix l left e ms rest (by_index b at ∷ ops, (m4, (m1, ea, (m2, hb, (q, eb))), hp)) ends =
     inl (ap (sees punct.OpenBracket) ea, (tt, at, m1, ea, (b, m2, hb, joins_at 0 (mark (p punct.CloseBracket) q (suc (suc l))) m2 m4 eb (omega arith), (tt, q, m4, eb, (e, rest, (ops, hp), ends, (refl, refl))))))
 chooses_postfix l left e ms rest (by_member x at ∷ ops, (m4, (m1, ea, ex), hp)) ends =
-    inr (ap (sees punct.OpenBracket) ea, inl (ap (sees punct.Dot) ea, (tt, at, m1, ea, (x.text, position_at x.line x.column, m4, ex, (e, rest, (ops, hp), ends, (refl, refl))))))
+    inr (ap (sees punct.OpenBracket) ea, inl (ap (sees punct.Dot) ea, (tt, at, m1, ea, (x.text, x.at, m4, ex, (e, rest, (ops, hp), ends, (refl, refl))))))
 chooses_postfix l left e ms rest (by_arrow x at ∷ ops, (m4, (m1, ea, ex), hp)) ends =
-    inr (ap (sees punct.OpenBracket) ea, inr (ap (sees punct.Dot) ea, inl (ap (sees punct.Arrow) ea, (tt, at, m1, ea, (x.text, position_at x.line x.column, m4, ex, (e, rest, (ops, hp), ends, (refl, refl)))))))
+    inr (ap (sees punct.OpenBracket) ea, inr (ap (sees punct.Dot) ea, inl (ap (sees punct.Arrow) ea, (tt, at, m1, ea, (x.text, x.at, m4, ex, (e, rest, (ops, hp), ends, (refl, refl)))))))
 chooses_postfix l left e ms rest (by_increment at ∷ ops, (m4, ea, hp)) ends =
     inr (ap (sees punct.OpenBracket) ea, inr (ap (sees punct.Dot) ea, inr (ap (sees punct.Arrow) ea, inl (ap (sees punct.PlusPlus) ea, (tt, at, m4, ea, (e, rest, (ops, hp), ends, (refl, refl)))))))
 chooses_postfix l left e ms rest (by_decrement at ∷ ops, (m4, ea, hp)) ends =

@@ -8,13 +8,12 @@ use Rattle.c_tree.specs.declared.program.Param.{Param}
 use Rattle.c_tree.specs.declared.program.Params.{Params}
 use Rattle.c_tree.specs.Tree.{Exp, index, member, arrow, post_increment, post_decrement, listed, named, call, number, letter, text, null, Declared, Init, listed_inits, Object, plain, initialised, Part, listed_parts, Code, Fields, Outer, function, objects}
 use Rattle.rr_base.specs.declared.position.Position.{Position}
-use Rattle.rr_base.specs.Positions.{position_at}
 use Rattle.c_tree.specs.Kinds.{p, binary_punct}
 use Rattle.c_grammar.specs.Marks.{Mark, mark, erase, Beginning, own, other, ◌>>◌, maybe, provided}
 use Rattle.c_grammar.specs.Grammar.{specifier_place, binds, is_cast, OfName, OfSpecifier, OfStars, OfType, OfExp, OfExps, OfMore, OfMaybe, OfRaisingStars, OfLengths, OfDeclared, OfInit, OfMoreInits, OfObject, OfMoreObjects, OfObjects, OfDeclares, OfStart, OfStatement, OfParts, OfMaybeName, OfParam, OfMoreParams, OfParams, OfCode, OfMoreDeclared, OfFields, OfMoreFields, OfOuter, OfProgram}
 use Rattle.c_grammar.specs.Phrase as phrase
-use Rattle.c_grammar.specs.Phrase.{Phrase, TreeOf, Head, function_head, object_head, Initials, initials}
-use Rattle.c_grammar.specs.Parse.{Class, sign, Value, kind_of, is_of, passes, Rule, ret, one, heads, choose}
+use Rattle.c_grammar.specs.Phrase.{Phrase, TreeOf, Head, function_head, object_head, initials}
+use Rattle.c_grammar.specs.Parse.{sign, Value, kind_of, is_of, passes, Rule, ret, one, heads, choose}
 use Rattle.c_grammar.specs.Parse as rule
 use Rattle.c_grammar.specs.Rules.{push}
 
@@ -109,7 +108,7 @@ Of (phrase.start l) s = OfStart l s
 Of (phrase.statement l) s = OfStatement l s
 Of (phrase.parts l ps) all = λ ms rest. (more : List Part) × (all ≡ ps ++ more) × OfParts l (listed_parts more) ms rest
 Of phrase.param x = OfParam x
-Of (phrase.param_after s) x = λ ms rest. (x.specifier ≡ s) × (position_at x.line x.column ≡ specifier_place s) × (OfStars 0 x.stars >> OfMaybeName x.name) ms rest
+Of (phrase.param_after s) x = λ ms rest. (x.specifier ≡ s) × (x.at ≡ specifier_place s) × (OfStars 0 x.stars >> OfMaybeName x.name) ms rest
 Of (phrase.more_params xs) all = λ ms rest. (more : List Param) × (all ≡ xs ++ more) × OfMoreParams more ms rest
 Of phrase.params xs = OfParams xs
 Of phrase.code c = OfCode c

@@ -11,12 +11,11 @@ use Rattle.c_tree.specs.declared.program.Param.{Param}
 use Rattle.c_tree.specs.declared.program.Params.TheVariants as params_of
 use Rattle.c_tree.specs.Tree.{Exp, Declared, declared, Object, plain, initialised, Statement, block, compute, break_at, continue_at, gives, branch, branch_else, while_loop, do_loop, for_loop, defined, prototype, Fields, fields, Outer, structure, function, objects}
 use Rattle.rr_base.specs.declared.position.Position.{Position}
-use Rattle.rr_base.specs.Positions.{position_at}
 use Rattle.c_tree.specs.Kinds.{p, w}
 use Rattle.c_grammar.specs.Marks.{Mark, mark}
 use Rattle.c_grammar.specs.Grammar.{specifier_place, ends_open, OfName, OfSpecifier, OfStars, OfRaisingStars, OfLengths, OfMoreObjects, OfStatement, OfParts, OfMaybeName, OfMoreParams, OfMoreDeclared, OfFields, OfOuter}
 use Rattle.c_grammar.specs.Phrase as phrase
-use Rattle.c_grammar.specs.Phrase.{Phrase, TreeOf, Head, function_head, object_head}
+use Rattle.c_grammar.specs.Phrase.{Phrase, function_head, object_head}
 use Rattle.c_grammar.specs.Parse.{sign, key, a_name, is_of, is_type, follows_declarator, Rule, ret, one, choose}
 use Rattle.c_grammar.specs.Parse as rule
 use Rattle.c_grammar.specs.Rules.{rules}
@@ -275,14 +274,14 @@ chooses_param x ms rest (e, (m1, hs, (m2, hk, hn))) ends = (
   (x, rest, (refl, e, (m2, hk, hn)), ends, (refl, refl)),
 )
 
-param_is : (s t : Specifier) (k : ℕ) (n : Option Name) (line column : ℕ) → t ≡ s → position_at line column ≡ specifier_place s → Path Param (record { specifier = t; stars = k; name = n; line = line; column = column }) (record { specifier = s; stars = k; name = n; line = (specifier_place s).line; column = (specifier_place s).column })
-param_is s t k n line column e d = ap (λ (z : Specifier). record { specifier = z; stars = k; name = n; line = line; column = column }) e ∙ ap (λ (q : Position). record { specifier = s; stars = k; name = n; line = q.line; column = q.column }) d
+param_is : (s t : Specifier) (k : ℕ) (n : Option Name) (at : Position) → t ≡ s → at ≡ specifier_place s → Path Param (record { specifier = t; stars = k; name = n; at = at }) (record { specifier = s; stars = k; name = n; at = specifier_place s })
+param_is s t k n at e d = ap (λ (z : Specifier). record { specifier = z; stars = k; name = n; at = at }) e ∙ ap (λ (q : Position). record { specifier = s; stars = k; name = n; at = q }) d
 
-param_chosen : (s t : Specifier) (k : ℕ) (n : Option Name) (line column : ℕ) (ms rest : List Mark) → Of (phrase.param_after s) (record { specifier = t; stars = k; name = n; line = line; column = column }) ms rest → AfterParam rest → Chosen (rules (phrase.param_after s)) (record { specifier = t; stars = k; name = n; line = line; column = column }) ms rest
-param_chosen s t k None line column ms rest (e, d, (m1, hk, hn)) ends =
-    (k, m1, (k, zero_plus k, hk), before_name (is_of (sign punct.Star)) refl refl (λ _. refl) None m1 rest hn ends, inr (ap (next_is (is_of a_name)) hn ∙ after_param (is_of a_name) refl refl rest ends, (param_is s t k None line column e d, hn)))
-param_chosen s t k (Some n) line column ms rest (e, d, (m1, hk, hn)) ends =
-    (k, m1, (k, zero_plus k, hk), before_name (is_of (sign punct.Star)) refl refl (λ _. refl) (Some n) m1 rest hn ends, inl (ap (next_is (is_of a_name)) hn, (n.text, position_at n.line n.column, rest, hn, (param_is s t k (Some n) line column e d, refl))))
+param_chosen : (s t : Specifier) (k : ℕ) (n : Option Name) (at : Position) (ms rest : List Mark) → Of (phrase.param_after s) (record { specifier = t; stars = k; name = n; at = at }) ms rest → AfterParam rest → Chosen (rules (phrase.param_after s)) (record { specifier = t; stars = k; name = n; at = at }) ms rest
+param_chosen s t k None at ms rest (e, d, (m1, hk, hn)) ends =
+    (k, m1, (k, zero_plus k, hk), before_name (is_of (sign punct.Star)) refl refl (λ _. refl) None m1 rest hn ends, inr (ap (next_is (is_of a_name)) hn ∙ after_param (is_of a_name) refl refl rest ends, (param_is s t k None at e d, hn)))
+param_chosen s t k (Some n) at ms rest (e, d, (m1, hk, hn)) ends =
+    (k, m1, (k, zero_plus k, hk), before_name (is_of (sign punct.Star)) refl refl (λ _. refl) (Some n) m1 rest hn ends, inl (ap (next_is (is_of a_name)) hn, (n.text, n.at, rest, hn, (param_is s t k (Some n) at e d, refl))))
 
 before_params : (xs : List Param) (ms rest : List Mark) → OfMoreParams xs ms rest → sees punct.CloseParen rest ≡ true → AfterParam ms
 before_params [] ms rest h e = inr (ap (sees punct.CloseParen) h ∙ e)
@@ -304,7 +303,7 @@ type_no_paren _ h = refl
 chooses_params : Chooses phrase.params
 chooses_params params_of.Nothing ms rest h ends = inl (ap (sees punct.CloseParen) h ∙ ends, (refl, h))
 chooses_params params_of.Void ms rest (at, e) ends =
-    let x : Param = record { specifier = specifiers.Void at.line at.column; stars = 0; name = None; line = at.line; column = at.column } in
+    let x : Param = record { specifier = specifiers.Void at; stars = 0; name = None; at = at } in
     inr (ap (sees punct.CloseParen) e, (x, rest, (refl, (rest, e, (rest, refl, refl))), inr ends, (x ∷ [], rest, ([], refl, refl), ends, (refl, refl))))
 chooses_params (params_of.Listed []) ms rest h ends = absurd h
 chooses_params (params_of.Listed (x ∷ xs)) ms rest (v, (m1, hx, hm)) ends =
@@ -384,7 +383,7 @@ first_object is_static s at o n name es x os ms ma mb mc md me rest q is hk en h
     let same : 0 + n ≡ n = sym (zero_plus n) in
     let stop = joins_at 0 (mark (p punct.Semicolon) q 0) me rest ec (omega arith) in
     let lengths = subst (λ z. OfLengths z es mb mc) same hl in (
-      object_head n name.text (position_at name.line name.column),
+      object_head n name.text name.at,
       mb,
       (ma, hk, subst (λ z. OfName z name ma mb) same en),
       follows_lengths n es mb mc lengths follows,
@@ -393,7 +392,7 @@ first_object is_static s at o n name es x os ms ma mb mc md me rest q is hk en h
 
 chooses_outer_after : (is_static : Bool) (s : Specifier) (at : Position) → Chooses (phrase.outer_after is_static s at)
 chooses_outer_after is_static s at o ms rest (inl (n, name, xs, c, is, (m1, hk, (m2, en, (m3, (p3, e3), (m4, hx, (m5, (p5, e5), hc))))))) ends =
-    (function_head n name.text (position_at name.line name.column), m3, (m1, hk, (m2, en, (p3, e3))), tt, (xs, m4, hx, ap (sees punct.CloseParen) e5, (tt, p5, m5, e5, (c, rest, hc, tt, (is, refl)))))
+    (function_head n name.text name.at, m3, (m1, hk, (m2, en, (p3, e3))), tt, (xs, m4, hx, ap (sees punct.CloseParen) e5, (tt, p5, m5, e5, (c, rest, hc, tt, (is, refl)))))
 chooses_outer_after is_static s at o ms rest (inr ([], is, (m1, hos, (q, ec)))) ends = absurd hos
 chooses_outer_after is_static s at o ms rest (inr (plain (declared n name es) ∷ os, is, (m1, (m2, (ma, hk, (mb, en, hl)), hm), (q, ec)))) ends =
     let stop = joins_at 0 (mark (p punct.Semicolon) q 0) m1 rest ec (omega arith) in
@@ -407,38 +406,38 @@ object_no_brace _ h = refl
 
 -- without `static`
 plainly : (s : Specifier) (o : Outer) (ms m2 rest : List Mark) → OfSpecifier 0 s ms m2 → Of (phrase.outer_after false s (specifier_place s)) o m2 rest → Chosen (rules phrase.outer) o ms rest
-plainly (specifiers.Struct name line column) o ms m2 rest (m1, e, en) h =
+plainly (specifiers.Struct name at) o ms m2 rest (m1, e, en) h =
     inr (
       ap (reads_word word.Static) e,
       inl (
         ap (reads_word word.Struct) e,
         (
           tt,
-          position_at line column,
+          at,
           m1,
           e,
           (
             name.text,
-            position_at name.line name.column,
+            name.at,
             m2,
             en,
-            inr (by_test begins_object (is_of (sign punct.OpenBrace)) false object_no_brace m2 (after_begins false (specifiers.Struct name line column) (position_at line column) o m2 rest h), (o, rest, h, tt, (refl, refl))),
+            inr (by_test begins_object (is_of (sign punct.OpenBrace)) false object_no_brace m2 (after_begins false (specifiers.Struct name at) at o m2 rest h), (o, rest, h, tt, (refl, refl))),
           ),
         ),
       ),
     )
-plainly (specifiers.Int line column) o ms m2 rest e h = inr (ap (reads_word word.Static) e, inr (ap (reads_word word.Struct) e, (specifiers.Int line column, m2, e, after_type m2 (after_begins false (specifiers.Int line column) (position_at line column) o m2 rest h), (o, rest, h, tt, (refl, refl)))))
-plainly (specifiers.Long second int line column) o ms m2 rest e h =
-    inr (ap (reads_word word.Static) e.1, inr (ap (reads_word word.Struct) e.1, (specifiers.Long second int line column, m2, e, after_type m2 (after_begins false (specifiers.Long second int line column) (position_at line column) o m2 rest h), (o, rest, h, tt, (refl, refl)))))
-plainly (specifiers.Void line column) o ms m2 rest e h = inr (ap (reads_word word.Static) e, inr (ap (reads_word word.Struct) e, (specifiers.Void line column, m2, e, after_type m2 (after_begins false (specifiers.Void line column) (position_at line column) o m2 rest h), (o, rest, h, tt, (refl, refl)))))
-plainly (specifiers.PthreadT line column) o ms m2 rest e h =
-    inr (ap (reads_word word.Static) e, inr (ap (reads_word word.Struct) e, (specifiers.PthreadT line column, m2, e, after_type m2 (after_begins false (specifiers.PthreadT line column) (position_at line column) o m2 rest h), (o, rest, h, tt, (refl, refl)))))
-plainly (specifiers.PthreadMutexT line column) o ms m2 rest e h =
-    inr (ap (reads_word word.Static) e, inr (ap (reads_word word.Struct) e, (specifiers.PthreadMutexT line column, m2, e, after_type m2 (after_begins false (specifiers.PthreadMutexT line column) (position_at line column) o m2 rest h), (o, rest, h, tt, (refl, refl)))))
-plainly (specifiers.PthreadCondT line column) o ms m2 rest e h =
-    inr (ap (reads_word word.Static) e, inr (ap (reads_word word.Struct) e, (specifiers.PthreadCondT line column, m2, e, after_type m2 (after_begins false (specifiers.PthreadCondT line column) (position_at line column) o m2 rest h), (o, rest, h, tt, (refl, refl)))))
-plainly (specifiers.PthreadBarrierT line column) o ms m2 rest e h =
-    inr (ap (reads_word word.Static) e, inr (ap (reads_word word.Struct) e, (specifiers.PthreadBarrierT line column, m2, e, after_type m2 (after_begins false (specifiers.PthreadBarrierT line column) (position_at line column) o m2 rest h), (o, rest, h, tt, (refl, refl)))))
+plainly (specifiers.Int at) o ms m2 rest e h = inr (ap (reads_word word.Static) e, inr (ap (reads_word word.Struct) e, (specifiers.Int at, m2, e, after_type m2 (after_begins false (specifiers.Int at) at o m2 rest h), (o, rest, h, tt, (refl, refl)))))
+plainly (specifiers.Long second int at) o ms m2 rest e h =
+    inr (ap (reads_word word.Static) e.1, inr (ap (reads_word word.Struct) e.1, (specifiers.Long second int at, m2, e, after_type m2 (after_begins false (specifiers.Long second int at) at o m2 rest h), (o, rest, h, tt, (refl, refl)))))
+plainly (specifiers.Void at) o ms m2 rest e h = inr (ap (reads_word word.Static) e, inr (ap (reads_word word.Struct) e, (specifiers.Void at, m2, e, after_type m2 (after_begins false (specifiers.Void at) at o m2 rest h), (o, rest, h, tt, (refl, refl)))))
+plainly (specifiers.PthreadT at) o ms m2 rest e h =
+    inr (ap (reads_word word.Static) e, inr (ap (reads_word word.Struct) e, (specifiers.PthreadT at, m2, e, after_type m2 (after_begins false (specifiers.PthreadT at) at o m2 rest h), (o, rest, h, tt, (refl, refl)))))
+plainly (specifiers.PthreadMutexT at) o ms m2 rest e h =
+    inr (ap (reads_word word.Static) e, inr (ap (reads_word word.Struct) e, (specifiers.PthreadMutexT at, m2, e, after_type m2 (after_begins false (specifiers.PthreadMutexT at) at o m2 rest h), (o, rest, h, tt, (refl, refl)))))
+plainly (specifiers.PthreadCondT at) o ms m2 rest e h =
+    inr (ap (reads_word word.Static) e, inr (ap (reads_word word.Struct) e, (specifiers.PthreadCondT at, m2, e, after_type m2 (after_begins false (specifiers.PthreadCondT at) at o m2 rest h), (o, rest, h, tt, (refl, refl)))))
+plainly (specifiers.PthreadBarrierT at) o ms m2 rest e h =
+    inr (ap (reads_word word.Static) e, inr (ap (reads_word word.Struct) e, (specifiers.PthreadBarrierT at, m2, e, after_type m2 (after_begins false (specifiers.PthreadBarrierT at) at o m2 rest h), (o, rest, h, tt, (refl, refl)))))
 
 statically : (s : Specifier) (at : Position) (o : Outer) (ms m1 m2 rest : List Mark) → ms ≡ mark (w word.Static) at 0 ∷ m1 → OfSpecifier 0 s m1 m2 → Of (phrase.outer_after true s at) o m2 rest → Chosen (rules phrase.outer) o ms rest
 statically s at o ms m1 m2 rest e hs h = inl (ap (reads_word word.Static) e, (tt, at, m1, e, (s, m2, hs, after_type m2 (after_begins true s at o m2 rest h), (o, rest, h, tt, (refl, refl)))))
@@ -457,7 +456,7 @@ chooses_outer (structure name (f ∷ fs)) ms rest (m1, (at, es), (m2, en, (m3, (
           es,
           (
             name.text,
-            position_at name.line name.column,
+            name.at,
             m2,
             en,
             inl (
@@ -529,7 +528,7 @@ chooses (phrase.start l) = chooses_start l
 chooses (phrase.statement l) = chooses_statement l
 chooses (phrase.parts l ps) = chooses_parts l ps
 chooses phrase.param = chooses_param
-chooses (phrase.param_after s) = λ x. param_chosen s x.specifier x.stars x.name x.line x.column
+chooses (phrase.param_after s) = λ x. param_chosen s x.specifier x.stars x.name x.at
 chooses (phrase.more_params xs) = chooses_more_params xs
 chooses phrase.params = chooses_params
 chooses phrase.code = chooses_code

@@ -1,7 +1,7 @@
 -- The parser reads phrases of the grammar, and stops only where none goes on.
 use Rattle.std.proofs.Common.{inl, inr, ℕ, zero, suc, ◌≤◌}
 use Rattle.c_grammar.specs.Phrase.{Phrase, TreeOf}
-use Rattle.c_grammar.specs.Parse.{Rule, ret, one, heads, choose, Outcome, Got, Stuck, Spent, Parser, token, outer_head, run}
+use Rattle.c_grammar.specs.Parse.{Rule, ret, one, heads, choose, Parser, token, outer_head, run}
 use Rattle.c_grammar.specs.Parse as rule
 use Rattle.c_grammar.specs.Rules.{rules, read_within, read}
 use Rattle.c_grammar.proofs.Works.{Works, now_works, wider, same_works, both_works, IsOne, one_works, picks_works}

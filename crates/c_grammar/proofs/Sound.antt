@@ -12,12 +12,11 @@ use Rattle.c_tree.specs.declared.program.Param.{Param}
 use Rattle.c_tree.specs.declared.program.Params.TheVariants as params_of
 use Rattle.c_tree.specs.Tree.{Exp, comma, named, call, number, letter, text, null, paren, listed, Declared, declared, Init, listed_inits, Object, Statement, branch, branch_else, part_declares, part_does, listed_parts, Outer}
 use Rattle.rr_base.specs.declared.position.Position.{Position}
-use Rattle.rr_base.specs.Positions.{position_at}
 use Rattle.c_tree.specs.Kinds.{p, w}
 use Rattle.c_grammar.specs.Grammar.{specifier_place, first_place, binds, postfixes_in, OfMaybeName, ends_open, is_void, is_nameless, is_void_alone, OfSpecifier, OfStars, OfExp, OfExps, OfRaisingStars, OfLengths, OfDeclared, OfInit, OfInits, OfObject, OfObjects, OfStatement, OfParts, OfParam, OfMoreParams, OfParams, OfAllDeclared, OfAllFields, OfOuter}
 use Rattle.c_grammar.specs.Marks.{Mark, mark, own, other, ◌>>◌, maybe}
 use Rattle.c_grammar.specs.Phrase as phrase
-use Rattle.c_grammar.specs.Phrase.{Phrase, TreeOf, Head, function_head, object_head, Initials, initials}
+use Rattle.c_grammar.specs.Phrase.{Phrase, Head, function_head, object_head, Initials, initials}
 use Rattle.c_grammar.specs.Parse.{sign, key, a_prefix, kind_of, is_of, Rule, ret, one, heads, choose}
 use Rattle.c_grammar.specs.Parse as rule
 use Rattle.c_grammar.specs.Rules.{name_of, rules, braces_after, after_head, params_from}
@@ -122,7 +121,7 @@ outer_plain s o ms m2 m3 h (inr k) = subst (λ z. OfOuter z ms m3) (sym k.1) (ms
 
 -- `void` alone is one token
 void_token : (s : Specifier) (n : Option Name) (k : ℕ) (ms mid rest : List Mark) → (is_void s && is_nameless n k) ≡ true → (OfSpecifier 0 s >> OfStars 0 k >> OfMaybeName n) ms mid → mid ≡ rest → OfParams params_of.Void ms rest
-void_token (specifiers.Void line column) None zero ms mid rest v h e = (position_at line column, h.1 ∙ ap (λ z. mark (w word.Void) (position_at line column) 0 ∷ z) (h.2.1 ∙ h.2.2 ∙ e))
+void_token (specifiers.Void at) None zero ms mid rest v h e = (at, h.1 ∙ ap (λ z. mark (w word.Void) at 0 ∷ z) (h.2.1 ∙ h.2.2 ∙ e))
 void_token _ _ _ ms mid rest v h e = cc
 
 params_hold : (x : Param) (more : List Param) (ms mid rest : List Mark) → OfParam x ms mid → OfMoreParams more mid rest → (b : Bool) → is_void_alone (x ∷ more) ≡ b → OfParams (cond b params_of.Void (params_of.Listed (x ∷ more))) ms rest
@@ -261,7 +260,7 @@ sound phrase.outer ms = (
   (
     λ v at m1 e x p2 m2 e2. (
       λ v3 p3 m3 e3 f m4 h fs m5 k v4 p4 m6 e4 v5 p5 m7 e5. (m1, (at, e), (m2, e2, (m3, (p3, e3), (m5, subst (λ z. OfAllFields z m3 m5) (sym k.1) (m4, h, k.2), (m6, (p4, e4), (p5, e5)))))),
-      λ o m3 k. outer_plain (specifiers.Struct (name_of x p2) at.line at.column) o ms m2 m3 (m1, e, e2) k,
+      λ o m3 k. outer_plain (specifiers.Struct (name_of x p2) at) o ms m2 m3 (m1, e, e2) k,
     ),
     λ s m1 h o m2 k. outer_plain s o ms m1 m2 h k,
   ),

@@ -5,12 +5,11 @@ use Rattle.c_lexer.specs.declared.token.Kind.TheVariants as kind
 use Rattle.c_lexer.specs.declared.token.Punct.TheVariants as punct
 use Rattle.c_lexer.specs.declared.token.Word.TheVariants as word
 use Rattle.c_tree.specs.Tree.{Exp, Declared, declared, Init, value, braces, mutex_start, cond_start, Inits, no_init, and_init, listed_inits, Object, plain, initialised, Declares, declares, start_declares, start_computes, Statement, block, compute, break_at, continue_at, gives, branch, branch_else, while_loop, do_loop, for_loop, Parts, no_part, and_declares, and_does, Part, part_declares, part_does, listed_parts}
-use Rattle.rr_base.specs.Positions.{position_at}
 use Rattle.c_tree.specs.Kinds.{p}
 use Rattle.c_grammar.specs.Marks.{Mark, mark, other, maybe}
 use Rattle.c_grammar.specs.Grammar.{OfMaybe, OfRaisingStars, OfDeclared, OfInit, OfMoreInits, OfObject, OfMoreObjects, OfObjects, OfDeclares, OfStatement, OfParts}
 use Rattle.c_grammar.specs.Phrase as phrase
-use Rattle.c_grammar.specs.Phrase.{Phrase, TreeOf, Head, function_head, object_head, Initials, initials}
+use Rattle.c_grammar.specs.Phrase.{Phrase, initials}
 use Rattle.c_grammar.specs.Parse.{sign, key, is_of, is_type}
 use Rattle.c_grammar.proofs.Ends.{joins, joins_next, next_is, sees, reads_word, AfterType, by_joins, by_test, joins_test, no_comma, no_equals, no_bracket, begins_exp, exp_begins, not_begun, not_open_brace, not_close_brace, not_pthread_mutex_initializer, not_pthread_cond_initializer, not_type}
 use Rattle.c_grammar.proofs.Expressions.{Chooses, joins_at, one_of_more, none_of_more, zero_plus, type_begins}
@@ -30,7 +29,7 @@ same_level l = omega arith
 
 pub chooses_declarator : (l : ℕ) → Chooses (phrase.declarator l)
 chooses_declarator l (declared n name es) ms rest (m1, hs, (m2, en, hl)) ends =
-    (n, m1, (n, zero_plus n, subst (λ z. OfRaisingStars z n ms m1) (same_level l) hs), ap (sees punct.Star) en, (name.text, position_at name.line name.column, m2, en, (es, rest, (es, refl, hl), ends, (refl, refl))))
+    (n, m1, (n, zero_plus n, subst (λ z. OfRaisingStars z n ms m1) (same_level l) hs), ap (sees punct.Star) en, (name.text, name.at, m2, en, (es, rest, (es, refl, hl), ends, (refl, refl))))
 
 pub chooses_lengths : (l : ℕ) (es : List Exp) → Chooses (phrase.lengths l es)
 chooses_lengths l es all ms rest ([], e, h) ends = inr (ap (sees punct.OpenBracket) h ∙ by_joins 4 (is_of (sign punct.OpenBracket)) no_bracket rest (omega (arith, ends)), (none_of_more es all e, h))

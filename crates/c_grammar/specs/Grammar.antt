@@ -16,39 +16,38 @@ use Rattle.c_tree.specs.declared.program.Params.TheVariants as params
 use Rattle.c_tree.specs.declared.program.Param.{Param}
 use Rattle.c_tree.specs.Tree.{Exp, comma, assign, conditional, binary, prefix, sizeof_exp, sizeof_type, cast, index, member, arrow, post_increment, post_decrement, named, call, number, letter, text, null, paren, Exps, no_exp, and_exp, Declared, declared, Init, value, braces, mutex_start, cond_start, Inits, no_init, and_init, Object, plain, initialised, Declares, declares, Start, start_declares, start_computes, Statement, block, compute, break_at, continue_at, gives, branch, branch_else, while_loop, do_loop, for_loop, Parts, no_part, and_declares, and_does, Code, defined, prototype, Fields, fields, Outer, structure, function, objects}
 use Rattle.rr_base.specs.declared.position.Position.{Position}
-use Rattle.rr_base.specs.Positions.{position_at}
 use Rattle.c_tree.specs.Kinds.{p, w, prefix_punct, binary_punct, assign_punct}
 use Rattle.c_grammar.specs.Marks.{Beginning, own, other, ◌>>◌, nothing, never, maybe, provided}
 
 -- ---- types
 
 abbrev pub name_place : Name → Position
-name_place n = position_at n.line n.column
+name_place n = n.at
 
 -- the place of its first word
 abbrev pub specifier_place : Specifier → Position
-specifier_place (specifier.Int line column) = position_at line column
-specifier_place (specifier.Long second int line column) = position_at line column
-specifier_place (specifier.Void line column) = position_at line column
-specifier_place (specifier.Struct name line column) = position_at line column
-specifier_place (specifier.PthreadT line column) = position_at line column
-specifier_place (specifier.PthreadMutexT line column) = position_at line column
-specifier_place (specifier.PthreadCondT line column) = position_at line column
-specifier_place (specifier.PthreadBarrierT line column) = position_at line column
+specifier_place (specifier.Int at) = at
+specifier_place (specifier.Long second int at) = at
+specifier_place (specifier.Void at) = at
+specifier_place (specifier.Struct name at) = at
+specifier_place (specifier.PthreadT at) = at
+specifier_place (specifier.PthreadMutexT at) = at
+specifier_place (specifier.PthreadCondT at) = at
+specifier_place (specifier.PthreadBarrierT at) = at
 
 abbrev pub OfName : ℕ → Name → Beginning
 OfName l n = own (kind.Name n.text) (name_place n) l
 
 -- all at level l
 abbrev pub OfSpecifier : ℕ → Specifier → Beginning
-OfSpecifier l (specifier.Int line column) = own (w word.Int) (position_at line column) l
-OfSpecifier l (specifier.Long second int line column) = own (w word.Long) (position_at line column) l >> maybe second (other (w word.Long) l) >> maybe int (other (w word.Int) l)
-OfSpecifier l (specifier.Void line column) = own (w word.Void) (position_at line column) l
-OfSpecifier l (specifier.Struct name line column) = own (w word.Struct) (position_at line column) l >> OfName l name
-OfSpecifier l (specifier.PthreadT line column) = own (w word.PthreadT) (position_at line column) l
-OfSpecifier l (specifier.PthreadMutexT line column) = own (w word.PthreadMutexT) (position_at line column) l
-OfSpecifier l (specifier.PthreadCondT line column) = own (w word.PthreadCondT) (position_at line column) l
-OfSpecifier l (specifier.PthreadBarrierT line column) = own (w word.PthreadBarrierT) (position_at line column) l
+OfSpecifier l (specifier.Int at) = own (w word.Int) at l
+OfSpecifier l (specifier.Long second int at) = own (w word.Long) at l >> maybe second (other (w word.Long) l) >> maybe int (other (w word.Int) l)
+OfSpecifier l (specifier.Void at) = own (w word.Void) at l
+OfSpecifier l (specifier.Struct name at) = own (w word.Struct) at l >> OfName l name
+OfSpecifier l (specifier.PthreadT at) = own (w word.PthreadT) at l
+OfSpecifier l (specifier.PthreadMutexT at) = own (w word.PthreadMutexT) at l
+OfSpecifier l (specifier.PthreadCondT at) = own (w word.PthreadCondT) at l
+OfSpecifier l (specifier.PthreadBarrierT at) = own (w word.PthreadBarrierT) at l
 
 -- stars that raise nothing
 abbrev pub OfStars : ℕ → ℕ → Beginning
@@ -56,7 +55,7 @@ OfStars l zero = nothing
 OfStars l (suc n) = other (p punct.Star) l >> OfStars l n
 
 abbrev pub OfType : ℕ → CType → Beginning
-OfType l t = provided (position_at t.line t.column ≡ specifier_place t.specifier) (OfSpecifier l t.specifier >> OfStars l t.stars)
+OfType l t = provided (t.at ≡ specifier_place t.specifier) (OfSpecifier l t.specifier >> OfStars l t.stars)
 
 -- ---- expressions
 
@@ -290,14 +289,14 @@ OfMaybeName None = nothing
 OfMaybeName (Some n) = OfName 0 n
 
 abbrev pub OfParam : Param → Beginning
-OfParam x = provided (position_at x.line x.column ≡ specifier_place x.specifier) (OfSpecifier 0 x.specifier >> OfStars 0 x.stars >> OfMaybeName x.name)
+OfParam x = provided (x.at ≡ specifier_place x.specifier) (OfSpecifier 0 x.specifier >> OfStars 0 x.stars >> OfMaybeName x.name)
 
 abbrev pub OfMoreParams : List Param → Beginning
 OfMoreParams [] = nothing
 OfMoreParams (x ∷ xs) = other (p punct.Comma) 0 >> OfParam x >> OfMoreParams xs
 
 abbrev pub is_void : Specifier → Bool
-is_void (specifier.Void line column) = true
+is_void (specifier.Void at) = true
 is_void _ = false
 
 abbrev pub is_nameless : Option Name → ℕ → Bool

@@ -16,7 +16,7 @@ use Rattle.rr_base.specs.declared.position.Position.{Position}
 use Rattle.c_grammar.specs.Grammar.{specifier_place, tightness, first_place, ends_open, is_void_alone}
 use Rattle.c_grammar.specs.Phrase as phrase
 use Rattle.c_grammar.specs.Phrase.{Phrase, TreeOf, Head, function_head, object_head, Initials, initials}
-use Rattle.c_grammar.specs.Parse.{Class, sign, key, a_name, a_number, a_letter, a_text, a_prefix, a_binary, an_assign, is_of, is_type, Rule, ret, one, heads, choose, Outcome, Spent, Parser, run}
+use Rattle.c_grammar.specs.Parse.{sign, key, a_name, a_number, a_letter, a_text, a_prefix, a_binary, an_assign, is_of, is_type, Rule, ret, one, heads, choose, Spent, Parser, run}
 use Rattle.c_grammar.specs.Parse as rule
 
 -- ---- short forms
@@ -35,7 +35,7 @@ abbrev pub on_word : {A : Type 0} → Word → Rule A → Rule A → Rule A
 on_word x g h = choose (is_of (key x)) g h
 
 abbrev pub name_of : List ℕ → Position → Name
-name_of x place = record { text = x; line = place.line; column = place.column }
+name_of x place = record { text = x; at = place }
 
 -- One operator and operand more. An operator that binds tighter than the last one takes that one's operand.
 abbrev pub push : Exp → BinaryOp → Exp → Position → Exp
@@ -48,19 +48,19 @@ push left op e at = binary left op e at
 abbrev pub long_rule : ℕ → Position → Rule Specifier
 long_rule l at =
     on_word word.Long
-    (word_rule word.Long l (λ _. on_word word.Int (word_rule word.Int l (λ _. ret (specifiers.Long true true at.line at.column))) (ret (specifiers.Long true false at.line at.column))))
-    (on_word word.Int (word_rule word.Int l (λ _. ret (specifiers.Long false true at.line at.column))) (ret (specifiers.Long false false at.line at.column)))
+    (word_rule word.Long l (λ _. on_word word.Int (word_rule word.Int l (λ _. ret (specifiers.Long true true at))) (ret (specifiers.Long true false at))))
+    (on_word word.Int (word_rule word.Int l (λ _. ret (specifiers.Long false true at))) (ret (specifiers.Long false false at)))
 
 abbrev pub specifier_rule : ℕ → Rule Specifier
 specifier_rule l =
-    on_word word.Int (word_rule word.Int l (λ at. ret (specifiers.Int at.line at.column)))
+    on_word word.Int (word_rule word.Int l (λ at. ret (specifiers.Int at)))
     (on_word word.Long (word_rule word.Long l (λ at. long_rule l at))
-    (on_word word.Void (word_rule word.Void l (λ at. ret (specifiers.Void at.line at.column)))
-    (on_word word.Struct (word_rule word.Struct l (λ at. one a_name l (λ x there. ret (specifiers.Struct (name_of x there) at.line at.column))))
-    (on_word word.PthreadT (word_rule word.PthreadT l (λ at. ret (specifiers.PthreadT at.line at.column)))
-    (on_word word.PthreadMutexT (word_rule word.PthreadMutexT l (λ at. ret (specifiers.PthreadMutexT at.line at.column)))
-    (on_word word.PthreadCondT (word_rule word.PthreadCondT l (λ at. ret (specifiers.PthreadCondT at.line at.column)))
-    (word_rule word.PthreadBarrierT l (λ at. ret (specifiers.PthreadBarrierT at.line at.column)))))))))
+    (on_word word.Void (word_rule word.Void l (λ at. ret (specifiers.Void at)))
+    (on_word word.Struct (word_rule word.Struct l (λ at. one a_name l (λ x there. ret (specifiers.Struct (name_of x there) at))))
+    (on_word word.PthreadT (word_rule word.PthreadT l (λ at. ret (specifiers.PthreadT at)))
+    (on_word word.PthreadMutexT (word_rule word.PthreadMutexT l (λ at. ret (specifiers.PthreadMutexT at)))
+    (on_word word.PthreadCondT (word_rule word.PthreadCondT l (λ at. ret (specifiers.PthreadCondT at)))
+    (word_rule word.PthreadBarrierT l (λ at. ret (specifiers.PthreadBarrierT at)))))))))
 
 abbrev pub stars_rule : ℕ → ℕ → Rule ℕ
 stars_rule l n = on_punct punct.Star (punct_rule punct.Star l (λ _. rule.call (phrase.stars l (suc n)) (λ k. ret k))) (ret n)
@@ -305,8 +305,8 @@ part_rule l = choose is_type (rule.call (phrase.declaration l) (λ d. ret (part_
 abbrev pub param_after_rule : Specifier → Rule Param
 param_after_rule s =
     rule.call (phrase.stars 0 0) (λ n.
-    choose (is_of a_name) (one a_name 0 (λ x at. ret (record { specifier = s; stars = n; name = Some (name_of x at); line = (specifier_place s).line; column = (specifier_place s).column })))
-    (ret (record { specifier = s; stars = n; name = None; line = (specifier_place s).line; column = (specifier_place s).column })))
+    choose (is_of a_name) (one a_name 0 (λ x at. ret (record { specifier = s; stars = n; name = Some (name_of x at); at = specifier_place s })))
+    (ret (record { specifier = s; stars = n; name = None; at = specifier_place s })))
 
 abbrev pub more_params_rule : List Param → Rule (List Param)
 more_params_rule xs = on_punct punct.Comma (punct_rule punct.Comma 0 (λ _. rule.call phrase.param (λ x. rule.call (phrase.more_params (xs ++ x ∷ [])) (λ all. ret all)))) (ret xs)
@@ -365,7 +365,7 @@ abbrev pub after_struct_rule : Position → Rule Outer
 after_struct_rule at =
     one a_name 0 (λ x there.
     on_punct punct.OpenBrace (structure_rule x there)
-    (rule.call (phrase.outer_after false (specifiers.Struct (name_of x there) at.line at.column) at) (λ o. ret o)))
+    (rule.call (phrase.outer_after false (specifiers.Struct (name_of x there) at) at) (λ o. ret o)))
 
 abbrev pub outer_rule : Rule Outer
 outer_rule =
@@ -382,7 +382,7 @@ program_rule os = choose (λ k. true) (rule.call phrase.outer (λ o. rule.call (
 abbrev pub rules : (n : Phrase) → Rule (TreeOf n)
 rules (phrase.specifier l) = specifier_rule l
 rules (phrase.stars l n) = stars_rule l n
-rules (phrase.type_name l) = rule.call (phrase.specifier l) (λ s. rule.call (phrase.stars l 0) (λ n. ret (record { specifier = s; stars = n; line = (specifier_place s).line; column = (specifier_place s).column })))
+rules (phrase.type_name l) = rule.call (phrase.specifier l) (λ s. rule.call (phrase.stars l 0) (λ n. ret (record { specifier = s; stars = n; at = specifier_place s })))
 rules (phrase.expression l) = expression_rule l
 rules (phrase.more l es) = more_rule l es
 rules (phrase.assignment l) = assignment_rule l

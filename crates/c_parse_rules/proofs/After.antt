@@ -1,14 +1,14 @@
 -- A rule after another is run on what the first leaves.
-use Rattle.std.proofs.Common.{◌≡◌, ℕ, suc, Bool, true, false, cond, List, [], ◌∷◌, refl, sym, ◌∙◌, ap}
+use Rattle.std.proofs.Common.{◌≡◌, ℕ, suc, Bool, true, false, cond, List, refl, sym, ◌∙◌, ap}
 use Rattle.c_lexer.specs.declared.token.Punct.TheVariants as punct
 use Rattle.c_tree.specs.Tree.{Exp, Statement, while_loop, do_loop, for_loop}
 use Rattle.rr_base.specs.declared.position.Position.{Position}
 use Rattle.c_grammar.specs.Marks.{Lexeme}
 use Rattle.c_grammar.specs.Phrase as phrase
-use Rattle.c_grammar.specs.Phrase.{Phrase, TreeOf}
+use Rattle.c_grammar.specs.Phrase.{Phrase}
 use Rattle.c_grammar.specs.Parse.{is_of, sign, Outcome, Got, Stuck, Spent, Parser, and_then, passes, token, outer_head, Rule, ret, one, heads, choose, run}
 use Rattle.c_grammar.specs.Parse as rule
-use Rattle.c_grammar.specs.Rules.{read, test_rule, ForHead, for_head_rule, do_end_rule, if_rule, while_rule, do_rule, for_rule, else_rule, simple_rule}
+use Rattle.c_grammar.specs.Rules.{read, test_rule, for_head_rule, do_end_rule, if_rule, while_rule, do_rule, for_rule, else_rule, simple_rule}
 use Rattle.c_parse_rules.proofs.Steps.{by_rule}
 
 -- a rule, and then another by what it gives

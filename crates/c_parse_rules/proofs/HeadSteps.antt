@@ -1,16 +1,15 @@
 -- How the head of a function or an object is read.
-use Rattle.std.proofs.Common.{◌≡◌, ℕ, zero, suc, ◌+◌, ◌≤◌, ◌<◌, Bool, true, false, cond, List, [], ◌∷◌, length, drop, Option, Some, None, is_some, refl, sym, ◌∙◌, ap, arith, nat_le}
+use Rattle.std.proofs.Common.{◌≡◌, ℕ, suc, ◌+◌, ◌≤◌, ◌<◌, Bool, true, false, List, [], ◌∷◌, length, drop, Option, Some, None, is_some, refl, sym, ◌∙◌, ap, arith, nat_le}
 use Rattle.std.proofs.lemmas.Bool.Decides.{nat_tests}
 use Rattle.std.proofs.lemmas.List.{length-map}
 use Rattle.c_lexer.specs.declared.token.Token.{Token}
-use Rattle.c_lexer.specs.declared.token.Kind.{Kind}
 use Rattle.c_lexer.specs.declared.token.Punct.{Punct}
 use Rattle.c_lexer.specs.declared.token.Punct.TheVariants as punct
 use Rattle.rr_base.specs.declared.position.Position.{Position}
 use Rattle.c_grammar.specs.Marks.{Lexeme}
 use Rattle.c_grammar.specs.Phrase as phrase
-use Rattle.c_grammar.specs.Phrase.{Head, function_head, object_head}
-use Rattle.c_grammar.specs.Parse.{Class, Value, is_of, sign, a_name, grab, follows_declarator, Fault, Syntax, Nesting, Outcome, Got, Stuck, Spent, and_then, passes, token, taken, star_count, decided, decided_by, outer_head}
+use Rattle.c_grammar.specs.Phrase.{function_head, object_head}
+use Rattle.c_grammar.specs.Parse.{is_of, sign, a_name, grab, follows_declarator, Fault, Syntax, Nesting, Outcome, Got, Stuck, and_then, passes, token, taken, star_count, decided, decided_by, outer_head}
 use Rattle.c_grammar.specs.Rules.{read}
 use Rattle.c_parse_rules.specs.declared.token.Stop.{Stop}
 use Rattle.c_parse_rules.specs.declared.token.Stop.TheVariants as stop

@@ -5,7 +5,6 @@ use Rattle.c_lexer.specs.declared.token.Token.{Token}
 use Rattle.c_tree.specs.declared.name.Name.{Name as TreeName}
 use Rattle.c_tree.specs.declared.declaration.Initial.{Initial}
 use Rattle.rr_base.specs.declared.position.Position.{Position}
-use Rattle.rr_base.specs.Positions.{position_at}
 use Rattle.c_tree.specs.View.{init_of}
 use Rattle.c_parse_rules.specs.declared.token.Stop.{Stop}
 use Rattle.c_parse_rules.specs.declared.token.Stop.TheVariants as stop
@@ -29,7 +28,7 @@ abbrev pub bare : Position → Unit {0} × Position
 bare p = (tt, p)
 
 abbrev pub name_view : TreeName → List ℕ × Position
-name_view n = (n.text, position_at n.line n.column)
+name_view n = (n.text, n.at)
 
 abbrev pub initials_of : List Initial × Bool → Initials
 initials_of x = initials (map init_of x.0) x.1

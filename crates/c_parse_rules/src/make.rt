@@ -9,16 +9,10 @@ use rr_base::{Bytes, List, Position};
 use std::alloc::{AllocError, Global};
 
 /// Expressions with commas between them, at the place of the first.
-pub fn comma(first: Box<Expr>, rest: List<Expr>, place: Position) -> Expr
-    ensures { exp_of result ≡ tree.comma (exp_of first.value) (tree.listed (map exp_of rest)) place }
+pub fn comma(first: Box<Expr>, rest: List<Expr>, at: Position) -> Expr
+    ensures { exp_of result ≡ tree.comma (exp_of first.value) (tree.listed (map exp_of rest)) at }
 {
-    let Position { line, column } = place;
-    Expr::Comma {
-        first,
-        rest,
-        line,
-        column,
-    }
+    Expr::Comma { first, rest, at }
 }
 
 /// Two operands and the operator between them.
@@ -27,85 +21,64 @@ pub fn binary(
     left: Expr,
     op: BinaryOp,
     right: Expr,
-    place: Position,
+    at: Position,
 ) -> Result<Expr, AllocError>
-    ensures { IfOk result (λ e. exp_of e ≡ tree.binary (exp_of left) op (exp_of right) place) }
+    ensures { IfOk result (λ e. exp_of e ≡ tree.binary (exp_of left) op (exp_of right) at) }
 {
-    let Position { line, column } = place;
     Ok(Expr::Binary {
         left: Box::new(alloc, left)?,
         op,
         right: Box::new(alloc, right)?,
-        line,
-        column,
+        at,
     })
 }
 
 /// An operator before its operand.
-pub fn prefix(
-    alloc: Global,
-    op: PrefixOp,
-    operand: Expr,
-    place: Position,
-) -> Result<Expr, AllocError>
-    ensures { IfOk result (λ e. exp_of e ≡ tree.prefix op (exp_of operand) place) }
+pub fn prefix(alloc: Global, op: PrefixOp, operand: Expr, at: Position) -> Result<Expr, AllocError>
+    ensures { IfOk result (λ e. exp_of e ≡ tree.prefix op (exp_of operand) at) }
 {
-    let Position { line, column } = place;
     Ok(Expr::Prefix {
         op,
         operand: Box::new(alloc, operand)?,
-        line,
-        column,
+        at,
     })
 }
 
 /// `sizeof` of an expression.
-pub fn sizeof_expr(alloc: Global, operand: Expr, place: Position) -> Result<Expr, AllocError>
-    ensures { IfOk result (λ e. exp_of e ≡ tree.sizeof_exp (exp_of operand) place) }
+pub fn sizeof_expr(alloc: Global, operand: Expr, at: Position) -> Result<Expr, AllocError>
+    ensures { IfOk result (λ e. exp_of e ≡ tree.sizeof_exp (exp_of operand) at) }
 {
-    let Position { line, column } = place;
     Ok(Expr::SizeofExpr {
         operand: Box::new(alloc, operand)?,
-        line,
-        column,
+        at,
     })
 }
 
 /// A cast, at the place of its parenthesis.
-pub fn cast(alloc: Global, to: CType, operand: Expr, place: Position) -> Result<Expr, AllocError>
-    ensures { IfOk result (λ e. exp_of e ≡ tree.cast to (exp_of operand) place) }
+pub fn cast(alloc: Global, to: CType, operand: Expr, at: Position) -> Result<Expr, AllocError>
+    ensures { IfOk result (λ e. exp_of e ≡ tree.cast to (exp_of operand) at) }
 {
-    let Position { line, column } = place;
     Ok(Expr::Cast {
         to,
         operand: Box::new(alloc, operand)?,
-        line,
-        column,
+        at,
     })
 }
 
 /// A call, at the place of its name.
-pub fn call(name: Bytes, arguments: List<Expr>, place: Position) -> Expr
-    ensures { exp_of result ≡ tree.call name (tree.listed (map exp_of arguments)) place }
+pub fn call(name: Bytes, arguments: List<Expr>, at: Position) -> Expr
+    ensures { exp_of result ≡ tree.call name (tree.listed (map exp_of arguments)) at }
 {
-    let Position { line, column } = place;
     Expr::Call {
         name,
         arguments,
-        line,
-        column,
+        at,
     }
 }
 
 /// Initials in braces; whether a comma stands after the last is kept.
-pub fn braces(parts: List<Initial>, comma: bool, place: Position) -> Initial
-    ensures { init_of result ≡ tree.braces (tree.listed_inits (map init_of parts)) comma place }
+pub fn braces(parts: List<Initial>, comma: bool, at: Position) -> Initial
+    ensures { init_of result ≡ tree.braces (tree.listed_inits (map init_of parts)) comma at }
 {
-    let Position { line, column } = place;
-    Initial::Braces {
-        parts,
-        comma,
-        line,
-        column,
-    }
+    Initial::Braces { parts, comma, at }
 }

@@ -109,8 +109,7 @@ pub fn push(
             left: first,
             op: last,
             right,
-            line,
-            column,
+            at,
         } => {
             if tightness(last) < tightness(op) {
                 let right = push(alloc, Box::into_inner(right), op, operand, place)?;
@@ -118,16 +117,14 @@ pub fn push(
                     left: first,
                     op: last,
                     right: Box::new(alloc, right)?,
-                    line,
-                    column,
+                    at,
                 })
             } else {
                 let left = Expr::Binary {
                     left: first,
                     op: last,
                     right,
-                    line,
-                    column,
+                    at,
                 };
                 binary(alloc, left, op, operand, place)
             }

@@ -152,8 +152,7 @@ pub fn next_name(
     }
     let name = Name {
         text: text.copied(alloc)?,
-        line: first.at.line,
-        column: first.at.column,
+        at: first.at,
     };
     Ok(Some((name, rest)))
 }

@@ -21,41 +21,36 @@ pub fn specifier(
 ) -> Result<(Specifier, &[Token]), Stop<'_>>
     ensures { Reads (phrase.specifier level) (λ s. s) tokens.now result }
 {
-    if let Some((Position { line, column }, rest)) = next_word(tokens, Word::Int, level)? {
-        return Ok((Specifier::Int { line, column }, rest));
+    if let Some((at, rest)) = next_word(tokens, Word::Int, level)? {
+        return Ok((Specifier::Int { at }, rest));
     }
-    if let Some((place, rest)) = next_word(tokens, Word::Long, level)? {
-        return long(level, place, rest);
+    if let Some((at, rest)) = next_word(tokens, Word::Long, level)? {
+        return long(level, at, rest);
     }
-    if let Some((Position { line, column }, rest)) = next_word(tokens, Word::Void, level)? {
-        return Ok((Specifier::Void { line, column }, rest));
+    if let Some((at, rest)) = next_word(tokens, Word::Void, level)? {
+        return Ok((Specifier::Void { at }, rest));
     }
-    if let Some((Position { line, column }, rest)) = next_word(tokens, Word::Struct, level)? {
+    if let Some((at, rest)) = next_word(tokens, Word::Struct, level)? {
         let (name, rest) = name(alloc, rest, level)?;
-        return Ok((Specifier::Struct { name, line, column }, rest));
+        return Ok((Specifier::Struct { name, at }, rest));
     }
-    if let Some((Position { line, column }, rest)) = next_word(tokens, Word::PthreadT, level)? {
-        return Ok((Specifier::PthreadT { line, column }, rest));
+    if let Some((at, rest)) = next_word(tokens, Word::PthreadT, level)? {
+        return Ok((Specifier::PthreadT { at }, rest));
     }
-    if let Some((Position { line, column }, rest)) = next_word(
-        tokens,
-        Word::PthreadMutexT,
-        level,
-    )? {
-        return Ok((Specifier::PthreadMutexT { line, column }, rest));
+    if let Some((at, rest)) = next_word(tokens, Word::PthreadMutexT, level)? {
+        return Ok((Specifier::PthreadMutexT { at }, rest));
     }
-    if let Some((Position { line, column }, rest)) = next_word(tokens, Word::PthreadCondT, level)? {
-        return Ok((Specifier::PthreadCondT { line, column }, rest));
+    if let Some((at, rest)) = next_word(tokens, Word::PthreadCondT, level)? {
+        return Ok((Specifier::PthreadCondT { at }, rest));
     }
-    let (Position { line, column }, rest) = word(tokens, Word::PthreadBarrierT, level)?;
-    Ok((Specifier::PthreadBarrierT { line, column }, rest))
+    let (at, rest) = word(tokens, Word::PthreadBarrierT, level)?;
+    Ok((Specifier::PthreadBarrierT { at }, rest))
 }
 
 // After the first `long`, which stands at that place.
-fn long(level: u32, place: Position, tokens: &[Token]) -> Result<(Specifier, &[Token]), Stop<'_>>
-    ensures { Follows (long_rule level place) (λ s. s) tokens.now result }
+fn long(level: u32, at: Position, tokens: &[Token]) -> Result<(Specifier, &[Token]), Stop<'_>>
+    ensures { Follows (long_rule level at) (λ s. s) tokens.now result }
 {
-    let Position { line, column } = place;
     let (second, rest) = match next_word(tokens, Word::Long, level)? {
         Some((_, rest)) => (true, rest),
         None => (false, tokens),
@@ -64,15 +59,7 @@ fn long(level: u32, place: Position, tokens: &[Token]) -> Result<(Specifier, &[T
         Some((_, rest)) => (true, rest),
         None => (false, rest),
     };
-    Ok((
-        Specifier::Long {
-            second,
-            int,
-            line,
-            column,
-        },
-        rest,
-    ))
+    Ok((Specifier::Long { second, int, at }, rest))
 }
 
 /// A specifier and stars, as in a cast.
@@ -82,13 +69,12 @@ pub fn type_name(alloc: Global, level: u32, tokens: &[Token]) -> Result<(CType, 
 {
     let (specifier, rest) = specifier(alloc, level, tokens)?;
     let (stars, rest) = stars(level, rest)?;
-    let Position { line, column } = specifier_place(&specifier);
+    let at = specifier_place(&specifier);
     Ok((
         CType {
             specifier,
             stars,
-            line,
-            column,
+            at,
         },
         rest,
     ))
@@ -99,14 +85,14 @@ pub fn specifier_place(specifier: &Specifier) -> Position
     ensures { result ≡ spec_specifier_place specifier.now }
 {
     match *specifier {
-        Specifier::Int { line, column }
-        | Specifier::Long { line, column, .. }
-        | Specifier::Void { line, column }
-        | Specifier::Struct { line, column, .. }
-        | Specifier::PthreadT { line, column }
-        | Specifier::PthreadMutexT { line, column }
-        | Specifier::PthreadCondT { line, column }
-        | Specifier::PthreadBarrierT { line, column } => Position { line, column },
+        Specifier::Int { at }
+        | Specifier::Long { at, .. }
+        | Specifier::Void { at }
+        | Specifier::Struct { at, .. }
+        | Specifier::PthreadT { at }
+        | Specifier::PthreadMutexT { at }
+        | Specifier::PthreadCondT { at }
+        | Specifier::PthreadBarrierT { at } => at,
     }
 }
 

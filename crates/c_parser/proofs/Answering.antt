@@ -1,12 +1,12 @@
 -- What the rules give for the tokens is what a parser is to answer.
-use Rattle.std.proofs.Common.{◌≡◌, Bool, true, false, List, [], ◌∷◌, ◌++◌, map, refl, sym, ◌∙◌, ap, subst}
+use Rattle.std.proofs.Common.{◌≡◌, List, [], ◌∷◌, map, refl, sym, ◌∙◌, ap}
 use Rattle.c_lexer.specs.declared.token.Kind.{Kind}
 use Rattle.c_lexer.specs.declared.token.Token.{Token}
 use Rattle.c_tree.specs.Kinds.{kinds_of}
 use Rattle.c_tree.specs.Tree.{Outer}
 use Rattle.c_grammar.specs.Marks.{Lexeme, Mark, erase, kinds_at}
-use Rattle.c_grammar.specs.Parse.{Fault, Outcome, Got, Stuck}
-use Rattle.c_grammar.specs.Exact.{IsProgram, Says, IsExact, parsed}
+use Rattle.c_grammar.specs.Parse.{Fault, Got, Stuck}
+use Rattle.c_grammar.specs.Exact.{parsed}
 use Rattle.c_parse_rules.specs.Gives.{limit, lexemes}
 use Rattle.c_parser.specs.Answers.{IsTreeOf, StopsAt}
 use Rattle.c_grammar.proofs.Exactly.{parsed_exactly, says}

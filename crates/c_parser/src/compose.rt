@@ -9,78 +9,63 @@ use crate::short::ForHead;
 use c_tree::{Expr, Part, Stmt};
 use rr_base::{List, Position};
 
-pub(crate) fn block(parts: List<Part>, place: Position) -> Stmt
-    ensures { stmt_of result ≡ tree.block (tree.listed_parts (map part_of parts)) place }
+pub(crate) fn block(parts: List<Part>, at: Position) -> Stmt
+    ensures { stmt_of result ≡ tree.block (tree.listed_parts (map part_of parts)) at }
 {
-    let Position { line, column } = place;
-    Stmt::Block {
-        parts,
-        line,
-        column,
-    }
+    Stmt::Block { parts, at }
 }
 
-pub(crate) fn branch(test: Box<Expr>, yes: Box<Stmt>, place: Position) -> Stmt
-    ensures { stmt_of result ≡ tree.branch (exp_of test.value) (stmt_of yes.value) place }
+pub(crate) fn branch(test: Box<Expr>, yes: Box<Stmt>, at: Position) -> Stmt
+    ensures { stmt_of result ≡ tree.branch (exp_of test.value) (stmt_of yes.value) at }
 {
-    let Position { line, column } = place;
     Stmt::If {
         test: Box::into_inner(test),
         yes,
         no: None,
-        line,
-        column,
+        at,
     }
 }
 
-pub(crate) fn branch_else(test: Box<Expr>, yes: Box<Stmt>, no: Box<Stmt>, place: Position) -> Stmt
-    ensures { stmt_of result ≡ tree.branch_else (exp_of test.value) (stmt_of yes.value) (stmt_of no.value) place }
+pub(crate) fn branch_else(test: Box<Expr>, yes: Box<Stmt>, no: Box<Stmt>, at: Position) -> Stmt
+    ensures { stmt_of result ≡ tree.branch_else (exp_of test.value) (stmt_of yes.value) (stmt_of no.value) at }
 {
-    let Position { line, column } = place;
     Stmt::If {
         test: Box::into_inner(test),
         yes,
         no: Some(no),
-        line,
-        column,
+        at,
     }
 }
 
-pub(crate) fn while_loop(test: Box<Expr>, body: Box<Stmt>, place: Position) -> Stmt
-    ensures { stmt_of result ≡ tree.while_loop (exp_of test.value) (stmt_of body.value) place }
+pub(crate) fn while_loop(test: Box<Expr>, body: Box<Stmt>, at: Position) -> Stmt
+    ensures { stmt_of result ≡ tree.while_loop (exp_of test.value) (stmt_of body.value) at }
 {
-    let Position { line, column } = place;
     Stmt::While {
         test: Box::into_inner(test),
         body,
-        line,
-        column,
+        at,
     }
 }
 
-pub(crate) fn do_loop(body: Box<Stmt>, test: Box<Expr>, place: Position) -> Stmt
-    ensures { stmt_of result ≡ tree.do_loop (stmt_of body.value) (exp_of test.value) place }
+pub(crate) fn do_loop(body: Box<Stmt>, test: Box<Expr>, at: Position) -> Stmt
+    ensures { stmt_of result ≡ tree.do_loop (stmt_of body.value) (exp_of test.value) at }
 {
-    let Position { line, column } = place;
     Stmt::Do {
         body,
         test: Box::into_inner(test),
-        line,
-        column,
+        at,
     }
 }
 
-pub(crate) fn for_loop(head: ForHead, body: Box<Stmt>, place: Position) -> Stmt
-    ensures { let h = for_head_of head in stmt_of result ≡ tree.for_loop h.start h.test h.next (stmt_of body.value) place }
+pub(crate) fn for_loop(head: ForHead, body: Box<Stmt>, at: Position) -> Stmt
+    ensures { let h = for_head_of head in stmt_of result ≡ tree.for_loop h.start h.test h.next (stmt_of body.value) at }
 {
     let ForHead { start, test, step } = head;
-    let Position { line, column } = place;
     Stmt::For {
         start: Box::into_inner(start),
         test: Box::into_inner(test),
         step: Box::into_inner(step),
         body,
-        line,
-        column,
+        at,
     }
 }

@@ -88,22 +88,14 @@ pub(crate) fn initial(
     requires { level ≤ limit }
     ensures { Reads (phrase.initial level) (λ i. init_of i) tokens.now result }
 {
-    if let Some((place, rest)) = next_punct(tokens, Punct::OpenBrace, level + 1)? {
-        return braces(alloc, level + 1, place, rest);
+    if let Some((at, rest)) = next_punct(tokens, Punct::OpenBrace, level + 1)? {
+        return braces(alloc, level + 1, at, rest);
     }
-    if let Some((Position { line, column }, rest)) = next_word(
-        tokens,
-        Word::PthreadMutexInitializer,
-        level + 1,
-    )? {
-        return Ok((Initial::Mutex { line, column }, rest));
+    if let Some((at, rest)) = next_word(tokens, Word::PthreadMutexInitializer, level + 1)? {
+        return Ok((Initial::Mutex { at }, rest));
     }
-    if let Some((Position { line, column }, rest)) = next_word(
-        tokens,
-        Word::PthreadCondInitializer,
-        level + 1,
-    )? {
-        return Ok((Initial::Cond { line, column }, rest));
+    if let Some((at, rest)) = next_word(tokens, Word::PthreadCondInitializer, level + 1)? {
+        return Ok((Initial::Cond { at }, rest));
     }
     let (e, rest) = assignment(alloc, level + 1, tokens)?;
     Ok((Initial::Value(e), rest))
@@ -114,18 +106,18 @@ pub(crate) fn initial(
 fn braces(
     alloc: Global,
     level: u32,
-    place: Position,
+    at: Position,
     tokens: &[Token],
 ) -> Result<(Initial, &[Token]), Stop<'_>>
     requires { level ≤ limit }
-    ensures { Follows (braces_rule level place) (λ i. init_of i) tokens.now result }
+    ensures { Follows (braces_rule level at) (λ i. init_of i) tokens.now result }
 {
     let (first, rest) = initial(alloc, level, tokens)?;
     let mut parts = List::new(alloc);
     parts.push(first)?;
     let ((parts, comma), rest) = more_initials(alloc, level, parts, rest)?;
     let (_, rest) = punct(rest, Punct::CloseBrace, level)?;
-    Ok((make::braces(parts, comma, place), rest))
+    Ok((make::braces(parts, comma, at), rest))
 }
 
 // The initials with a comma before each, after those that were found, and whether a comma stands after the last.
@@ -172,7 +164,7 @@ pub(crate) fn object_past(
     requires { level ≤ limit }
     ensures { Reads (phrase.object_past level (declared_of declarator)) (λ o. object_of o) tokens.now result }
 {
-    let Some((Position { line, column }, rest)) = next_punct(tokens, Punct::Assign, level)? else {
+    let Some((at, rest)) = next_punct(tokens, Punct::Assign, level)? else {
         return Ok((Item::Plain(declarator), tokens));
     };
     let (initial, rest) = initial(alloc, level, rest)?;
@@ -180,8 +172,7 @@ pub(crate) fn object_past(
         Item::Initialised {
             declarator,
             initial,
-            line,
-            column,
+            at,
         },
         rest,
     ))
@@ -222,13 +213,12 @@ pub(crate) fn declaration(
     items.push(first)?;
     let (items, rest) = more_objects(alloc, level, items, rest)?;
     let (_, rest) = punct(rest, Punct::Semicolon, level)?;
-    let Position { line, column } = specifier_place(&specifier);
+    let at = specifier_place(&specifier);
     Ok((
         Declaration {
             specifier,
             items,
-            line,
-            column,
+            at,
         },
         rest,
     ))

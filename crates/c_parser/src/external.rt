@@ -36,7 +36,7 @@ fn param_after(
 ) -> Result<(Param, &[Token]), Stop<'_>>
     ensures { Reads (phrase.param_after specifier) (λ x. x) tokens.now result }
 {
-    let Position { line, column } = specifier_place(&specifier);
+    let at = specifier_place(&specifier);
     let (stars, rest) = stars(0, tokens)?;
     let Some((name, following)) = next_name(alloc, rest, 0)? else {
         return Ok((
@@ -44,8 +44,7 @@ fn param_after(
                 specifier,
                 stars,
                 name: None,
-                line,
-                column,
+                at,
             },
             rest,
         ));
@@ -55,8 +54,7 @@ fn param_after(
             specifier,
             stars,
             name: Some(name),
-            line,
-            column,
+            at,
         },
         following,
     ))
@@ -125,17 +123,10 @@ fn params(alloc: Global, tokens: &[Token]) -> Result<(Params, &[Token]), Stop<'_
 fn code(alloc: Global, tokens: &[Token]) -> Result<(Body, &[Token]), Stop<'_>>
     ensures { Reads phrase.code (λ c. code_of c) tokens.now result }
 {
-    if let Some((Position { line, column }, rest)) = next_punct(tokens, Punct::OpenBrace, 0)? {
+    if let Some((at, rest)) = next_punct(tokens, Punct::OpenBrace, 0)? {
         let (parts, rest) = parts(alloc, 0, rest)?;
         let (_, rest) = punct(rest, Punct::CloseBrace, 0)?;
-        return Ok((
-            Body::Block {
-                parts,
-                line,
-                column,
-            },
-            rest,
-        ));
+        return Ok((Body::Block { parts, at }, rest));
     }
     let (_, rest) = punct(tokens, Punct::Semicolon, 0)?;
     Ok((Body::Prototype, rest))
@@ -170,13 +161,12 @@ fn member(alloc: Global, tokens: &[Token]) -> Result<(Member, &[Token]), Stop<'_
     found.push(first)?;
     let (declarators, rest) = more_declared(alloc, found, rest)?;
     let (_, rest) = punct(rest, Punct::Semicolon, 0)?;
-    let Position { line, column } = specifier_place(&specifier);
+    let at = specifier_place(&specifier);
     Ok((
         Member {
             specifier,
             declarators,
-            line,
-            column,
+            at,
         },
         rest,
     ))
@@ -247,13 +237,13 @@ fn objects(
     alloc: Global,
     is_static: bool,
     specifier: Specifier,
-    place: Position,
+    at: Position,
     stars: u32,
     name: Name,
     tokens: &[Token],
 ) -> Result<(External, &[Token]), Stop<'_>>
     requires { stars ≤ limit }
-    ensures { Follows (rules.objects_rule is_static specifier place stars name.text (name_place name)) (λ o. outer_of o) tokens.now result }
+    ensures { Follows (rules.objects_rule is_static specifier at stars name.text (name_place name)) (λ o. outer_of o) tokens.now result }
 {
     let (lengths, rest) = lengths(alloc, stars, tokens)?;
     let stars = stars as usize;
@@ -267,14 +257,12 @@ fn objects(
     found.push(first)?;
     let (items, rest) = more_objects(alloc, 0, found, rest)?;
     let (_, rest) = punct(rest, Punct::Semicolon, 0)?;
-    let Position { line, column } = place;
     Ok((
         External::Objects {
             is_static,
             specifier,
             items,
-            line,
-            column,
+            at,
         },
         rest,
     ))
@@ -286,16 +274,16 @@ fn outer_after(
     alloc: Global,
     is_static: bool,
     specifier: Specifier,
-    place: Position,
+    at: Position,
     tokens: &[Token],
 ) -> Result<(External, &[Token]), Stop<'_>>
-    ensures { Reads (phrase.outer_after is_static specifier place) (λ o. outer_of o) tokens.now result }
+    ensures { Reads (phrase.outer_after is_static specifier at) (λ o. outer_of o) tokens.now result }
 {
     let (head, rest) = outer_head(alloc, tokens)?;
     match head {
         Head::Function { stars, name } => function(alloc, is_static, specifier, stars, name, rest),
         Head::Object { stars, name } => {
-            objects(alloc, is_static, specifier, place, stars, name, rest)
+            objects(alloc, is_static, specifier, at, stars, name, rest)
         }
     }
 }
@@ -303,39 +291,32 @@ fn outer_after(
 // After the word `struct` at that place: a struct's members, or what has its name for a specifier.
 fn past_struct(
     alloc: Global,
-    place: Position,
+    at: Position,
     tokens: &[Token],
 ) -> Result<(External, &[Token]), Stop<'_>>
-    ensures { Follows (rules.after_struct_rule place) (λ o. outer_of o) tokens.now result }
+    ensures { Follows (rules.after_struct_rule at) (λ o. outer_of o) tokens.now result }
 {
     let (name, rest) = name(alloc, tokens, 0)?;
     if begins_with(rest, Punct::OpenBrace) {
         return structure(alloc, name, rest);
     }
-    let Position { line, column } = place;
-    outer_after(
-        alloc,
-        false,
-        Specifier::Struct { name, line, column },
-        place,
-        rest,
-    )
+    outer_after(alloc, false, Specifier::Struct { name, at }, at, rest)
 }
 
 #[tactic(auto, using(c_parse_rules::proofs::Steps::outer_rules))]
 fn outer(alloc: Global, tokens: &[Token]) -> Result<(External, &[Token]), Stop<'_>>
     ensures { Reads phrase.outer (λ o. outer_of o) tokens.now result }
 {
-    if let Some((place, rest)) = next_word(tokens, Word::Static, 0)? {
+    if let Some((at, rest)) = next_word(tokens, Word::Static, 0)? {
         let (specifier, rest) = specifier(alloc, 0, rest)?;
-        return outer_after(alloc, true, specifier, place, rest);
+        return outer_after(alloc, true, specifier, at, rest);
     }
-    if let Some((place, rest)) = next_word(tokens, Word::Struct, 0)? {
-        return past_struct(alloc, place, rest);
+    if let Some((at, rest)) = next_word(tokens, Word::Struct, 0)? {
+        return past_struct(alloc, at, rest);
     }
     let (specifier, rest) = specifier(alloc, 0, tokens)?;
-    let place = specifier_place(&specifier);
-    outer_after(alloc, false, specifier, place, rest)
+    let at = specifier_place(&specifier);
+    outer_after(alloc, false, specifier, at, rest)
 }
 
 /// All to the end of the tokens.

@@ -117,20 +117,18 @@ pub(crate) fn for_head_of(
 fn returned(
     alloc: Global,
     level: u32,
-    place: Position,
+    at: Position,
     tokens: &[Token],
 ) -> Result<(Stmt, &[Token]), Stop<'_>>
     requires { level ≤ 256 }
-    ensures { Follows (rules.return_rule level place) (λ s. stmt_of s) tokens.now result }
+    ensures { Follows (rules.return_rule level at) (λ s. stmt_of s) tokens.now result }
 {
-    let Position { line, column } = place;
     let (value, rest) = maybe_boxed(alloc, level, Punct::Semicolon, tokens)?;
     let (_, rest) = punct(rest, Punct::Semicolon, level)?;
     Ok((
         Stmt::Return {
             value: Box::into_inner(value),
-            line,
-            column,
+            at,
         },
         rest,
     ))
@@ -147,12 +145,11 @@ pub(crate) fn computed(
 {
     let (value, rest) = boxed(alloc, level, tokens)?;
     let (_, rest) = punct(rest, Punct::Semicolon, level)?;
-    let Position { line, column } = first_place(&value);
+    let at = first_place(&value);
     Ok((
         Stmt::Expression {
             value: Some(Box::into_inner(value)),
-            line,
-            column,
+            at,
         },
         rest,
     ))
@@ -167,27 +164,19 @@ pub(crate) fn simple(
     requires { level ≤ 257 }
     ensures { MaySimply level tokens.now result }
 {
-    if let Some((Position { line, column }, rest)) = next_punct(tokens, Punct::Semicolon, level)? {
-        let value = None;
-        return Ok(Some((
-            Stmt::Expression {
-                value,
-                line,
-                column,
-            },
-            rest,
-        )));
+    if let Some((at, rest)) = next_punct(tokens, Punct::Semicolon, level)? {
+        return Ok(Some((Stmt::Expression { value: None, at }, rest)));
     }
-    if let Some((Position { line, column }, rest)) = next_word(tokens, Word::Break, level)? {
+    if let Some((at, rest)) = next_word(tokens, Word::Break, level)? {
         let (_, rest) = punct(rest, Punct::Semicolon, level)?;
-        return Ok(Some((Stmt::Break { line, column }, rest)));
+        return Ok(Some((Stmt::Break { at }, rest)));
     }
-    if let Some((Position { line, column }, rest)) = next_word(tokens, Word::Continue, level)? {
+    if let Some((at, rest)) = next_word(tokens, Word::Continue, level)? {
         let (_, rest) = punct(rest, Punct::Semicolon, level)?;
-        return Ok(Some((Stmt::Continue { line, column }, rest)));
+        return Ok(Some((Stmt::Continue { at }, rest)));
     }
-    if let Some((place, rest)) = next_word(tokens, Word::Return, level)? {
-        let found = returned(alloc, level, place, rest)?;
+    if let Some((at, rest)) = next_word(tokens, Word::Return, level)? {
+        let found = returned(alloc, level, at, rest)?;
         return Ok(Some(found));
     }
     Ok(None)

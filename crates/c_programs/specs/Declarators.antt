@@ -10,7 +10,6 @@ use Rattle.c_tree.specs.declared.program.Params.{Params}
 use Rattle.c_tree.specs.declared.program.Params.TheVariants as params
 use Rattle.c_tree.specs.Tree.{Exp, Declared, declared, Fields, fields}
 use Rattle.rr_base.specs.declared.position.Position.{Position}
-use Rattle.rr_base.specs.Positions.{position_at}
 use Rattle.c_types.specs.declared.types.BaseType.{BaseType}
 use Rattle.c_types.specs.declared.types.Layer.{Layer}
 use Rattle.c_types.specs.declared.types.Layer.TheVariants as layer
@@ -22,7 +21,7 @@ use Rattle.c_types.specs.declared.fault.FaultKind.TheVariants as fault
 use Rattle.c_types.specs.Constants.{constant_named}
 use Rattle.c_types.specs.Library.{library_named, fitting_type}
 use Rattle.c_types.specs.Found.{where_it_comes}
-use Rattle.c_types.specs.Scopes.{Known, Members, variable, innermost, base_of, starred, is_complete, struct_numbered, members_of, cells_of_some, counted_cells, most_cells, declare, with_name}
+use Rattle.c_types.specs.Scopes.{Known, Members, variable, innermost, base_of, starred, is_complete, struct_numbered, cells_of_some, counted_cells, most_cells, declare, with_name}
 use Rattle.c_rules.specs.Faults.{name_place, mismatch, specifier_faults}
 use Rattle.c_rules.specs.Sizes.{length_of, length_faults}
 
@@ -58,11 +57,11 @@ declared_name (declared stars name lengths) = name
 -- ---- faults
 
 abbrev pub is_void_specifier : Specifier → Bool
-is_void_specifier (specifier.Void line column) = true
+is_void_specifier (specifier.Void at) = true
 is_void_specifier _ = false
 
 abbrev pub is_struct_specifier : Specifier → Bool
-is_struct_specifier (specifier.Struct name line column) = true
+is_struct_specifier (specifier.Struct name at) = true
 is_struct_specifier _ = false
 
 abbrev pub lengths_faults : Known → Position → List Exp → List Found
@@ -187,7 +186,7 @@ listed_params (params.Listed ps) = ps
 
 -- the name, or the first token where there is no name
 abbrev pub param_place : Param → Position
-param_place p = place_by p.name (position_at p.line p.column)
+param_place p = place_by p.name p.at
   where
     place_by : Option Name → Position → Position
     place_by None at = at

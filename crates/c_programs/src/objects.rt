@@ -155,15 +155,10 @@ fn note_object<'a>(
         Item::Initialised {
             declarator,
             initial,
-            line,
-            column,
+            at,
         } => {
-            let at = Position {
-                line: *line,
-                column: *column,
-            };
             note_initialised(
-                alloc, table, is_global, specifier, declarator, initial, at, first,
+                alloc, table, is_global, specifier, declarator, initial, *at, first,
             )
         }
     }

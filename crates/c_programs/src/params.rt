@@ -71,10 +71,7 @@ fn param_place(p: &Param) -> Position
 {
     match &p.name {
         Some(name) => name_place(name),
-        None => Position {
-            line: p.line,
-            column: p.column,
-        },
+        None => p.at,
     }
 }
 

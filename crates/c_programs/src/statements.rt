@@ -2,7 +2,7 @@
 #![tactic(auto, using(c_types::proofs::First::first_of_both))]
 
 ghost use Rattle.std.specs.Prelude.{◌≡◌, ◌++◌, OnOk, map};
-ghost use Rattle.c_tree.specs.Tree.{listed_parts};
+ghost use Rattle.c_tree.specs.Tree.{for_loop, listed_parts};
 ghost use Rattle.c_tree.specs.View.{exp_of, maybe_of, start_of, stmt_of, part_of};
 ghost use Rattle.c_types.specs.Found.{first_among};
 ghost use Rattle.c_rules.specs.Faults as faults;
@@ -144,77 +144,29 @@ pub fn note_statement<'a>(
             note_computed(&*table, value, first);
             Ok(())
         }
-        Stmt::Break { line, column } => {
-            let at = Position {
-                line: *line,
-                column: *column,
-            };
-            note_mismatch(first, !in_loop, at);
+        Stmt::Break { at } | Stmt::Continue { at } => {
+            note_mismatch(first, !in_loop, *at);
             Ok(())
         }
-        Stmt::Continue { line, column } => {
-            let at = Position {
-                line: *line,
-                column: *column,
-            };
-            note_mismatch(first, !in_loop, at);
+        Stmt::Return { value, at } => {
+            note_return(&*table, gives, *at, value, first);
             Ok(())
         }
-        Stmt::Return {
-            value,
-            line,
-            column,
-        } => {
-            let at = Position {
-                line: *line,
-                column: *column,
-            };
-            note_return(&*table, gives, at, value, first);
-            Ok(())
-        }
-        Stmt::If {
-            test,
-            yes,
-            no,
-            line,
-            column,
-        } => {
-            let at = Position {
-                line: *line,
-                column: *column,
-            };
-            note_condition(&*table, at, test, first);
+        Stmt::If { test, yes, no, at } => {
+            note_condition(&*table, *at, test, first);
             note_statement(alloc, table, gives, in_loop, yes, first)?;
             match no {
                 None => Ok(()),
                 Some(no) => note_statement(alloc, table, gives, in_loop, no, first),
             }
         }
-        Stmt::While {
-            test,
-            body,
-            line,
-            column,
-        } => {
-            let at = Position {
-                line: *line,
-                column: *column,
-            };
-            note_condition(&*table, at, test, first);
+        Stmt::While { test, body, at } => {
+            note_condition(&*table, *at, test, first);
             note_statement(alloc, table, gives, true, body, first)
         }
-        Stmt::Do {
-            body,
-            test,
-            line,
-            column,
-        } => {
+        Stmt::Do { body, test, at } => {
             note_statement(alloc, table, gives, true, body, first)?;
-            let at = Position {
-                line: *line,
-                column: *column,
-            };
-            note_condition(&*table, at, test, first);
+            note_condition(&*table, *at, test, first);
             Ok(())
         }
         Stmt::For {
@@ -222,20 +174,32 @@ pub fn note_statement<'a>(
             test,
             step,
             body,
-            line,
-            column,
-        } => {
-            table.open(alloc)?;
-            let at = Position {
-                line: *line,
-                column: *column,
-            };
-            note_head_of_for(alloc, table, start, test, step, at, first)?;
-            note_statement(alloc, table, gives, true, body, first)?;
-            table.close();
-            Ok(())
-        }
+            at,
+        } => note_for(alloc, table, gives, body, start, test, step, *at, first),
     }
+}
+
+/// Notes what is wrong with a `for`, in a scope of its own (C99 6.8.5.3).
+#[cycle(statement)]
+fn note_for<'a>(
+    alloc: Global,
+    table: &mut Table<'a>,
+    gives: Option<StarredType>,
+    body: &'a Stmt,
+    start: &'a ForStart,
+    test: &Option<Expr>,
+    step: &Option<Expr>,
+    at: Position,
+    first: &mut Option<Found>,
+) -> Result<(), AllocError>
+    ensures known { OnOk result (known_of table.new ≡ known_of table.old) }
+    ensures first { OnOk result (first.new ≡ first_among first.old (spec.statement_faults (known_of table.old) gives true (for_loop (start_of start.now) (maybe_of test.now) (maybe_of step.now) (stmt_of body.now) at))) }
+{
+    table.open(alloc)?;
+    note_head_of_for(alloc, table, start, test, step, at, first)?;
+    note_statement(alloc, table, gives, true, body, first)?;
+    table.close();
+    Ok(())
 }
 
 /// Notes what is wrong with what stands in a block. Its declarations stay in the innermost scope.

@@ -44,13 +44,13 @@ abbrev b : Exp → BinaryOp → ℕ → Exp → Exp
 b left op column right = binary left op right (at column)
 
 abbrev name_at : List ℕ → ℕ → Name
-name_at name column = record { text = name; line = 1; column = column }
+name_at name column = record { text = name; at = at column }
 
 abbrev to_int : CType
-to_int = record { specifier = specifier.Int 1 2; stars = 1; line = 1; column = 2 }
+to_int = record { specifier = specifier.Int (at 2); stars = 1; at = at 2 }
 
 abbrev int : CType
-int = record { specifier = specifier.Int 1 2; stars = 0; line = 1; column = 2 }
+int = record { specifier = specifier.Int (at 2); stars = 0; at = at 2 }
 
 -- ---- constants
 
@@ -155,7 +155,7 @@ type_rows =
     (arrow (n (codes "l") 1) (name_at (codes "m") 4) (at 2), fault_at fault.UnknownName 4) ∷
     (b (n (codes "l") 1) op.Add 3 (k 1 5), None) ∷
     (sizeof_exp (prefix prefix_op.Indirect (n (codes "l") 9) (at 8)) (at 1), fault_at fault.TypeMismatch 1) ∷
-    (sizeof_type (record { specifier = specifier.Struct (name_at (codes "later") 15) 1 8; stars = 0; line = 1; column = 8 }) (at 1), fault_at fault.UnknownName 15) ∷
+    (sizeof_type (record { specifier = specifier.Struct (name_at (codes "later") 15) (at 8); stars = 0; at = at 8 }) (at 1), fault_at fault.UnknownName 15) ∷
     -- x ? p : NULL, t ? x : x, x ? p : x, mu (as a value before a comma)
     (conditional (n (codes "x") 1) (n (codes "p") 5) (null (at 9)) (at 3), None) ∷
     (conditional (n (codes "t") 1) (n (codes "x") 5) (n (codes "x") 9) (at 3), fault_at fault.TypeMismatch 3) ∷

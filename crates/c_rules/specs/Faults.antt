@@ -74,7 +74,7 @@ first_place (null at) = at
 first_place (paren a at) = at
 
 abbrev pub name_place : Name → Position
-name_place name = position_at name.line name.column
+name_place name = name.at
 
 abbrev pub mismatch : Bool → Position → List Found
 mismatch comes at = where_it_comes comes fault.TypeMismatch at
@@ -90,14 +90,14 @@ abbrev pub is_unknown_struct : Known → Bool → Name → Bool
 is_unknown_struct known needs_size name = lacks_struct_by known needs_size (struct_numbered known name.text)
 
 abbrev pub specifier_faults : Known → Bool → Specifier → List Found
-specifier_faults known needs_size (specifier.Struct name line column) = where_it_comes (is_unknown_struct known needs_size name) fault.UnknownName (name_place name)
-specifier_faults known needs_size (specifier.Int line column) = []
-specifier_faults known needs_size (specifier.Long second int line column) = []
-specifier_faults known needs_size (specifier.Void line column) = []
-specifier_faults known needs_size (specifier.PthreadT line column) = []
-specifier_faults known needs_size (specifier.PthreadMutexT line column) = []
-specifier_faults known needs_size (specifier.PthreadCondT line column) = []
-specifier_faults known needs_size (specifier.PthreadBarrierT line column) = []
+specifier_faults known needs_size (specifier.Struct name at) = where_it_comes (is_unknown_struct known needs_size name) fault.UnknownName (name_place name)
+specifier_faults known needs_size (specifier.Int at) = []
+specifier_faults known needs_size (specifier.Long second int at) = []
+specifier_faults known needs_size (specifier.Void at) = []
+specifier_faults known needs_size (specifier.PthreadT at) = []
+specifier_faults known needs_size (specifier.PthreadMutexT at) = []
+specifier_faults known needs_size (specifier.PthreadCondT at) = []
+specifier_faults known needs_size (specifier.PthreadBarrierT at) = []
 
 abbrev pub is_some_void : Option ObjectType → Bool
 is_some_void None = false

@@ -22,29 +22,26 @@ pub fn own_place(e: &Expr) -> Position
     ensures { result ≡ spec.own_place (exp_of e.now) }
 {
     match e {
-        Expr::Comma { line, column, .. }
-        | Expr::Assign { line, column, .. }
-        | Expr::Conditional { line, column, .. }
-        | Expr::Binary { line, column, .. }
-        | Expr::Prefix { line, column, .. }
-        | Expr::SizeofExpr { line, column, .. }
-        | Expr::SizeofType { line, column, .. }
-        | Expr::Cast { line, column, .. }
-        | Expr::Index { line, column, .. }
-        | Expr::Member { line, column, .. }
-        | Expr::Arrow { line, column, .. }
-        | Expr::PostIncrement { line, column, .. }
-        | Expr::PostDecrement { line, column, .. }
-        | Expr::Name { line, column, .. }
-        | Expr::Call { line, column, .. }
-        | Expr::Number { line, column, .. }
-        | Expr::Letter { line, column, .. }
-        | Expr::Text { line, column, .. }
-        | Expr::Null { line, column }
-        | Expr::Paren { line, column, .. } => Position {
-            line: *line,
-            column: *column,
-        },
+        Expr::Comma { at, .. }
+        | Expr::Assign { at, .. }
+        | Expr::Conditional { at, .. }
+        | Expr::Binary { at, .. }
+        | Expr::Prefix { at, .. }
+        | Expr::SizeofExpr { at, .. }
+        | Expr::SizeofType { at, .. }
+        | Expr::Cast { at, .. }
+        | Expr::Index { at, .. }
+        | Expr::Member { at, .. }
+        | Expr::Arrow { at, .. }
+        | Expr::PostIncrement { at, .. }
+        | Expr::PostDecrement { at, .. }
+        | Expr::Name { at, .. }
+        | Expr::Call { at, .. }
+        | Expr::Number { at, .. }
+        | Expr::Letter { at, .. }
+        | Expr::Text { at, .. }
+        | Expr::Null { at }
+        | Expr::Paren { at, .. } => *at,
     }
 }
 
@@ -62,20 +59,17 @@ pub fn first_place(e: &Expr) -> Position
         Expr::Arrow { base, .. } => first_place(base),
         Expr::PostIncrement { operand, .. } => first_place(operand),
         Expr::PostDecrement { operand, .. } => first_place(operand),
-        Expr::Prefix { line, column, .. }
-        | Expr::SizeofExpr { line, column, .. }
-        | Expr::SizeofType { line, column, .. }
-        | Expr::Cast { line, column, .. }
-        | Expr::Name { line, column, .. }
-        | Expr::Call { line, column, .. }
-        | Expr::Number { line, column, .. }
-        | Expr::Letter { line, column, .. }
-        | Expr::Text { line, column, .. }
-        | Expr::Null { line, column }
-        | Expr::Paren { line, column, .. } => Position {
-            line: *line,
-            column: *column,
-        },
+        Expr::Prefix { at, .. }
+        | Expr::SizeofExpr { at, .. }
+        | Expr::SizeofType { at, .. }
+        | Expr::Cast { at, .. }
+        | Expr::Name { at, .. }
+        | Expr::Call { at, .. }
+        | Expr::Number { at, .. }
+        | Expr::Letter { at, .. }
+        | Expr::Text { at, .. }
+        | Expr::Null { at }
+        | Expr::Paren { at, .. } => *at,
     }
 }
 
@@ -83,10 +77,7 @@ pub fn first_place(e: &Expr) -> Position
 pub fn name_place(name: &Name) -> Position
     ensures { result ≡ spec.name_place name.now }
 {
-    Position {
-        line: name.line,
-        column: name.column,
-    }
+    name.at
 }
 
 /// Notes that types don't match at the place, if `comes`.

@@ -250,13 +250,7 @@ fn note_root<N: Names>(names: &N, e: &Expr, first: &mut Option<Found>)
     ensures { first.new ≡ first_among first.old (spec.root_faults (N.known names.now) (exp_of e.now)) }
 {
     match e {
-        Expr::Name { name, line, column } => {
-            let at = Position {
-                line: *line,
-                column: *column,
-            };
-            note_root_name(names, name.as_slice(), at, first);
-        }
+        Expr::Name { name, at } => note_root_name(names, name.as_slice(), *at, first),
         _ => {}
     }
 }

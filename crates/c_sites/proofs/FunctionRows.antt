@@ -34,7 +34,7 @@ create name column =
 -- void u(); void w() {} void u() {} int main() { int t; pthread_create(&t,NULL,w,NULL); sizeof pthread_create(&t,NULL,u,NULL); }
 abbrev third_source : List Outer
 third_source =
-    function false (specifier.Void 1 1) 0 (name_at (codes "u") 6) params.Nothing prototype
+    function false (specifier.Void (at 1)) 0 (name_at (codes "u") 6) params.Nothing prototype
     ∷ function_at (codes "w") 16 [] no_part
     ∷ function_at (codes "u") 28 [] no_part
     ∷ function_at (codes "main") 39 [] (
@@ -49,10 +49,10 @@ unfolding following library_named
 third_functions_are = refl
 
 abbrev of_type : Specifier → ℕ → CType
-of_type s stars = record { specifier = s; stars = stars; line = 1; column = 1 }
+of_type s stars = record { specifier = s; stars = stars; at = at 1 }
 
 abbrev struct_named : List ℕ → Specifier
-struct_named name = specifier.Struct (name_at name 8) 1 1
+struct_named name = specifier.Struct (name_at name 8) (at 1)
 
 -- struct s { int a; int *q; }
 pub struct_is_laid_out : layout_named second_source (of_type (struct_named (codes "s")) 0) ≡ Some (of_kinds 2 (cell.Whole ∷ cell.Pointer ∷ []))
@@ -67,10 +67,10 @@ pub unknown_is_not_laid_out : layout_named second_source (of_type (struct_named 
 unfolding following constant_named library_named
 unknown_is_not_laid_out = refl
 
-pub void_is_not_laid_out : layout_named second_source (of_type (specifier.Void 1 1) 0) ≡ None
+pub void_is_not_laid_out : layout_named second_source (of_type (specifier.Void (at 1)) 0) ≡ None
 unfolding following constant_named library_named
 void_is_not_laid_out = refl
 
-pub mutex_is_laid_out : layout_named second_source (of_type (specifier.PthreadMutexT 1 1) 0) ≡ Some (of_kinds 1 (cell.Mutex ∷ []))
+pub mutex_is_laid_out : layout_named second_source (of_type (specifier.PthreadMutexT (at 1)) 0) ≡ Some (of_kinds 1 (cell.Mutex ∷ []))
 unfolding following constant_named library_named
 mutex_is_laid_out = refl

@@ -22,13 +22,13 @@ abbrev at : ℕ → Position
 at column = position_at 1 column
 
 abbrev name_at : List ℕ → ℕ → Name
-name_at name column = record { text = name; line = 1; column = column }
+name_at name column = record { text = name; at = at column }
 
 abbrev int : ℕ → Specifier
-int column = specifier.Int 1 column
+int column = specifier.Int (at column)
 
 abbrev long : ℕ → Specifier
-long column = specifier.Long false false 1 column
+long column = specifier.Long false false (at column)
 
 abbrev n : List ℕ → ℕ → Exp
 n name column = named name (at column)
@@ -56,7 +56,7 @@ found kind column = Some (found_at kind (at column))
 
 -- `int aK[65535];` at the line
 abbrev large_array : ℕ → Outer
-large_array line = objects false (int 1) (plain (declared 0 (record { text = 97 ∷ line ∷ []; line = line; column = 5 }) (number (pos 65535) (position_at line 8) ∷ [])) ∷ []) (position_at line 1)
+large_array line = objects false (int 1) (plain (declared 0 (record { text = 97 ∷ line ∷ []; at = position_at line 5 }) (number (pos 65535) (position_at line 8) ∷ [])) ∷ []) (position_at line 1)
 
 abbrev large_arrays : List Outer
 large_arrays = map large_array (1 ∷ 2 ∷ 3 ∷ 4 ∷ 5 ∷ 6 ∷ 7 ∷ 8 ∷ 9 ∷ 10 ∷ 11 ∷ 12 ∷ 13 ∷ 14 ∷ 15 ∷ 16 ∷ 17 ∷ [])
@@ -95,10 +95,10 @@ source_rows =
     -- struct p { int a; int *q; }; struct p v[3]; and before it is defined
     (
       structure (name_at (codes "p") 8) (fields (int 12) (plain_member 16 (codes "a") 0 ∷ []) (at 12) ∷ fields (int 19) (plain_member 24 (codes "q") 1 ∷ []) (at 19) ∷ [])
-          ∷ objects false (specifier.Struct (name_at (codes "p") 37) 1 30) (plain (declared 0 (name_at (codes "v") 39) (k 3 41 ∷ [])) ∷ []) (at 30) ∷ main_with ends ∷ [],
+          ∷ objects false (specifier.Struct (name_at (codes "p") 37) (at 30)) (plain (declared 0 (name_at (codes "v") 39) (k 3 41 ∷ [])) ∷ []) (at 30) ∷ main_with ends ∷ [],
       None,
     ) ∷ (
-      objects false (specifier.Struct (name_at (codes "p") 8) 1 1) (plain (declared 0 (name_at (codes "v") 10) []) ∷ []) (at 1)
+      objects false (specifier.Struct (name_at (codes "p") 8) (at 1)) (plain (declared 0 (name_at (codes "v") 10) []) ∷ []) (at 1)
           ∷ structure (name_at (codes "p") 28) (fields (int 32) (plain_member 36 (codes "a") 0 ∷ []) (at 32) ∷ []) ∷ main_with ends ∷ [],
       found fault.UnknownName 8,
     ) ∷

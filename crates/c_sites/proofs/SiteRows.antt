@@ -22,19 +22,19 @@ abbrev pub at : ℕ → Position
 at column = position_at 1 column
 
 abbrev pub name_at : List ℕ → ℕ → Name
-name_at name column = record { text = name; line = 1; column = column }
+name_at name column = record { text = name; at = at column }
 
 abbrev pub plain_at : ℕ → List ℕ → ℕ → List Exp → Object
 plain_at stars name column lengths = plain (declared stars (name_at name column) lengths)
 
 abbrev pub int : ℕ → Specifier
-int column = specifier.Int 1 column
+int column = specifier.Int (at column)
 
 abbrev struct_s : ℕ → ℕ → Specifier
-struct_s column name_column = specifier.Struct (name_at (codes "s") name_column) 1 column
+struct_s column name_column = specifier.Struct (name_at (codes "s") name_column) (at column)
 
 abbrev pub param_at : List ℕ → ℕ → Param
-param_at name column = record { specifier = int column; stars = 0; name = Some (name_at name column); line = 1; column = column }
+param_at name column = record { specifier = int column; stars = 0; name = Some (name_at name column); at = at column }
 
 abbrev pub address : Exp → ℕ → Exp
 address e column = prefix prefix_op.Address e (at column)
@@ -43,7 +43,7 @@ abbrev pub n : List ℕ → ℕ → Exp
 n name column = named name (at column)
 
 abbrev pub function_at : List ℕ → ℕ → List Param → Parts → Outer
-function_at name column ps parts = function false (specifier.Void 1 1) 0 (name_at name column) (params.Listed ps) (defined parts (at column))
+function_at name column ps parts = function false (specifier.Void (at 1)) 0 (name_at name column) (params.Listed ps) (defined parts (at column))
 
 -- int g; void f(int n) { int a; int b; int *p = &(b); { int b; int v[2]; } p = malloc(sizeof(int)); }
 abbrev pub first_source : List Outer

@@ -112,14 +112,14 @@ abbrev mutual
 
 -- a struct, a mutex, a condition variable or a barrier
 abbrev pub is_kept_specifier : Specifier → Bool
-is_kept_specifier (specifier.Int line column) = false
-is_kept_specifier (specifier.Long second int line column) = false
-is_kept_specifier (specifier.Void line column) = false
-is_kept_specifier (specifier.Struct name line column) = true
-is_kept_specifier (specifier.PthreadT line column) = false
-is_kept_specifier (specifier.PthreadMutexT line column) = true
-is_kept_specifier (specifier.PthreadCondT line column) = true
-is_kept_specifier (specifier.PthreadBarrierT line column) = true
+is_kept_specifier (specifier.Int at) = false
+is_kept_specifier (specifier.Long second int at) = false
+is_kept_specifier (specifier.Void at) = false
+is_kept_specifier (specifier.Struct name at) = true
+is_kept_specifier (specifier.PthreadT at) = false
+is_kept_specifier (specifier.PthreadMutexT at) = true
+is_kept_specifier (specifier.PthreadCondT at) = true
+is_kept_specifier (specifier.PthreadBarrierT at) = true
 
 abbrev pub is_some_length : List Exp → Bool
 is_some_length [] = false

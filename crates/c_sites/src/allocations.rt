@@ -95,15 +95,10 @@ pub fn push_allocations<N: Names>(
         Expr::Call {
             name,
             arguments,
-            line,
-            column,
+            at,
         } => {
             let is_malloc = is_malloc(names, name.as_slice());
-            let at = Position {
-                line: *line,
-                column: *column,
-            };
-            push_allocation(alloc, is_malloc, target, at, out)?;
+            push_allocation(alloc, is_malloc, target, *at, out)?;
             push_all_allocations(alloc, names, arguments.as_slice(), out)
         }
         Expr::Paren { inner, .. } => push_allocations(alloc, names, target, inner, out),

@@ -78,14 +78,14 @@ if_there true k = k ∷ []
 if_there false k = []
 
 abbrev pub specifier_kinds : Specifier → List Kind
-specifier_kinds (specifier.Int line column) = w word.Int ∷ []
-specifier_kinds (specifier.Long second int line column) = w word.Long ∷ (if_there second (w word.Long) ++ if_there int (w word.Int))
-specifier_kinds (specifier.Void line column) = w word.Void ∷ []
-specifier_kinds (specifier.Struct name line column) = w word.Struct ∷ name_kind name ∷ []
-specifier_kinds (specifier.PthreadT line column) = w word.PthreadT ∷ []
-specifier_kinds (specifier.PthreadMutexT line column) = w word.PthreadMutexT ∷ []
-specifier_kinds (specifier.PthreadCondT line column) = w word.PthreadCondT ∷ []
-specifier_kinds (specifier.PthreadBarrierT line column) = w word.PthreadBarrierT ∷ []
+specifier_kinds (specifier.Int at) = w word.Int ∷ []
+specifier_kinds (specifier.Long second int at) = w word.Long ∷ (if_there second (w word.Long) ++ if_there int (w word.Int))
+specifier_kinds (specifier.Void at) = w word.Void ∷ []
+specifier_kinds (specifier.Struct name at) = w word.Struct ∷ name_kind name ∷ []
+specifier_kinds (specifier.PthreadT at) = w word.PthreadT ∷ []
+specifier_kinds (specifier.PthreadMutexT at) = w word.PthreadMutexT ∷ []
+specifier_kinds (specifier.PthreadCondT at) = w word.PthreadCondT ∷ []
+specifier_kinds (specifier.PthreadBarrierT at) = w word.PthreadBarrierT ∷ []
 
 abbrev pub stars_kinds : ℕ → List Kind
 stars_kinds zero = []

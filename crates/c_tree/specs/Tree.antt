@@ -1,5 +1,5 @@
 -- The syntax tree as plain data. The types of the crate show as these: a list of trees of the same kind is data of its
--- own, and a line and a column are one place.
+-- own.
 use Rattle.std.specs.Prelude.{ℕ, ℤ, Bool, List, [], ◌∷◌, Option}
 use Rattle.rr_base.specs.declared.position.Position.{Position}
 use Rattle.c_tree.specs.declared.name.Name.{Name}

@@ -19,30 +19,29 @@ use Rattle.c_tree.specs.declared.program.External.TheVariants as external
 use Rattle.c_tree.specs.declared.program.Program.{Program}
 use Rattle.c_tree.specs.Tree.{Exp, comma, assign, conditional, binary, prefix, sizeof_exp, sizeof_type, cast, index, member, arrow, post_increment, post_decrement, named, call, number, letter, text, null, paren, Exps, no_exp, and_exp, Declared, declared, Init, value, braces, mutex_start, cond_start, Inits, no_init, and_init, Object, plain, initialised, Declares, declares, Start, start_declares, start_computes, Statement, block, compute, break_at, continue_at, gives, branch, branch_else, while_loop, do_loop, for_loop, Parts, no_part, Code, defined, prototype, Fields, fields, Outer, structure, function, objects, Part, part_declares, part_does, with_part, listed_parts}
 use Rattle.rr_base.specs.declared.position.Position.{Position}
-use Rattle.rr_base.specs.Positions.{position_at}
 
 abbrev mutual
   pub exp_of : Expr → Exp
-  exp_of (Comma' p e shape row line column) = comma (exp_of e) (exps_of_row row) (position_at line column)
-  exp_of (Assign' p a op q b line column) = assign (exp_of a) op (exp_of b) (position_at line column)
-  exp_of (Conditional' p a q b r c line column) = conditional (exp_of a) (exp_of b) (exp_of c) (position_at line column)
-  exp_of (Binary' p a op q b line column) = binary (exp_of a) op (exp_of b) (position_at line column)
-  exp_of (Prefix' op p a line column) = prefix op (exp_of a) (position_at line column)
-  exp_of (SizeofExpr' p a line column) = sizeof_exp (exp_of a) (position_at line column)
-  exp_of (SizeofType t line column) = sizeof_type t (position_at line column)
-  exp_of (Cast' t p a line column) = cast t (exp_of a) (position_at line column)
-  exp_of (Index' p a q b line column) = index (exp_of a) (exp_of b) (position_at line column)
-  exp_of (Member' p a name line column) = member (exp_of a) name (position_at line column)
-  exp_of (Arrow' p a name line column) = arrow (exp_of a) name (position_at line column)
-  exp_of (PostIncrement' p a line column) = post_increment (exp_of a) (position_at line column)
-  exp_of (PostDecrement' p a line column) = post_decrement (exp_of a) (position_at line column)
-  exp_of (Name name line column) = named name (position_at line column)
-  exp_of (Call' name shape row line column) = call name (exps_of_row row) (position_at line column)
-  exp_of (Number n line column) = number n (position_at line column)
-  exp_of (Letter n line column) = letter n (position_at line column)
-  exp_of (Text bytes line column) = text bytes (position_at line column)
-  exp_of (Null line column) = null (position_at line column)
-  exp_of (Paren' p a line column) = paren (exp_of a) (position_at line column)
+  exp_of (Comma' p e shape row at) = comma (exp_of e) (exps_of_row row) at
+  exp_of (Assign' p a op q b at) = assign (exp_of a) op (exp_of b) at
+  exp_of (Conditional' p a q b r c at) = conditional (exp_of a) (exp_of b) (exp_of c) at
+  exp_of (Binary' p a op q b at) = binary (exp_of a) op (exp_of b) at
+  exp_of (Prefix' op p a at) = prefix op (exp_of a) at
+  exp_of (SizeofExpr' p a at) = sizeof_exp (exp_of a) at
+  exp_of (SizeofType t at) = sizeof_type t at
+  exp_of (Cast' t p a at) = cast t (exp_of a) at
+  exp_of (Index' p a q b at) = index (exp_of a) (exp_of b) at
+  exp_of (Member' p a name at) = member (exp_of a) name at
+  exp_of (Arrow' p a name at) = arrow (exp_of a) name at
+  exp_of (PostIncrement' p a at) = post_increment (exp_of a) at
+  exp_of (PostDecrement' p a at) = post_decrement (exp_of a) at
+  exp_of (Name name at) = named name at
+  exp_of (Call' name shape row at) = call name (exps_of_row row) at
+  exp_of (Number n at) = number n at
+  exp_of (Letter n at) = letter n at
+  exp_of (Text bytes at) = text bytes at
+  exp_of (Null at) = null at
+  exp_of (Paren' p a at) = paren (exp_of a) at
 
   pub exps_of_row : {n : _} → Row_of-Expr n → Exps
   exps_of_row end_of-Expr = no_exp
@@ -54,9 +53,9 @@ declared_of d = declared d.stars d.name (map exp_of d.lengths)
 abbrev mutual
   pub init_of : Initial → Init
   init_of (Value e) = value (exp_of e)
-  init_of (Braces' shape row trailing line column) = braces (inits_of_row row) trailing (position_at line column)
-  init_of (Mutex line column) = mutex_start (position_at line column)
-  init_of (Cond line column) = cond_start (position_at line column)
+  init_of (Braces' shape row trailing at) = braces (inits_of_row row) trailing at
+  init_of (Mutex at) = mutex_start at
+  init_of (Cond at) = cond_start at
 
   pub inits_of_row : {n : _} → Row_of-Initial n → Inits
   inits_of_row end_of-Initial = no_init
@@ -64,10 +63,10 @@ abbrev mutual
 
 abbrev pub object_of : Item → Object
 object_of (item.Plain d) = plain (declared_of d)
-object_of (item.Initialised d i line column) = initialised (declared_of d) (init_of i) (position_at line column)
+object_of (item.Initialised d i at) = initialised (declared_of d) (init_of i) at
 
 abbrev pub declares_of : Declaration → Declares
-declares_of d = declares d.specifier (map object_of d.items) (position_at d.line d.column)
+declares_of d = declares d.specifier (map object_of d.items) d.at
 
 abbrev pub maybe_of : Option Expr → Option Exp
 maybe_of None = None
@@ -83,15 +82,15 @@ branch_by e a (Some b) place = branch_else e a b place
 
 abbrev mutual
   pub stmt_of : Stmt → Statement
-  stmt_of (Block' shape row line column) = block (parts_of_row row) (position_at line column)
-  stmt_of (Expression e line column) = compute (maybe_of e) (position_at line column)
-  stmt_of (Break line column) = break_at (position_at line column)
-  stmt_of (Continue line column) = continue_at (position_at line column)
-  stmt_of (Return e line column) = gives (maybe_of e) (position_at line column)
-  stmt_of (If' e p a held line column) = branch_by (exp_of e) (stmt_of a) (held_of held) (position_at line column)
-  stmt_of (While' e p a line column) = while_loop (exp_of e) (stmt_of a) (position_at line column)
-  stmt_of (Do' p a e line column) = do_loop (stmt_of a) (exp_of e) (position_at line column)
-  stmt_of (For' begin test next p a line column) = for_loop (start_of begin) (maybe_of test) (maybe_of next) (stmt_of a) (position_at line column)
+  stmt_of (Block' shape row at) = block (parts_of_row row) at
+  stmt_of (Expression e at) = compute (maybe_of e) at
+  stmt_of (Break at) = break_at at
+  stmt_of (Continue at) = continue_at at
+  stmt_of (Return e at) = gives (maybe_of e) at
+  stmt_of (If' e p a held at) = branch_by (exp_of e) (stmt_of a) (held_of held) at
+  stmt_of (While' e p a at) = while_loop (exp_of e) (stmt_of a) at
+  stmt_of (Do' p a e at) = do_loop (stmt_of a) (exp_of e) at
+  stmt_of (For' begin test next p a at) = for_loop (start_of begin) (maybe_of test) (maybe_of next) (stmt_of a) at
 
   pub held_of : Held-Stmt-If-2 → Option Statement
   held_of None' = None
@@ -106,16 +105,16 @@ abbrev mutual
   parts_of_row (more_of-Part p row) = with_part (part_of p) (parts_of_row row)
 
 abbrev pub code_of : Body → Code
-code_of (body.Block parts line column) = defined (listed_parts (map part_of parts)) (position_at line column)
+code_of (body.Block parts at) = defined (listed_parts (map part_of parts)) at
 code_of body.Prototype = prototype
 
 abbrev pub fields_of : Member → Fields
-fields_of m = fields m.specifier (map declared_of m.declarators) (position_at m.line m.column)
+fields_of m = fields m.specifier (map declared_of m.declarators) m.at
 
 abbrev pub outer_of : External → Outer
 outer_of (external.Struct name members) = structure name (map fields_of members)
 outer_of (external.Function is_static specifier stars name params code) = function is_static specifier stars name params (code_of code)
-outer_of (external.Objects is_static specifier items line column) = objects is_static specifier (map object_of items) (position_at line column)
+outer_of (external.Objects is_static specifier items at) = objects is_static specifier (map object_of items) at
 
 abbrev pub program_of : Program → List Outer
 program_of p = map outer_of p.externals

@@ -1,43 +1,36 @@
 use crate::name::Name;
+use rr_base::Position;
 
 /// The words that name a type (C99 6.7.2 and `<pthread.h>`). The place is that of the first word.
 #[derive(Debug, Drop)]
 pub enum Specifier {
     Int {
-        line: u32,
-        column: u32,
+        at: Position,
     },
     /// `long`, then maybe a second `long`, then maybe `int`.
     Long {
         second: bool,
         int: bool,
-        line: u32,
-        column: u32,
+        at: Position,
     },
     Void {
-        line: u32,
-        column: u32,
+        at: Position,
     },
     Struct {
         name: Name,
-        line: u32,
-        column: u32,
+        at: Position,
     },
     PthreadT {
-        line: u32,
-        column: u32,
+        at: Position,
     },
     PthreadMutexT {
-        line: u32,
-        column: u32,
+        at: Position,
     },
     PthreadCondT {
-        line: u32,
-        column: u32,
+        at: Position,
     },
     PthreadBarrierT {
-        line: u32,
-        column: u32,
+        at: Position,
     },
 }
 
@@ -46,6 +39,5 @@ pub enum Specifier {
 pub struct CType {
     pub specifier: Specifier,
     pub stars: usize,
-    pub line: u32,
-    pub column: u32,
+    pub at: Position,
 }

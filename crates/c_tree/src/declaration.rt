@@ -1,7 +1,7 @@
 use crate::ctype::Specifier;
 use crate::expr::Expr;
 use crate::name::Name;
-use rr_base::List;
+use rr_base::{List, Position};
 
 /// So many stars, a name, and the length of each array (C99 6.7.5). Its place is that of the name.
 #[derive(Drop)]
@@ -19,18 +19,15 @@ pub enum Initial {
     Braces {
         parts: List<Initial>,
         comma: bool,
-        line: u32,
-        column: u32,
+        at: Position,
     },
     /// `PTHREAD_MUTEX_INITIALIZER`
     Mutex {
-        line: u32,
-        column: u32,
+        at: Position,
     },
     /// `PTHREAD_COND_INITIALIZER`
     Cond {
-        line: u32,
-        column: u32,
+        at: Position,
     },
 }
 
@@ -42,8 +39,7 @@ pub enum Item {
     Initialised {
         declarator: Declarator,
         initial: Initial,
-        line: u32,
-        column: u32,
+        at: Position,
     },
 }
 
@@ -52,6 +48,5 @@ pub enum Item {
 pub struct Declaration {
     pub specifier: Specifier,
     pub items: List<Item>,
-    pub line: u32,
-    pub column: u32,
+    pub at: Position,
 }

@@ -1,6 +1,6 @@
 use crate::ctype::CType;
 use crate::name::Name;
-use rr_base::{Bytes, List};
+use rr_base::{Bytes, List, Position};
 
 /// A prefix operator (C99 6.5.3).
 #[derive(Clone, Copy, Debug, PartialEq, Eq)]
@@ -99,124 +99,104 @@ pub enum Expr {
     Comma {
         first: Box<Expr>,
         rest: List<Expr>,
-        line: u32,
-        column: u32,
+        at: Position,
     },
     Assign {
         left: Box<Expr>,
         op: AssignOp,
         right: Box<Expr>,
-        line: u32,
-        column: u32,
+        at: Position,
     },
     /// `test ? yes : no`, at the `?`.
     Conditional {
         test: Box<Expr>,
         yes: Box<Expr>,
         no: Box<Expr>,
-        line: u32,
-        column: u32,
+        at: Position,
     },
     Binary {
         left: Box<Expr>,
         op: BinaryOp,
         right: Box<Expr>,
-        line: u32,
-        column: u32,
+        at: Position,
     },
     Prefix {
         op: PrefixOp,
         operand: Box<Expr>,
-        line: u32,
-        column: u32,
+        at: Position,
     },
     /// `sizeof operand`
     SizeofExpr {
         operand: Box<Expr>,
-        line: u32,
-        column: u32,
+        at: Position,
     },
     /// `sizeof ( of )`
     SizeofType {
         of: CType,
-        line: u32,
-        column: u32,
+        at: Position,
     },
     /// `( to ) operand`
     Cast {
         to: CType,
         operand: Box<Expr>,
-        line: u32,
-        column: u32,
+        at: Position,
     },
     /// `base [ index ]`, at the `[`.
     Index {
         base: Box<Expr>,
         index: Box<Expr>,
-        line: u32,
-        column: u32,
+        at: Position,
     },
     /// `base . name`, at the `.`.
     Member {
         base: Box<Expr>,
         name: Name,
-        line: u32,
-        column: u32,
+        at: Position,
     },
     /// `base -> name`, at the `->`.
     Arrow {
         base: Box<Expr>,
         name: Name,
-        line: u32,
-        column: u32,
+        at: Position,
     },
     /// `operand ++`, at the `++`.
     PostIncrement {
         operand: Box<Expr>,
-        line: u32,
-        column: u32,
+        at: Position,
     },
     /// `operand --`, at the `--`.
     PostDecrement {
         operand: Box<Expr>,
-        line: u32,
-        column: u32,
+        at: Position,
     },
     Name {
         name: Bytes,
-        line: u32,
-        column: u32,
+        at: Position,
     },
     /// `name ( arguments )`, at the name.
     Call {
         name: Bytes,
         arguments: List<Expr>,
-        line: u32,
-        column: u32,
+        at: Position,
     },
     Number {
         value: i64,
-        line: u32,
-        column: u32,
+        at: Position,
     },
     Letter {
         value: u8,
-        line: u32,
-        column: u32,
+        at: Position,
     },
     Text {
         bytes: Bytes,
-        line: u32,
-        column: u32,
+        at: Position,
     },
     Null {
-        line: u32,
-        column: u32,
+        at: Position,
     },
     /// `( inner )`
     Paren {
         inner: Box<Expr>,
-        line: u32,
-        column: u32,
+        at: Position,
     },
 }

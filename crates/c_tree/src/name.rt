@@ -1,9 +1,8 @@
-use rr_base::Bytes;
+use rr_base::{Bytes, Position};
 
-/// A name that is a part of something, with the place of its first byte, line and column from 1.
+/// A name that is a part of something, at its first byte.
 #[derive(Debug, Drop)]
 pub struct Name {
     pub text: Bytes,
-    pub line: u32,
-    pub column: u32,
+    pub at: Position,
 }

@@ -714,16 +714,16 @@ mod tests {
     use super::print_tree;
     use crate::{Declarator, External, Item, Name, Program, Specifier};
     use c_lexer::{Kind, Punct, Word};
-    use rr_base::List;
+    use rr_base::{List, Position};
     use std::alloc::AllocError;
 
     #[test]
     fn prints_an_object(rt: HostRuntime) -> Result<(), AllocError> {
         let alloc = rt.alloc();
+        let start = Position { line: 1, column: 1 };
         let name = Name {
             text: List::from_slice(alloc, b"x")?,
-            line: 1,
-            column: 5,
+            at: Position { line: 1, column: 5 },
         };
         let mut items = List::new(alloc);
         items.push(Item::Plain(Declarator {
@@ -734,10 +734,9 @@ mod tests {
         let mut externals = List::new(alloc);
         externals.push(External::Objects {
             is_static: false,
-            specifier: Specifier::Int { line: 1, column: 1 },
+            specifier: Specifier::Int { at: start },
             items,
-            line: 1,
-            column: 1,
+            at: start,
         })?;
         let kinds = print_tree(alloc, &Program { externals })?;
         assert!(rt;

@@ -2,7 +2,7 @@ use crate::ctype::Specifier;
 use crate::declaration::{Declarator, Item};
 use crate::name::Name;
 use crate::statement::Part;
-use rr_base::List;
+use rr_base::{List, Position};
 
 /// A parameter of a function, at its first token.
 #[derive(Debug, Drop)]
@@ -10,8 +10,7 @@ pub struct Param {
     pub specifier: Specifier,
     pub stars: usize,
     pub name: Option<Name>,
-    pub line: u32,
-    pub column: u32,
+    pub at: Position,
 }
 
 /// The parameters of a function: no token, the word `void` alone, or one or more.
@@ -25,11 +24,7 @@ pub enum Params {
 /// What follows the parameters: a block, at its brace, or a semicolon.
 #[derive(Drop)]
 pub enum Body {
-    Block {
-        parts: List<Part>,
-        line: u32,
-        column: u32,
-    },
+    Block { parts: List<Part>, at: Position },
     Prototype,
 }
 
@@ -38,8 +33,7 @@ pub enum Body {
 pub struct Member {
     pub specifier: Specifier,
     pub declarators: List<Declarator>,
-    pub line: u32,
-    pub column: u32,
+    pub at: Position,
 }
 
 /// What a source consists of (C99 6.9).
@@ -64,8 +58,7 @@ pub enum External {
         is_static: bool,
         specifier: Specifier,
         items: List<Item>,
-        line: u32,
-        column: u32,
+        at: Position,
     },
 }
 

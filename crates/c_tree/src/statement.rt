@@ -1,6 +1,6 @@
 use crate::declaration::Declaration;
 use crate::expr::Expr;
-use rr_base::List;
+use rr_base::{List, Position};
 
 /// How a `for` begins: with a declaration, or with an expression or none.
 #[derive(Drop)]
@@ -15,53 +15,44 @@ pub enum ForStart {
 pub enum Stmt {
     Block {
         parts: List<Part>,
-        line: u32,
-        column: u32,
+        at: Position,
     },
     Expression {
         value: Option<Expr>,
-        line: u32,
-        column: u32,
+        at: Position,
     },
     Break {
-        line: u32,
-        column: u32,
+        at: Position,
     },
     Continue {
-        line: u32,
-        column: u32,
+        at: Position,
     },
     Return {
         value: Option<Expr>,
-        line: u32,
-        column: u32,
+        at: Position,
     },
     If {
         test: Expr,
         yes: Box<Stmt>,
         no: Option<Box<Stmt>>,
-        line: u32,
-        column: u32,
+        at: Position,
     },
     While {
         test: Expr,
         body: Box<Stmt>,
-        line: u32,
-        column: u32,
+        at: Position,
     },
     Do {
         body: Box<Stmt>,
         test: Expr,
-        line: u32,
-        column: u32,
+        at: Position,
     },
     For {
         start: ForStart,
         test: Option<Expr>,
         step: Option<Expr>,
         body: Box<Stmt>,
-        line: u32,
-        column: u32,
+        at: Position,
     },
 }
 

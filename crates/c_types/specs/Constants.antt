@@ -28,14 +28,14 @@ constant_named name = entry_of constants name
 
 -- the specifier is one of Int
 abbrev pub is_int_specifier : Specifier → Bool
-is_int_specifier (specifier.Int line column) = true
-is_int_specifier (specifier.Long second int line column) = true
-is_int_specifier (specifier.Void line column) = false
-is_int_specifier (specifier.Struct name line column) = false
-is_int_specifier (specifier.PthreadT line column) = true
-is_int_specifier (specifier.PthreadMutexT line column) = false
-is_int_specifier (specifier.PthreadCondT line column) = false
-is_int_specifier (specifier.PthreadBarrierT line column) = false
+is_int_specifier (specifier.Int at) = true
+is_int_specifier (specifier.Long second int at) = true
+is_int_specifier (specifier.Void at) = false
+is_int_specifier (specifier.Struct name at) = false
+is_int_specifier (specifier.PthreadT at) = true
+is_int_specifier (specifier.PthreadMutexT at) = false
+is_int_specifier (specifier.PthreadCondT at) = false
+is_int_specifier (specifier.PthreadBarrierT at) = false
 
 abbrev pub is_int : CType → Bool
 is_int t = is_int_specifier t.specifier && (t.stars == 0)

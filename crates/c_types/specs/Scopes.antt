@@ -71,14 +71,14 @@ abbrev pub struct_numbered : Known → Text → Option ℕ
 struct_numbered known name = position (λ n. bytes_eq name n) known.struct_names
 
 abbrev pub base_of : Known → Specifier → Option BaseType
-base_of known (specifier.Int line column) = Some base.Int
-base_of known (specifier.Long second int line column) = Some base.Int
-base_of known (specifier.Void line column) = Some base.Void
-base_of known (specifier.Struct name line column) = option_map base.Struct (struct_numbered known name.text)
-base_of known (specifier.PthreadT line column) = Some base.Int
-base_of known (specifier.PthreadMutexT line column) = Some base.Mutex
-base_of known (specifier.PthreadCondT line column) = Some base.Cond
-base_of known (specifier.PthreadBarrierT line column) = Some base.Barrier
+base_of known (specifier.Int at) = Some base.Int
+base_of known (specifier.Long second int at) = Some base.Int
+base_of known (specifier.Void at) = Some base.Void
+base_of known (specifier.Struct name at) = option_map base.Struct (struct_numbered known name.text)
+base_of known (specifier.PthreadT at) = Some base.Int
+base_of known (specifier.PthreadMutexT at) = Some base.Mutex
+base_of known (specifier.PthreadCondT at) = Some base.Cond
+base_of known (specifier.PthreadBarrierT at) = Some base.Barrier
 
 -- so many stars after a base
 abbrev pub starred : ℕ → BaseType → ObjectType

@@ -2,7 +2,6 @@
 ghost use Rattle.std.specs.Prelude.{◌≡◌, [], true, IfOk, None, map};
 ghost use Rattle.std.specs.Option.{option_map};
 ghost use Rattle.c_tree.specs.Tree.{listed};
-ghost use Rattle.rr_base.specs.Positions.{position_at};
 ghost use Rattle.c_tree.specs.Tree as trees;
 ghost use Rattle.c_tree.specs.View as tree;
 ghost use Rattle.c_types.specs.Shown.{shown_standing, shown_target, shown_wants};
@@ -362,7 +361,7 @@ fn call_of<'h>(
     es: &[Expr],
     at: Position,
 ) -> Result<Part<'h>, AllocError>
-    ensures part { IfOk result (λ p. part_of p ≡ spec.part (context_of context.entry) (shown_target target.entry) (trees.call name.now (listed (map tree.exp_of es.now)) (position_at at.line at.column))) }
+    ensures part { IfOk result (λ p. part_of p ≡ spec.part (context_of context.entry) (shown_target target.entry) (trees.call name.now (listed (map tree.exp_of es.now)) at)) }
     ensures constant { IfOk result (λ p. p.constant ≡ no_constant) }
 {
     let format = format_of(es);

@@ -68,14 +68,14 @@ size_whole known None = refl
 size_whole known (Some u) = chosen_whole (is_complete known u) int_value refl
 
 int_base : (known : Known) (s : Specifier) → is_int_specifier s ≡ true → base_of known s ≡ Some base.Int
-int_base known (specifier.Int line column) h = refl
-int_base known (specifier.Long second int line column) h = refl
-int_base known (specifier.Void line column) h = cc
-int_base known (specifier.Struct name line column) h = cc
-int_base known (specifier.PthreadT line column) h = refl
-int_base known (specifier.PthreadMutexT line column) h = cc
-int_base known (specifier.PthreadCondT line column) h = cc
-int_base known (specifier.PthreadBarrierT line column) h = cc
+int_base known (specifier.Int at) h = refl
+int_base known (specifier.Long second int at) h = refl
+int_base known (specifier.Void at) h = cc
+int_base known (specifier.Struct name at) h = cc
+int_base known (specifier.PthreadT at) h = refl
+int_base known (specifier.PthreadMutexT at) h = cc
+int_base known (specifier.PthreadCondT at) h = cc
+int_base known (specifier.PthreadBarrierT at) h = cc
 
 pub int_named : (known : Known) (t : CType) → is_int t ≡ true → type_named known t ≡ Some int_type
 int_named known t h =

@@ -1,6 +1,5 @@
 -- A source has no more functions than outermost declarations, no more of these than tokens, and no more tokens than bytes.
-use Rattle.std.proofs.Common.{◌≡◌, ℕ, zero, suc, ◌+◌, ◌-◌, ◌^◌, ◌≤◌, Bool, true, false, List, [], ◌∷◌, ◌++◌, map, length, Option, Some, None, Result, Ok, Err, refl, sym, ap, ◌∙◌, subst, arith, length-append}
-use Rattle.std.specs.Option.{option_map}
+use Rattle.std.proofs.Common.{◌≡◌, ℕ, zero, suc, ◌+◌, ◌-◌, ◌^◌, ◌≤◌, List, [], ◌∷◌, ◌++◌, length, Option, Some, None, Result, Ok, Err, refl, ap, arith, length-append}
 use Rattle.std.specs.Prelude.{nat_lt}
 use Rattle.c_lexer.specs.Bytes.{Text}
 use Rattle.c_lexer.specs.declared.fault.LexFault.{LexFault}
@@ -9,13 +8,13 @@ use Rattle.c_lexer.specs.declared.piece.Piece.TheVariants as piece
 use Rattle.c_lexer.specs.declared.token.Kind.{Kind}
 use Rattle.c_lexer.specs.declared.token.Token.{Token}
 use Rattle.c_lexer.specs.Tokens.{Found, Reading, passed, met, with_token, piece_at, start, tokens_from, tokens_of}
-use Rattle.c_tree.specs.Kinds.{outer_kinds, kinds_of, all_fields_kinds, if_there, specifier_kinds, stars_kinds, name_kind, params_kinds, code_kinds, objects_kinds, w, p}
+use Rattle.c_tree.specs.Kinds.{outer_kinds, kinds_of, if_there, specifier_kinds, stars_kinds, objects_kinds, w, p}
 use Rattle.c_tree.specs.Tree.{Code, defined, prototype, Outer, structure, function, objects}
 use Rattle.c_tree.specs.declared.name.Name.{Name}
 use Rattle.c_tree.specs.declared.program.Params.{Params}
 use Rattle.c_grammar.specs.Exact.{parsed, IsExact}
 use Rattle.c_parse_rules.specs.Gives.{limit, lexemes}
-use Rattle.c_grammar.specs.Marks.{Lexeme, Mark, erase, kinds_at}
+use Rattle.c_grammar.specs.Marks.{Mark, erase, kinds_at}
 use Rattle.c_grammar.specs.Parse.{Outcome, Got, Stuck, Spent}
 use Rattle.c_grammar.proofs.Exactly.{parsed_exactly}
 use Rattle.c_grammar.proofs.Prints.{prints}
@@ -27,8 +26,7 @@ use Rattle.c_programs.specs.Programs.{after_outer, known_at_start, signature_of}
 use Rattle.c_locals.specs.Addresses.{count_of_outer, program_addressed}
 use Rattle.c_values.specs.Context.{Source}
 use Rattle.c_elaborate.specs.Whole.{code_functions, outer_functions, outers_functions, source_of, core_of_source}
-use Rattle.front.specs.declared.reading.SourceFault.{SourceFault}
-use Rattle.front.specs.Readings.{Reading as Read, sound, refused, by_first_fault, refusal_of, IsByTree, IsByTokens, IsReading}
+use Rattle.front.specs.Readings.{Reading as Read, sound, by_first_fault, refusal_of, IsByTree, IsByTokens, IsReading}
 use Rattle.front.proofs.Sources.{same_tree, by_refusal}
 
 -- ---- no more tokens than bytes

@@ -1,6 +1,5 @@
 -- A text has one reading.
 use Rattle.std.proofs.Common.{◌≡◌, List, Some, Result, Ok, Err, sym, ◌∙◌}
-use Rattle.c_lexer.specs.Bytes.{Text}
 use Rattle.c_lexer.specs.declared.fault.LexFault.{LexFault}
 use Rattle.c_lexer.specs.declared.token.Token.{Token}
 use Rattle.c_lexer.specs.Tokens.{tokens_of}
@@ -8,7 +7,7 @@ use Rattle.c_tree.specs.Tree.{Outer}
 use Rattle.c_grammar.specs.Exact.{parsed}
 use Rattle.c_parse_rules.specs.Gives.{limit, lexemes}
 use Rattle.c_grammar.specs.Parse.{Outcome, Got, Stuck, Spent}
-use Rattle.front.specs.Readings.{Reading, IsByTree, IsByTokens, IsReading, OneReading}
+use Rattle.front.specs.Readings.{Reading, IsByTree, IsByTokens, OneReading}
 
 one_by_tree : (tokens : List Token) (o : Outcome (List Outer)) (r s : Reading) → IsByTree tokens o r → IsByTree tokens o s → r ≡ s
 one_by_tree tokens (Got os rest) r s h g = h ∙ sym g

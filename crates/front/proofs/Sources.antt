@@ -1,5 +1,5 @@
 -- A text that is read as a source without a fault has a sound core tree, so its code is valid and makes the tree's events.
-use Rattle.std.proofs.Common.{◌≡◌, ℕ, ◌^◌, ◌≤◌, true, List, [], map, length, Option, Some, None, Result, Ok, Err, refl, sym, ap, ◌∙◌, subst, arith}
+use Rattle.std.proofs.Common.{◌≡◌, ℕ, ◌^◌, ◌≤◌, true, List, [], map, length, Option, Some, None, Result, Ok, Err, refl, sym, ap, ◌∙◌, subst}
 use Rattle.std.specs.Prelude.{IfOk}
 use Rattle.std.specs.Option.{option_map}
 use Rattle.c_lexer.specs.Bytes.{Text}
@@ -30,8 +30,8 @@ use Rattle.sync_objects.specs.Setup.{SetupView}
 use Rattle.source_sound.specs.Members.{StructsHaveMembers}
 use Rattle.source_sound.proofs.Law.{law_sound}
 use Rattle.front.specs.declared.reading.SourceFault.{SourceFault}
-use Rattle.front.specs.Plain.{plain_code, IsCodeOf}
-use Rattle.front.specs.Readings.{Reading, sound, refused, refused_at, by_first_fault, refusal_of, IsByTree, IsByTokens, IsReading}
+use Rattle.front.specs.Plain.{plain_code}
+use Rattle.front.specs.Readings.{Reading, sound, refused, by_first_fault, refusal_of, IsByTree, IsByTokens, IsReading}
 use Rattle.front.proofs.Members.{program_members}
 
 -- a source without a fault, as the grammar has it

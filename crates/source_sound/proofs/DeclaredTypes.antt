@@ -36,14 +36,14 @@ struct_below names name k e = (position-Some (λ n. bytes_eq name n) names k [] 
 
 -- a specifier without a fault has a base
 pub base_known : (known : Known) (needs : Bool) (s : Specifier) → specifier_faults known needs s ≡ [] → (b : BaseType) × (base_of known s ≡ Some b) × IsFileBase (length known.struct_names) b
-base_known known needs (specifier.Int line column) e = (base.Int, refl, tt)
-base_known known needs (specifier.Long second int line column) e = (base.Int, refl, tt)
-base_known known needs (specifier.Void line column) e = (base.Void, refl, tt)
-base_known known needs (specifier.PthreadT line column) e = (base.Int, refl, tt)
-base_known known needs (specifier.PthreadMutexT line column) e = (base.Mutex, refl, tt)
-base_known known needs (specifier.PthreadCondT line column) e = (base.Cond, refl, tt)
-base_known known needs (specifier.PthreadBarrierT line column) e = (base.Barrier, refl, tt)
-base_known known needs (specifier.Struct name line column) e = by (struct_numbered known name.text) refl (where_nil _ _ _ e)
+base_known known needs (specifier.Int at) e = (base.Int, refl, tt)
+base_known known needs (specifier.Long second int at) e = (base.Int, refl, tt)
+base_known known needs (specifier.Void at) e = (base.Void, refl, tt)
+base_known known needs (specifier.PthreadT at) e = (base.Int, refl, tt)
+base_known known needs (specifier.PthreadMutexT at) e = (base.Mutex, refl, tt)
+base_known known needs (specifier.PthreadCondT at) e = (base.Cond, refl, tt)
+base_known known needs (specifier.PthreadBarrierT at) e = (base.Barrier, refl, tt)
+base_known known needs (specifier.Struct name at) e = by (struct_numbered known name.text) refl (where_nil _ _ _ e)
   where
     by : (o : Option ℕ) → struct_numbered known name.text ≡ o → lacks_struct_by known needs o ≡ false → (b : BaseType) × (option_map base.Struct o ≡ Some b) × IsFileBase (length known.struct_names) b
     by None is lacks = absurd (true≢false lacks)
@@ -51,14 +51,14 @@ base_known known needs (specifier.Struct name line column) e = by (struct_number
 
 -- what needs a size has one, but for Void
 pub complete_specifier : (known : Known) (s : Specifier) (b : BaseType) → specifier_faults known true s ≡ [] → is_void_specifier s ≡ false → base_of known s ≡ Some b → is_complete_base known b ≡ true
-complete_specifier known (specifier.Int line column) b e v is = ap (is_complete_base known) (sym (same_Some base.Int b is))
-complete_specifier known (specifier.Long second int line column) b e v is = ap (is_complete_base known) (sym (same_Some base.Int b is))
-complete_specifier known (specifier.Void line column) b e v is = absurd (true≢false v)
-complete_specifier known (specifier.PthreadT line column) b e v is = ap (is_complete_base known) (sym (same_Some base.Int b is))
-complete_specifier known (specifier.PthreadMutexT line column) b e v is = ap (is_complete_base known) (sym (same_Some base.Mutex b is))
-complete_specifier known (specifier.PthreadCondT line column) b e v is = ap (is_complete_base known) (sym (same_Some base.Cond b is))
-complete_specifier known (specifier.PthreadBarrierT line column) b e v is = ap (is_complete_base known) (sym (same_Some base.Barrier b is))
-complete_specifier known (specifier.Struct name line column) b e v is = by (struct_numbered known name.text) (where_nil _ _ _ e) is
+complete_specifier known (specifier.Int at) b e v is = ap (is_complete_base known) (sym (same_Some base.Int b is))
+complete_specifier known (specifier.Long second int at) b e v is = ap (is_complete_base known) (sym (same_Some base.Int b is))
+complete_specifier known (specifier.Void at) b e v is = absurd (true≢false v)
+complete_specifier known (specifier.PthreadT at) b e v is = ap (is_complete_base known) (sym (same_Some base.Int b is))
+complete_specifier known (specifier.PthreadMutexT at) b e v is = ap (is_complete_base known) (sym (same_Some base.Mutex b is))
+complete_specifier known (specifier.PthreadCondT at) b e v is = ap (is_complete_base known) (sym (same_Some base.Cond b is))
+complete_specifier known (specifier.PthreadBarrierT at) b e v is = ap (is_complete_base known) (sym (same_Some base.Barrier b is))
+complete_specifier known (specifier.Struct name at) b e v is = by (struct_numbered known name.text) (where_nil _ _ _ e) is
   where
     below : (b : Bool) → not b ≡ false → b ≡ true
     below true h = refl

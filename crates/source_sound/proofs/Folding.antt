@@ -106,14 +106,14 @@ sizeof_type_int known None t = never t
 sizeof_type_int known (Some u) t = as_chosen (is_complete known u) int_value no_type (chose (is_complete known u) int_value t)
 
 int_base : (known : Known) (s : Specifier) → is_int_specifier s ≡ true → base_of known s ≡ Some base.Int
-int_base known (specifier.Int line column) h = refl
-int_base known (specifier.Long second int line column) h = refl
-int_base known (specifier.Void line column) h = never h
-int_base known (specifier.Struct name line column) h = never h
-int_base known (specifier.PthreadT line column) h = refl
-int_base known (specifier.PthreadMutexT line column) h = never h
-int_base known (specifier.PthreadCondT line column) h = never h
-int_base known (specifier.PthreadBarrierT line column) h = never h
+int_base known (specifier.Int at) h = refl
+int_base known (specifier.Long second int at) h = refl
+int_base known (specifier.Void at) h = never h
+int_base known (specifier.Struct name at) h = never h
+int_base known (specifier.PthreadT at) h = refl
+int_base known (specifier.PthreadMutexT at) h = never h
+int_base known (specifier.PthreadCondT at) h = never h
+int_base known (specifier.PthreadBarrierT at) h = never h
 
 int_named : (known : Known) (t : CType) → is_int t ≡ true → type_named known t ≡ Some int_type
 int_named known t h =

@@ -45,14 +45,14 @@ module _ (known : Known) (structs : ℕ) (names : (name : Text) (k : ℕ) → st
   struct_known needs name (Some k) e h = (base.Struct k, refl, names name k e)
 
   base_known : (needs : Bool) (s : Specifier) → specifier_faults known needs s ≡ [] → (b : BaseType) × (base_of known s ≡ Some b) × IsFormedPointee structs b
-  base_known needs (specifier.Int line column) h = (base.Int, refl, tt)
-  base_known needs (specifier.Long second int line column) h = (base.Int, refl, tt)
-  base_known needs (specifier.Void line column) h = (base.Void, refl, tt)
-  base_known needs (specifier.Struct name line column) h = struct_known needs name.text (struct_numbered known name.text) refl (comes_not (is_unknown_struct known needs name) fault.UnknownName (name_place name) h)
-  base_known needs (specifier.PthreadT line column) h = (base.Int, refl, tt)
-  base_known needs (specifier.PthreadMutexT line column) h = (base.Mutex, refl, tt)
-  base_known needs (specifier.PthreadCondT line column) h = (base.Cond, refl, tt)
-  base_known needs (specifier.PthreadBarrierT line column) h = (base.Barrier, refl, tt)
+  base_known needs (specifier.Int at) h = (base.Int, refl, tt)
+  base_known needs (specifier.Long second int at) h = (base.Int, refl, tt)
+  base_known needs (specifier.Void at) h = (base.Void, refl, tt)
+  base_known needs (specifier.Struct name at) h = struct_known needs name.text (struct_numbered known name.text) refl (comes_not (is_unknown_struct known needs name) fault.UnknownName (name_place name) h)
+  base_known needs (specifier.PthreadT at) h = (base.Int, refl, tt)
+  base_known needs (specifier.PthreadMutexT at) h = (base.Mutex, refl, tt)
+  base_known needs (specifier.PthreadCondT at) h = (base.Cond, refl, tt)
+  base_known needs (specifier.PthreadBarrierT at) h = (base.Barrier, refl, tt)
 
   stars_formed : (n : ℕ) (b : BaseType) → IsFormedPointee structs b → IsFormedLayered structs (layer.Pointer ∷ replicate n layer.Pointer) b
   stars_formed zero b h = h
@@ -70,26 +70,26 @@ struct_sized known None h = never' h
 struct_sized known (Some k) h = ap (λ z. if z then int_value else no_type) (not_false (nat_lt k (length known.structs)) h)
 
 sized_by : (known : Known) (n : ℕ) (s : Specifier) → is_some_void (option_map (starred n) (base_of known s)) ≡ false → specifier_faults known (n == 0) s ≡ [] → sizeof_type_standing known (option_map (starred n) (base_of known s)) ≡ int_value
-sized_by known zero (specifier.Int line column) v h = refl
-sized_by known zero (specifier.Long second int line column) v h = refl
-sized_by known zero (specifier.Void line column) v h = never' v
-sized_by known zero (specifier.Struct name line column) v h = struct_sized known (struct_numbered known name.text) (comes_not (is_unknown_struct known true name) fault.UnknownName (name_place name) h)
-sized_by known zero (specifier.PthreadT line column) v h = refl
-sized_by known zero (specifier.PthreadMutexT line column) v h = refl
-sized_by known zero (specifier.PthreadCondT line column) v h = refl
-sized_by known zero (specifier.PthreadBarrierT line column) v h = refl
-sized_by known (suc n) (specifier.Int line column) v h = refl
-sized_by known (suc n) (specifier.Long second int line column) v h = refl
-sized_by known (suc n) (specifier.Void line column) v h = refl
-sized_by known (suc n) (specifier.Struct name line column) v h = pointer_sized known n (struct_numbered known name.text) (comes_not (is_unknown_struct known (suc n == 0) name) fault.UnknownName (name_place name) h)
+sized_by known zero (specifier.Int at) v h = refl
+sized_by known zero (specifier.Long second int at) v h = refl
+sized_by known zero (specifier.Void at) v h = never' v
+sized_by known zero (specifier.Struct name at) v h = struct_sized known (struct_numbered known name.text) (comes_not (is_unknown_struct known true name) fault.UnknownName (name_place name) h)
+sized_by known zero (specifier.PthreadT at) v h = refl
+sized_by known zero (specifier.PthreadMutexT at) v h = refl
+sized_by known zero (specifier.PthreadCondT at) v h = refl
+sized_by known zero (specifier.PthreadBarrierT at) v h = refl
+sized_by known (suc n) (specifier.Int at) v h = refl
+sized_by known (suc n) (specifier.Long second int at) v h = refl
+sized_by known (suc n) (specifier.Void at) v h = refl
+sized_by known (suc n) (specifier.Struct name at) v h = pointer_sized known n (struct_numbered known name.text) (comes_not (is_unknown_struct known (suc n == 0) name) fault.UnknownName (name_place name) h)
   where
     pointer_sized : (known : Known) (n : ℕ) (o : Option ℕ) → lacks_struct_by known (suc n == 0) o ≡ false → sizeof_type_standing known (option_map (starred (suc n)) (option_map base.Struct o)) ≡ int_value
     pointer_sized known n None h = never' h
     pointer_sized known n (Some k) h = refl
-sized_by known (suc n) (specifier.PthreadT line column) v h = refl
-sized_by known (suc n) (specifier.PthreadMutexT line column) v h = refl
-sized_by known (suc n) (specifier.PthreadCondT line column) v h = refl
-sized_by known (suc n) (specifier.PthreadBarrierT line column) v h = refl
+sized_by known (suc n) (specifier.PthreadT at) v h = refl
+sized_by known (suc n) (specifier.PthreadMutexT at) v h = refl
+sized_by known (suc n) (specifier.PthreadCondT at) v h = refl
+sized_by known (suc n) (specifier.PthreadBarrierT at) v h = refl
 
 pub sized_type : (known : Known) (t : CType) (at : Position) → sizeof_type_faults known t at ≡ [] → sizeof_type_standing known (type_named known t) ≡ int_value
 sized_type known t at h =

@@ -54,14 +54,14 @@ is_struct_base _ = false
 -- ---- bases depend on the names of structs alone
 
 pub base_same : (k m : Known) → k.struct_names ≡ m.struct_names → (s : Specifier) → base_of k s ≡ base_of m s
-base_same k m e (specifier.Int line column) = refl
-base_same k m e (specifier.Long second int line column) = refl
-base_same k m e (specifier.Void line column) = refl
-base_same k m e (specifier.Struct name line column) = ap (λ names. option_map base.Struct (position (λ n. bytes_eq name.text n) names)) e
-base_same k m e (specifier.PthreadT line column) = refl
-base_same k m e (specifier.PthreadMutexT line column) = refl
-base_same k m e (specifier.PthreadCondT line column) = refl
-base_same k m e (specifier.PthreadBarrierT line column) = refl
+base_same k m e (specifier.Int at) = refl
+base_same k m e (specifier.Long second int at) = refl
+base_same k m e (specifier.Void at) = refl
+base_same k m e (specifier.Struct name at) = ap (λ names. option_map base.Struct (position (λ n. bytes_eq name.text n) names)) e
+base_same k m e (specifier.PthreadT at) = refl
+base_same k m e (specifier.PthreadMutexT at) = refl
+base_same k m e (specifier.PthreadCondT at) = refl
+base_same k m e (specifier.PthreadBarrierT at) = refl
 
 pub param_names : (known : Known) (p : Param) → (after_param known p).struct_names ≡ known.struct_names
 param_names known p = elim p.name as (λ o. (after_param known (record p { name = o })).struct_names ≡ known.struct_names) [ None ↦ refl | Some name ↦ refl ]
@@ -102,14 +102,14 @@ starred_formed n zero base.Barrier h plain = tt
 starred_formed n (suc stars) b h plain = pointers_formed n (replicate stars layer.Pointer) b (only_pointers stars) h
 
 struct_specifier : (known : Known) (s : Specifier) (b : BaseType) → base_of known s ≡ Some b → is_struct_specifier s ≡ false → is_struct_base b ≡ false
-struct_specifier known (specifier.Int line column) b e h = ap is_struct_base (sym (same_Some base.Int b e))
-struct_specifier known (specifier.Long second int line column) b e h = ap is_struct_base (sym (same_Some base.Int b e))
-struct_specifier known (specifier.Void line column) b e h = ap is_struct_base (sym (same_Some base.Void b e))
-struct_specifier known (specifier.Struct name line column) b e h = absurd (true≢false h)
-struct_specifier known (specifier.PthreadT line column) b e h = ap is_struct_base (sym (same_Some base.Int b e))
-struct_specifier known (specifier.PthreadMutexT line column) b e h = ap is_struct_base (sym (same_Some base.Mutex b e))
-struct_specifier known (specifier.PthreadCondT line column) b e h = ap is_struct_base (sym (same_Some base.Cond b e))
-struct_specifier known (specifier.PthreadBarrierT line column) b e h = ap is_struct_base (sym (same_Some base.Barrier b e))
+struct_specifier known (specifier.Int at) b e h = ap is_struct_base (sym (same_Some base.Int b e))
+struct_specifier known (specifier.Long second int at) b e h = ap is_struct_base (sym (same_Some base.Int b e))
+struct_specifier known (specifier.Void at) b e h = ap is_struct_base (sym (same_Some base.Void b e))
+struct_specifier known (specifier.Struct name at) b e h = absurd (true≢false h)
+struct_specifier known (specifier.PthreadT at) b e h = ap is_struct_base (sym (same_Some base.Int b e))
+struct_specifier known (specifier.PthreadMutexT at) b e h = ap is_struct_base (sym (same_Some base.Mutex b e))
+struct_specifier known (specifier.PthreadCondT at) b e h = ap is_struct_base (sym (same_Some base.Cond b e))
+struct_specifier known (specifier.PthreadBarrierT at) b e h = ap is_struct_base (sym (same_Some base.Barrier b e))
 
 pub result_known : (known : Known) (s : Specifier) (stars : ℕ) → specifier_faults known (stars == 0) s ≡ [] → cannot_give s stars ≡ false → IsSomeResult (length known.struct_names) (result_of known s stars)
 result_known known s stars h give =

@@ -98,15 +98,15 @@ struct_pointee None n b below e = let no : ⊥ = cc in absurd no
 struct_pointee (Some k) n b below e = let is : base.Struct k ≡ b = cc in subst (IsFormedPointee n) is (below k refl)
 
 base_pointee : (known : Known) (n : ℕ) → length known.struct_names ≤ n → (s : Specifier) (b : BaseType) → base_of known s ≡ Some b → IsFormedPointee n b
-base_pointee known n le (specifier.Int line column) b e = let is : base.Int ≡ b = cc in subst (IsFormedPointee n) is tt
-base_pointee known n le (specifier.Long second int line column) b e = let is : base.Int ≡ b = cc in subst (IsFormedPointee n) is tt
-base_pointee known n le (specifier.Void line column) b e = let is : base.Void ≡ b = cc in subst (IsFormedPointee n) is tt
-base_pointee known n le (specifier.Struct name line column) b e =
+base_pointee known n le (specifier.Int at) b e = let is : base.Int ≡ b = cc in subst (IsFormedPointee n) is tt
+base_pointee known n le (specifier.Long second int at) b e = let is : base.Int ≡ b = cc in subst (IsFormedPointee n) is tt
+base_pointee known n le (specifier.Void at) b e = let is : base.Void ≡ b = cc in subst (IsFormedPointee n) is tt
+base_pointee known n le (specifier.Struct name at) b e =
     struct_pointee (struct_numbered known name.text) n b (λ k is. let lt = struct_below known name.text k is in omega (arith, lt, le)) e
-base_pointee known n le (specifier.PthreadT line column) b e = let is : base.Int ≡ b = cc in subst (IsFormedPointee n) is tt
-base_pointee known n le (specifier.PthreadMutexT line column) b e = let is : base.Mutex ≡ b = cc in subst (IsFormedPointee n) is tt
-base_pointee known n le (specifier.PthreadCondT line column) b e = let is : base.Cond ≡ b = cc in subst (IsFormedPointee n) is tt
-base_pointee known n le (specifier.PthreadBarrierT line column) b e = let is : base.Barrier ≡ b = cc in subst (IsFormedPointee n) is tt
+base_pointee known n le (specifier.PthreadT at) b e = let is : base.Int ≡ b = cc in subst (IsFormedPointee n) is tt
+base_pointee known n le (specifier.PthreadMutexT at) b e = let is : base.Mutex ≡ b = cc in subst (IsFormedPointee n) is tt
+base_pointee known n le (specifier.PthreadCondT at) b e = let is : base.Cond ≡ b = cc in subst (IsFormedPointee n) is tt
+base_pointee known n le (specifier.PthreadBarrierT at) b e = let is : base.Barrier ≡ b = cc in subst (IsFormedPointee n) is tt
 
 pointed_formed : (n k : ℕ) (b : BaseType) → IsFormedPointee n b → IsFormedLayered n (replicate (suc k) layer.Pointer) b
 pointed_formed n zero b ok = ok
@@ -186,14 +186,14 @@ void_based known true e = let no : ⊥ = cc in absurd no
 void_based known false e = (base.Void, refl, λ is. cc)
 
 based : (known : Known) (needs : Bool) (s : Specifier) → specifier_faults known needs s ≡ [] → (is_void_specifier s && needs) ≡ false → IsBased known needs (base_of known s)
-based known needs (specifier.Int line column) e v = (base.Int, refl, λ is. refl)
-based known needs (specifier.Long second int line column) e v = (base.Int, refl, λ is. refl)
-based known needs (specifier.Void line column) e v = void_based known needs v
-based known needs (specifier.Struct name line column) e v = struct_based known needs (struct_numbered known name.text) (never (is_unknown_struct known needs name) fault.UnknownName (name_place name) e)
-based known needs (specifier.PthreadT line column) e v = (base.Int, refl, λ is. refl)
-based known needs (specifier.PthreadMutexT line column) e v = (base.Mutex, refl, λ is. refl)
-based known needs (specifier.PthreadCondT line column) e v = (base.Cond, refl, λ is. refl)
-based known needs (specifier.PthreadBarrierT line column) e v = (base.Barrier, refl, λ is. refl)
+based known needs (specifier.Int at) e v = (base.Int, refl, λ is. refl)
+based known needs (specifier.Long second int at) e v = (base.Int, refl, λ is. refl)
+based known needs (specifier.Void at) e v = void_based known needs v
+based known needs (specifier.Struct name at) e v = struct_based known needs (struct_numbered known name.text) (never (is_unknown_struct known needs name) fault.UnknownName (name_place name) e)
+based known needs (specifier.PthreadT at) e v = (base.Int, refl, λ is. refl)
+based known needs (specifier.PthreadMutexT at) e v = (base.Mutex, refl, λ is. refl)
+based known needs (specifier.PthreadCondT at) e v = (base.Cond, refl, λ is. refl)
+based known needs (specifier.PthreadBarrierT at) e v = (base.Barrier, refl, λ is. refl)
 
 layers_complete : (known : Known) (arrays : List Layer) (stars : ℕ) (b : BaseType) → AreLong arrays → ((stars == 0) ≡ true → is_complete_base known b ≡ true)
     → is_complete_layered known (arrays ++ replicate stars layer.Pointer) b ≡ true
@@ -248,14 +248,14 @@ some_star k = lt-ltb 0 (suc k) (omega arith)
 
 -- of these bases none that is kept in cells, nor Void, has no star
 scalar_base : (known : Known) (s : Specifier) (b : BaseType) → is_kept_specifier s ≡ false → base_of known s ≡ Some b → is_complete_base known b ≡ true → StarsTell 0 (array_type b 0 [])
-scalar_base known (specifier.Int line column) b k e c = let is : base.Int ≡ b = cc in subst (λ x. StarsTell 0 (array_type x 0 [])) is (refl, tt)
-scalar_base known (specifier.Long second int line column) b k e c = let is : base.Int ≡ b = cc in subst (λ x. StarsTell 0 (array_type x 0 [])) is (refl, tt)
-scalar_base known (specifier.Void line column) b k e c = let is : base.Void ≡ b = cc in let none : is_complete_base known base.Void ≡ true = subst (λ x. is_complete_base known x ≡ true) (sym is) c in let no : ⊥ = cc in absurd no
-scalar_base known (specifier.Struct name line column) b k e c = let no : ⊥ = cc in absurd no
-scalar_base known (specifier.PthreadT line column) b k e c = let is : base.Int ≡ b = cc in subst (λ x. StarsTell 0 (array_type x 0 [])) is (refl, tt)
-scalar_base known (specifier.PthreadMutexT line column) b k e c = let no : ⊥ = cc in absurd no
-scalar_base known (specifier.PthreadCondT line column) b k e c = let no : ⊥ = cc in absurd no
-scalar_base known (specifier.PthreadBarrierT line column) b k e c = let no : ⊥ = cc in absurd no
+scalar_base known (specifier.Int at) b k e c = let is : base.Int ≡ b = cc in subst (λ x. StarsTell 0 (array_type x 0 [])) is (refl, tt)
+scalar_base known (specifier.Long second int at) b k e c = let is : base.Int ≡ b = cc in subst (λ x. StarsTell 0 (array_type x 0 [])) is (refl, tt)
+scalar_base known (specifier.Void at) b k e c = let is : base.Void ≡ b = cc in let none : is_complete_base known base.Void ≡ true = subst (λ x. is_complete_base known x ≡ true) (sym is) c in let no : ⊥ = cc in absurd no
+scalar_base known (specifier.Struct name at) b k e c = let no : ⊥ = cc in absurd no
+scalar_base known (specifier.PthreadT at) b k e c = let is : base.Int ≡ b = cc in subst (λ x. StarsTell 0 (array_type x 0 [])) is (refl, tt)
+scalar_base known (specifier.PthreadMutexT at) b k e c = let no : ⊥ = cc in absurd no
+scalar_base known (specifier.PthreadCondT at) b k e c = let no : ⊥ = cc in absurd no
+scalar_base known (specifier.PthreadBarrierT at) b k e c = let no : ⊥ = cc in absurd no
 
 bare_tells : (known : Known) (s : Specifier) (stars : ℕ) (o : Option BaseType) (t : ObjectType) → base_of known s ≡ o → ((stars == 0) && is_kept_specifier s) ≡ false
     → complete_by known (type_by o stars (Some [])) ≡ Some t → StarsTell stars t
@@ -293,14 +293,14 @@ target_formed n t ok = target_layered n t.layers t.base ok
 
 passed_formed : (known : Known) (n : ℕ) → length known.struct_names ≤ n → (s : Specifier) (stars : ℕ) (b : BaseType) → cannot_pass s stars ≡ false → base_of known s ≡ Some b → IsFormed n (starred stars b)
 passed_formed known n le s (suc k) b can e = pointed_formed n k b (base_pointee known n le s b e)
-passed_formed known n le (specifier.Int line column) zero b can e = let is : base.Int ≡ b = cc in subst (IsFormedBase n) is tt
-passed_formed known n le (specifier.Long second int line column) zero b can e = let is : base.Int ≡ b = cc in subst (IsFormedBase n) is tt
-passed_formed known n le (specifier.Void line column) zero b can e = let no : ⊥ = cc in absurd no
-passed_formed known n le (specifier.Struct name line column) zero b can e = let no : ⊥ = cc in absurd no
-passed_formed known n le (specifier.PthreadT line column) zero b can e = let is : base.Int ≡ b = cc in subst (IsFormedBase n) is tt
-passed_formed known n le (specifier.PthreadMutexT line column) zero b can e = let is : base.Mutex ≡ b = cc in subst (IsFormedBase n) is tt
-passed_formed known n le (specifier.PthreadCondT line column) zero b can e = let is : base.Cond ≡ b = cc in subst (IsFormedBase n) is tt
-passed_formed known n le (specifier.PthreadBarrierT line column) zero b can e = let is : base.Barrier ≡ b = cc in subst (IsFormedBase n) is tt
+passed_formed known n le (specifier.Int at) zero b can e = let is : base.Int ≡ b = cc in subst (IsFormedBase n) is tt
+passed_formed known n le (specifier.Long second int at) zero b can e = let is : base.Int ≡ b = cc in subst (IsFormedBase n) is tt
+passed_formed known n le (specifier.Void at) zero b can e = let no : ⊥ = cc in absurd no
+passed_formed known n le (specifier.Struct name at) zero b can e = let no : ⊥ = cc in absurd no
+passed_formed known n le (specifier.PthreadT at) zero b can e = let is : base.Int ≡ b = cc in subst (IsFormedBase n) is tt
+passed_formed known n le (specifier.PthreadMutexT at) zero b can e = let is : base.Mutex ≡ b = cc in subst (IsFormedBase n) is tt
+passed_formed known n le (specifier.PthreadCondT at) zero b can e = let is : base.Cond ≡ b = cc in subst (IsFormedBase n) is tt
+passed_formed known n le (specifier.PthreadBarrierT at) zero b can e = let is : base.Barrier ≡ b = cc in subst (IsFormedBase n) is tt
 
 base_tells : (b : BaseType) → false ≡ is_pointing (type_operand (starred 0 b))
 base_tells base.Int = refl
@@ -328,22 +328,22 @@ param_known known n le q none can =
   where
     passed_no_struct : (s : Specifier) (stars : ℕ) (b : BaseType) → cannot_pass s stars ≡ false → base_of known s ≡ Some b → type_struct (starred stars b) ≡ None
     passed_no_struct s (suc k) b v e = refl
-    passed_no_struct (specifier.Int line column) zero b v e = let is : base.Int ≡ b = cc in subst (λ x. type_struct (starred 0 x) ≡ None) is refl
-    passed_no_struct (specifier.Long second int line column) zero b v e = let is : base.Int ≡ b = cc in subst (λ x. type_struct (starred 0 x) ≡ None) is refl
-    passed_no_struct (specifier.Void line column) zero b v e = let no : ⊥ = cc in absurd no
-    passed_no_struct (specifier.Struct name line column) zero b v e = let no : ⊥ = cc in absurd no
-    passed_no_struct (specifier.PthreadT line column) zero b v e = let is : base.Int ≡ b = cc in subst (λ x. type_struct (starred 0 x) ≡ None) is refl
-    passed_no_struct (specifier.PthreadMutexT line column) zero b v e = let is : base.Mutex ≡ b = cc in subst (λ x. type_struct (starred 0 x) ≡ None) is refl
-    passed_no_struct (specifier.PthreadCondT line column) zero b v e = let is : base.Cond ≡ b = cc in subst (λ x. type_struct (starred 0 x) ≡ None) is refl
-    passed_no_struct (specifier.PthreadBarrierT line column) zero b v e = let is : base.Barrier ≡ b = cc in subst (λ x. type_struct (starred 0 x) ≡ None) is refl
+    passed_no_struct (specifier.Int at) zero b v e = let is : base.Int ≡ b = cc in subst (λ x. type_struct (starred 0 x) ≡ None) is refl
+    passed_no_struct (specifier.Long second int at) zero b v e = let is : base.Int ≡ b = cc in subst (λ x. type_struct (starred 0 x) ≡ None) is refl
+    passed_no_struct (specifier.Void at) zero b v e = let no : ⊥ = cc in absurd no
+    passed_no_struct (specifier.Struct name at) zero b v e = let no : ⊥ = cc in absurd no
+    passed_no_struct (specifier.PthreadT at) zero b v e = let is : base.Int ≡ b = cc in subst (λ x. type_struct (starred 0 x) ≡ None) is refl
+    passed_no_struct (specifier.PthreadMutexT at) zero b v e = let is : base.Mutex ≡ b = cc in subst (λ x. type_struct (starred 0 x) ≡ None) is refl
+    passed_no_struct (specifier.PthreadCondT at) zero b v e = let is : base.Cond ≡ b = cc in subst (λ x. type_struct (starred 0 x) ≡ None) is refl
+    passed_no_struct (specifier.PthreadBarrierT at) zero b v e = let is : base.Barrier ≡ b = cc in subst (λ x. type_struct (starred 0 x) ≡ None) is refl
 
     param_based : (s : Specifier) (stars : ℕ) → specifier_faults known (stars == 0) s ≡ [] → cannot_pass s stars ≡ false → (b : BaseType) × (base_of known s ≡ Some b)
-    param_based (specifier.Int line column) stars e v = (base.Int, refl)
-    param_based (specifier.Long second int line column) stars e v = (base.Int, refl)
-    param_based (specifier.Void line column) stars e v = (base.Void, refl)
-    param_based (specifier.Struct name line column) stars e v =
+    param_based (specifier.Int at) stars e v = (base.Int, refl)
+    param_based (specifier.Long second int at) stars e v = (base.Int, refl)
+    param_based (specifier.Void at) stars e v = (base.Void, refl)
+    param_based (specifier.Struct name at) stars e v =
         let some = struct_based known (stars == 0) (struct_numbered known name.text) (never (is_unknown_struct known (stars == 0) name) fault.UnknownName (name_place name) e) in (some.0, some.1)
-    param_based (specifier.PthreadT line column) stars e v = (base.Int, refl)
-    param_based (specifier.PthreadMutexT line column) stars e v = (base.Mutex, refl)
-    param_based (specifier.PthreadCondT line column) stars e v = (base.Cond, refl)
-    param_based (specifier.PthreadBarrierT line column) stars e v = (base.Barrier, refl)
+    param_based (specifier.PthreadT at) stars e v = (base.Int, refl)
+    param_based (specifier.PthreadMutexT at) stars e v = (base.Mutex, refl)
+    param_based (specifier.PthreadCondT at) stars e v = (base.Cond, refl)
+    param_based (specifier.PthreadBarrierT at) stars e v = (base.Barrier, refl)

@@ -101,14 +101,14 @@ module _ (n : ℕ) where
       (bk.0, bk.1, ap (λ o. option_map (starred t.stars) o) bk.1, subst (λ k. IsFileBase k bk.0) size bk.2)
 
   no_void_specifier : (known : Known) (s : Specifier) (b : BaseType) → base_of known s ≡ Some b → layered_is_void [] b ≡ false → is_void_specifier s ≡ false
-  no_void_specifier known (specifier.Void line column) b e v = absurd (true≢false (ap (λ x. layered_is_void [] x) (same_Some base.Void b e) ∙ v))
-  no_void_specifier known (specifier.Int line column) b e v = refl
-  no_void_specifier known (specifier.Long second int line column) b e v = refl
-  no_void_specifier known (specifier.Struct name line column) b e v = refl
-  no_void_specifier known (specifier.PthreadT line column) b e v = refl
-  no_void_specifier known (specifier.PthreadMutexT line column) b e v = refl
-  no_void_specifier known (specifier.PthreadCondT line column) b e v = refl
-  no_void_specifier known (specifier.PthreadBarrierT line column) b e v = refl
+  no_void_specifier known (specifier.Void at) b e v = absurd (true≢false (ap (λ x. layered_is_void [] x) (same_Some base.Void b e) ∙ v))
+  no_void_specifier known (specifier.Int at) b e v = refl
+  no_void_specifier known (specifier.Long second int at) b e v = refl
+  no_void_specifier known (specifier.Struct name at) b e v = refl
+  no_void_specifier known (specifier.PthreadT at) b e v = refl
+  no_void_specifier known (specifier.PthreadMutexT at) b e v = refl
+  no_void_specifier known (specifier.PthreadCondT at) b e v = refl
+  no_void_specifier known (specifier.PthreadBarrierT at) b e v = refl
 
   complete_starred : (known : Known) (s : Specifier) (stars : ℕ) (b : BaseType) → specifier_faults known (stars == 0) s ≡ [] → base_of known s ≡ Some b → is_void (starred stars b) ≡ false → is_complete known (starred stars b) ≡ true
   complete_starred known s zero b h e v = complete_specifier known s b h (no_void_specifier known s b e v) e

@@ -1,7 +1,6 @@
 use Rattle.std.proofs.Common.{◌≡◌, IfOk, OnOk, map, refl, sym, ap, ◌∙◌, subst, arith}
 use Rattle.std.proofs.lemmas.Grind.{common_steps}
 use Rattle.c_tree.specs.Tree.{Statement, Parts, block as block_tree, listed_parts}
-use Rattle.rr_base.specs.Positions.{position_at}
 use Rattle.c_tree.specs.View.{start_of, maybe_of, stmt_of, part_of}
 use Rattle.c_tree.proofs.Views.{parts_of_row-list}
 use Rattle.c_locals.specs.Addresses.{past_statement, count_of_locals}
@@ -56,12 +55,12 @@ for_statement-returns-clause-statement t c =
 
 pub statement-returns-in-Block-clause-numbers : goal.statement-returns-in-Block-clause-numbers
 statement-returns-in-Block-clause-numbers t c =
-    let same = ap (λ (z : Parts). block_tree z (position_at c.in-Block.line c.in-Block.column)) (ap (λ z. listed_parts (map part_of z)) c.as_slice.ensures ∙ sym (parts_of_row-list c.in-Block.parts)) ∙ sym (ap stmt_of c.in-Block.is) in
+    let same = ap (λ (z : Parts). block_tree z c.in-Block.at) (ap (λ z. listed_parts (map part_of z)) c.as_slice.ensures ∙ sym (parts_of_row-list c.in-Block.parts)) ∙ sym (ap stmt_of c.in-Block.is) in
     subst (λ (z : Statement). OnOk c.block.result (numbered_of c.block.new.numbers ≡ past_statement (numbered_of c.args.numbers.now) z)) same c.block.ensures.numbers
 
 pub statement-returns-in-Block-clause-statement : goal.statement-returns-in-Block-clause-statement
 statement-returns-in-Block-clause-statement t c =
-    let same = ap (λ (z : Parts). block_tree z (position_at c.in-Block.line c.in-Block.column)) (ap (λ z. listed_parts (map part_of z)) c.as_slice.ensures ∙ sym (parts_of_row-list c.in-Block.parts)) ∙ sym (ap stmt_of c.in-Block.is) in
+    let same = ap (λ (z : Parts). block_tree z c.in-Block.at) (ap (λ z. listed_parts (map part_of z)) c.as_slice.ensures ∙ sym (parts_of_row-list c.in-Block.parts)) ∙ sym (ap stmt_of c.in-Block.is) in
     subst (λ (z : Statement). IfOk c.block.result (λ s. core_view.stmt_of s.value ≡ elaborated (context_in (source_in c.args.source.now) (frame_in c.args.frame.now) (known_of c.args.table.now) (numbered_of c.args.numbers.now)) z)) same c.block.ensures.statement
 
 pub statement-returns-in-Expression-clause-numbers : goal.statement-returns-in-Expression-clause-numbers

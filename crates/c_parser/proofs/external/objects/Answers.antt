@@ -12,4 +12,4 @@ returns-in_err-rest c =
     let p = err_from_is_err_and c.from_residual-in_err-rest.result c.from_residual-in_err-rest.ensures.1 in
     let items = rw (c.in_ok-push.ensures.ok, c.new-found.ensures) at c.in_ok-items.ensures in
     rw (p.1, p.2)
-    (stops_from c.in_err-rest.field-0.0 _ _ (λ f r e. objects_stuck c.args.is_static c.args.specifier c.args.place c.args.stars c.args.name.text (name_place c.args.name) (lexemes c.args.tokens.now) (lexemes c.in_ok-lengths.rest.now) (lexemes c.in_ok-first.rest.now) (lexemes c.in_ok-items.rest.now) (map exp_of c.in_ok-lengths.lengths) (object_of c.in_ok-first.first) (map object_of c.in_ok-items.items) f r c.in_ok-lengths.ensures c.in_ok-first.ensures items e) c.in_err-rest.ensures.taken)
+    (stops_from c.in_err-rest.field-0.0 _ _ (λ f r e. objects_stuck c.args.is_static c.args.specifier c.args.at c.args.stars c.args.name.text (name_place c.args.name) (lexemes c.args.tokens.now) (lexemes c.in_ok-lengths.rest.now) (lexemes c.in_ok-first.rest.now) (lexemes c.in_ok-items.rest.now) (map exp_of c.in_ok-lengths.lengths) (object_of c.in_ok-first.first) (map object_of c.in_ok-items.items) f r c.in_ok-lengths.ensures c.in_ok-first.ensures items e) c.in_err-rest.ensures.taken)

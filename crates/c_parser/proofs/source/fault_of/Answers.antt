@@ -1,7 +1,5 @@
-use Rattle.std.proofs.Common.{◌≡◌, sym}
-use Rattle.c_grammar.specs.Parse.{Syntax, Nesting, Stuck}
-use Rattle.c_grammar.specs.Exact.{parsed}
-use Rattle.c_parse_rules.specs.Gives.{limit, lexemes, Stops}
+use Rattle.c_grammar.specs.Parse.{Syntax, Nesting}
+use Rattle.c_parse_rules.specs.Gives.{lexemes}
 use Rattle.c_parser.proofs.Answering.{none, stops}
 use Rattle.c_parser.proofs.source.fault_of.Goals as goal
 

@@ -1,7 +1,6 @@
 use Rattle.std.proofs.Common.{◌≡◌, ◌<◌, length, refl, sym, ap, ◌∙◌, arith}
 use Rattle.c_tree.specs.View.{start_of, maybe_of, stmt_of, part_of}
-use Rattle.c_tree.specs.Tree.{block, for_loop}
-use Rattle.rr_base.specs.Positions.{position_at}
+use Rattle.c_tree.specs.Tree.{block}
 use Rattle.c_tree.proofs.Views.{parts_of_row-list}
 use Rattle.c_types.specs.Found.{first_among}
 use Rattle.c_types.specs.Scopes.{closed}
@@ -48,28 +47,23 @@ pub note_statement-returns-in_ok-note_parts-in-Block-clause-first : goal.note_st
 note_statement-returns-in_ok-note_parts-in-Block-clause-first t c =
     let known = known_of c.args.table.now in
     let first = c.args.first.now in
-    let at = position_at c.in-Block.line c.in-Block.column in
+    let at = c.in-Block.at in
     let shown : stmt_of c.args.stmt.now ≡ block (shown_parts c.in-Block.parts) at = rw (c.in-Block.is, parts_of_row-list) refl in
     first_of_block _ _ _ _ c.args.gives c.args.in_loop (shown_parts c.as_slice.result.now) at c.in_ok-open-in-Block.ensures c.in_ok-note_parts-in-Block.ensures.first
     ∙ ap (λ z. first_among first (statement_faults known c.args.gives c.args.in_loop (block (shown_parts z) at))) c.as_slice.ensures
     ∙ ap (λ z. first_among first (statement_faults known c.args.gives c.args.in_loop z)) (sym shown)
 
-pub note_statement-returns-in_ok-note_statement-in-For-clause-known : goal.note_statement-returns-in_ok-note_statement-in-For-clause-known
-note_statement-returns-in_ok-note_statement-in-For-clause-known t c =
-    c.close-in-For.ensures
-    ∙ ap closed (c.in_ok-note_statement-in-For.ensures.known ∙ c.in_ok-note_head_of_for-in-For.ensures.known)
-    ∙ ap (λ k. closed (after_start k (start_of c.in-For.start))) c.in_ok-open-in-For.ensures
-    ∙ closed_start (known_of c.args.table.now) (start_of c.in-For.start)
+pub note_for-returns-in_ok-note_statement-clause-known : goal.note_for-returns-in_ok-note_statement-clause-known
+note_for-returns-in_ok-note_statement-clause-known t c =
+    c.close.ensures
+    ∙ ap closed (c.in_ok-note_statement.ensures.known ∙ c.in_ok-note_head_of_for.ensures.known)
+    ∙ ap (λ k. closed (after_start k (start_of c.args.start.now))) c.in_ok-open.ensures
+    ∙ closed_start (known_of c.args.table.now) (start_of c.args.start.now)
 
-pub note_statement-returns-in_ok-note_statement-in-For-clause-first : goal.note_statement-returns-in_ok-note_statement-in-For-clause-first
-note_statement-returns-in_ok-note_statement-in-For-clause-first t c =
-    let known = known_of c.args.table.now in
-    let first = c.args.first.now in
-    let body : c.deref-in-For.result.now ≡ c.in-For.body.value = c.deref-in-For.ensures in
-    first_of_for _ _ _ _ _ _ c.args.gives c.args.in_loop (start_of c.in-For.start) (maybe_of c.in-For.test) (maybe_of c.in-For.step) (stmt_of c.deref-in-For.result.now) (position_at c.in-For.line c.in-For.column)
-    c.in_ok-open-in-For.ensures
-    c.in_ok-note_head_of_for-in-For.ensures.known
-    c.in_ok-note_head_of_for-in-For.ensures.first
-    c.in_ok-note_statement-in-For.ensures.first
-    ∙ ap (λ z. first_among first (statement_faults known c.args.gives c.args.in_loop (for_loop (start_of c.in-For.start) (maybe_of c.in-For.test) (maybe_of c.in-For.step) (stmt_of z) (position_at c.in-For.line c.in-For.column)))) body
-    ∙ ap (λ z. first_among first (statement_faults known c.args.gives c.args.in_loop (stmt_of z))) (sym c.in-For.is)
+pub note_for-returns-in_ok-note_statement-clause-first : goal.note_for-returns-in_ok-note_statement-clause-first
+note_for-returns-in_ok-note_statement-clause-first t c =
+    first_of_for _ _ _ _ _ _ c.args.gives true (start_of c.args.start.now) (maybe_of c.args.test.now) (maybe_of c.args.step.now) (stmt_of c.args.body.now) c.args.at
+    c.in_ok-open.ensures
+    c.in_ok-note_head_of_for.ensures.known
+    c.in_ok-note_head_of_for.ensures.first
+    c.in_ok-note_statement.ensures.first

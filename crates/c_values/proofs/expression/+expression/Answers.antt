@@ -3,7 +3,6 @@ use Rattle.std.specs.Option.{option_map}
 use Rattle.c_tree.specs.Tree.{listed}
 use Rattle.c_tree.specs.View as tree
 use Rattle.c_tree.proofs.Views.{exps_of_row-list}
-use Rattle.rr_base.specs.Positions.{position_at}
 use Rattle.c_types.specs.Shown.{shown_standing, shown_target, shown_wants}
 use Rattle.c_types.specs.Standing.{no_target}
 use Rattle.c_types.specs.Standing as standings
@@ -55,7 +54,7 @@ arguments-loop-e-preserved t c = record {
 pub call_of-returns-clause-part : goal.call_of-returns-clause-part
 call_of-returns-clause-part t c =
     c.changing.ensures.part
-    ∙ call_made (context_of c.args.context) (shown_target c.args.target) c.args.name.now c.args.es.now (position_at c.args.at.line c.args.at.column) c.format_of-format.result (shown_wants c.wants_of-wants.result) (map exp_of c.in_ok-operands.operands) c.in_ok-operands.fit (shown_standing c.given_by_call-gives.result) (shown_standing c.call_standing.result) (denoted_of c.in_ok-denoted.denoted)
+    ∙ call_made (context_of c.args.context) (shown_target c.args.target) c.args.name.now c.args.es.now c.args.at c.format_of-format.result (shown_wants c.wants_of-wants.result) (map exp_of c.in_ok-operands.operands) c.in_ok-operands.fit (shown_standing c.given_by_call-gives.result) (shown_standing c.call_standing.result) (denoted_of c.in_ok-denoted.denoted)
     c.format_of-format.ensures c.wants_of-wants.ensures c.in_ok-operands.ensures.values c.in_ok-operands.ensures.fit c.in_ok-denoted.ensures c.given_by_call-gives.ensures c.call_standing.ensures
 
 pub post-returns-clause-part : goal.post-returns-clause-part

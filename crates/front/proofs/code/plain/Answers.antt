@@ -1,7 +1,5 @@
-use Rattle.flow_code.specs.Settle.{IsRunnable}
 use Rattle.flow_code.specs.Valid as validity
 use Rattle.c_tree.specs.View.{program_of}
-use Rattle.c_sites.specs.Typed.{program_in}
 use Rattle.front.proofs.Few.{few_enough}
 use Rattle.front.proofs.Sources.{valid_code, runnable_code, ok_as}
 use Rattle.front.proofs.code.plain.Goals as goal
