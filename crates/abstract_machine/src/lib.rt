@@ -14,8 +14,6 @@ mod operators;
 mod pointers;
 mod printing;
 mod registers;
-#[cfg(test)]
-mod tests;
 
 pub use caller::Caller;
 pub use cells::size_of;

@@ -14,8 +14,6 @@ mod piece;
 mod quoted;
 mod scan;
 mod spelling;
-#[cfg(test)]
-mod tests;
 mod token;
 
 pub use fault::LexFault;

@@ -16,8 +16,6 @@ mod regions;
 mod stripes;
 mod thread;
 mod valid;
-#[cfg(test)]
-mod valid_tests;
 mod work;
 mod works;
 

@@ -19,6 +19,3 @@ pub use accesses::ranges;
 pub use laws::{law_counter, law_element, law_form, law_kept, law_step};
 pub use loops::counted_loops;
 pub use makers::{last_maker, made_at};
-
-#[cfg(test)]
-mod tests;

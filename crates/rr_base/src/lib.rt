@@ -33,6 +33,3 @@ pub use trap::Trap;
 
 /// Bytes that contracts see as a list.
 pub type Bytes = List<u8>;
-
-#[cfg(test)]
-mod tests;

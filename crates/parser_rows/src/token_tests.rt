@@ -1,6 +1,6 @@
 ghost use Rattle.std.specs.Prelude.{◌<◌, length};
 
-use crate::{Kind, LexFault, Token, tokens};
+use c_lexer::{Kind, LexFault, Token, tokens};
 use std::alloc::Global;
 use std::fmt::Write;
 use std::process::Abort;

@@ -1,4 +1,7 @@
-use super::*;
+use rr_base::{
+    Bytes, List, MemShelf, MemSink, MemSource, Place, PtrWord, ReadEnd, Shelf, ShelfEnd, Sink,
+    SinkEnd, SoundSink, SoundSource, Source, Trap, read_to_end, write_all,
+};
 use std::alloc::Global;
 use std::test::Fail;
 

@@ -1,5 +1,5 @@
 use Rattle.std.proofs.Common.{length}
-use Rattle.c_lexer.proofs.tests.check_rows.Given as goal
+use Rattle.parser_rows.proofs.token_tests.check_rows.Given as goal
 
 abbrev pub decreases-loop-rows : goal.decreases-loop-rows
 decreases-loop-rows g l = length l.rows

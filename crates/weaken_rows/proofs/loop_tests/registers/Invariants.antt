@@ -1,5 +1,5 @@
 use Rattle.std.proofs.Common.{◌≡◌, length}
-use Rattle.loop_bounds.proofs.tests.registers.Given as goal
+use Rattle.weaken_rows.proofs.loop_tests.registers.Given as goal
 
 abbrev pub invariant-loop-register : goal.invariant-loop-register
 invariant-loop-register l = length l.rows ≡ l._register

@@ -1,4 +1,4 @@
-use crate::{BinaryOp, LibraryCall, Piece, binary, number, piece, piece_len, word};
+use abstract_machine::{BinaryOp, LibraryCall, Piece, binary, number, piece, piece_len, word};
 use rr_base::{List, Trap};
 use std::test::Fail;
 
@@ -23,7 +23,7 @@ fn operators_give(rt: HostRuntime) {
     ];
     for (op, left, right, want) in rows {
         assert_eq!(rt;
-            binary(op, word(left), word(right)).map(number),
+            binary(op, word(left), word(right)).map(|given| number(given)),
             want,
             "{op:?} of {left} and {right}"
         );

@@ -1,10 +1,10 @@
 ghost use Rattle.std.specs.Prelude.{◌≡◌, ℕ, [], ◌<◌, ◌≤◌, length, slice_get, slice_index_or, Some, IfOk};
 ghost use Rattle.flow_code.specs.declared.code.Function.{Function};
 
-use super::*;
 use abstract_machine::{BinaryOp, LibraryCall};
 use facts::PointsTo;
 use flow_code::{Act, Bound, Code, Function, Instr, LoopInfo, Work};
+use loop_bounds::{counted_loops, ranges};
 use rr_base::{Layout, List, Place, Position, PtrWord, Site};
 use std::alloc::{AllocError, Global};
 use std::test::Fail;
