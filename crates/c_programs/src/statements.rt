@@ -1,7 +1,7 @@
 //! Statements (C99 6.8).
 #![tactic(auto, using(c_types::proofs::First::first_of_both))]
 
-ghost use Rattle.std.specs.Prelude.{◌≡◌, ◌++◌, OnOk, map};
+ghost use Rattle.std.specs.Prelude.{◌≡◌, ◌++◌, true, OnOk, map};
 ghost use Rattle.c_tree.specs.Tree.{for_loop, listed_parts};
 ghost use Rattle.c_tree.specs.View.{exp_of, maybe_of, start_of, stmt_of, part_of};
 ghost use Rattle.c_types.specs.Found.{first_among};

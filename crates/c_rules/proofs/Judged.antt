@@ -3,7 +3,7 @@ use Rattle.std.proofs.Common.{◌≡◌, ℕ, ◌+◌, ◌<◌, Bool, true, fals
 use Rattle.std.proofs.Math.Seq.{drop-cons}
 use Rattle.c_lexer.specs.Bytes.{Text}
 use Rattle.c_tree.specs.declared.expr.Expr.{Expr}
-use Rattle.c_tree.specs.Tree.{and_exp, listed}
+use Rattle.c_tree.specs.Tree.{and_exp, call, listed}
 use Rattle.rr_base.specs.declared.position.Position.{Position}
 use Rattle.c_tree.specs.View.{exp_of}
 use Rattle.c_types.specs.declared.fault.Found.{Found}
@@ -93,32 +93,26 @@ unwanted_faulty known ws at es i e old mid new all within is is_end is_new is_mi
 
 -- ---- calls
 
-pub call_is : (known : Known) (w : Target) (name name' : Text) (es es' : List Expr) (format : Option ℕ) (ws : List Wanted) (fit : Bool) (gives whole : Standing) → name' ≡ name → es' ≡ es → format ≡ format_of (listed (map exp_of es')) → gives ≡ callee_gives (callee_of known w name' format (seen known name')) → ws ≡ wants_of name' format (seen known name') → fit ≡ fit_wanted known ws (listed (map exp_of es')) → whole ≡ (if fit then gives else no_type) → whole ≡ call_standing (callee_of known w name (format_of (listed (map exp_of es))) (seen known name)) (fit_wanted known (callee_wants (callee_of known w name (format_of (listed (map exp_of es))) (seen known name))) (listed (map exp_of es)))
-call_is known w name name' es es' format ws fit gives whole same_name same_es is_format is_gives is_ws is_fit is_whole =
-    let same_format : format ≡ format_of (listed (map exp_of es)) = is_format ∙ ap (λ z. format_of (listed (map exp_of z))) same_es in
+pub call_is : (known : Known) (w : Target) (name : Text) (es : List Expr) (format : Option ℕ) (ws : List Wanted) (fit : Bool) (gives whole : Standing) → format ≡ format_of (listed (map exp_of es)) → gives ≡ callee_gives (callee_of known w name format (seen known name)) → ws ≡ wants_of name format (seen known name) → fit ≡ fit_wanted known ws (listed (map exp_of es)) → whole ≡ (if fit then gives else no_type) → whole ≡ call_standing (callee_of known w name (format_of (listed (map exp_of es))) (seen known name)) (fit_wanted known (callee_wants (callee_of known w name (format_of (listed (map exp_of es))) (seen known name))) (listed (map exp_of es)))
+call_is known w name es format ws fit gives whole is_format is_gives is_ws is_fit is_whole =
     let known_fit : fit ≡ fit_wanted known (wants_of name (format_of (listed (map exp_of es))) (seen known name)) (listed (map exp_of es)) =
-    is_fit
-    ∙ (ap (λ z. fit_wanted known ws (listed (map exp_of z))) same_es
-    ∙ ap (λ z. fit_wanted known z (listed (map exp_of es))) (is_ws ∙ (ap (λ z. wants_of z format (seen known z)) same_name ∙ ap (λ z. wants_of name z (seen known name)) same_format))) in
+    is_fit ∙ ap (λ z. fit_wanted known z (listed (map exp_of es))) (is_ws ∙ ap (λ z. wants_of name z (seen known name)) is_format) in
     let known_gives : gives ≡ callee_gives (callee_of known w name (format_of (listed (map exp_of es))) (seen known name)) =
-    is_gives ∙ (ap (λ z. callee_gives (callee_of known w z format (seen known z))) same_name ∙ ap (λ z. callee_gives (callee_of known w name z (seen known name))) same_format) in
+    is_gives ∙ ap (λ z. callee_gives (callee_of known w name z (seen known name))) is_format in
     is_whole
     ∙ (ap (λ z. if z then gives else no_type) known_fit
     ∙ (ap (λ z. if fit_wanted known (wants_of name (format_of (listed (map exp_of es))) (seen known name)) (listed (map exp_of es)) then z else no_type) known_gives
     ∙ sym (called_by_wants known w name (format_of (listed (map exp_of es))) (seen known name) (listed (map exp_of es)))))
 
-pub call_faulty : (known : Known) (w : Target) (name name' : Text) (es es' : List Expr) (at at' : Position) (format : Option ℕ) (ws : List Wanted) (old mid new : Option Found) → name' ≡ name → es' ≡ es → at' ≡ at → format ≡ format_of (listed (map exp_of es')) → ws ≡ wants_of name' format (seen known name') → mid ≡ first_among old (call_faults known w name' (listed (map exp_of es')) at') → new ≡ first_among mid (arguments_faults known ws at' (listed (map exp_of es'))) → new ≡ first_among old (call_faults known w name (listed (map exp_of es)) at ++ arguments_faults known (wants_of name (format_of (listed (map exp_of es))) (seen known name)) at (listed (map exp_of es)))
-call_faulty known w name name' es es' at at' format ws old mid new same_name same_es same_at is_format is_ws is_mid is_new =
-    let same_format : format ≡ format_of (listed (map exp_of es)) = is_format ∙ ap (λ z. format_of (listed (map exp_of z))) same_es in
-    let known_ws : ws ≡ wants_of name (format_of (listed (map exp_of es))) (seen known name) =
-    is_ws ∙ (ap (λ z. wants_of z format (seen known z)) same_name ∙ ap (λ z. wants_of name z (seen known name)) same_format) in
-    let known_mid : mid ≡ first_among old (call_faults known w name (listed (map exp_of es)) at) =
-    is_mid
-    ∙ (ap (λ z. first_among old (call_faults known w z (listed (map exp_of es')) at')) same_name
-    ∙ (ap (λ z. first_among old (call_faults known w name (listed (map exp_of z)) at')) same_es
-    ∙ ap (λ z. first_among old (call_faults known w name (listed (map exp_of es)) z)) same_at)) in
+pub call_faulty : (known : Known) (w : Target) (name : Text) (es : List Expr) (at : Position) (format : Option ℕ) (ws : List Wanted) (old mid new : Option Found) → format ≡ format_of (listed (map exp_of es)) → ws ≡ wants_of name format (seen known name) → mid ≡ first_among old (call_faults known w name (listed (map exp_of es)) at) → new ≡ first_among mid (arguments_faults known ws at (listed (map exp_of es))) → new ≡ first_among old (call_faults known w name (listed (map exp_of es)) at ++ arguments_faults known (wants_of name (format_of (listed (map exp_of es))) (seen known name)) at (listed (map exp_of es)))
+call_faulty known w name es at format ws old mid new is_format is_ws is_mid is_new =
     is_new
-    ∙ (ap (λ z. first_among mid (arguments_faults known ws at' (listed (map exp_of z)))) same_es
-    ∙ (ap (λ z. first_among mid (arguments_faults known z at' (listed (map exp_of es)))) known_ws
-    ∙ (ap (λ z. first_among mid (arguments_faults known (wants_of name (format_of (listed (map exp_of es))) (seen known name)) z (listed (map exp_of es)))) same_at
-    ∙ after_both old mid (call_faults known w name (listed (map exp_of es)) at) (arguments_faults known (wants_of name (format_of (listed (map exp_of es))) (seen known name)) at (listed (map exp_of es))) known_mid)))
+    ∙ (ap (λ z. first_among mid (arguments_faults known z at (listed (map exp_of es)))) (is_ws ∙ ap (λ z. wants_of name z (seen known name)) is_format)
+    ∙ after_both old mid (call_faults known w name (listed (map exp_of es)) at) (arguments_faults known (wants_of name (format_of (listed (map exp_of es))) (seen known name)) at (listed (map exp_of es))) is_mid)
+
+-- the call of a node, by the list of its arguments
+pub call_shown : (known : Known) (w : Target) (name : Text) (es es' : List Expr) (at : Position) (whole : Standing) → es' ≡ es → whole ≡ standing known w (call name (listed (map exp_of es')) at) → whole ≡ standing known w (call name (listed (map exp_of es)) at)
+call_shown known w name es es' at whole same is_whole = is_whole ∙ ap (λ z. standing known w (call name (listed (map exp_of z)) at)) same
+
+pub call_blamed : (known : Known) (w : Target) (name : Text) (es es' : List Expr) (at : Position) (old new : Option Found) → es' ≡ es → new ≡ first_among old (faults known w (call name (listed (map exp_of es')) at)) → new ≡ first_among old (faults known w (call name (listed (map exp_of es)) at))
+call_blamed known w name es es' at old new same is_new = is_new ∙ ap (λ z. first_among old (faults known w (call name (listed (map exp_of z)) at))) same

@@ -1,16 +1,18 @@
 //! What an expression is, and the first rule that it breaks (C99 6.5).
 #![tactic(auto, using(c_types::proofs::First::first_of_both))]
 
-ghost use Rattle.std.specs.Prelude.{◌≡◌, ◌++◌, not, map};
+ghost use Rattle.std.specs.Prelude.{◌≡◌, ◌++◌, [], ◌∷◌, not, map};
 ghost use Rattle.c_tree.specs.Tree as trees;
 ghost use Rattle.c_tree.specs.Tree.{listed};
 ghost use Rattle.c_tree.specs.View.{exp_of};
-ghost use Rattle.c_types.specs.Found.{first_among};
+ghost use Rattle.c_types.specs.Found.{first_among, found_at};
+ghost use Rattle.c_types.specs.declared.fault.FaultKind.TheVariants as fault;
 ghost use Rattle.c_types.specs.Constants as constants;
+ghost use Rattle.c_types.specs.Operands.{no_type, operand_of, takes, binary_standing};
 ghost use Rattle.c_types.specs.Scopes.{seen, type_named};
 ghost use Rattle.c_types.specs.Standing as standings;
 ghost use Rattle.c_rules.specs.Faults as spec;
-ghost use Rattle.c_types.specs.Shown.{shown_standing, shown_target, shown_wants};
+ghost use Rattle.c_types.specs.Shown.{shown_operand, shown_standing, shown_target, shown_wants};
 
 use crate::blame::{
     note_assign, note_cast, note_member, note_mismatch, note_prefix, note_sizeof_type, note_step,
@@ -22,7 +24,7 @@ use crate::calls::{
     number_standing,
 };
 use crate::constants::constant_named;
-use c_tree::{CType, Expr, Name, PrefixOp};
+use c_tree::{AssignOp, BinaryOp, CType, Expr, Name, PrefixOp};
 use c_types::{
     FaultKind, Found, Names, Operand, Standing, Target, Wanted, Wants, assign_standing,
     assigned_target, binary_standing, can_choose, can_index, cast_standing, cast_target,
@@ -30,7 +32,7 @@ use c_types::{
     pointed_struct, prefix_standing, sizeof_standing, sizeof_type_standing, stepped, struct_of,
     takes, type_named,
 };
-use rr_base::Position;
+use rr_base::{Bytes, Position};
 
 /// Notes that the expression's value is let go though it can't be.
 pub fn note_going(e: &Expr, of: Standing, first: &mut Option<Found>)
@@ -68,6 +70,15 @@ fn judge_sizeof_type<'a, N: Names>(
     sizeof_type_standing(names, type_named(names, of))
 }
 
+// A text that isn't the format of a `printf`.
+fn judge_text<'a>(at: Position, first: &mut Option<Found>) -> Standing<'a>
+    ensures standing { shown_standing result ≡ no_type }
+    ensures first { first.new ≡ first_among first.old (found_at fault.BadCall at ∷ []) }
+{
+    note(first, true, FaultKind::BadCall, at);
+    Standing::NoType
+}
+
 /// What the expression is, where `target` is what a `malloc` in its place makes an object of. Its faults are noted.
 #[cycle(judge)]
 pub fn judge<'a, N: Names>(
@@ -79,84 +90,158 @@ pub fn judge<'a, N: Names>(
     ensures standing { shown_standing result ≡ standings.standing (N.known names.now) (shown_target target.entry) (exp_of e.now) }
     ensures first { first.new ≡ first_among first.old (spec.faults (N.known names.now) (shown_target target.entry) (exp_of e.now)) }
 {
-    let at = own_place(e);
     match e {
-        Expr::Comma {
-            first: head,
-            rest,
-            ..
-        } => {
-            let of = judge_going(names, head, first);
+        Expr::Comma { first: a, rest, .. } => {
+            let of = judge_going(names, a, first);
             judge_rest(names, of, rest.as_slice(), first)
         }
         Expr::Assign {
             left,
             op,
             right,
-            ..
+            at,
         } => {
             let to = judge(names, Target::No, left, first);
-            let from = Operand::of(judge(names, assigned_target(*op, to), right, first));
-            note_assign(names, *op, left, to, from, at, first);
-            assign_standing(*op, to, from)
+            judge_assigned(names, right, *op, left, to, *at, first)
         }
-        Expr::Conditional { test, yes, no, .. } => {
-            let test = Operand::of(judge(names, Target::No, test, first));
-            let yes = Operand::of(judge(names, Target::No, yes, first));
-            let no = Operand::of(judge(names, Target::No, no, first));
-            let allowed = test.is_scalar() && can_choose(yes, no);
-            note_mismatch(first, !allowed, at);
-            conditional_standing(test, yes, no)
+        Expr::Conditional { test, yes, no, at } => {
+            let test = judged(names, test, first);
+            let yes = judged(names, yes, first);
+            judge_choice(names, no, test, yes, *at, first)
         }
         Expr::Binary {
             left,
             op,
             right,
-            ..
-        } => {
-            let a = Operand::of(judge(names, Target::No, left, first));
-            let b = Operand::of(judge(names, Target::No, right, first));
-            note_mismatch(first, !takes(*op, a, b), at);
-            binary_standing(*op, a, b)
+            at,
+        } => judge_binary(names, right, *op, judged(names, left, first), *at, first),
+        Expr::Prefix { op, operand, at } => judge_prefix(names, *op, operand, *at, first),
+        Expr::SizeofExpr { operand, at } => judge_sizeof(names, operand, *at, first),
+        Expr::SizeofType { of, at } => judge_sizeof_type(names, of, *at, first),
+        Expr::Cast { to, operand, at } => judge_cast(names, operand, to, *at, first),
+        Expr::Index { base, index, at } => {
+            judge_index(names, index, judged(names, base, first), *at, first)
         }
-        Expr::Prefix { op, operand, .. } => judge_prefix(names, *op, operand, at, first),
-        Expr::SizeofExpr { operand, .. } => judge_sizeof(names, operand, at, first),
-        Expr::SizeofType { of, .. } => judge_sizeof_type(names, of, at, first),
-        Expr::Cast { to, operand, .. } => judge_cast(names, operand, to, at, first),
-        Expr::Index { base, index, .. } => {
-            let a = Operand::of(judge(names, Target::No, base, first));
-            let b = Operand::of(judge(names, Target::No, index, first));
-            note_mismatch(first, !can_index(a, b), at);
-            index_standing(a, b)
-        }
-        Expr::Member { base, name, .. } => judge_member(names, base, name, at, first),
-        Expr::Arrow { base, name, .. } => judge_arrow(names, base, name, at, first),
-        Expr::PostIncrement { operand, .. } => judge_step(names, operand, at, first),
-        Expr::PostDecrement { operand, .. } => judge_step(names, operand, at, first),
-        Expr::Name { name, .. } => judge_name(names, name.as_slice(), at, first),
+        Expr::Member { base, name, at } => judge_member(names, base, name, *at, first),
+        Expr::Arrow { base, name, at } => judge_arrow(names, base, name, *at, first),
+        Expr::PostIncrement { operand, at } => judge_step(names, operand, *at, first),
+        Expr::PostDecrement { operand, at } => judge_step(names, operand, *at, first),
+        Expr::Name { name, at } => judge_name(names, name.as_slice(), *at, first),
         Expr::Call {
             name,
             arguments,
-            ..
-        } => {
-            let name = name.as_slice();
-            let arguments = arguments.as_slice();
-            let format = format_of(arguments);
-            let gives = given_by_call(names, target, name, format);
-            let wants = wants_of(names, name, format);
-            note_call(names, name, target, arguments, at, first);
-            let fit = judge_arguments(names, wants, at, arguments, first);
-            call_standing(gives, fit)
-        }
+            at,
+        } => judge_call(names, target, arguments.as_slice(), name, *at, first),
         Expr::Number { value, .. } => number_standing(*value),
         Expr::Letter { .. } => Standing::Whole,
-        Expr::Text { .. } => {
-            note(first, true, FaultKind::BadCall, at);
-            Standing::NoType
-        }
+        Expr::Text { at, .. } => judge_text(*at, first),
         Expr::Null { .. } => Standing::Null,
         Expr::Paren { inner, .. } => judge(names, target, inner, first),
     }
+}
+
+// A part of an expression, as an operand.
+#[cycle(judge)]
+fn judged<'a, N: Names>(names: &'a N, e: &Expr, first: &mut Option<Found>) -> Operand<'a>
+    ensures operand { shown_operand result ≡ operand_of (standings.standing (N.known names.now) standings.no_target (exp_of e.now)) }
+    ensures first { first.new ≡ first_among first.old (spec.faults (N.known names.now) standings.no_target (exp_of e.now)) }
+{
+    Operand::of(judge(names, Target::No, e, first))
+}
+
+// The right side of an assignment to what the left side is (C99 6.5.16).
+#[cycle(judge)]
+fn judge_assigned<'a, N: Names>(
+    names: &'a N,
+    right: &Expr,
+    op: AssignOp,
+    left: &Expr,
+    to: Standing<'a>,
+    at: Position,
+    first: &mut Option<Found>,
+) -> Standing<'a>
+    ensures standing { let k = N.known names.now in let s = shown_standing to.entry in shown_standing result ≡ standings.assign_standing op s (operand_of (standings.standing k (standings.assigned_target op s) (exp_of right.now))) }
+    ensures first { let k = N.known names.now in let s = shown_standing to.entry in let w = standings.assigned_target op s in first.new ≡ first_among first.old (spec.faults k w (exp_of right.now) ++ spec.assign_faults k op (exp_of left.now) s (operand_of (standings.standing k w (exp_of right.now))) at) }
+{
+    let from = Operand::of(judge(names, assigned_target(op, to), right, first));
+    note_assign(names, op, left, to, from, at, first);
+    assign_standing(op, to, from)
+}
+
+// What a `?` chooses where its test fails, after the test and the other choice (C99 6.5.15).
+#[cycle(judge)]
+fn judge_choice<'a, N: Names>(
+    names: &'a N,
+    otherwise: &Expr,
+    test: Operand<'a>,
+    chosen: Operand<'a>,
+    at: Position,
+    first: &mut Option<Found>,
+) -> Standing<'a>
+    ensures standing { let c = operand_of (standings.standing (N.known names.now) standings.no_target (exp_of otherwise.now)) in shown_standing result ≡ standings.conditional_standing (shown_operand test.entry) (shown_operand chosen.entry) c }
+    ensures first { let k = N.known names.now in let c = operand_of (standings.standing k standings.no_target (exp_of otherwise.now)) in first.new ≡ first_among first.old (spec.faults k standings.no_target (exp_of otherwise.now) ++ spec.mismatch (not (spec.condition_takes (shown_operand test.entry) (shown_operand chosen.entry) c)) at) }
+{
+    let other = judged(names, otherwise, first);
+    let allowed = test.is_scalar() && can_choose(chosen, other);
+    note_mismatch(first, !allowed, at);
+    conditional_standing(test, chosen, other)
+}
+
+// The right operand of an operator between two (C99 6.5.5 to 6.5.14).
+#[cycle(judge)]
+fn judge_binary<'a, N: Names>(
+    names: &'a N,
+    right: &Expr,
+    op: BinaryOp,
+    left: Operand<'a>,
+    at: Position,
+    first: &mut Option<Found>,
+) -> Standing<'a>
+    ensures standing { shown_standing result ≡ binary_standing op (shown_operand left.entry) (operand_of (standings.standing (N.known names.now) standings.no_target (exp_of right.now))) }
+    ensures first { let k = N.known names.now in first.new ≡ first_among first.old (spec.faults k standings.no_target (exp_of right.now) ++ spec.mismatch (not (takes op (shown_operand left.entry) (operand_of (standings.standing k standings.no_target (exp_of right.now))))) at) }
+{
+    let right = judged(names, right, first);
+    note_mismatch(first, !takes(op, left, right), at);
+    binary_standing(op, left, right)
+}
+
+// `base[index]`, after its base (C99 6.5.2.1).
+#[cycle(judge)]
+fn judge_index<'a, N: Names>(
+    names: &'a N,
+    index: &Expr,
+    base: Operand<'a>,
+    at: Position,
+    first: &mut Option<Found>,
+) -> Standing<'a>
+    ensures standing { shown_standing result ≡ standings.index_standing (shown_operand base.entry) (operand_of (standings.standing (N.known names.now) standings.no_target (exp_of index.now))) }
+    ensures first { let k = N.known names.now in first.new ≡ first_among first.old (spec.faults k standings.no_target (exp_of index.now) ++ spec.mismatch (not (standings.can_index (shown_operand base.entry) (operand_of (standings.standing k standings.no_target (exp_of index.now))))) at) }
+{
+    let index = judged(names, index, first);
+    note_mismatch(first, !can_index(base, index), at);
+    index_standing(base, index)
+}
+
+// `name(arguments)` (C99 6.5.2.2).
+#[cycle(judge)]
+fn judge_call<'a, N: Names>(
+    names: &'a N,
+    target: Target<'a>,
+    arguments: &[Expr],
+    name: &Bytes,
+    at: Position,
+    first: &mut Option<Found>,
+) -> Standing<'a>
+    ensures standing { shown_standing result ≡ standings.standing (N.known names.now) (shown_target target.entry) (trees.call name.now (listed (map exp_of arguments.now)) at) }
+    ensures first { first.new ≡ first_among first.old (spec.faults (N.known names.now) (shown_target target.entry) (trees.call name.now (listed (map exp_of arguments.now)) at)) }
+{
+    let name = name.as_slice();
+    let format = format_of(arguments);
+    let gives = given_by_call(names, target, name, format);
+    let wants = wants_of(names, name, format);
+    note_call(names, name, target, arguments, at, first);
+    let fit = judge_arguments(names, wants, at, arguments, first);
+    call_standing(gives, fit)
 }
 
 // `op operand`, an operator before its operand (C99 6.5.3).

@@ -89,7 +89,7 @@ call_made h w name es at format ws operands fit gives whole x is_format is_ws is
     is_operands ∙ ap (λ z. arguments h z (listed (map tree.exp_of es))) known_ws in
     let known_x : x ≡ denoted h w (call name (listed (map tree.exp_of es)) at) =
     is_x ∙ ap (λ z. denoted_value (called h.known (site_at h.source.sites at) name (library_named name) (seen h.known name) (listed (map tree.exp_of es)) z (position_of at))) known_operands in
-    ap (λ (z : Standing). part_by z x) (judged.call_is h.known w name name es es format ws fit gives whole refl refl is_format is_gives is_ws is_fit is_whole)
+    ap (λ (z : Standing). part_by z x) (judged.call_is h.known w name es format ws fit gives whole is_format is_gives is_ws is_fit is_whole)
     ∙ ap (λ (z : Denoted). part_by (standing h.known w (call name (listed (map tree.exp_of es)) at)) z) known_x
 
 -- an expression more after a comma

@@ -1,4 +1,4 @@
-use Rattle.std.proofs.Common.{◌≡◌, ◌<◌, length, refl, sym, ap, ◌∙◌, arith}
+use Rattle.std.proofs.Common.{◌≡◌, ◌<◌, true, length, refl, sym, ap, ◌∙◌, arith}
 use Rattle.c_tree.specs.View.{start_of, maybe_of, stmt_of, part_of}
 use Rattle.c_tree.specs.Tree.{block}
 use Rattle.c_tree.proofs.Views.{parts_of_row-list}
@@ -53,15 +53,15 @@ note_statement-returns-in_ok-note_parts-in-Block-clause-first t c =
     ∙ ap (λ z. first_among first (statement_faults known c.args.gives c.args.in_loop (block (shown_parts z) at))) c.as_slice.ensures
     ∙ ap (λ z. first_among first (statement_faults known c.args.gives c.args.in_loop z)) (sym shown)
 
-pub note_for-returns-in_ok-note_statement-clause-known : goal.note_for-returns-in_ok-note_statement-clause-known
-note_for-returns-in_ok-note_statement-clause-known t c =
+pub note_for-returns-clause-known : goal.note_for-returns-clause-known
+note_for-returns-clause-known t c =
     c.close.ensures
     ∙ ap closed (c.in_ok-note_statement.ensures.known ∙ c.in_ok-note_head_of_for.ensures.known)
     ∙ ap (λ k. closed (after_start k (start_of c.args.start.now))) c.in_ok-open.ensures
     ∙ closed_start (known_of c.args.table.now) (start_of c.args.start.now)
 
-pub note_for-returns-in_ok-note_statement-clause-first : goal.note_for-returns-in_ok-note_statement-clause-first
-note_for-returns-in_ok-note_statement-clause-first t c =
+pub note_for-returns-clause-first : goal.note_for-returns-clause-first
+note_for-returns-clause-first t c =
     first_of_for _ _ _ _ _ _ c.args.gives true (start_of c.args.start.now) (maybe_of c.args.test.now) (maybe_of c.args.step.now) (stmt_of c.args.body.now) c.args.at
     c.in_ok-open.ensures
     c.in_ok-note_head_of_for.ensures.known

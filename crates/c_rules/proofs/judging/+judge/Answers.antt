@@ -6,25 +6,33 @@ use Rattle.c_types.specs.Found.{first_among}
 use Rattle.c_types.specs.Standing.{fit_wanted}
 use Rattle.c_rules.specs.Faults.{arguments_faults}
 use Rattle.c_types.specs.Shown.{shown_standing, shown_target, shown_wants}
-use Rattle.c_rules.proofs.Judged.{comma_standing, comma_faults, rest_standing, rest_faulty, wanted_fits, wanted_faulty, unwanted_fits, unwanted_faulty, call_is, call_faulty}
+use Rattle.c_rules.proofs.Judged.{comma_standing, comma_faults, rest_standing, rest_faulty, wanted_fits, wanted_faulty, unwanted_fits, unwanted_faulty, call_is, call_faulty, call_shown, call_blamed}
 use Rattle.c_rules.proofs.judging.+judge.Goals as goal
 use Rattle.c_rules.proofs.judging.+judge.Goals.{judge_arguments-in-Some, judge_arguments-in-None}
 
 pub judge-returns-in-Comma-clause-standing : goal.judge-returns-in-Comma-clause-standing
 judge-returns-in-Comma-clause-standing g t c =
-    rw (c.in-Comma.is, exps_of_row-list) (comma_standing (g.N.Names.known c.args.names.now) c.in-Comma.head.value c.deref.result.now c.in-Comma.rest c.as_slice.result.now (shown_standing c.judge_going-of.result) (shown_standing c.judge_rest.result) (search rules) c.as_slice.ensures c.judge_going-of.ensures.standing c.judge_rest.ensures.standing)
+    rw (c.in-Comma.is, exps_of_row-list) (comma_standing (g.N.Names.known c.args.names.now) c.in-Comma.a.value c.deref.result.now c.in-Comma.rest c.as_slice.result.now (shown_standing c.judge_going-of.result) (shown_standing c.judge_rest.result) (search rules) c.as_slice.ensures c.judge_going-of.ensures.standing c.judge_rest.ensures.standing)
 
 pub judge-returns-in-Comma-clause-first : goal.judge-returns-in-Comma-clause-first
 judge-returns-in-Comma-clause-first g t c =
-    rw (c.in-Comma.is, exps_of_row-list) (comma_faults (g.N.Names.known c.args.names.now) c.in-Comma.head.value c.deref.result.now c.in-Comma.rest c.as_slice.result.now c.args.first.now c.judge_going-of.new.first c.judge_rest.new.first (search rules) c.as_slice.ensures c.judge_going-of.ensures.first c.judge_rest.ensures.first)
+    rw (c.in-Comma.is, exps_of_row-list) (comma_faults (g.N.Names.known c.args.names.now) c.in-Comma.a.value c.deref.result.now c.in-Comma.rest c.as_slice.result.now c.args.first.now c.judge_going-of.new.first c.judge_rest.new.first (search rules) c.as_slice.ensures c.judge_going-of.ensures.first c.judge_rest.ensures.first)
 
 pub judge-returns-in-Call-clause-standing : goal.judge-returns-in-Call-clause-standing
 judge-returns-in-Call-clause-standing g t c =
-    rw (c.in-Call.is, exps_of_row-list) (call_is (g.N.Names.known c.args.names.now) (shown_target c.args.target) c.in-Call.name c.as_slice-name.result.now c.in-Call.arguments c.as_slice-arguments.result.now c.format_of-format.result (shown_wants c.wants_of-wants.result) c.judge_arguments-fit.result (shown_standing c.given_by_call-gives.result) (shown_standing c.call_standing.result) c.as_slice-name.ensures c.as_slice-arguments.ensures c.format_of-format.ensures c.given_by_call-gives.ensures c.wants_of-wants.ensures c.judge_arguments-fit.ensures.fit c.call_standing.ensures)
+    rw (c.in-Call.is, exps_of_row-list) (call_shown (g.N.Names.known c.args.names.now) (shown_target c.args.target) c.in-Call.name c.in-Call.arguments c.as_slice-in-Call.result.now c.in-Call.at (shown_standing c.judge_call.result) c.as_slice-in-Call.ensures c.judge_call.ensures.standing)
 
 pub judge-returns-in-Call-clause-first : goal.judge-returns-in-Call-clause-first
 judge-returns-in-Call-clause-first g t c =
-    rw (c.in-Call.is, exps_of_row-list) (call_faulty (g.N.Names.known c.args.names.now) (shown_target c.args.target) c.in-Call.name c.as_slice-name.result.now c.in-Call.arguments c.as_slice-arguments.result.now _ c.own_place-at.result c.format_of-format.result (shown_wants c.wants_of-wants.result) c.args.first.now c.note_call.new.first c.judge_arguments-fit.new.first c.as_slice-name.ensures c.as_slice-arguments.ensures (rw c.in-Call.is at c.own_place-at.ensures) c.format_of-format.ensures c.wants_of-wants.ensures c.note_call.ensures c.judge_arguments-fit.ensures.first)
+    rw (c.in-Call.is, exps_of_row-list) (call_blamed (g.N.Names.known c.args.names.now) (shown_target c.args.target) c.in-Call.name c.in-Call.arguments c.as_slice-in-Call.result.now c.in-Call.at c.args.first.now c.judge_call.new.first c.as_slice-in-Call.ensures c.judge_call.ensures.first)
+
+pub judge_call-returns-clause-standing : goal.judge_call-returns-clause-standing
+judge_call-returns-clause-standing g t c =
+    rw (sym c.as_slice-name.ensures) (call_is (g.N.Names.known c.args.names.now) (shown_target c.args.target) c.as_slice-name.result.now c.args.arguments.now c.format_of-format.result (shown_wants c.wants_of-wants.result) c.judge_arguments-fit.result (shown_standing c.given_by_call-gives.result) (shown_standing c.call_standing.result) c.format_of-format.ensures c.given_by_call-gives.ensures c.wants_of-wants.ensures c.judge_arguments-fit.ensures.fit c.call_standing.ensures)
+
+pub judge_call-returns-clause-first : goal.judge_call-returns-clause-first
+judge_call-returns-clause-first g t c =
+    rw (sym c.as_slice-name.ensures) (call_faulty (g.N.Names.known c.args.names.now) (shown_target c.args.target) c.as_slice-name.result.now c.args.arguments.now c.args.at c.format_of-format.result (shown_wants c.wants_of-wants.result) c.args.first.now c.note_call.new.first c.judge_arguments-fit.new.first c.format_of-format.ensures c.wants_of-wants.ensures c.note_call.ensures c.judge_arguments-fit.ensures.first)
 
 pub judge_rest-loop-e-preserved : goal.judge_rest-loop-e-preserved
 judge_rest-loop-e-preserved g t c = record {
