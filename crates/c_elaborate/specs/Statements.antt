@@ -13,7 +13,7 @@ use Rattle.c_core.specs.Core as core
 use Rattle.c_values.specs.Denoted.{position_of}
 use Rattle.c_values.specs.Context.{Context, home_of}
 use Rattle.c_values.specs.Expressions.{value_of, wanted_of}
-use Rattle.c_elaborate.specs.Initials.{begun}
+use Rattle.c_initials.specs.Initials.{begun}
 
 -- ---- places
 

@@ -1,10 +1,8 @@
 //! What a C source does, as a core tree: from a source whose types and names break no rule to the tree in which they are
-//! settled. It stands on `c_sites`, `c_core` and `c_values`.
+//! settled. It stands on `c_sites`, `c_core`, `c_values` and `c_initials`.
 #![tactic(auto)]
 
 mod functions;
-mod globals;
-mod initials;
 mod local;
 mod make;
 mod statement;

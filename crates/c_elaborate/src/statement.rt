@@ -16,9 +16,9 @@ ghost use Rattle.c_values.specs.Context.{context_in};
 ghost use Rattle.c_elaborate.specs.Statements as spec;
 ghost use Rattle.c_values.specs.Views.{frame_in, context_of, maybe_word, source_in};
 
-use crate::initials::push_begun;
 use crate::make::{self, ForHead};
 use c_core::{Statement, Value};
+use c_initials::push_begun;
 use c_locals::NumberTable;
 use c_programs::{Table, copy_of, declare_object, declared_type};
 use c_tree::{Declaration, Declarator, Expr, ForStart, Initial, Item, Part, Specifier, Stmt};

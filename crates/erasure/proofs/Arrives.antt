@@ -16,7 +16,7 @@ use Rattle.flow_code.proofs.Counts.{ended_due}
 use Rattle.flow_code.proofs.Settle.{action_is, settled_keeps, settled_quiet}
 use Rattle.weak_code.specs.Stripped.{strip}
 use Rattle.c_core.specs.Runs.{Run, does, traps, ends}
-use Rattle.flow_lower.specs.Follows.{Comes, IsFull, Prints, Follows}
+use Rattle.lower_sound.specs.Follows.{Comes, IsFull, Prints, Follows}
 use Rattle.source_runs.proofs.Makings.{IsAt, event, stripe, full, IsMaking}
 use Rattle.source_runs.proofs.Phases.{event_begins}
 use Rattle.source_runs.proofs.Proper.{IsEvent, HasEvents}

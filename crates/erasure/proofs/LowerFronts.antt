@@ -13,8 +13,8 @@ use Rattle.flow_lower.specs.Kept.{kept, maybe_kept}
 use Rattle.flow_lower.specs.Sizes.{exp_size, maybe_size, test_size}
 use Rattle.flow_lower.specs.Loops.{lowered_size, limit_of, step_of, loop_of, statement_loops, statements_loops}
 use Rattle.flow_lower.specs.Lowered.{body_code, function_code, lowered}
-use Rattle.flow_lower.proofs.Functions.{its_objects}
-use Rattle.flow_lower.proofs.Objects.{count_of_objects}
+use Rattle.lower_sound.proofs.Functions.{its_objects}
+use Rattle.lower_sound.proofs.Objects.{count_of_objects}
 use Rattle.erasure.proofs.Fronts.{LoopsAfter}
 
 module _ (m : ℕ) where

@@ -21,7 +21,7 @@ use Rattle.flow_code.proofs.Dues.{quiet_by_code, quiet_due}
 use Rattle.flow_code.proofs.Settle.{action_is, quiet_action_at}
 use Rattle.weak_code.specs.Stripped.{strip}
 use Rattle.c_core.specs.Runs.{Run, does, traps, ends}
-use Rattle.flow_lower.specs.Follows.{Comes, here, quietly, IsFull, Prints, Follows}
+use Rattle.lower_sound.specs.Follows.{Comes, here, quietly, IsFull, Prints, Follows}
 use Rattle.source_runs.proofs.Makings.{IsAt, IsAtStripe, stripe, full}
 use Rattle.source_runs.proofs.Proper.{IsEvent, HasEvents}
 use Rattle.erasure.specs.Erased.{IsAnywhere}

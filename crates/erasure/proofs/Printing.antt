@@ -26,7 +26,7 @@ use Rattle.flow_code.proofs.Settle.{action_is}
 use Rattle.weak_code.specs.Weakened.{retarget}
 use Rattle.weak_code.specs.Stripped.{plain_of, strip}
 use Rattle.c_core.specs.Runs.{printed_in}
-use Rattle.flow_lower.specs.Follows.{Prints}
+use Rattle.lower_sound.specs.Follows.{Prints}
 use Rattle.core_run.specs.Pieces.{piece_at, piece_next}
 use Rattle.core_run.specs.Machine.{Told, machine, start_state}
 use Rattle.core_run.specs.Walks.{joined, walk_of, out_of}

@@ -14,7 +14,7 @@ use Rattle.weak_code.specs.Stripped.{strip_function, strip}
 use Rattle.weak_code.proofs.Stripping.{plain_zero}
 use Rattle.c_core.specs.Core.{Program}
 use Rattle.c_core.specs.Meaning as meaning
-use Rattle.flow_lower.specs.Follows.{Follows}
+use Rattle.lower_sound.specs.Follows.{Follows}
 use Rattle.core_run.specs.Histories.{run_of}
 use Rattle.core_run.specs.Machine.{Told, start_thread, main_of, start_state}
 use Rattle.core_run.specs.Walks.{walk_of}

@@ -18,9 +18,9 @@ use Rattle.c_core.specs.Core.{Program}
 use Rattle.c_core.specs.Meaning as meaning
 use Rattle.flow_lower.specs.Lowered.{lowered}
 use Rattle.c_core.specs.Sound.{IsSound}
-use Rattle.flow_lower.specs.Follows.{Follows}
-use Rattle.flow_lower.proofs.SoundWithin.{sound_within}
-use Rattle.flow_lower.proofs.Valid.{valid}
+use Rattle.lower_sound.specs.Follows.{Follows}
+use Rattle.lower_sound.proofs.SoundWithin.{sound_within}
+use Rattle.lower_sound.proofs.Valid.{valid}
 use Rattle.core_run.specs.Histories.{run_of}
 use Rattle.core_run.specs.Machine.{Told, start_thread, start_state}
 use Rattle.core_run.specs.Walks.{walk_of, out_of}

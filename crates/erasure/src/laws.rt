@@ -12,7 +12,7 @@ ghost use Rattle.weak_code.specs.Stripped.{strip};
 ghost use Rattle.weak_code.specs.Weakened.{weakened};
 ghost use Rattle.c_core.specs.Core.{Program};
 ghost use Rattle.c_core.specs.Meaning.{run_of as thread_run};
-ghost use Rattle.flow_lower.specs.Follows.{Follows};
+ghost use Rattle.lower_sound.specs.Follows.{Follows};
 ghost use Rattle.flow_lower.specs.Lowered.{lowered};
 ghost use Rattle.c_core.specs.Sound.{IsSound};
 ghost use Rattle.core_run.specs.Histories.{run_of};

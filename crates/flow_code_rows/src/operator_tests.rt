@@ -23,7 +23,7 @@ fn operators_give(rt: HostRuntime) {
     ];
     for (op, left, right, want) in rows {
         assert_eq!(rt;
-            binary(op, word(left), word(right)).map(number),
+            binary(op, word(left), word(right)).map(|given| number(given)),
             want,
             "{op:?} of {left} and {right}"
         );

@@ -1,4 +1,3 @@
-pub mod Follows
 pub mod Kept
 pub mod Loops
 pub mod Lowered

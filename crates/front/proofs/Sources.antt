@@ -22,10 +22,10 @@ use Rattle.flow_code.specs.Valid.{is_valid}
 use Rattle.flow_code.proofs.Runnable.{valid_runnable}
 use Rattle.flow_lower.specs.Lowered.{lowered}
 use Rattle.c_core.specs.Sound.{IsSound}
-use Rattle.flow_lower.specs.Follows.{Follows, IsAtStart}
-use Rattle.flow_lower.proofs.Valid.{valid}
-use Rattle.flow_lower.proofs.SoundWithin.{sound_within}
-use Rattle.flow_lower.proofs.Threads.{follows}
+use Rattle.lower_sound.specs.Follows.{Follows, IsAtStart}
+use Rattle.lower_sound.proofs.Valid.{valid}
+use Rattle.lower_sound.proofs.SoundWithin.{sound_within}
+use Rattle.lower_sound.proofs.Threads.{follows}
 use Rattle.sync_objects.specs.Setup.{SetupView}
 use Rattle.source_sound.specs.Members.{StructsHaveMembers}
 use Rattle.source_sound.proofs.Law.{law_sound}

@@ -5,7 +5,7 @@ ghost use Rattle.c_elaborate.specs.Whole.{core_of_source};
 ghost use Rattle.c_lexer.specs.Bytes.{Text};
 ghost use Rattle.c_tree.specs.Tree.{Outer};
 ghost use Rattle.flow_code.specs.Threads.{Thread};
-ghost use Rattle.flow_lower.specs.Follows.{Follows, IsAtStart};
+ghost use Rattle.lower_sound.specs.Follows.{Follows, IsAtStart};
 ghost use Rattle.c_core.specs.Sound.{IsSound};
 ghost use Rattle.front.specs.Plain.{plain_code};
 ghost use Rattle.front.specs.Readings.{sound, IsReading};

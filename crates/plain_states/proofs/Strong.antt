@@ -27,7 +27,7 @@ use Rattle.flow_code.specs.Holding.{parting, parting_due}
 use Rattle.flow_code.specs.Next.{quiet_unless, load_due, store_due, malloc_due, mark_if, enter_due, end_due, return_due, value_of, caller, pointers_of, act_at, act_due, begun_due, phase_due, limited}
 use Rattle.flow_code.specs.Threads.{Thread, arena_end, fitted, is_main, objects_in}
 use Rattle.flow_code.specs.Works.{is_pointer, work_of}
-use Rattle.flow_lower.proofs.Calls.{IsPlain, plain_due}
+use Rattle.lower_sound.proofs.Calls.{IsPlain, plain_due}
 use Rattle.source_runs.proofs.Proper.{is_trap}
 use Rattle.erasure.proofs.ActDues.{is_aside, steps_aside, none_left}
 

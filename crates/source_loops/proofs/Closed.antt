@@ -14,7 +14,7 @@ use Rattle.flow_lower.specs.Kept.{kept, maybe_kept, statement_kept, statements_k
 use Rattle.flow_lower.specs.Sizes.{exp_size, maybe_size, test_size, statement_size, statements_size}
 use Rattle.flow_lower.specs.Loops.{lowered_size, limit_of, step_of, loop_of, statement_loops, statements_loops}
 use Rattle.flow_lower.specs.Lowered.{held, instr, one, width, exp_code, maybe_code, test_code, statement_kinds, maybe_kinds, statement_code, statements_code, objects_code, arrivals_code, body_code, function_code, lowered}
-use Rattle.flow_lower.proofs.Lengths.{exp_length, maybe_length, test_length, statement_length, objects_length, arrivals_length}
+use Rattle.lower_sound.proofs.Lengths.{exp_length, maybe_length, test_length, statement_length, objects_length, arrivals_length}
 use Rattle.weak_sound.proofs.Accesses.{Each, each_append}
 use Rattle.weak_ways.specs.LoopsClosed.{jump_keeps, act_keeps, instrs_keep, loop_is_closed, loops_are_closed}
 use Rattle.source_loops.proofs.Jumps.{ActJumps, Jumps, joined, exp_jumps, maybe_jumps, test_jumps, statement_jumps, statements_jumps}

@@ -24,7 +24,7 @@ use Rattle.abstract_machine.specs.Library.{Caller, count_in, piece_of, library_d
 use Rattle.abstract_machine.specs.Cells.{argument_cell, result_cell, size_of}
 use Rattle.abstract_machine.specs.Cells.{access_kind, is_size, cells_in}
 use Rattle.abstract_machine.specs.Limits.{most_frames}
-use Rattle.flow_lower.proofs.Calls.{IsPlain, plain_due}
+use Rattle.lower_sound.proofs.Calls.{IsPlain, plain_due}
 use Rattle.abstract_machine.proofs.Calls.{CallOperates, goes as goes_on, ends_slot, leaves_all, CallGoes, call_goes}
 use Rattle.c_core.specs.Core as core
 use Rattle.c_core.specs.Core.{Exp, null, register, object, global, load, unary, binary, move, advance, member, between, to_pointer, to_number, copy, both, either, conditional, comma, set_register, store, change_register, change_cell, call, library, allocate, Exps, no_exp, and_exp, Statement, block, compute, branch, branch_else, while_loop, do_loop, for_loop, break_at, continue_at, gives, Statements, no_statement, and_statement, Arrival, arrives, Function, Program}

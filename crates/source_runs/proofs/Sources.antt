@@ -5,8 +5,8 @@ use Rattle.flow_code.proofs.Runnable.{valid_runnable}
 use Rattle.c_core.specs.Core.{Program}
 use Rattle.flow_lower.specs.Lowered.{lowered}
 use Rattle.c_core.specs.Sound.{IsSound}
-use Rattle.flow_lower.proofs.Valid.{valid}
-use Rattle.flow_lower.proofs.SoundWithin.{sound_within}
+use Rattle.lower_sound.proofs.Valid.{valid}
+use Rattle.lower_sound.proofs.SoundWithin.{sound_within}
 use Rattle.core_run.specs.Histories.{run_of}
 use Rattle.core_run.specs.Machine.{Told, start_state}
 use Rattle.runs.specs.Labels.{Label}

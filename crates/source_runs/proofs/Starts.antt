@@ -10,9 +10,9 @@ use Rattle.flow_code.specs.Settle.{IsRunnable}
 use Rattle.c_core.specs.Core.{Function, Program}
 use Rattle.c_core.specs.Meaning as meaning
 use Rattle.flow_lower.specs.Lowered.{lowered, function_code}
-use Rattle.flow_lower.specs.Follows.{IsAtStart}
+use Rattle.lower_sound.specs.Follows.{IsAtStart}
 use Rattle.c_core.specs.Within.{IsWithin}
-use Rattle.flow_lower.proofs.Threads.{follows}
+use Rattle.lower_sound.proofs.Threads.{follows}
 use Rattle.core_run.specs.Machine.{Told, start_thread, start_state}
 use Rattle.core_run.specs.Machine as core_machine
 use Rattle.core_run.proofs.ThreadRanges.{start_thread_is}

@@ -6,7 +6,7 @@ ghost use Rattle.flow_code.specs.declared.code.Code.{Code};
 ghost use Rattle.c_core.specs.Core.{Program};
 ghost use Rattle.c_core.specs.Meaning.{run_of as thread_run};
 ghost use Rattle.flow_lower.specs.Lowered.{lowered};
-ghost use Rattle.flow_lower.specs.Follows.{IsAtStart};
+ghost use Rattle.lower_sound.specs.Follows.{IsAtStart};
 ghost use Rattle.c_core.specs.Sound.{IsSound};
 ghost use Rattle.core_run.specs.Histories.{run_of};
 ghost use Rattle.core_run.specs.Machine.{Told, start_state};

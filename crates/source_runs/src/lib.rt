@@ -1,6 +1,6 @@
-//! Each run of the machine of a source's code is a run of the source. This crate joins `flow_lower`, whose `law_events`
+//! Each run of the machine of a source's code is a run of the source. This crate joins `lower_sound`, whose `law_events`
 //! tells what one thread of the code makes, and `core_run`, the machine of all threads. What a run of a source is stands in
-//! `specs/SourceRuns.antt`.
+//! `SourceRuns` of `c_core`.
 #![tactic(auto)]
 
 mod laws;

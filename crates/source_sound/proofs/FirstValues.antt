@@ -29,7 +29,7 @@ use Rattle.c_values.specs.declared.home.Home.TheVariants as kept_in
 use Rattle.c_values.specs.Denoted.{position_of, is_pointing}
 use Rattle.c_values.specs.Context.{Context, home_numbered, home_of}
 use Rattle.c_values.specs.Expressions.{is_pointer_type, wanted_of}
-use Rattle.c_elaborate.specs.Initials.{kinds_of_some, cell_stored, cell_cleared, cleared, type_of_part, started, parts_started, zero_word, first_word, first_of_braces, object_begun, begun}
+use Rattle.c_initials.specs.Initials.{kinds_of_some, cell_stored, cell_cleared, cleared, type_of_part, started, parts_started, zero_word, first_word, first_of_braces, object_begun, begun}
 use Rattle.c_elaborate.specs.Functions.{local_of, declares_locals}
 use Rattle.c_elaborate.specs.Statements.{here_after_object, object_elaborated, objects_elaborated, declares_elaborated}
 use Rattle.c_core.specs.Sound.{IsSoundExp, IsSoundStatement, AreSoundStatements}

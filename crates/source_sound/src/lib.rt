@@ -1,5 +1,5 @@
-//! The core tree of a source without a fault is sound. It stands on `c_sites`, `c_values`, `c_elaborate` and `flow_lower`.
-//! With `law_valid` and `law_within` of `flow_lower`, the code of such a source is valid and makes the events of its core
+//! The core tree of a source without a fault is sound. It stands on `c_sites`, `c_values` and `c_elaborate`.
+//! With `law_valid` and `law_within` of `lower_sound`, the code of such a source is valid and makes the events of its core
 //! tree.
 #![tactic(auto)]
 

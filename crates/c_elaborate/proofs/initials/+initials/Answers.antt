@@ -1,7 +1,0 @@
-use Rattle.std.proofs.Common.{arith}
-use Rattle.std.proofs.lemmas.Grind.{common_steps}
-use Rattle.c_tree.proofs.Views.{inits_of_row-list}
-use Rattle.c_elaborate.proofs.initials.+initials.Goals as goal
-
-pub push_started-returns-in-Braces : goal.push_started-returns-in-Braces
-push_started-returns-in-Braces t c = rw (c.in-Braces.is, inits_of_row-list) (grind (arith, common_steps))

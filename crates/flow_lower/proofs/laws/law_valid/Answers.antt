@@ -1,5 +1,0 @@
-use Rattle.flow_lower.proofs.Valid.{valid}
-use Rattle.flow_lower.proofs.laws.law_valid.Goals as goal
-
-pub returns : goal.returns
-returns c = valid
