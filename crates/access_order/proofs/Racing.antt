@@ -14,7 +14,7 @@ use Rattle.facts.specs.declared.locks.LockPath.{LockPath}
 use Rattle.facts.specs.declared.locks.LockPath.TheVariants.{Cell, Formal}
 use Rattle.facts.specs.declared.locks.Summary.{Summary}
 use Rattle.facts.specs.declared.pair.AccessAt.{AccessAt}
-use Rattle.facts.proofs.PathSets.{same_self}
+use Rattle.facts.proofs.Orders.{path_self}
 use Rattle.held_locksets.specs.Frames.{root_frame, IsListed}
 use Rattle.held_locksets.proofs.Means.{or_cases, or_left, or_right}
 use Rattle.held_locksets.proofs.Racing.{is_a_root, may_both}
@@ -30,7 +30,7 @@ global_shared (p ∷ ps) qs h =
     (or_cases (is_global_lock p && has p qs) (list_any (λ z. is_global_lock z && has z qs) ps) h)
   where
     here : (p : LockPath) → is_global_lock p ≡ true → has p qs ≡ true → (c : ℕ) × (has (Cell c) (p ∷ ps) ≡ true) × (has (Cell c) qs ≡ true)
-    here (Cell c) g k = (c, or_left (is_same (Cell c) (Cell c)) (has (Cell c) ps) (same_self (Cell c)), k)
+    here (Cell c) g k = (c, or_left (is_same (Cell c) (Cell c)) (has (Cell c) ps) (path_self (Cell c)), k)
     here (Formal i n) g k = cc
 
 at_is : (x : Guarded) (f k : ℕ) → x.function ≡ f → x.instr ≡ k → stands x ≡ record { function = f; instr = k }

@@ -6,8 +6,8 @@ use Rattle.std.proofs.lemmas.List.{drop_all}
 use Rattle.facts.specs.declared.locks.LockPath.{LockPath}
 use Rattle.facts.specs.Locks.{is_less, is_same, with, union, are_ascending}
 use Rattle.facts.specs.Merges.{comes_first, before_path, after_path, merge}
-use Rattle.facts.proofs.PathSets.{same_is, less_trans, less_other}
-use Rattle.facts.proofs.Orders.{path_irr}
+use Rattle.facts.proofs.PathSets.{less_other}
+use Rattle.facts.proofs.Orders.{path_irr, path_trans, path_same}
 
 pub ascending_step : (p : LockPath) (ps : List LockPath) → are_ascending (p ∷ ps) ≡ (comes_first p ps && are_ascending ps)
 ascending_step p [] = refl
@@ -24,14 +24,14 @@ not_back : (p q : LockPath) → is_less p q ≡ true → is_less q p ≡ false
 not_back p q h = by (is_less q p) refl
   where
     by : (b : Bool) → is_less q p ≡ b → is_less q p ≡ false
-    by true e = absurd (path_irr p (less_trans p q p h e))
+    by true e = absurd (path_irr p (path_trans p q p h e))
     by false e = e
 
 not_same : (p q : LockPath) → is_less p q ≡ true → is_same q p ≡ false
 not_same p q h = by (is_same q p) refl
   where
     by : (b : Bool) → is_same q p ≡ b → is_same q p ≡ false
-    by true e = absurd (path_irr p (subst (λ z. is_less p z ≡ true) (same_is q p e) h))
+    by true e = absurd (path_irr p (subst (λ z. is_less p z ≡ true) (path_same q p e) h))
     by false e = e
 
 -- none of what comes after a path comes before it
@@ -56,7 +56,7 @@ first_merge q p ps (x ∷ qs) lt h = by (is_less x p)
 
 trans_first : (p q : LockPath) (qs : List LockPath) → is_less p q ≡ true → comes_first q qs ≡ true → comes_first p qs ≡ true
 trans_first p q [] lt h = refl
-trans_first p q (x ∷ qs) lt h = less_trans p q x lt h
+trans_first p q (x ∷ qs) lt h = path_trans p q x lt h
 
 with_merge : (ps : List LockPath) (q : LockPath) (qs : List LockPath) → comes_first q qs ≡ true → with q (merge ps qs) ≡ merge ps (q ∷ qs)
 with_merge [] q qs h = first_with q qs h
@@ -64,7 +64,7 @@ with_merge (p ∷ ps) q qs h = by (with_merge ps q qs h) (is_less q p) refl (is_
   where
     joined : with q (merge ps qs) ≡ merge ps (q ∷ qs) → (b : Bool) → is_less q p ≡ false → is_same q p ≡ b → with q (merge (p ∷ ps) qs) ≡ p ∷ merge ps (if b then qs else q ∷ qs)
     joined rest true n e =
-        let same = same_is q p e in
+        let same = path_same q p e in
         let none = none_before p qs (subst (λ z. comes_first z qs ≡ true) same h) in
         ap (with q) (ap (λ z. z ++ p ∷ merge ps (after_path p qs)) none.0 ∙ ap (λ z. p ∷ merge ps z) none.1)
         ∙ ap (λ b. if b then q ∷ p ∷ merge ps qs else if is_same q p then p ∷ merge ps qs else p ∷ with q (merge ps qs)) n

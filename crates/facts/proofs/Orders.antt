@@ -88,13 +88,13 @@ paths_irr : (ps : List LockPath) → paths_less ps ps ≡ true → ⊥
 paths_irr [] e = absurd (cc e)
 paths_irr (p ∷ ps) e = then_irr (is_less p p) (is_same p p) (paths_less ps ps) (path_irr p) (paths_irr ps) e
 
-paths_same_eq : (ps qs : List LockPath) → paths_same ps qs ≡ true → ps ≡ qs
+pub paths_same_eq : (ps qs : List LockPath) → paths_same ps qs ≡ true → ps ≡ qs
 paths_same_eq [] [] e = refl
 paths_same_eq [] (q ∷ qs) e = absurd (cc e)
 paths_same_eq (p ∷ ps) [] e = absurd (cc e)
 paths_same_eq (p ∷ ps) (q ∷ qs) e = let d = both_cases (is_same p q) (paths_same ps qs) e in ap (λ x. x ∷ ps) (path_same p q d.0) ∙ ap (λ xs. q ∷ xs) (paths_same_eq ps qs d.1)
 
-paths_self : (ps : List LockPath) → paths_same ps ps ≡ true
+pub paths_self : (ps : List LockPath) → paths_same ps ps ≡ true
 paths_self [] = refl
 paths_self (p ∷ ps) = subst (λ b. b && paths_same ps ps ≡ true) (sym (path_self p)) (paths_self ps)
 

@@ -1,11 +1,11 @@
 -- Sets of paths as lists: what they have, and that they ascend.
 use Rattle.std.proofs.Common.{◌≡◌, Bool, true, false, List, [], ◌∷◌, refl, sym, ap, ◌∙◌, subst, arith, ◌⊎◌, inl, inr, ⊎_elim}
-use Rattle.std.specs.Prelude.{◌||◌, ◌&&◌, ◌==◌, if◌then◌else◌}
+use Rattle.std.specs.Prelude.{◌||◌, ◌&&◌, if◌then◌else◌}
 use Rattle.std.specs.List.{filter}
-use Rattle.std.proofs.lemmas.Bool.{eqb-true, eq-eqb}
 use Rattle.facts.specs.declared.locks.LockPath.{LockPath}
 use Rattle.facts.specs.declared.locks.LockPath.TheVariants.{Cell, Formal}
 use Rattle.facts.specs.Locks.{is_less, is_same, has, with, union, are_ascending}
+use Rattle.facts.proofs.Orders.{path_same, path_self, path_trans}
 
 -- ---- sameness and order
 
@@ -15,27 +15,6 @@ and_both false b h = cc
 
 both_and : (a b : Bool) → a ≡ true → b ≡ true → (a && b) ≡ true
 both_and a b h k = cc
-
-pub same_is : (p q : LockPath) → is_same p q ≡ true → p ≡ q
-same_is (Cell a) (Cell b) h = ap Cell (eqb-true a b h)
-same_is (Cell a) (Formal j n) h = cc
-same_is (Formal i m) (Cell b) h = cc
-same_is (Formal i m) (Formal j n) h =
-    let e = and_both (i == j) (m == n) h in
-    ap (λ z. Formal z m) (eqb-true i j e.0) ∙ ap (λ z. Formal j z) (eqb-true m n e.1)
-
-pub same_self : (p : LockPath) → is_same p p ≡ true
-same_self (Cell a) = eq-eqb a a refl
-same_self (Formal i m) = both_and (i == i) (m == m) (eq-eqb i i refl) (eq-eqb m m refl)
-
-pub less_trans : (p q r : LockPath) → is_less p q ≡ true → is_less q r ≡ true → is_less p r ≡ true
-less_trans (Cell a) (Cell b) (Cell c) h k = grind (arith, h, k)
-less_trans (Cell a) (Cell b) (Formal k o) h g = refl
-less_trans (Cell a) (Formal j n) (Cell c) h g = cc
-less_trans (Cell a) (Formal j n) (Formal k o) h g = refl
-less_trans (Formal i m) (Cell b) r h g = cc
-less_trans (Formal i m) (Formal j n) (Cell c) h g = cc
-less_trans (Formal i m) (Formal j n) (Formal k o) h g = grind (arith, h, g)
 
 pub less_other : (p q : LockPath) → is_less p q ≡ false → is_same p q ≡ false → is_less q p ≡ true
 less_other (Cell a) (Cell b) h k = grind (arith, h, k)
@@ -60,7 +39,7 @@ has-with p q (r ∷ rs) = go (is_less q r) (is_same q r) refl (has-with p q rs)
   where
     go : (l s : Bool) → is_same q r ≡ s → has p (with q rs) ≡ (is_same p q || has p rs) → has p (if l then q ∷ r ∷ rs else if s then r ∷ rs else r ∷ with q rs) ≡ (is_same p q || has p (r ∷ rs))
     go true s e f = refl
-    go false true e f = subst (λ z. has p (r ∷ rs) ≡ (is_same p z || has p (r ∷ rs))) (sym (same_is q r e)) (or_again (is_same p r) (has p rs))
+    go false true e f = subst (λ z. has p (r ∷ rs) ≡ (is_same p z || has p (r ∷ rs))) (sym (path_same q r e)) (or_again (is_same p r) (has p rs))
     go false false e f = ap (λ b. is_same p r || b) f ∙ or_swap (is_same p r) (is_same p q) (has p rs)
 
 pub has-union : (p : LockPath) (ps qs : List LockPath) → has p (union ps qs) ≡ (has p ps || has p qs)
@@ -72,7 +51,7 @@ has-union p ps [] = end (has p ps)
 has-union p ps (q ∷ qs) = has-with p q (union ps qs) ∙ ap (λ b. is_same p q || b) (has-union p ps qs) ∙ or_swap (is_same p q) (has p ps) (has p qs)
 
 pub has_same : (p q : LockPath) (qs : List LockPath) → p ≡ q → has p (q ∷ qs) ≡ true
-has_same p q qs e = ap (λ b. b || has p qs) (subst (λ z. is_same p z ≡ true) e (same_self p))
+has_same p q qs e = ap (λ b. b || has p qs) (subst (λ z. is_same p z ≡ true) e (path_self p))
 
 has_more : (p q : LockPath) (qs : List LockPath) → has p qs ≡ true → has p (q ∷ qs) ≡ true
 has_more p q qs h = go (is_same p q)
@@ -85,7 +64,7 @@ has_cons : (p q : LockPath) (qs : List LockPath) → has p (q ∷ qs) ≡ true �
 has_cons p q qs h = go (is_same p q) refl h
   where
     go : (b : Bool) → is_same p q ≡ b → (b || has p qs) ≡ true → (p ≡ q) ⊎ (has p qs ≡ true)
-    go true e k = inl (same_is p q e)
+    go true e k = inl (path_same p q e)
     go false e k = inr k
 
 pub has_filter : (t : LockPath → Bool) (p : LockPath) (qs : List LockPath) → has p (filter t qs) ≡ true → (has p qs ≡ true) × (t p ≡ true)
@@ -147,7 +126,7 @@ ascending_union ps (q ∷ qs) h = ascending_with q (union ps qs) (ascending_unio
 
 past_less : (x q : LockPath) (qs : List LockPath) → is_less x q ≡ true → starts_after q qs ≡ true → starts_after x qs ≡ true
 past_less x q [] h k = refl
-past_less x q (r ∷ rs) h k = less_trans x q r h k
+past_less x q (r ∷ rs) h k = path_trans x q r h k
 
 after_filter : (t : LockPath → Bool) (x : LockPath) (ps : List LockPath) → starts_after x ps ≡ true → are_ascending ps ≡ true → starts_after x (filter t ps) ≡ true
 after_filter t x [] h k = refl

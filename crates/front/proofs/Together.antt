@@ -12,23 +12,15 @@ use Rattle.flow_code.specs.Valid.{is_valid}
 use Rattle.weak_facts.specs.declared.grain.Grains.{Grains}
 use Rattle.weak_facts.specs.declared.range.Range.{Range}
 use Rattle.weak_facts.specs.Grains.{AreGrains}
-use Rattle.weak_facts.specs.Ranges as ranges
 use Rattle.weak_facts.specs.Ranges.{ranges_of}
 use Rattle.weak_code.specs.Stripped.{is_plain}
 use Rattle.weak_code.specs.Weakened.{weakened}
 use Rattle.weak_sound.specs.Apart.{loops_are_apart}
 use Rattle.weak_ways.specs.LoopsClosed.{loops_are_closed}
-use Rattle.weaken.specs.Registers as registers
 use Rattle.lock_sound.specs.Weakened.{IsAnalysed}
 
 pub has_registers : (code : Code) (t : Tables) → IsPointsTo code t → HasRegisters code t
 has_registers code t h = record { functions = h.functions; registers = h.registers }
-
-pub has_registers_of_ranges : (code : Code) (t : Tables) → IsPointsTo code t → ranges.HasRegisters code t
-has_registers_of_ranges code t h = record { functions = h.functions; registers = h.registers }
-
-pub has_registers_of_accesses : (code : Code) (t : Tables) → IsPointsTo code t → registers.HasRegisters code t
-has_registers_of_accesses code t h = record { functions = h.functions; registers = h.registers }
 
 pub ascending : (code : Code) (t : Tables) (ss : List Summary) (vs : List Pair) → ArePairs code t ss vs → pairs_ascend vs ≡ true
 ascending code t ss vs h = h.ascending

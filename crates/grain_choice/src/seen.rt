@@ -33,17 +33,17 @@ fn has_pair(pairs: &[(Bytes, Bytes)], lesser: &[u8], greater: &[u8]) -> bool
 
 fn has_either(pairs: &[(Bytes, Bytes)], name: &[u8], other: &[u8]) -> bool
     requires { names.ArePairs pairs.now }
-    ensures { result ≡ spec.has_names (Profile.Pairs pairs.now) (spec.lesser_first name.now other.now) }
+    ensures { result ≡ spec.has_names (Profile.Pairs pairs.now) (names.ordered name.now other.now) }
 {
-    if other.cmp(name).is_lt() {
-        has_pair(pairs, other, name)
-    } else {
+    if name.cmp(other).is_le() {
         has_pair(pairs, name, other)
+    } else {
+        has_pair(pairs, other, name)
     }
 }
 
 fn has_names(profile: &Profile, name: &[u8], other: &[u8]) -> bool
-    ensures { result ≡ spec.has_names profile.now (spec.lesser_first name.now other.now) }
+    ensures { result ≡ spec.has_names profile.now (names.ordered name.now other.now) }
 {
     match profile {
         Profile::All => true,

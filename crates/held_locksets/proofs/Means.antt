@@ -13,7 +13,8 @@ use Rattle.facts.specs.declared.locks.Minus.TheVariants.{All, Listed}
 use Rattle.facts.specs.declared.locks.Naming.{Naming}
 use Rattle.facts.specs.declared.locks.Naming.TheVariants.{Unknown, Nowhere, Named}
 use Rattle.facts.specs.declared.locks.RelLocks.{RelLocks}
-use Rattle.facts.proofs.PathSets.{same_is, same_self, has-with, has-union, has_filter}
+use Rattle.facts.proofs.Orders.{path_same, path_self}
+use Rattle.facts.proofs.PathSets.{has-with, has-union, has_filter}
 use Rattle.held_locksets.specs.Leading.{is_fixed, LeadsTo, Spares, Mean}
 
 -- ---- lists of paths
@@ -31,13 +32,13 @@ or_right true b h = refl
 or_right false b h = h
 
 pub has_cases : (p q : LockPath) (qs : List LockPath) → has p (q ∷ qs) ≡ true → (p ≡ q) ⊎ (has p qs ≡ true)
-has_cases p q qs h = ⊎_elim (λ e. inl (same_is p q e)) (λ e. inr e) (or_cases (is_same p q) (has p qs) h)
+has_cases p q qs h = ⊎_elim (λ e. inl (path_same p q e)) (λ e. inr e) (or_cases (is_same p q) (has p qs) h)
 
 pub with_cases : (p q : LockPath) (qs : List LockPath) → has p (with q qs) ≡ true → (p ≡ q) ⊎ (has p qs ≡ true)
-with_cases p q qs h = ⊎_elim (λ e. inl (same_is p q e)) (λ e. inr e) (or_cases (is_same p q) (has p qs) (sym (has-with p q qs) ∙ h))
+with_cases p q qs h = ⊎_elim (λ e. inl (path_same p q e)) (λ e. inr e) (or_cases (is_same p q) (has p qs) (sym (has-with p q qs) ∙ h))
 
 pub with_self : (q : LockPath) (qs : List LockPath) → has q (with q qs) ≡ true
-with_self q qs = has-with q q qs ∙ or_left (is_same q q) (has q qs) (same_self q)
+with_self q qs = has-with q q qs ∙ or_left (is_same q q) (has q qs) (path_self q)
 
 pub with_more : (p q : LockPath) (qs : List LockPath) → has p qs ≡ true → has p (with q qs) ≡ true
 with_more p q qs h = has-with p q qs ∙ or_right (is_same p q) (has p qs) h
@@ -122,7 +123,7 @@ module _ (slots : ℕ) (f : Function) (rs : List ℕ) where
   mean_unlocked (Named q) l before now later c is there others m = record { plus = plus; kept = kept }
     where
       self : has q (q ∷ []) ≡ true
-      self = or_left (is_same q q) false (same_self q)
+      self = or_left (is_same q q) false (path_self q)
 
       plus : (p : LockPath) → has p (without (Listed (q ∷ [])) l.plus) ≡ true → (x : ℕ) × LeadsTo slots f rs p x × (later x ≡ true)
       plus p h =

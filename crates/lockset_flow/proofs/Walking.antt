@@ -6,8 +6,8 @@ use Rattle.std.proofs.lemmas.Bool.{true≢false}
 use Rattle.facts.specs.declared.locks.LockPath.{LockPath}
 use Rattle.facts.specs.declared.locks.Minus.TheVariants.{Listed}
 use Rattle.facts.specs.Locks.{is_less, is_same, has, with, union, both, are_ascending}
-use Rattle.facts.proofs.PathSets.{same_is, same_self, less_trans, less_other}
-use Rattle.facts.proofs.Orders.{path_irr}
+use Rattle.facts.proofs.PathSets.{less_other}
+use Rattle.facts.proofs.Orders.{path_irr, path_trans, path_same, path_self}
 use Rattle.lockset_flow.specs.Meeting.{starts_after, from_path, begins_with_path}
 use Rattle.lockset_flow.proofs.Meets.{and_both, or_cases}
 
@@ -31,20 +31,20 @@ later p q [] h i = absurd (true≢false (sym i))
 later p q (x ∷ ps) h i =
     let a = parts p (x ∷ ps) h in
     let rest = later x q ps a.1 in
-    ⊎_elim (λ same. subst (λ z. is_less p z ≡ true) (sym (same_is q x same)) a.0) (λ more. less_trans p x q a.0 (rest more)) (or_cases (is_same q x) (has q ps) i)
+    ⊎_elim (λ same. subst (λ z. is_less p z ≡ true) (sym (path_same q x same)) a.0) (λ more. path_trans p x q a.0 (rest more)) (or_cases (is_same q x) (has q ps) i)
 
 less_apart : (p q : LockPath) → is_less p q ≡ true → is_same p q ≡ false
 less_apart p q h = by (is_same p q) refl
   where
     by : (b : Bool) → is_same p q ≡ b → is_same p q ≡ false
-    by true e = absurd (path_irr q (subst (λ z. is_less z q ≡ true) (same_is p q e) h))
+    by true e = absurd (path_irr q (subst (λ z. is_less z q ≡ true) (path_same p q e) h))
     by false e = e
 
 less_apart_back : (p q : LockPath) → is_less q p ≡ true → is_same p q ≡ false
 less_apart_back p q h = by (is_same p q) refl
   where
     by : (b : Bool) → is_same p q ≡ b → is_same p q ≡ false
-    by true e = absurd (path_irr q (subst (λ z. is_less q z ≡ true) (same_is p q e) h))
+    by true e = absurd (path_irr q (subst (λ z. is_less q z ≡ true) (path_same p q e) h))
     by false e = e
 
 -- a path that comes before the first isn't there
@@ -52,7 +52,7 @@ before_all : (p q : LockPath) (qs : List LockPath) → are_ascending (q ∷ qs) 
 before_all p q qs h lt = by (has p qs) refl
   where
     by : (b : Bool) → has p qs ≡ b → has p qs ≡ false
-    by true e = absurd (path_irr p (less_trans p q p lt (later q p qs h e)))
+    by true e = absurd (path_irr p (path_trans p q p lt (later q p qs h e)))
     by false e = e
 
 -- ---- paths that are there
@@ -90,7 +90,7 @@ found_first p (q ∷ qs) h = by (found_first p qs (parts q qs h).1) (is_less q p
         e ∙ sym (ap (λ b. b || has p qs) e ∙ before_all p q qs h lt)
       where
         apart : (b : Bool) → is_same q p ≡ b → is_same q p ≡ false
-        apart true g = absurd (true≢false (sym (subst (λ z. is_same p z ≡ true) (sym (same_is q p g)) (same_self p)) ∙ e))
+        apart true g = absurd (true≢false (sym (subst (λ z. is_same p z ≡ true) (sym (path_same q p g)) (path_self p)) ∙ e))
         apart false g = g
 
     by : begins_with_path p (from_path p qs) ≡ has p qs → (b : Bool) → is_less q p ≡ b → begins_with_path p (if b then from_path p qs else q ∷ qs) ≡ (is_same p q || has p qs)
@@ -103,7 +103,7 @@ from_later p r [] lt = refl
 from_later p r (q ∷ qs) lt = by (from_later p r qs lt) (is_less q p) refl
   where
     by : from_path r (from_path p qs) ≡ from_path r qs → (b : Bool) → is_less q p ≡ b → from_path r (if b then from_path p qs else q ∷ qs) ≡ from_path r (q ∷ qs)
-    by rest true e = rest ∙ sym (ap (λ b. if b then from_path r qs else q ∷ qs) (less_trans q p r e lt))
+    by rest true e = rest ∙ sym (ap (λ b. if b then from_path r qs else q ∷ qs) (path_trans q p r e lt))
     by rest false e = refl
 
 -- the walk has come as far as the paths that are left need
@@ -111,7 +111,7 @@ abbrev pub Walked : (left rest others : List LockPath) → Type 0
 Walked left rest others = (p : LockPath) → has p left ≡ true → from_path p rest ≡ from_path p others
 
 first_there : (p : LockPath) (ps : List LockPath) → has p (p ∷ ps) ≡ true
-first_there p ps = ap (λ b. b || has p ps) (same_self p)
+first_there p ps = ap (λ b. b || has p ps) (path_self p)
 
 pub walked_here : (p : LockPath) (ps rest others next : List LockPath) → are_ascending others ≡ true → Walked (p ∷ ps) rest others → next ≡ from_path p rest → begins_with_path p next ≡ has p others
 walked_here p ps rest others next h was is = ap (begins_with_path p) (is ∙ was p (first_there p ps)) ∙ found_first p others h

@@ -12,7 +12,8 @@ use Rattle.facts.specs.Locks.{Points}
 use Rattle.facts.specs.Summaries.{guarded_less, guarded_ascend, Guards, own, called}
 use Rattle.lockset_summary.specs.Rounds.{room}
 use Rattle.lockset_summary.specs.Guarding.{IsPlace, IsPut, InRow, AreMade, AreAllMet, Makes}
-use Rattle.lockset_summary.proofs.Order.{guarded_trans, guarded_other}
+use Rattle.facts.proofs.Orders.{guarded_trans}
+use Rattle.lockset_summary.proofs.Order.{guarded_other}
 use Rattle.lockset_summary.proofs.Rounds.{falls_by, room_falls}
 
 -- ---- one row

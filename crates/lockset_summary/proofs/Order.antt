@@ -1,5 +1,5 @@
 -- The order of guarded accesses is total and transitive.
-use Rattle.std.proofs.Common.{◌≡◌, ℕ, ◌<◌, Bool, true, false, ◌&&◌, ◌||◌, List, [], ◌∷◌, refl, sym, ap, ap₂, ◌∙◌, subst, arith, ◌⊎◌, inl, inr, ⊎_elim, nat_lt, ◌==◌}
+use Rattle.std.proofs.Common.{◌≡◌, ℕ, Bool, true, false, ◌&&◌, ◌||◌, List, [], ◌∷◌, refl, sym, ap, ap₂, ◌∙◌, subst, arith, ◌⊎◌, inl, inr, ⊎_elim, nat_lt, ◌==◌}
 use Rattle.std.proofs.lemmas.Bool.{and_parts, and_from, or_parts, and_cases}
 use Rattle.facts.specs.declared.locks.LockPath.{LockPath}
 use Rattle.facts.specs.declared.locks.Minus.{Minus}
@@ -9,46 +9,11 @@ use Rattle.facts.specs.declared.locks.Guarded.{Guarded}
 use Rattle.facts.specs.Locks.{is_less, is_same}
 use Rattle.facts.specs.Summaries.{paths_less, paths_same, minus_less, locks_less, locks_of, first_less, number_of, guarded_less}
 use Rattle.lockset_summary.specs.Exits.{minus_same, locks_same, all_same}
-use Rattle.lockset_summary.proofs.Sets.{same_path, path_same, less_trans, less_other, or_first, or_second}
-
-differ : false ≡ true → ⊥
-differ h = cc
+use Rattle.facts.proofs.Orders.{path_same, path_self, paths_same_eq, paths_self}
+use Rattle.facts.proofs.PathSets.{less_other}
+use Rattle.lockset_summary.proofs.Sets.{or_first, or_second}
 
 -- ---- paths
-
-pub same_paths : (ps qs : List LockPath) → paths_same ps qs ≡ true → ps ≡ qs
-same_paths [] [] h = refl
-same_paths [] (q ∷ qs) h = cc
-same_paths (p ∷ ps) [] h = cc
-same_paths (p ∷ ps) (q ∷ qs) h = let e = and_parts (is_same p q) (paths_same ps qs) h in ap₂ (λ a b. a ∷ b) (same_path p q e.0) (same_paths ps qs e.1)
-
-pub paths_itself : (ps : List LockPath) → paths_same ps ps ≡ true
-paths_itself [] = refl
-paths_itself (p ∷ ps) = and_from (is_same p p) (paths_same ps ps) (path_same p) (paths_itself ps)
-
--- by the first, then by the others
-first_or : (a b c : Bool) → (a || (b && c)) ≡ true → (a ≡ true) ⊎ ((b ≡ true) × (c ≡ true))
-first_or true b c h = inl refl
-first_or false b c h = inr (and_parts b c h)
-
-or_of : (a b c : Bool) → (a ≡ true) ⊎ ((b ≡ true) × (c ≡ true)) → (a || (b && c)) ≡ true
-or_of true b c h = refl
-or_of false b c (inl h) = absurd (differ h)
-or_of false b c (inr h) = and_from b c h.0 h.1
-
-paths_trans : (ps qs rs : List LockPath) → paths_less ps qs ≡ true → paths_less qs rs ≡ true → paths_less ps rs ≡ true
-paths_trans [] [] rs h k = cc
-paths_trans [] (q ∷ qs) [] h k = cc
-paths_trans [] (q ∷ qs) (r ∷ rs) h k = refl
-paths_trans (p ∷ ps) [] rs h k = cc
-paths_trans (p ∷ ps) (q ∷ qs) [] h k = cc
-paths_trans (p ∷ ps) (q ∷ qs) (r ∷ rs) h k = go (first_or (is_less p q) (is_same p q) (paths_less ps qs) h) (first_or (is_less q r) (is_same q r) (paths_less qs rs) k) (paths_trans ps qs rs)
-  where
-    go : (is_less p q ≡ true) ⊎ ((is_same p q ≡ true) × (paths_less ps qs ≡ true)) → (is_less q r ≡ true) ⊎ ((is_same q r ≡ true) × (paths_less qs rs ≡ true)) → (paths_less ps qs ≡ true → paths_less qs rs ≡ true → paths_less ps rs ≡ true) → (is_less p r || (is_same p r && paths_less ps rs)) ≡ true
-    go (inl x) (inl y) f = or_first (is_less p r) (is_same p r && paths_less ps rs) (less_trans p q r x y)
-    go (inl x) (inr y) f = or_first (is_less p r) (is_same p r && paths_less ps rs) (subst (λ z. is_less p z ≡ true) (same_path q r y.0) x)
-    go (inr x) (inl y) f = or_first (is_less p r) (is_same p r && paths_less ps rs) (subst (λ z. is_less z r ≡ true) (sym (same_path p q x.0)) y)
-    go (inr x) (inr y) f = or_second (is_less p r) (is_same p r && paths_less ps rs) (and_from (is_same p r) (paths_less ps rs) (subst (λ z. is_same z r ≡ true) (sym (same_path p q x.0)) y.0) (f x.1 y.1))
 
 paths_other : (ps qs : List LockPath) → paths_less ps qs ≡ false → (ps ≡ qs) ⊎ (paths_less qs ps ≡ true)
 paths_other [] [] h = inl refl
@@ -62,39 +27,21 @@ paths_other (p ∷ ps) (q ∷ qs) h = go (and_cases (is_same p q) (paths_less ps
     rest : p ≡ q → (paths_less ps qs ≡ false → (ps ≡ qs) ⊎ (paths_less qs ps ≡ true)) → paths_less ps qs ≡ false → (p ∷ ps ≡ q ∷ qs) ⊎ ((is_less q p || (is_same q p && paths_less qs ps)) ≡ true)
     rest e f l = ⊎_elim
         (λ (z : ps ≡ qs). inl (ap₂ (λ a b. a ∷ b) e z))
-        (λ (z : paths_less qs ps ≡ true). inr (or_second (is_less q p) (is_same q p && paths_less qs ps) (and_from (is_same q p) (paths_less qs ps) (subst (λ y. is_same y p ≡ true) e (path_same p)) z)))
+        (λ (z : paths_less qs ps ≡ true). inr (or_second (is_less q p) (is_same q p && paths_less qs ps) (and_from (is_same q p) (paths_less qs ps) (subst (λ y. is_same y p ≡ true) e (path_self p)) z)))
         (f l)
 
     go : (is_same p q ≡ false) ⊎ (paths_less ps qs ≡ false) → (b : Bool) → is_same p q ≡ b → (paths_less ps qs ≡ false → (ps ≡ qs) ⊎ (paths_less qs ps ≡ true)) → (p ∷ ps ≡ q ∷ qs) ⊎ ((is_less q p || (is_same q p && paths_less qs ps)) ≡ true)
     go (inl x) b e f = inr (or_first (is_less q p) (is_same q p && paths_less qs ps) (less_other p q o.0 x))
-    go (inr x) true e f = rest (same_path p q e) f x
+    go (inr x) true e f = rest (path_same p q e) f x
     go (inr x) false e f = inr (or_first (is_less q p) (is_same q p && paths_less qs ps) (less_other p q o.0 e))
 
 -- ---- locks
-
-minus_trans : (l m n : Minus) → minus_less l m ≡ true → minus_less m n ≡ true → minus_less l n ≡ true
-minus_trans All m n h k = cc
-minus_trans (Listed ps) All n h k = cc
-minus_trans (Listed ps) (Listed qs) All h k = refl
-minus_trans (Listed ps) (Listed qs) (Listed rs) h k = paths_trans ps qs rs h k
 
 minus_other : (m n : Minus) → minus_less m n ≡ false → (m ≡ n) ⊎ (minus_less n m ≡ true)
 minus_other All All h = inl refl
 minus_other All (Listed qs) h = inr refl
 minus_other (Listed ps) All h = cc
 minus_other (Listed ps) (Listed qs) h = ⊎_elim (λ e. inl (ap Listed e)) (λ l. inr l) (paths_other ps qs h)
-
-locks_trans : (l m n : RelLocks) → locks_less l m ≡ true → locks_less m n ≡ true → locks_less l n ≡ true
-locks_trans l m n h k = go (first_or (paths_less l.plus m.plus) (paths_same l.plus m.plus) (minus_less l.minus m.minus) h) (first_or (paths_less m.plus n.plus) (paths_same m.plus n.plus) (minus_less m.minus n.minus) k)
-  where
-    ends : (paths_less l.plus n.plus ≡ true) ⊎ ((paths_same l.plus n.plus ≡ true) × (minus_less l.minus n.minus ≡ true)) → locks_less l n ≡ true
-    ends = or_of (paths_less l.plus n.plus) (paths_same l.plus n.plus) (minus_less l.minus n.minus)
-
-    go : (paths_less l.plus m.plus ≡ true) ⊎ ((paths_same l.plus m.plus ≡ true) × (minus_less l.minus m.minus ≡ true)) → (paths_less m.plus n.plus ≡ true) ⊎ ((paths_same m.plus n.plus ≡ true) × (minus_less m.minus n.minus ≡ true)) → locks_less l n ≡ true
-    go (inl x) (inl y) = ends (inl (paths_trans l.plus m.plus n.plus x y))
-    go (inl x) (inr y) = ends (inl (subst (λ z. paths_less l.plus z ≡ true) (same_paths m.plus n.plus y.0) x))
-    go (inr x) (inl y) = ends (inl (subst (λ z. paths_less z n.plus ≡ true) (sym (same_paths l.plus m.plus x.0)) y))
-    go (inr x) (inr y) = ends (inr (subst (λ z. paths_same z n.plus ≡ true) (sym (same_paths l.plus m.plus x.0)) y.0, minus_trans l.minus m.minus n.minus x.1 y.1))
 
 locks_other : (l m : RelLocks) → locks_less l m ≡ false → (l ≡ m) ⊎ (locks_less m l ≡ true)
 locks_other l m h = ⊎_elim same (λ (z : paths_less m.plus l.plus ≡ true). inr (or_first (paths_less m.plus l.plus) (paths_same m.plus l.plus && minus_less m.minus l.minus) z)) (paths_other l.plus m.plus o.0)
@@ -107,38 +54,14 @@ locks_other l m h = ⊎_elim same (λ (z : paths_less m.plus l.plus ≡ true). i
 
     same : l.plus ≡ m.plus → (l ≡ m) ⊎ (locks_less m l ≡ true)
     same e =
-        let s : paths_same l.plus m.plus ≡ true = subst (λ z. paths_same l.plus z ≡ true) e (paths_itself l.plus) in
+        let s : paths_same l.plus m.plus ≡ true = subst (λ z. paths_same l.plus z ≡ true) e (paths_self l.plus) in
         let n : minus_less l.minus m.minus ≡ false = ap (λ b. b && minus_less l.minus m.minus) (sym s) ∙ o.1 in
         ⊎_elim
         (λ (z : l.minus ≡ m.minus). inl (both l.plus m.plus l.minus m.minus e z))
-        (λ (z : minus_less m.minus l.minus ≡ true). inr (or_second (paths_less m.plus l.plus) (paths_same m.plus l.plus && minus_less m.minus l.minus) (and_from (paths_same m.plus l.plus) (minus_less m.minus l.minus) (subst (λ y. paths_same y l.plus ≡ true) e (paths_itself l.plus)) z)))
+        (λ (z : minus_less m.minus l.minus ≡ true). inr (or_second (paths_less m.plus l.plus) (paths_same m.plus l.plus && minus_less m.minus l.minus) (and_from (paths_same m.plus l.plus) (minus_less m.minus l.minus) (subst (λ y. paths_same y l.plus ≡ true) e (paths_self l.plus)) z)))
         (minus_other l.minus m.minus n)
 
 -- ---- accesses
-
-first_trans : (x y z : ℕ) (b c d : Bool) → (b ≡ true → c ≡ true → d ≡ true) → first_less x y b ≡ true → first_less y z c ≡ true → first_less x z d ≡ true
-first_trans x y z b c d f h k = go (first_or (nat_lt x y) (x == y) b h) (first_or (nat_lt y z) (y == z) c k)
-  where
-    less : x < z → (nat_lt x z || ((x == z) && d)) ≡ true
-    less l = or_first (nat_lt x z) ((x == z) && d) (grind (arith, l))
-
-    same : x ≡ z → d ≡ true → (nat_lt x z || ((x == z) && d)) ≡ true
-    same e g = or_second (nat_lt x z) ((x == z) && d) (and_from (x == z) d (grind (arith, e)) g)
-
-    lt : (m n : ℕ) → nat_lt m n ≡ true → m < n
-    lt m n g = grind (arith, g)
-
-    eq : (m n : ℕ) → (m == n) ≡ true → m ≡ n
-    eq m n g = grind (arith, g)
-
-    go : (nat_lt x y ≡ true) ⊎ (((x == y) ≡ true) × (b ≡ true)) → (nat_lt y z ≡ true) ⊎ (((y == z) ≡ true) × (c ≡ true)) → (nat_lt x z || ((x == z) && d)) ≡ true
-    go (inl u) (inl v) = less (omega (arith, lt x y u, lt y z v))
-    go (inl u) (inr v) = less (omega (arith, lt x y u, eq y z v.0))
-    go (inr u) (inl v) = less (omega (arith, eq x y u.0, lt y z v))
-    go (inr u) (inr v) = same (eq x y u.0 ∙ eq y z v.0) (f u.1 v.1)
-
-pub guarded_trans : (a b c : Guarded) → guarded_less a b ≡ true → guarded_less b c ≡ true → guarded_less a c ≡ true
-guarded_trans a b c h k = first_trans a.function b.function c.function _ _ _ (first_trans a.instr b.instr c.instr _ _ _ (first_trans (number_of a.store) (number_of b.store) (number_of c.store) _ _ _ (locks_trans (locks_of a) (locks_of b) (locks_of c)))) h k
 
 first_other : (Q : Type 0) (x y : ℕ) (b c : Bool) → first_less x y b ≡ false → (b ≡ false → Q ⊎ (c ≡ true)) → ((x ≡ y) × Q) ⊎ (first_less y x c ≡ true)
 first_other Q x y b c h f = go (x == y) refl
@@ -191,14 +114,14 @@ same_minus : (m n : Minus) → minus_same m n ≡ true → m ≡ n
 same_minus All All h = refl
 same_minus All (Listed qs) h = cc
 same_minus (Listed ps) All h = cc
-same_minus (Listed ps) (Listed qs) h = ap Listed (same_paths ps qs h)
+same_minus (Listed ps) (Listed qs) h = ap Listed (paths_same_eq ps qs h)
 
 minus_itself : (m : Minus) → minus_same m m ≡ true
 minus_itself All = refl
-minus_itself (Listed ps) = paths_itself ps
+minus_itself (Listed ps) = paths_self ps
 
 same_locks : (l m : RelLocks) → locks_same l m ≡ true → l ≡ m
-same_locks l m h = let e = and_parts (paths_same l.plus m.plus) (minus_same l.minus m.minus) h in both l.plus m.plus l.minus m.minus (same_paths l.plus m.plus e.0) (same_minus l.minus m.minus e.1)
+same_locks l m h = let e = and_parts (paths_same l.plus m.plus) (minus_same l.minus m.minus) h in both l.plus m.plus l.minus m.minus (paths_same_eq l.plus m.plus e.0) (same_minus l.minus m.minus e.1)
   where
     both : (p q : List LockPath) (m n : Minus) → p ≡ q → m ≡ n → ◌≡◌ {A = RelLocks} (record { plus = p; minus = m }) (record { plus = q; minus = n })
     both p q m n e g = ap₂ {C = RelLocks} (λ a b. record { plus = a; minus = b }) e g
@@ -211,4 +134,4 @@ same_exits (l ∷ ls) (m ∷ ms) h = let e = and_parts (locks_same l m) (all_sam
 
 pub exits_itself : (ls : List RelLocks) → all_same ls ls ≡ true
 exits_itself [] = refl
-exits_itself (l ∷ ls) = and_from (locks_same l l) (all_same ls ls) (and_from (paths_same l.plus l.plus) (minus_same l.minus l.minus) (paths_itself l.plus) (minus_itself l.minus)) (exits_itself ls)
+exits_itself (l ∷ ls) = and_from (locks_same l l) (all_same ls ls) (and_from (paths_same l.plus l.plus) (minus_same l.minus l.minus) (paths_self l.plus) (minus_itself l.minus)) (exits_itself ls)

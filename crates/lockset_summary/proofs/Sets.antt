@@ -1,22 +1,13 @@
 -- Sets of paths: what they have, their order, and when two of them are one.
-use Rattle.std.proofs.Common.{◌≡◌, ℕ, ◌+◌, ◌<◌, Bool, true, false, ◌&&◌, ◌||◌, List, [], ◌∷◌, length, refl, sym, ap, ap₂, ◌∙◌, subst, arith, ◌⊎◌, inl, inr, ⊎_elim, nat_lt, ◌==◌, eqb-true, eq-eqb}
+use Rattle.std.proofs.Common.{◌≡◌, ◌+◌, ◌<◌, Bool, true, false, ◌||◌, List, [], ◌∷◌, length, refl, sym, ap, ap₂, ◌∙◌, subst, arith, ◌⊎◌, inl, inr, ⊎_elim}
 use Rattle.std.specs.Prelude.{if◌then◌else◌}
 use Rattle.std.proofs.lemmas.Bool.{and_parts, and_from}
 use Rattle.facts.specs.declared.locks.LockPath.{LockPath}
-use Rattle.facts.specs.declared.locks.LockPath.TheVariants.{Cell, Formal}
 use Rattle.facts.specs.Locks.{is_less, is_same, has, with, union, are_ascending}
+use Rattle.facts.proofs.Orders.{path_irr, path_same, path_self, path_trans}
+use Rattle.facts.proofs.PathSets.{less_other}
 
 -- ---- one path
-
-pub same_path : (p q : LockPath) → is_same p q ≡ true → p ≡ q
-same_path (Cell a) (Cell b) h = ap Cell (eqb-true a b h)
-same_path (Cell a) (Formal j n) h = cc
-same_path (Formal i m) (Cell b) h = cc
-same_path (Formal i m) (Formal j n) h = let e = and_parts (i == j) (m == n) h in ap₂ Formal (eqb-true i j e.0) (eqb-true m n e.1)
-
-pub path_same : (p : LockPath) → is_same p p ≡ true
-path_same (Cell a) = eq-eqb a a refl
-path_same (Formal i m) = and_from (i == i) (m == m) (eq-eqb i i refl) (eq-eqb m m refl)
 
 pub or_either : (x y : Bool) → (x || y) ≡ true → (x ≡ true) ⊎ (y ≡ true)
 or_either true y h = inl refl
@@ -30,43 +21,13 @@ pub or_second : (x y : Bool) → y ≡ true → (x || y) ≡ true
 or_second true y h = refl
 or_second false y h = h
 
-formal_less : (i j m n : ℕ) → (nat_lt i j || ((i == j) && nat_lt m n)) ≡ true → (i < j) ⊎ ((i ≡ j) × (m < n))
-formal_less i j m n h = grind (arith, h)
-
-less_formal : (i j m n : ℕ) → (i < j) ⊎ ((i ≡ j) × (m < n)) → (nat_lt i j || ((i == j) && nat_lt m n)) ≡ true
-less_formal i j m n h = grind (arith, h)
-
-pub less_itself : (p : LockPath) → is_less p p ≡ true → ⊥
-less_itself (Cell a) h = grind (arith, h)
-less_itself (Formal i m) h = ⊎_elim (λ (l : i < i). absurd (omega arith)) (λ (l : (i ≡ i) × (m < m)). absurd (omega (arith, l.1))) (formal_less i i m m h)
-
-pub less_trans : (p q r : LockPath) → is_less p q ≡ true → is_less q r ≡ true → is_less p r ≡ true
-less_trans (Cell a) (Cell b) (Cell c) h k = grind (arith, h, k)
-less_trans (Cell a) q (Formal j n) h k = refl
-less_trans (Cell a) (Formal i m) (Cell c) h k = cc
-less_trans (Formal i m) (Cell b) r h k = cc
-less_trans (Formal i m) (Formal j n) (Cell c) h k = cc
-less_trans (Formal i m) (Formal j n) (Formal a b) h k = less_formal i a m b (both (formal_less i j m n h) (formal_less j a n b k))
-  where
-    both : (i < j) ⊎ ((i ≡ j) × (m < n)) → (j < a) ⊎ ((j ≡ a) × (n < b)) → (i < a) ⊎ ((i ≡ a) × (m < b))
-    both (inl x) (inl y) = inl (omega arith)
-    both (inl x) (inr y) = inl (omega (arith, y.0))
-    both (inr x) (inl y) = inl (omega (arith, x.0))
-    both (inr x) (inr y) = inr (x.0 ∙ y.0, omega (arith, x.1, y.1))
-
-pub less_other : (p q : LockPath) → is_less p q ≡ false → is_same p q ≡ false → is_less q p ≡ true
-less_other (Cell a) (Cell b) h k = grind (arith, h, k)
-less_other (Cell a) (Formal j n) h k = cc
-less_other (Formal i m) (Cell b) h k = refl
-less_other (Formal i m) (Formal j n) h k = grind (arith, h, k)
-
 -- ---- what a set has
 
 pub has_cons : (p q : LockPath) (qs : List LockPath) → has p (q ∷ qs) ≡ true → (p ≡ q) ⊎ (has p qs ≡ true)
-has_cons p q qs h = ⊎_elim (λ e. inl (same_path p q e)) (λ e. inr e) (or_either (is_same p q) (has p qs) h)
+has_cons p q qs h = ⊎_elim (λ e. inl (path_same p q e)) (λ e. inr e) (or_either (is_same p q) (has p qs) h)
 
 pub has_first : (p q : LockPath) (qs : List LockPath) → p ≡ q → has p (q ∷ qs) ≡ true
-has_first p q qs e = or_first (is_same p q) (has p qs) (subst (λ z. is_same p z ≡ true) e (path_same p))
+has_first p q qs e = or_first (is_same p q) (has p qs) (subst (λ z. is_same p z ≡ true) e (path_self p))
 
 pub has_later : (p q : LockPath) (qs : List LockPath) → has p qs ≡ true → has p (q ∷ qs) ≡ true
 has_later p q qs h = or_second (is_same p q) (has p qs) h
@@ -86,7 +47,7 @@ with_has q (r ∷ rs) = go (is_less q r) (is_same q r) refl (with_has q rs)
   where
     go : (a b : Bool) → is_same q r ≡ b → has q (with q rs) ≡ true → has q (if a then q ∷ r ∷ rs else if b then r ∷ rs else r ∷ with q rs) ≡ true
     go true b e f = has_first q q (r ∷ rs) refl
-    go false true e f = has_first q r rs (same_path q r e)
+    go false true e f = has_first q r rs (path_same q r e)
     go false false e f = has_later q r (with q rs) f
 
 pub with_keeps : (p q : LockPath) (ps : List LockPath) → has p ps ≡ true → has p (with q ps) ≡ true
@@ -121,7 +82,7 @@ pub first_least : (p : LockPath) (ps : List LockPath) (q : LockPath) → are_asc
 first_least p [] q h k = cc
 first_least p (r ∷ rs) q h k =
     let e = and_parts (is_less p r) (are_ascending (r ∷ rs)) h in
-    ⊎_elim (λ (z : q ≡ r). subst (λ y. is_less p y ≡ true) (sym z) e.0) (λ (z : has q rs ≡ true). less_trans p r q e.0 (first_least r rs q e.1 z)) (has_cons q r rs k)
+    ⊎_elim (λ (z : q ≡ r). subst (λ y. is_less p y ≡ true) (sym z) e.0) (λ (z : has q rs ≡ true). path_trans p r q e.0 (first_least r rs q e.1 z)) (has_cons q r rs k)
 
 pub ascends_from : (p : LockPath) (ps : List LockPath) → ((q : LockPath) → has q ps ≡ true → is_less p q ≡ true) → are_ascending ps ≡ true → are_ascending (p ∷ ps) ≡ true
 ascends_from p [] f h = refl
@@ -151,11 +112,11 @@ fewer (y ∷ ys) (x ∷ xs) h k f = ⊎_elim
   where
     same : (((p : LockPath) → has p xs ≡ true → has p ys ≡ true) → (xs ≡ ys) ⊎ (length xs < length ys)) → x ≡ y → (x ∷ xs ≡ y ∷ ys) ⊎ (length (x ∷ xs) < length (y ∷ ys))
     same rest e = ⊎_elim (λ (z : xs ≡ ys). inl (ap₂ (λ a b. a ∷ b) e z)) (λ (z : length xs < length ys). inr (omega arith))
-        (rest (λ p i. ⊎_elim (λ (z : p ≡ y). absurd (less_itself x (subst (λ a. is_less x a ≡ true) (z ∙ sym e) (first_least x xs p h i)))) (λ z. z) (has_cons p y ys (f p (has_later p x xs i)))))
+        (rest (λ p i. ⊎_elim (λ (z : p ≡ y). absurd (path_irr x (subst (λ a. is_less x a ≡ true) (z ∙ sym e) (first_least x xs p h i)))) (λ z. z) (has_cons p y ys (f p (has_later p x xs i)))))
 
     other : (((p : LockPath) → has p (x ∷ xs) ≡ true → has p ys ≡ true) → (x ∷ xs ≡ ys) ⊎ (length (x ∷ xs) < length ys)) → has x ys ≡ true → (x ∷ xs ≡ y ∷ ys) ⊎ (length (x ∷ xs) < length (y ∷ ys))
     other rest e = ⊎_elim (λ (z : x ∷ xs ≡ ys). inr (omega (arith, ap (λ (l : List LockPath). length l) z))) (λ (z : length (x ∷ xs) < length ys). inr (omega arith))
-        (rest (λ p i. ⊎_elim (λ (z : p ≡ y). absurd (less_itself x (back p i z))) (λ z. z) (has_cons p y ys (f p i))))
+        (rest (λ p i. ⊎_elim (λ (z : p ≡ y). absurd (path_irr x (back p i z))) (λ z. z) (has_cons p y ys (f p i))))
       where
         up : is_less y x ≡ true
         up = first_least y ys x k e
@@ -163,7 +124,7 @@ fewer (y ∷ ys) (x ∷ xs) h k f = ⊎_elim
         back : (p : LockPath) → has p (x ∷ xs) ≡ true → p ≡ y → is_less x x ≡ true
         back p i z = ⊎_elim
             (λ (a : p ≡ x). subst (λ b. is_less b x ≡ true) (sym z ∙ a) up)
-            (λ (a : has p xs ≡ true). less_trans x y x (subst (λ b. is_less x b ≡ true) z (first_least x xs p h a)) up)
+            (λ (a : has p xs ≡ true). path_trans x y x (subst (λ b. is_less x b ≡ true) z (first_least x xs p h a)) up)
             (has_cons p x xs i)
 
 -- a set has no fewer paths when one is added

@@ -2,11 +2,10 @@
 ghost use Rattle.std.specs.Prelude.{◌≡◌, ◌<◌, ◌+◌, ◌^◌, ◌++◌, List as Items, Some, slice_get, length, option_to_list, IfOk, OnOk};
 ghost use Rattle.std.specs.Option.{option_copied};
 ghost use Rattle.facts.specs.Blocks.{AreAmounts};
-ghost use Rattle.facts.specs.PointsTo.{list_at};
+ghost use Rattle.facts.specs.PointsTo.{list_at, HasRegisters};
 ghost use Rattle.weak_facts.specs.Loops as loops;
 ghost use Rattle.flow_code.specs.declared.act.Instr.{Instr as Step};
 ghost use Rattle.loop_bounds.specs.Tables.{AreWays, AreMakers, AreOperands, AreRounds, AreCalm, AreHeads, calm_loops};
-ghost use Rattle.weak_facts.specs.Ranges.{HasRegisters};
 ghost use Rattle.weak_facts.specs.Ranges as spec;
 
 use crate::acts::pointer_of;

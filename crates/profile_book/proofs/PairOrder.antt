@@ -10,8 +10,8 @@ use Rattle.std.specs.List.{Contains, list_any, AllByRecursion}
 use Rattle.std.specs.List.Sorted.{IsStrictlySortedBy}
 use Rattle.std.specs.Ordering.{ordering_then, ordering_reverse, is_lt, is_le}
 use Rattle.profiles.proofs.Ascending.{one_list, Up, before_less, In_at, at_In}
-use Rattle.profiles.specs.Profile.{Text, Pair, text_order, pair_order, AreAscending, IsLesserFirst}
-use Rattle.profile_book.specs.Listing.{IsSetOf, lesser_first}
+use Rattle.profiles.specs.Profile.{Text, Pair, text_order, pair_order, ordered, AreAscending, IsLesserFirst}
+use Rattle.profile_book.specs.Listing.{IsSetOf}
 
 same_text : (a b : Text) → is_eq (text_order a b) ≡ true → a ≡ b
 same_text a b e = (bytes_eq-Decides a b).0 (sym (is_eq-slice_cmp a b) ∙ e)
@@ -92,7 +92,7 @@ first_of : (f g : Text) (b : Bool) → is_le (text_order f g) ≡ b → IsLesser
 first_of f g true e = e
 first_of f g false e = ap is_le (nat_list_cmp_total.antisymm g f) ∙ turned (text_order f g) e
 
-pub lesser_is_first : (f g : Text) → IsLesserFirst (lesser_first f g)
+pub lesser_is_first : (f g : Text) → IsLesserFirst (ordered f g)
 lesser_is_first f g = first_of f g (is_le (text_order f g)) refl
 
 -- ---- one list for one set

@@ -7,7 +7,7 @@ use Rattle.serde_json.specs.Find.{get, get_member, as_object, as_array, as_str}
 use Rattle.serde_json.specs.View.{items_view, members_view, items_of}
 use Rattle.serde_json.specs.Written.{has_float, items_have_float}
 use Rattle.serde_json.specs.declared.value.Value.{Value}
-use Rattle.profile_book.specs.Listing.{pair_of, pair_of_items, pair_in, with_first, pairs_in, only_at, array_in, pairs_of, lesser_first}
+use Rattle.profile_book.specs.Listing.{pair_of, pair_of_items, pair_in, with_first, pairs_in, only_at, array_in, pairs_of}
 use Rattle.profile_book.specs.Writing.{pair_value, items_of_pairs, profile_value}
 use Rattle.profile_book.proofs.PairOrder.{lesser_is_first}
 

@@ -1,16 +1,11 @@
 -- The pairs of texts that a JSON value lists.
-use Rattle.std.specs.Prelude.{◌↔◌, List, [], ◌∷◌, Option, Some, None, option_map, option_and_then, if◌then◌else◌, codes, Contains}
-use Rattle.std.specs.Ordering.{is_le}
-use Rattle.profiles.specs.Profile.{Text, Pair, AreAscending, text_order}
+use Rattle.std.specs.Prelude.{◌↔◌, List, [], ◌∷◌, Option, Some, None, option_map, option_and_then, codes, Contains}
+use Rattle.profiles.specs.Profile.{Text, Pair, AreAscending, ordered}
 use Rattle.serde_json.specs.Data.{Data, Items, no_items, item, Members, no_members, member}
 use Rattle.serde_json.specs.Find.{get_member, as_object, as_array, as_str}
 
--- two texts, the lesser one first
-abbrev pub lesser_first : Text → Text → Pair
-lesser_first f g = if is_le (text_order f g) then (f, g) else (g, f)
-
 abbrev pub pair_of : Option Text → Option Text → Option Pair
-pair_of (Some f) (Some g) = Some (lesser_first f g)
+pair_of (Some f) (Some g) = Some (ordered f g)
 pair_of _ _ = None
 
 -- the pair of an array of exactly two texts

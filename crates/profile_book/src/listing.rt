@@ -2,7 +2,7 @@
 
 ghost use Rattle.std.specs.Prelude.{◌≡◌, option_map, IfOk};
 ghost use Rattle.std.specs.List.{AllByRecursion};
-ghost use Rattle.profiles.specs.Profile.{AreTexts};
+ghost use Rattle.profiles.specs.Profile.{AreTexts, ordered as ordered_texts};
 ghost use Rattle.serde_json.specs.View.{view, items_view};
 ghost use Rattle.profile_book.specs.Listing as spec;
 ghost use Rattle.profile_book.specs.Gives.{Gives};
@@ -22,8 +22,8 @@ fn array_in(value: &Value) -> Option<&Vec<Value>>
     value.get("pairs")?.as_array()
 }
 
-fn lesser_first<'a>(f: &'a str, g: &'a str) -> (&'a str, &'a str)
-    ensures { (result.0.now, result.1.now) ≡ spec.lesser_first f.now g.now }
+fn ordered<'a>(f: &'a str, g: &'a str) -> (&'a str, &'a str)
+    ensures { (result.0.now, result.1.now) ≡ ordered_texts f.now g.now }
 {
     if f.as_bytes().cmp(&g.as_bytes()).is_le() {
         (f, g)
@@ -39,7 +39,7 @@ fn pair_in(value: &Value) -> Option<(&str, &str)>
     let [first, second] = value.as_array()?.as_slice() else {
         return None;
     };
-    Some(lesser_first(first.as_str()?, second.as_str()?))
+    Some(ordered(first.as_str()?, second.as_str()?))
 }
 
 fn owned(alloc: Global, f: &str, g: &str) -> Result<(Bytes, Bytes), AllocError>

@@ -2,7 +2,7 @@
 -- and the access alone.
 use Rattle.std.specs.Prelude.{◌≡◌, ℕ, zero, suc, ◌==◌, ◌&&◌, ◌||◌, Bool, true, false, if◌then◌else◌, List, [], ◌∷◌, ◌++◌, length, Option, Some, None, is_none, slice_get, filter}
 use Rattle.std.specs.List.{list_any, Contains}
-use Rattle.std.specs.Ordering.{is_lt, is_eq}
+use Rattle.std.specs.Ordering.{is_eq}
 use Rattle.flow_code.specs.declared.act.Act.{Act}
 use Rattle.flow_code.specs.declared.act.Act.TheVariants as act
 use Rattle.flow_code.specs.declared.act.Instr.{Instr}
@@ -15,7 +15,7 @@ use Rattle.profiles.specs.declared.profile.Profile.{Profile}
 use Rattle.profiles.specs.declared.profile.Profile.TheVariants as profile
 use Rattle.facts.specs.Blocks.{begins_block}
 use Rattle.facts.specs.Pairs.{access_less, access_same, act_of}
-use Rattle.profiles.specs.Profile.{Text, text_order, pair_order}
+use Rattle.profiles.specs.Profile.{Text, ordered, pair_order}
 use Rattle.weak_facts.specs.declared.grain.Grain.{Grain}
 use Rattle.weak_facts.specs.declared.grain.Grain.TheVariants as grain
 use Rattle.weak_facts.specs.declared.grain.Grained.{Grained}
@@ -39,17 +39,13 @@ named (Some fn) = fn.name
 abbrev pub name_of : Code → ℕ → Text
 name_of code f = named (slice_get code.functions f)
 
--- two names, the lesser by its bytes first
-abbrev pub lesser_first : Text → Text → Text × Text
-lesser_first a b = if is_lt (text_order b a) then (b, a) else (a, b)
-
 abbrev pub has_names : Profile → Text × Text → Bool
 has_names profile.All q = true
 has_names (profile.Pairs qs) q = list_any (λ r. is_eq (pair_order r q)) qs
 
 -- the profile has the functions in which the accesses of the pair stand
 abbrev pub is_seen : Code → Profile → Pair → Bool
-is_seen code profile p = has_names profile (lesser_first (name_of code p.first.function) (name_of code p.second.function))
+is_seen code profile p = has_names profile (ordered (name_of code p.first.function) (name_of code p.second.function))
 
 -- a pair of which the profile has the functions has the access
 abbrev pub is_met : Code → List Pair → Profile → AccessAt → Bool

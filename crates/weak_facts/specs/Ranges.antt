@@ -1,6 +1,6 @@
 -- The accesses of counted loops whose elements are known where the loop is entered: those of an array or a pointer that the
 -- loop keeps, at the counter, or so many elements after it or before it.
-use Rattle.std.specs.Prelude.{◌≡◌, ℕ, zero, suc, ◌+◌, ◌-◌, ◌^◌, ◌==◌, nat_lt, nat_le, ◌&&◌, Bool, true, false, not, if◌then◌else◌, ℤ, pos, negsuc, neg_ℤ, List, [], ◌∷◌, ◌++◌, length, drop, Option, Some, None, option_to_list, slice_get, slice_index_or}
+use Rattle.std.specs.Prelude.{ℕ, zero, suc, ◌+◌, ◌-◌, ◌^◌, ◌==◌, nat_lt, nat_le, ◌&&◌, Bool, true, false, not, if◌then◌else◌, ℤ, pos, negsuc, neg_ℤ, List, [], ◌∷◌, ◌++◌, drop, Option, Some, None, option_to_list}
 use Rattle.std.specs.List.{list_all, count_by}
 use Rattle.rr_base.specs.Words.{site_of}
 use Rattle.rr_base.specs.declared.layout.Place.{Place}
@@ -19,11 +19,6 @@ use Rattle.facts.specs.Blocks.{begins_block, assigns, constant_at, is_target}
 use Rattle.facts.specs.PointsTo.{Tables, list_at, element_of}
 use Rattle.weak_facts.specs.declared.range.Range.{Range}
 use Rattle.weak_facts.specs.Loops.{◌>>=◌, nth, loop_code, keeps, is_entered_at, counted_of}
-
--- the tables have a list for each register of each function
-pub record HasRegisters (code : Code) (t : Tables) : Type 0 where
-  pub functions : length t.registers ≡ length code.functions
-  pub registers : (f : ℕ) (fn : Function) → slice_get code.functions f ≡ Some fn → length (slice_index_or t.registers f []) ≡ fn.registers
 
 -- ---- the loop of an access
 

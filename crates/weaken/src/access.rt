@@ -3,9 +3,9 @@ ghost use Rattle.std.specs.Prelude.{◌≡◌, ◌++◌, ℕ, true, Some, option
 ghost use Rattle.std.specs.List.{filter_map};
 ghost use Rattle.facts.specs.Accesses as accesses;
 ghost use Rattle.facts.specs.Pairs as facts_pairs;
-ghost use Rattle.facts.specs.PointsTo.{are_ascending};
+ghost use Rattle.facts.specs.PointsTo.{are_ascending, HasRegisters};
 ghost use Rattle.weak_code.specs.Stretches as stretches;
-ghost use Rattle.weaken.specs.Registers.{HasRegisters, through_of, access_through};
+ghost use Rattle.weaken.specs.Registers.{through_of, access_through};
 ghost use Rattle.weaken.specs.Tables.{shift_in, AreShifts};
 ghost use Rattle.weak_code.specs.WeakLocks as spec;
 

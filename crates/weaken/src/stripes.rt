@@ -1,9 +1,8 @@
 // The weak locks of a code, and their stripes.
 ghost use Rattle.std.specs.Prelude.{◌≡◌, ◌<◌, ◌&&◌, ◌||◌, ℕ, true, false, length, Some, IfOk, slice_index_or, slice_get, if◌then◌else◌};
 ghost use Rattle.facts.specs.Pairs as facts_pairs;
-ghost use Rattle.facts.specs.PointsTo.{are_ascending};
+ghost use Rattle.facts.specs.PointsTo.{are_ascending, HasRegisters};
 ghost use Rattle.weak_code.specs.WeakLocks as spec;
-ghost use Rattle.weaken.specs.Registers.{HasRegisters};
 ghost use Rattle.weaken.specs.Marks.{Marks};
 ghost use Rattle.rr_base.specs.declared.layout.Place.{Place};
 

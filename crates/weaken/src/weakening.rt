@@ -6,7 +6,7 @@ ghost use Rattle.flow_code.specs.Valid.{loops_fit};
 ghost use Rattle.facts.specs.declared.locks.Summary.{Summary};
 ghost use Rattle.profiles.specs.declared.profile.Profile.{Profile};
 ghost use Rattle.facts.specs.Pairs.{pairs_ascend};
-ghost use Rattle.facts.specs.PointsTo.{are_ascending};
+ghost use Rattle.facts.specs.PointsTo.{are_ascending, HasRegisters};
 ghost use Rattle.flow_code.specs.declared.code.Function.{Function};
 ghost use Rattle.rr_base.specs.declared.layout.Place.{Place};
 ghost use Rattle.weak_code.specs.WeakLocks as locks;
@@ -16,7 +16,6 @@ ghost use Rattle.weak_code.specs.Weakened.{weakened};
 ghost use Rattle.weak_code.specs.Stripped.{is_plain};
 ghost use Rattle.weak_sound.specs.Answers.{AreAnswers};
 ghost use Rattle.weak_sound.specs.Apart.{loops_are_apart};
-ghost use Rattle.weaken.specs.Registers.{HasRegisters};
 ghost use Rattle.weaken.specs.Tables.{IsPlan};
 ghost use Rattle.weaken.specs.Jumps.{all_jumps_within};
 
