@@ -9,6 +9,7 @@ use Rattle.abstract_machine.specs.Pointers.{site_at}
 abbrev pub argument_cell : ℕ → ℕ
 argument_cell k = 2 * k
 
+-- `pthread_join` loads this cell; the thread stores it as it ends
 abbrev pub result_cell : ℕ → ℕ
 result_cell k = 2 * k + 1
 
@@ -17,6 +18,7 @@ abbrev pub size_in : Option Site → ℕ
 size_in None = 0
 size_in (Some site) = site.layout.size
 
+-- how many cells an object of site k has; 0 where it isn't there
 abbrev pub size_of : List Site → ℕ → ℕ
 size_of sites k = size_in (site_at sites k)
 
@@ -30,6 +32,7 @@ abbrev pub is_size : ℕ → ℤ → Bool
 is_size unit (pos n) = nat_le 1 n && nat_le n 65535 && not (unit == 0) && (n % unit == 0)
 is_size unit (negsuc n) = false
 
+-- how many cells `malloc` is asked for; 0 for a negative number
 abbrev pub cells_in : ℤ → ℕ
 cells_in (pos n) = n
 cells_in (negsuc n) = 0

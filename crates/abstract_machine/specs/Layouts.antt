@@ -8,5 +8,6 @@ use Rattle.rr_base.specs.declared.layout.Site.{Site}
 abbrev pub layout_fits : Layout → Bool
 layout_fits l = nat_le 1 l.size && nat_le l.size 65535 && (length l.kinds == l.size) && nat_le 1 l.element && (l.size % l.element == 0)
 
+-- all objects that a code can make have proper layouts
 abbrev pub sites_fit : List Site → Bool
 sites_fit sites = list_all (λ s. layout_fits s.layout) sites

@@ -43,6 +43,7 @@ clipped bound (negsuc n) = 0
 abbrev pub slot_in : ℤ → ℕ
 slot_in z = clipped 16 z
 
+-- an epoch, a barrier's generation or a started function: below 2^32
 abbrev pub count_in : ℤ → ℕ
 count_in z = clipped (2 ^ 32) z
 
@@ -82,6 +83,7 @@ text_of piece.Number (Some w) = signed_decimal (number w)
 text_of piece.Letter None = []
 text_of piece.Letter (Some w) = w % 256 ∷ []
 
+-- conversions of a format use up an argument, plain bytes don't
 abbrev pub takes_argument : Piece → Bool
 takes_argument (piece.Byte b) = false
 takes_argument piece.Number = true
@@ -97,6 +99,7 @@ piece_of (call.Print format) words = printed_piece format words
 piece_of call.PutChar words = argument words 0 % 256 ∷ []
 piece_of _ words = []
 
+-- output is one operation, whose bytes count against the thread's 2^24
 abbrev pub print_due : Caller → ℕ → Due
 print_due w bytes = if nat_le (w.printed + bytes) most_printed then due.Operate op.Print object.Output else due.Trap trap.Limit
 
@@ -113,6 +116,7 @@ abbrev pub is_joinable : Caller → ℤ → Bool
 is_joinable w (pos n) = nat_le 1 n && nat_lt n w.setup.slots && not (n == w.thread)
 is_joinable w (negsuc n) = false
 
+-- a wait for the thread's end; itself, `main` or no thread is a trap
 abbrev pub join_thread_due : Caller → ℤ → Due
 join_thread_due w n = if is_joinable w n then due.Operate op.Join (object.Slot (slot_in n)) else due.Trap trap.BadThread
 
@@ -149,6 +153,7 @@ wait_due_at c m (suc zero) kept = due.Operate op.Unlock (object.Mutex m)
 wait_due_at c m (suc (suc zero)) kept = if is_misuse kept then due.Trap trap.MutexMisuse else due.Operate (op.CondWake (count_in kept)) (object.Cond c)
 wait_due_at c m (suc (suc (suc n))) kept = due.Operate op.Lock (object.Mutex m)
 
+-- `pthread_cond_wait` asks at each event for both of its cells
 abbrev pub wait_due : Caller → List ℕ → ℕ → ℤ → Due
 wait_due w words made kept = at_cell (cell_of w words 0 kind.Cond) (λ c. at_cell (cell_of w words 1 kind.Mutex) (λ m. wait_due_at c m made kept))
 
@@ -160,6 +165,7 @@ signal_due w words = at_cell (cell_of w words 0 kind.Cond) (λ c. due.Operate op
 abbrev pub barrier_count : ℤ → ℕ
 barrier_count z = clipped 17 z
 
+-- `pthread_barrier_init`: 1 to 16 threads, else the barrier is misused
 abbrev pub barrier_init_due : Caller → List ℕ → ℕ → ℤ → Due
 barrier_init_due w words zero kept = at_cell (cell_of w words 0 kind.Barrier) (λ c. due.Operate (op.BarrierInit (barrier_count (number (argument words 1)))) (object.Barrier c))
 barrier_init_due w words (suc n) kept = checked_due trap.BarrierMisuse kept
@@ -203,6 +209,7 @@ library_due w call.PutChar words made kept = print_due w 1
 abbrev pub no_thread_left : ℕ
 no_thread_left = 11
 
+-- `pthread_create` gives 0 after four events, or EAGAIN after the first
 abbrev pub create_onward : ℕ → ℤ → ℤ → Onward
 create_onward zero kept (pos zero) = onward.Gives no_thread_left
 create_onward zero kept answer = onward.Stays answer
@@ -210,11 +217,13 @@ create_onward (suc zero) kept answer = onward.Stays kept
 create_onward (suc (suc zero)) kept answer = onward.Stays kept
 create_onward (suc (suc (suc n))) kept answer = onward.Gives 0
 
+-- `pthread_join` gives 0; where no result is asked for, after its first event
 abbrev pub join_onward : Bool → ℕ → ℤ → Onward
 join_onward asked zero answer = if is_misuse answer then onward.Stays answer else (if asked then onward.Stays answer else onward.Gives 0)
 join_onward asked (suc zero) answer = onward.Stays answer
 join_onward asked (suc (suc n)) answer = onward.Gives 0
 
+-- `pthread_exit` never gives a value: the third event ends the thread
 abbrev pub exit_onward : ℕ → ℤ → Onward
 exit_onward zero kept = onward.Stays kept
 exit_onward (suc zero) kept = onward.Stays kept
@@ -225,16 +234,19 @@ abbrev pub checked_onward : ℕ → ℤ → Onward
 checked_onward zero answer = if is_misuse answer then onward.Stays answer else onward.Gives 0
 checked_onward (suc n) answer = onward.Gives 0
 
+-- `pthread_mutex_trylock` gives its answer: 0, or EBUSY (16)
 abbrev pub try_onward : ℕ → ℤ → ℤ → Onward
 try_onward zero kept answer = onward.Gives (word answer)
 try_onward (suc n) kept answer = onward.Gives (word kept)
 
+-- `pthread_cond_wait` keeps its epoch across the unlock, and gives 0 at last
 abbrev pub wait_onward : ℕ → ℤ → ℤ → Onward
 wait_onward zero kept answer = onward.Stays answer
 wait_onward (suc zero) kept answer = if is_misuse answer then onward.Stays answer else onward.Stays kept
 wait_onward (suc (suc zero)) kept answer = onward.Stays kept
 wait_onward (suc (suc (suc n))) kept answer = onward.Gives 0
 
+-- -1 (PTHREAD_BARRIER_SERIAL_THREAD) for the last to come, 0 for all others
 abbrev pub barrier_wait_onward : ℕ → ℤ → ℤ → Onward
 barrier_wait_onward zero kept answer = if is_serial answer then onward.Gives (word answer) else onward.Stays answer
 barrier_wait_onward (suc n) kept answer = if is_serial kept then onward.Gives (word kept) else onward.Gives 0
@@ -244,6 +256,7 @@ abbrev pub byte_in : Option ℕ → ℕ
 byte_in None = word (negsuc 0)
 byte_in (Some b) = b
 
+-- what `getchar` gives: the input's next byte, or EOF (-1) at its end
 abbrev pub character : List ℕ → ℤ → ℕ
 character input (pos n) = byte_in (slice_get input n)
 character input (negsuc n) = word (negsuc 0)

@@ -7,9 +7,11 @@ use Rattle.sync_objects.specs.declared.operation.Op.{Op}
 abbrev pub most_frames : ℕ
 most_frames = 1000
 
+-- a thread's list in the log; an entry more is the trap LogFull
 abbrev pub most_entries : ℕ
 most_entries = 2 ^ 20
 
+-- how often stripes may be revoked from one thread
 abbrev pub most_revokes : ℕ
 most_revokes = 2 ^ 14
 

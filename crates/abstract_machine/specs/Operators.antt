@@ -20,6 +20,7 @@ pointer_binary_of sites op.Greater v w = compared sites v w (truth (nat_lt (offs
 pointer_binary_of sites op.GreaterEqual v w = compared sites v w (truth (nat_le (offset_of w) (offset_of v)))
 pointer_binary_of sites o v w = binary_of o v w
 
+-- an operator whose operands are both pointers, or both whole numbers
 abbrev pub either_binary_of : Bool → List Site → BinaryOp → ℕ → ℕ → Result ℕ Trap
 either_binary_of true sites o v w = pointer_binary_of sites o v w
 either_binary_of false sites o v w = binary_of o v w

@@ -25,6 +25,7 @@ base_at bases (suc k) = slice_index_or bases k None
 abbrev pub known : List Site → ℕ → ℕ
 known sites w = if nat_le (site_of w) (length sites) then w else w % 2 ^ 54
 
+-- a cell keeps its kind for good, so an access must be of it
 abbrev pub same_kind : CellKind → CellKind → Bool
 same_kind kind.Whole kind.Whole = true
 same_kind kind.Pointer kind.Pointer = true
@@ -33,6 +34,7 @@ same_kind kind.Cond kind.Cond = true
 same_kind kind.Barrier kind.Barrier = true
 same_kind _ _ = false
 
+-- the same of a cell that may not be there
 abbrev pub is_kind : Option CellKind → CellKind → Bool
 is_kind None want = false
 is_kind (Some k) want = same_kind k want
@@ -41,6 +43,7 @@ is_kind (Some k) want = same_kind k want
 abbrev pub kind_at : Layout → ℕ → Option CellKind
 kind_at layout offset = if layout.size == 0 then None else slice_get layout.kinds (offset % layout.size)
 
+-- the kind of a cell of an object that this site made
 abbrev pub kind_in : Option Site → ℕ → Option CellKind
 kind_in None offset = None
 kind_in (Some site) offset = kind_at site.layout offset
@@ -89,6 +92,7 @@ elements_between v w (suc n) = word (int_div (pos (offset_of v) -ℤ pos (offset
 abbrev pub pointer_to : ℤ → Result ℕ Trap
 pointer_to z = pointer.of_number z
 
+-- a number as a register holds it, or the trap in its place
 abbrev pub number_word : Result ℤ Trap → Result ℕ Trap
 number_word (Ok z) = Ok (word z)
 number_word (Err t) = Err t

@@ -12,6 +12,7 @@ use Rattle.abstract_machine.specs.declared.operator.BinaryOp.TheVariants as op
 abbrev pub number : ℕ → ℤ
 number w = cast_signed w64 w
 
+-- 64 bits in two's complement: a negative number gets 2^64 added
 abbrev pub word : ℤ → ℕ
 word z = cast_unsigned w64 z
 
@@ -29,6 +30,7 @@ abbrev pub truth : Bool → ℕ
 truth true = 1
 truth false = 0
 
+-- no number may be divided by it (C99 6.5.5)
 abbrev pub is_zero : ℤ → Bool
 is_zero (pos n) = n == 0
 is_zero (negsuc n) = false
@@ -42,6 +44,7 @@ abbrev pub is_shift : ℤ → Bool
 is_shift (pos n) = nat_lt n 64
 is_shift (negsuc n) = false
 
+-- by how many bits a shift moves; a negative count was refused before
 abbrev pub places : ℤ → ℕ
 places (pos n) = n
 places (negsuc n) = 0
@@ -51,6 +54,7 @@ abbrev pub moved_left : ℤ → ℕ → Result ℕ Trap
 moved_left (pos a) n = fitting (pos (a * 2 ^ n))
 moved_left (negsuc a) n = Err Overflow
 
+-- C's `<<`, by 0 to 63 places; others are a trap (C99 6.5.7)
 abbrev pub shifted_left : ℤ → ℤ → Result ℕ Trap
 shifted_left a n = if is_shift n then moved_left a (places n) else Err ShiftRange
 

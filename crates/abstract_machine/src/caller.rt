@@ -22,6 +22,7 @@ impl<'a> Model for Caller<'a> {
 }
 
 impl<'a> Caller<'a> {
+    /// A thread that calls, with as many bytes printed before.
     pub fn new(sites: &'a [Site], setup: &'a Setup, thread: u8, printed: u32) -> Caller<'a>
         ensures { result ≡ record { sites = sites.now; setup = setup.now; thread = thread; printed = printed } }
     {
@@ -33,24 +34,28 @@ impl<'a> Caller<'a> {
         }
     }
 
+    /// The sites of its code.
     pub fn sites(&self) -> &'a [Site]
         ensures { result.now ≡ self.now.sites }
     {
         self.sites
     }
 
+    /// The setup in which it runs.
     pub fn setup(&self) -> &'a Setup
         ensures { result.now ≡ self.now.setup }
     {
         self.setup
     }
 
+    /// Its number.
     pub fn thread(&self) -> u8
         ensures { result ≡ self.now.thread }
     {
         self.thread
     }
 
+    /// How many bytes it has printed.
     pub fn printed(&self) -> u32
         ensures { result ≡ self.now.printed }
     {

@@ -10,6 +10,7 @@ use Rattle.answers.specs.declared.answer.Part.TheVariants as part
 use Rattle.answers.specs.declared.answer.Answer.{Answer}
 use Rattle.answers.specs.declared.answer.Answer.TheVariants as answer
 
+-- the exit status; only 0 is success
 abbrev pub status_of : Answer → ℕ
 status_of (answer.Done out) = 0
 status_of answer.Usage = 1
@@ -40,12 +41,14 @@ wrong_entry at = codes "wrong entry " ++ decimal at ++ codes "\n"
 abbrev pub profile_refused : ℕ → List ℕ
 profile_refused number = codes "profile refused " ++ decimal number ++ codes "\n"
 
+-- the line for a file or an input beyond its limit
 abbrev pub too_large : Part → List ℕ
 too_large part.Source = codes "too large source\n"
 too_large part.Log = codes "too large log\n"
 too_large part.Profile = codes "too large profile\n"
 too_large part.Input = codes "too large input\n"
 
+-- all that the program writes; what the source printed comes first
 abbrev pub text_of : Answer → List ℕ
 text_of (answer.Done out) = out
 text_of answer.Usage = codes "usage\n"

@@ -32,6 +32,7 @@ pub data Asked : Type 0 where
 
 -- ---- the words
 
+-- the first word of a command line, spelled just so
 abbrev pub command_of : List ℕ → Option Command
 command_of word =
     if bytes_eq word (codes "races") then Some command.Races else
@@ -82,6 +83,7 @@ job_of (word ∷ words) = option_and_then (job_by (arguments words)) (command_of
 
 -- ---- limits
 
+-- slots 1 to 16, cells 1024 to 131072, limit 1 to 67108864 entries
 pub record HasRecordLimits (asked : RecordAsked) : Type 0 where
   pub slots_low : 1 ≤ asked.slots
   pub slots_high : asked.slots ≤ 16
@@ -100,6 +102,7 @@ HasLimits _ = ⊤
 
 -- ---- jobs in the code
 
+-- what a parsed `record` command line asks for
 abbrev pub record_told : RecordJob → RecordAsked
 record_told r = record { source = r.source.now; log = r.log.now; profile = option_map (λ name. name.now) r.profile; slots = r.slots; cells = r.cells; limit = r.limit; budget = r.budget; reads = option_map (λ name. name.now) r.reads }
 

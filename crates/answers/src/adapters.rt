@@ -31,6 +31,7 @@ pub struct OutSink<W> {
 }
 
 impl<R> FileShelf<R> {
+    /// One with which nothing has gone wrong yet.
     pub fn new(system: R) -> FileShelf<R>
         ensures { result ≡ record { system = system; faults = 0 } }
     {
@@ -39,6 +40,7 @@ impl<R> FileShelf<R> {
 }
 
 impl<R> InSource<R> {
+    /// One with which nothing has gone wrong yet.
     pub fn new(reader: R) -> InSource<R>
         ensures { result ≡ record { reader = reader; faults = 0 } }
     {
@@ -47,6 +49,7 @@ impl<R> InSource<R> {
 }
 
 impl<W> OutSink<W> {
+    /// One with which nothing has gone wrong yet.
     pub fn new(writer: W) -> OutSink<W>
         ensures { result ≡ record { writer = writer; faults = 0 } }
     {

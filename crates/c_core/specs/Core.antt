@@ -75,6 +75,7 @@ mutual
 pub data Arrival : Type 0 where
   arrives : (register object : ℕ) → Position → Arrival
 
+-- a C function as a tree, with its formals and locals as registers and objects
 pub record Function : Type 0 where
   pub name : Text
   pub place : Position
@@ -87,6 +88,7 @@ pub record Function : Type 0 where
   pub gives_pointer : Bool
   pub body : Statement
 
+-- a whole source as core trees, and its global cells as numbers
 pub record Program : Type 0 where
   pub functions : List Function
   pub sites : List Site
@@ -98,10 +100,12 @@ pub record Program : Type 0 where
 
 -- ---- lists of trees
 
+-- as the operands of a call, in the same order
 abbrev pub listed : List Exp → Exps
 listed [] = no_exp
 listed (e ∷ es) = and_exp e (listed es)
 
+-- as the contents of a block, in the same order
 abbrev pub listed_statements : List Statement → Statements
 listed_statements [] = no_statement
 listed_statements (s ∷ ss) = and_statement s (listed_statements ss)

@@ -31,6 +31,7 @@ use Rattle.c_core.specs.Runs.{Run, does, traps, ends, State, M, ◌>>=◌, ◌>>
 
 -- ---- kinds
 
+-- by how it changes: only pointers move, by elements
 abbrev pub is_pointer_change : Change → Bool
 is_pointer_change (change.Compute o) = false
 is_pointer_change (change.Move element back) = true
@@ -71,6 +72,7 @@ pub data Completion : Type 0 where
   continues : Completion
   returns : ℕ → ℕ → Completion
 
+-- what follows is left out after `break`, `continue` or `return`
 abbrev pub if_goes : Completion → M Completion → M Completion
 if_goes goes m = m
 if_goes breaks m = pure breaks
@@ -89,15 +91,18 @@ abbrev pub word_given : Completion → ℕ
 word_given (returns w line) = w
 word_given _ = 0
 
+-- the line of the `return`, or that of the end where there is none
 abbrev pub line_given : ℕ → Completion → ℕ
 line_given end (returns w line) = line
 line_given end _ = end
 
+-- in 64 bits: `-` of the least number overflows, `~` and `!` always succeed
 abbrev pub unary_of : UnaryOp → ℕ → Result ℕ Trap
 unary_of unary_op.Minus w = fitting (pos 0 -ℤ number w)
 unary_of unary_op.Complement w = Ok (2 ^ 64 - 1 - w)
 unary_of unary_op.Not w = Ok (truth (nat_eq w 0))
 
+-- one object more in front of those that were made
 abbrev pub with_first : ℕ → Option (List ℕ × ℕ) → Option (List ℕ × ℕ)
 with_first w None = None
 with_first w (Some made) = Some (w ∷ made.0, made.1)
@@ -107,6 +112,7 @@ abbrev pub made_objects : List Site → ℕ → List ℕ → ℕ → Option (Lis
 made_objects sites end [] at = Some ([], at)
 made_objects sites end (site ∷ more) at = if nat_le (at + size_of sites site) end then with_first (pointer_at site at (size_of sites site)) (made_objects sites end more (at + size_of sites site)) else None
 
+-- words beyond the list are 0
 abbrev pub listed_word : List ℕ → ℕ → ℕ
 listed_word ws n = slice_index_or ws n 0
 
@@ -129,9 +135,11 @@ left s inner = record inner { registers = s.registers; objects = s.objects; dept
 abbrev pub Calls : Type 0
 Calls = ℕ → List ℕ → ℕ → M ℕ
 
+-- the function with which a program starts (C99 5.1.2.2.1)
 abbrev pub is_main : Function → Bool
 is_main f = bytes_eq f.name (codes "main")
 
+-- the line of its name; 0 where there is no such function
 abbrev pub line_of_function : Option Function → ℕ
 line_of_function None = 0
 line_of_function (Some f) = f.place.line

@@ -6,6 +6,7 @@ use Rattle.abstract_machine.specs.declared.event.Action.{Action}
 use Rattle.abstract_machine.specs.declared.event.Action.TheVariants as action
 use Rattle.abstract_machine.specs.Limits.{is_free_of_limit}
 
+-- a thread's whole future, which branches on what each event is answered
 pub data Run : Type 0 where
   -- an event, the bytes that it prints, and what follows on its answer
   does : Action → List ℕ → (ℤ → Run) → Run
@@ -28,16 +29,20 @@ abbrev pub M : Type 0 → Type 0
 M A = State → (A → State → Run) → Run
 
 infixl 10 ◌>>=◌
+-- the second computation gets what the first gives, and its state
 abbrev pub ◌>>=◌ : {A B : Type 0} → M A → (A → M B) → M B
 m >>= f = λ s k. m s (λ a s'. f a s' k)
 
 infixl 10 ◌>>◌
+-- the second computation needs nothing but the state of the first
 abbrev pub ◌>>◌ : {A B : Type 0} → M A → M B → M B
 m >> n = m >>= (λ _. n)
 
+-- gives a at once, without any event
 abbrev pub pure : {A : Type 0} → A → M A
 pure a = λ s k. k a s
 
+-- the thread makes nothing more: what would follow is dropped
 abbrev pub trap_at : {A : Type 0} → ℕ → Trap → M A
 trap_at line t = λ s k. traps t line
 
@@ -46,6 +51,7 @@ abbrev pub result_at : ℕ → Result ℕ Trap → M ℕ
 result_at line (Ok w) = pure w
 result_at line (Err t) = trap_at line t
 
+-- after one event more, as the thread itself counts them
 abbrev pub counted : State → State
 counted s = record s { count = s.count + 1 }
 
@@ -62,15 +68,19 @@ printing limit line a out = λ s k. if nat_le limit s.count && not (is_free a) t
 abbrev pub event : ℕ → ℕ → Action → M ℤ
 event limit line a = printing limit line a []
 
+-- registers, or cells, with the new word w at n only
 abbrev pub with_value : (ℕ → ℕ) → ℕ → ℕ → ℕ → ℕ
 with_value values n w m = if nat_eq m n then w else values m
 
+-- registers belong to one thread, so this is no event
 abbrev pub read_register : ℕ → M ℕ
 read_register n = λ s k. k (s.registers n) s
 
+-- no event either, since no other thread sees it
 abbrev pub write_register : ℕ → ℕ → M (Unit {0})
 write_register n w = λ s k. k tt (record s { registers = with_value s.registers n w })
 
+-- the address of the function's object n, not what its cells hold
 abbrev pub read_object : ℕ → M ℕ
 read_object n = λ s k. k (s.objects n) s
 

@@ -165,6 +165,7 @@ pub record AreAtHome (p : Program) (home : ℕ → Option ℕ) : Type 0 where
   -- a pointer cell starts as null or as the pointer to a global object
   pub words : (k w : ℕ) → slice_get p.global_kinds k ≡ Some kind.Pointer → slice_get p.globals k ≡ Some w → (w ≡ 0) ⊎ IsAddress p home w
 
+-- `main` is there once, each function is sound, and the global cells fit
 pub record IsSound (p : Program) : Type 0 where
   pub homes : AreAtHome p (base_at p.global_bases)
   pub functions : (k : ℕ) (f : Function) → slice_get p.functions k ≡ Some f → IsSoundFunction p (base_at p.global_bases) f

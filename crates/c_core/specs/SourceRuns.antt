@@ -32,6 +32,7 @@ pub data Transition : Type 0 where
   -- it is closed before it begins
   closes : Transition
 
+-- one step of a whole run, with the number of its thread
 pub record ThreadTransition : Type 0 where
   pub thread : ℕ
   pub transition : Transition
@@ -60,12 +61,15 @@ pub record World : Type 0 where
 
 -- ---- the world after a transition
 
+-- the words of all objects, with a new one at o
 abbrev pub with_object : (ObjId → ℕ) → ObjId → ℕ → ObjId → ℕ
 with_object words o w p = if same_object p o then w else words p
 
+-- where all threads are, with a new place for thread t
 abbrev pub with_standing : (ℕ → Progress) → ℕ → Progress → ℕ → Progress
 with_standing threads t x u = if nat_eq u t then x else threads u
 
+-- where the operation isn't allowed, the object keeps its word
 abbrev pub word_after : ℕ → Advance → ℕ
 word_after w NotAllowed = w
 word_after w (Advances new answer) = new
@@ -80,6 +84,7 @@ acted w t (action.Store cell v) = record w { cells = with_value w.cells cell v }
 acted w t (action.Operate o obj) = operated w t o obj
 acted w t _ = w
 
+-- traps halt the program, and being stopped or closed shows in objects too
 abbrev pub words_after : World → ℕ → Transition → World
 words_after w t (own (done a out answer)) = acted w t a
 words_after w t (own (trapped why line)) = operated w t op.TrapHere object.Halt
@@ -92,15 +97,18 @@ is_last (action.Operate op.Leave obj) = true
 is_last (action.Operate op.HaltAll obj) = true
 is_last _ = false
 
+-- a trap ends the thread, and so does its last event
 abbrev pub rest_after : Run → Event → Progress
 rest_after (does a out more) (done b out' answer) = if is_last b then over else goes (more answer)
 rest_after _ _ = over
 
+-- a thread that is stopped or closed is over, whatever it had left
 abbrev pub standing_after : Progress → Transition → Progress
 standing_after (waits r) (own e) = rest_after r e
 standing_after (goes r) (own e) = rest_after r e
 standing_after _ _ = over
 
+-- only this thread goes on; the cells and objects are shared
 abbrev pub after : World → ThreadTransition → World
 after w d = record (words_after w d.thread d.transition) { threads = with_standing w.threads d.thread (standing_after (w.threads d.thread) d.transition) }
 

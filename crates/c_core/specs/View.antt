@@ -15,6 +15,7 @@ use Rattle.c_core.specs.declared.program.CoreFunction.{CoreFunction}
 use Rattle.c_core.specs.declared.program.Core.{Core}
 use Rattle.c_core.specs.Core.{Exp, number, null, register, object, global, load, unary, binary, move, advance, member, between, to_pointer, to_number, copy, both, either, conditional, comma, set_register, store, change_register, change_cell, call, library, allocate, Exps, no_exp, and_exp, Statement, block, compute, branch, branch_else, while_loop, do_loop, for_loop, break_at, continue_at, gives, Statements, no_statement, and_statement, Arrival, arrives, Function, Program}
 
+-- an expression without parts of its own
 abbrev pub simple_of : RustSimple → Position → Exp
 simple_of (simple.Number z) at = number z at
 simple_of simple.Null at = null at
@@ -63,6 +64,7 @@ abbrev mutual
   exps_of_row end_of-Value = no_exp
   exps_of_row (more_of-Value e row) = and_exp (exp_of e) (exps_of_row row)
 
+-- a part of a `for` or a returned value, which may be left out
 abbrev pub maybe_of : Option Value → Option Exp
 maybe_of None = None
 maybe_of (Some e) = Some (exp_of e)
@@ -84,9 +86,11 @@ abbrev mutual
   stmts_of_row end_of-Statement = no_statement
   stmts_of_row (more_of-Statement s row) = and_statement (stmt_of s) (stmts_of_row row)
 
+-- a formal that is kept in cells
 abbrev pub arrival_of : RustArrival → Arrival
 arrival_of a = arrives a.register a.object a.at
 
+-- the crate's function, with plain lists and trees in place of shaped rows
 abbrev pub function_of : CoreFunction → Function
 function_of f = record {
   name = f.name;
@@ -99,6 +103,7 @@ function_of f = record {
   body = stmt_of f.body;
 }
 
+-- the crate's whole program, seen as the plain one
 abbrev pub core_of : Core → Program
 core_of c = record {
   functions = map function_of c.functions;

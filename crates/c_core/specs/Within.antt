@@ -39,6 +39,7 @@ abbrev mutual
   AreWithin rs os fs no_exp = Unit {0}
   AreWithin rs os fs (and_exp e es) = IsWithinExp rs os fs e × AreWithin rs os fs es
 
+-- of a part that a `for` or a `return` may leave out
 abbrev pub IsWithinMaybe : (registers : List Bool) (objects functions : ℕ) → Option Exp → Type 0
 IsWithinMaybe rs os fs None = Unit {0}
 IsWithinMaybe rs os fs (Some e) = IsWithinExp rs os fs e
@@ -60,10 +61,12 @@ abbrev mutual
   AreWithinStatements rs os fs no_statement = Unit {0}
   AreWithinStatements rs os fs (and_statement a ss) = IsWithinStatement rs os fs a × AreWithinStatements rs os fs ss
 
+-- each formal that is kept in cells has its register and its object
 abbrev pub AreWithinArrivals : (registers objects : ℕ) → List Arrival → Type 0
 AreWithinArrivals rs os [] = Unit {0}
 AreWithinArrivals rs os (arrives n k at ∷ more) = (n < rs) × (k < os) × AreWithinArrivals rs os more
 
+-- in a program of so many functions; the formals that arrive, then the body
 abbrev pub IsWithinFunction : ℕ → Function → Type 0
 IsWithinFunction fs f = AreWithinArrivals (length f.pointers) (length f.objects) f.arrivals × IsWithinStatement f.pointers (length f.objects) fs f.body
 

@@ -27,22 +27,28 @@ use Rattle.c_elaborate.specs.Statements.{block_of, all_elaborated}
 abbrev pub local_at : Bool → Bool → Position → Local
 local_at kept pointer at = record { is_kept = kept; is_pointer = pointer; at = at }
 
+-- a formal without a name is never kept in cells
 abbrev pub formal_at : Param → Option Name → Local
 formal_at p None = local_at false (nat_lt 0 p.stars) p.at
 formal_at p (Some name) = local_at (is_kept p.specifier p.stars []) (nat_lt 0 p.stars) (name_place name)
 
+-- a formal of C99 6.7.5.3, by the specifier, stars and name that it has
 abbrev pub formal_of : Param → Local
 formal_of p = formal_at p p.name
 
+-- by its own stars and lengths behind the shared specifier
 abbrev pub local_declared : Specifier → Declared → Local
 local_declared s (declared stars name lengths) = local_at (is_kept s stars lengths) (nat_lt 0 stars) (name_place name)
 
+-- whether it has a first value changes nothing here
 abbrev pub local_of : Specifier → Object → Local
 local_of s o = local_declared s (declared_by o)
 
+-- one declaration may give several locals
 abbrev pub declares_locals : Declares → List Local
 declares_locals (declares s os at) = map (local_of s) os
 
+-- those that a `for` declares in its head
 abbrev pub start_locals : Start → List Local
 start_locals (start_declares d) = declares_locals d
 start_locals (start_computes e) = []
@@ -72,6 +78,7 @@ marked ns n (l ∷ ls) = record l { is_kept = l.is_kept || is_among ns n } ∷ m
 
 -- ---- where they are kept
 
+-- to count those of which something holds
 abbrev pub one_if : Bool → ℕ
 one_if b = if b then 1 else 0
 
@@ -85,13 +92,16 @@ abbrev pub formal_homes : ℕ → ℕ → List Local → List Home
 formal_homes r k [] = []
 formal_homes r k (l ∷ ls) = (if l.is_kept then home.Object k else home.Register r) ∷ formal_homes (r + 1) (k + one_if l.is_kept) ls
 
+-- unlike a formal, a local that is kept in cells takes no register
 abbrev pub local_homes : ℕ → ℕ → List Local → List Home
 local_homes r k [] = []
 local_homes r k (l ∷ ls) = (if l.is_kept then home.Object k else home.Register r) ∷ local_homes (r + one_if (not l.is_kept)) (k + one_if l.is_kept) ls
 
+-- registers and objects both have numbers from 0, formals before locals
 abbrev pub homes_of : List Local → List Local → List Home
 homes_of formals locals = formal_homes 0 0 formals ++ local_homes (length formals) (kept_count formals) locals
 
+-- for locals in registers only, in the order of these
 abbrev pub local_pointers : List Local → List Bool
 local_pointers [] = []
 local_pointers (l ∷ ls) = (if l.is_kept then [] else l.is_pointer ∷ []) ++ local_pointers ls
@@ -105,6 +115,7 @@ abbrev pub sites_of : List Site → List Local → List ℕ
 sites_of sites [] = []
 sites_of sites (l ∷ ls) = (if l.is_kept then site_at sites l.at ∷ [] else []) ++ sites_of sites ls
 
+-- formals kept in cells, whose words first come in registers
 abbrev pub arrivals_of : ℕ → ℕ → List Local → List core.Arrival
 arrivals_of r k [] = []
 arrivals_of r k (l ∷ ls) =

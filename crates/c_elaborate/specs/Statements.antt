@@ -17,15 +17,19 @@ use Rattle.c_initials.specs.Initials.{begun}
 
 -- ---- places
 
+-- in a block or `for`, whose names hide those outside (C99 6.2.1)
 abbrev pub context_inside : Context → Context
 context_inside h = record h { known = opened h.known; numbers = inside h.numbers }
 
+-- behind the declarator, where the new name is seen already
 abbrev pub here_after_object : Context → Specifier → Declared → Context
 here_after_object h s d = record h { known = after_declared h.known false s d; numbers = after_name h.numbers d }
 
+-- behind all of the declaration's names
 abbrev pub here_after_declares : Context → Declares → Context
 here_after_declares h d = record h { known = after_declares h.known d; numbers = after_declaration h.numbers d }
 
+-- in the rest of a `for`, where the names of its head are seen
 abbrev pub here_after_start : Context → Start → Context
 here_after_start h s = record h { known = after_start h.known s; numbers = after_for_start h.numbers s }
 
@@ -41,10 +45,12 @@ object_elaborated h s (plain d) = []
 object_elaborated h s (initialised d i at) =
     begun (here_after_object h s d) (home_of (here_after_object h s d) (declared_name d).text) (declared_type h.known s d) i (position_of at)
 
+-- from left to right, each behind the names before it
 abbrev pub objects_elaborated : Context → Specifier → List Object → List core.Statement
 objects_elaborated h s [] = []
 objects_elaborated h s (o ∷ os) = object_elaborated h s o ++ objects_elaborated (here_after_object h s (declared_by o)) s os
 
+-- the stores of a declaration's first values
 abbrev pub declares_elaborated : Context → Declares → List core.Statement
 declares_elaborated h (declares s os at) = objects_elaborated h s os
 
@@ -63,21 +69,26 @@ own_place (while_loop e a at) = at
 own_place (do_loop a e at) = at
 own_place (for_loop start test next a at) = at
 
+-- statements as the single one that a branch or loop can hold
 abbrev pub block_of : List core.Statement → core.Statement
 block_of ss = core.block (core.listed_statements ss)
 
+-- an expression statement; where it is empty, an empty block (C99 6.8.3)
 abbrev pub computed : Context → Option Exp → core.Statement
 computed h None = block_of []
 computed h (Some e) = core.compute (value_of h e)
 
+-- of the test or last part of a `for`, either of which may be missing
 abbrev pub maybe_value : Context → Option Exp → Option core.Exp
 maybe_value h None = None
 maybe_value h (Some e) = Some (value_of h e)
 
+-- of a `return`: a pointer where the function's result is one
 abbrev pub given : Context → Option Exp → Option core.Exp
 given h None = None
 given h (Some e) = Some (wanted_of h h.frame.gives_pointer no_target e)
 
+-- the first part of a `for`, a declaration or an expression
 abbrev pub start_elaborated : Context → Start → core.Statement
 start_elaborated h (start_declares d) = block_of (declares_elaborated h d)
 start_elaborated h (start_computes e) = computed h e

@@ -14,11 +14,13 @@ use Rattle.c_values.specs.Context.{Source}
 use Rattle.c_elaborate.specs.Functions.{definition}
 use Rattle.c_initials.specs.Globals.{globals_after, global_kinds, global_bases, objects_words}
 
+-- one function for a definition, and none for a prototype
 abbrev pub code_functions : Source → List ℕ → Known → ℕ → Name → Signature → Params → Code → List core.Function
 code_functions s ns known n name f ps prototype = []
 code_functions s ns known n name f ps (defined parts at) =
     definition s ns (opened (after_function known name f (defined parts at))) n name f.result (listed_params ps) parts ∷ []
 
+-- struct and object declarations define no function
 abbrev pub outer_functions : Source → List ℕ → Known → ℕ → Outer → List core.Function
 outer_functions s ns known n (structure name fs) = []
 outer_functions s ns known n (function is_static sp stars name ps code) = code_functions s ns known n name (signature_of known sp stars ps) ps code
@@ -29,6 +31,7 @@ abbrev pub outers_functions : Source → List ℕ → Known → ℕ → List Out
 outers_functions s ns known n [] = []
 outers_functions s ns known n (o ∷ os) = outer_functions s ns known n o ++ outers_functions s ns (after_outer known o) (n + count_of_outer o) os
 
+-- only declared objects have global cells
 abbrev pub outer_words : Source → Known → Outer → List ℕ
 outer_words s known (structure name fs) = []
 outer_words s known (function is_static sp stars name ps code) = []
@@ -39,6 +42,7 @@ abbrev pub outers_words : Source → Known → List Outer → List ℕ
 outers_words s known [] = []
 outers_words s known (o ∷ os) = outer_words s known o ++ outers_words s (after_outer known o) os
 
+-- what the whole source tells to each of its functions
 abbrev pub source_of : List Outer → Source
 source_of os = record {
   whole = known_after (known_at_start os) os;

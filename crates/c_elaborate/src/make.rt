@@ -26,24 +26,28 @@ fn unboxed(value: Option<Box<Value>>) -> Option<Value>
     }
 }
 
+/// A block (C99 6.8.2).
 pub fn block(alloc: Global, inner: List<Statement>) -> Result<Box<Statement>, AllocError>
     ensures { IfOk result (λ s. stmt_of s.value ≡ core.block (core.listed_statements (map stmt_of inner))) }
 {
     placed(alloc, Statement::Block(inner))
 }
 
+/// A word computed for what it does (C99 6.8.3).
 pub fn compute(alloc: Global, value: Box<Value>) -> Result<Box<Statement>, AllocError>
     ensures { IfOk result (λ s. stmt_of s.value ≡ core.compute (exp_of value.value)) }
 {
     placed(alloc, Statement::Compute(Box::into_inner(value)))
 }
 
+/// A `break` (C99 6.8.6.3).
 pub fn break_at(alloc: Global, at: Position) -> Result<Box<Statement>, AllocError>
     ensures { IfOk result (λ s. stmt_of s.value ≡ core.break_at at) }
 {
     placed(alloc, Statement::Break { at })
 }
 
+/// A `continue` (C99 6.8.6.2).
 pub fn continue_at(alloc: Global, at: Position) -> Result<Box<Statement>, AllocError>
     ensures { IfOk result (λ s. stmt_of s.value ≡ core.continue_at at) }
 {
@@ -89,6 +93,7 @@ pub fn branch_else(
     placed(alloc, Statement::IfElse { test, yes, no, at })
 }
 
+/// A `while` (C99 6.8.5.1).
 pub fn while_loop(
     alloc: Global,
     test: Box<Value>,
@@ -101,6 +106,7 @@ pub fn while_loop(
     placed(alloc, Statement::While { test, body, at })
 }
 
+/// A `do` (C99 6.8.5.2).
 pub fn do_loop(
     alloc: Global,
     body: Box<Statement>,
@@ -121,6 +127,7 @@ pub struct ForHead {
     pub step: Option<Box<Value>>,
 }
 
+/// A `for` (C99 6.8.5.3).
 pub fn for_loop(
     alloc: Global,
     head: ForHead,

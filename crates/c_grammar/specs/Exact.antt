@@ -29,6 +29,7 @@ IsFaultOf limit Nesting front [] = ⊥
 -- some program begins with this token too, and there it stands above the limit
 IsFaultOf limit Nesting front (t ∷ rest) = (v : ℕ) × (limit < v) × Begins (front ++ record { lexeme = t; level = v } ∷ [])
 
+-- what an outcome claims of all the tokens; `Spent` is never right
 abbrev pub Says : ℕ → List Lexeme → Outcome (List Outer) → Type 0
 Says limit ts (Got os rest) = (rest ≡ []) × (ms : List Mark) × IsProgram os ms × AllLow limit ms × (ts ≡ erase ms)
 Says limit ts (Stuck f rest) = (front : List Mark) × AllLow limit front × (ts ≡ erase front ++ rest) × IsFaultOf limit f front rest
@@ -38,6 +39,7 @@ Says limit ts Spent = ⊥
 abbrev pub parsed : ℕ → List Lexeme → Outcome (List Outer)
 parsed limit ts = read limit (phrase.program []) ts
 
+-- an outcome that is right, and that misses no tree within the limit
 pub record IsExact (limit : ℕ) (ts : List Lexeme) (o : Outcome (List Outer)) : Type 0 where
   pub says : Says limit ts o
   -- what has its tokens within the limit is found

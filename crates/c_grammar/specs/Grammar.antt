@@ -21,6 +21,7 @@ use Rattle.c_grammar.specs.Marks.{Beginning, own, other, ◌>>◌, nothing, neve
 
 -- ---- types
 
+-- where its first byte stands, as line and column
 abbrev pub name_place : Name → Position
 name_place n = n.at
 
@@ -35,6 +36,7 @@ specifier_place (specifier.PthreadMutexT at) = at
 specifier_place (specifier.PthreadCondT at) = at
 specifier_place (specifier.PthreadBarrierT at) = at
 
+-- an identifier (C99 6.4.2), whose place the tree keeps
 abbrev pub OfName : ℕ → Name → Beginning
 OfName l n = own (kind.Name n.text) (name_place n) l
 
@@ -54,6 +56,7 @@ abbrev pub OfStars : ℕ → ℕ → Beginning
 OfStars l zero = nothing
 OfStars l (suc n) = other (p punct.Star) l >> OfStars l n
 
+-- a type name (C99 6.7.6): a specifier and stars, all at level l
 abbrev pub OfType : ℕ → CType → Beginning
 OfType l t = provided (t.at ≡ specifier_place t.specifier) (OfSpecifier l t.specifier >> OfStars l t.stars)
 
@@ -141,6 +144,7 @@ postfixes_in (post_increment a place) = suc (postfixes_in a)
 postfixes_in (post_decrement a place) = suc (postfixes_in a)
 postfixes_in _ = 0
 
+-- a cast, which the operand of `sizeof` may not be (C99 6.5.3)
 abbrev pub is_cast : Exp → Bool
 is_cast (cast t a place) = true
 is_cast _ = false
@@ -188,6 +192,7 @@ abbrev mutual
   OfMore l no_exp = nothing
   OfMore l (and_exp e es) = provided (1 ≤ binds e) (other (p punct.Comma) l >> OfExp l e >> OfMore l es)
 
+-- an expression that the source may leave out, as after `return`
 abbrev pub OfMaybe : ℕ → Option Exp → Beginning
 OfMaybe l None = nothing
 OfMaybe l (Some e) = OfExp l e
@@ -204,6 +209,7 @@ abbrev pub OfLengths : ℕ → List Exp → Beginning
 OfLengths l [] = nothing
 OfLengths l (e ∷ es) = provided (2 ≤ binds e) (other (p punct.OpenBracket) (suc l) >> OfExp l e >> other (p punct.CloseBracket) (suc l) >> OfLengths (suc l) es)
 
+-- a declarator (C99 6.7.5), without its specifier
 abbrev pub OfDeclared : ℕ → Declared → Beginning
 OfDeclared l (declared n name lengths) = OfRaisingStars l n >> OfName (l + n) name >> OfLengths (l + n) lengths
 
@@ -223,10 +229,12 @@ abbrev mutual
   OfMoreInits l no_init = nothing
   OfMoreInits l (and_init i is) = other (p punct.Comma) l >> OfInit l i >> OfMoreInits l is
 
+-- a declarator and its first value, if any (C99 6.7.8)
 abbrev pub OfObject : ℕ → Object → Beginning
 OfObject l (plain d) = OfDeclared l d
 OfObject l (initialised d i place) = OfDeclared l d >> own (p punct.Assign) place l >> OfInit l i
 
+-- the objects after the first, each with a comma before it
 abbrev pub OfMoreObjects : ℕ → List Object → Beginning
 OfMoreObjects l [] = nothing
 OfMoreObjects l (o ∷ os) = other (p punct.Comma) l >> OfObject l o >> OfMoreObjects l os
@@ -236,6 +244,7 @@ abbrev pub OfObjects : ℕ → List Object → Beginning
 OfObjects l [] = never
 OfObjects l (o ∷ os) = OfObject l o >> OfMoreObjects l os
 
+-- a declaration of objects, with its semicolon (C99 6.7)
 abbrev pub OfDeclares : ℕ → Declares → Beginning
 OfDeclares l (declares s os place) = provided (place ≡ specifier_place s) (OfSpecifier l s >> OfObjects l os >> other (p punct.Semicolon) l)
 
@@ -254,6 +263,7 @@ ends_open (while_loop e a place) = ends_open a
 ends_open (do_loop a e place) = false
 ends_open (for_loop s test next a place) = ends_open a
 
+-- the first clause of a `for`, with its semicolon (C99 6.8.5.3)
 abbrev pub OfStart : ℕ → Start → Beginning
 OfStart l (start_declares d) = OfDeclares l d
 OfStart l (start_computes e) = OfMaybe l e >> other (p punct.Semicolon) l
@@ -284,21 +294,26 @@ abbrev mutual
 
 -- ---- the outermost level
 
+-- the name of a parameter, which need have none (C99 6.7.5.3)
 abbrev pub OfMaybeName : Option Name → Beginning
 OfMaybeName None = nothing
 OfMaybeName (Some n) = OfName 0 n
 
+-- one parameter, whose place is that of its specifier
 abbrev pub OfParam : Param → Beginning
 OfParam x = provided (x.at ≡ specifier_place x.specifier) (OfSpecifier 0 x.specifier >> OfStars 0 x.stars >> OfMaybeName x.name)
 
+-- the parameters after the first, each with a comma before it
 abbrev pub OfMoreParams : List Param → Beginning
 OfMoreParams [] = nothing
 OfMoreParams (x ∷ xs) = other (p punct.Comma) 0 >> OfParam x >> OfMoreParams xs
 
+-- `void`, whatever stars or name follow it
 abbrev pub is_void : Specifier → Bool
 is_void (specifier.Void at) = true
 is_void _ = false
 
+-- neither a name nor a star, so that the specifier stands alone
 abbrev pub is_nameless : Option Name → ℕ → Bool
 is_nameless None zero = true
 is_nameless _ _ = false
@@ -308,27 +323,33 @@ abbrev pub is_void_alone : List Param → Bool
 is_void_alone (x ∷ []) = is_void x.specifier && is_nameless x.name x.stars
 is_void_alone _ = false
 
+-- what stands in a function's parentheses (C99 6.7.5.3)
 abbrev pub OfParams : Params → Beginning
 OfParams params.Nothing = nothing
 OfParams params.Void = other (w word.Void) 0
 OfParams (params.Listed []) = never
 OfParams (params.Listed (x ∷ xs)) = provided (is_void_alone (x ∷ xs) ≡ false) (OfParam x >> OfMoreParams xs)
 
+-- a body in braces, or the semicolon of a prototype
 abbrev pub OfCode : Code → Beginning
 OfCode (defined ps place) = own (p punct.OpenBrace) place 0 >> OfParts 0 ps >> other (p punct.CloseBrace) 0
 OfCode prototype = other (p punct.Semicolon) 0
 
+-- the members after the first of one specifier, each after a comma
 abbrev pub OfMoreDeclared : List Declared → Beginning
 OfMoreDeclared [] = nothing
 OfMoreDeclared (d ∷ ds) = other (p punct.Comma) 0 >> OfDeclared 0 d >> OfMoreDeclared ds
 
+-- the members of one specifier, one or more
 abbrev pub OfAllDeclared : List Declared → Beginning
 OfAllDeclared [] = never
 OfAllDeclared (d ∷ ds) = OfDeclared 0 d >> OfMoreDeclared ds
 
+-- members of one specifier, with their semicolon (C99 6.7.2.1)
 abbrev pub OfFields : Fields → Beginning
 OfFields (fields s ds place) = provided (place ≡ specifier_place s) (OfSpecifier 0 s >> OfAllDeclared ds >> other (p punct.Semicolon) 0)
 
+-- what else stands in a struct's braces, perhaps nothing
 abbrev pub OfMoreFields : List Fields → Beginning
 OfMoreFields [] = nothing
 OfMoreFields (f ∷ fs) = OfFields f >> OfMoreFields fs
@@ -343,12 +364,14 @@ abbrev pub OfStatic : Bool → Specifier → Position → Beginning
 OfStatic true s place = own (w word.Static) place 0
 OfStatic false s place = provided (place ≡ specifier_place s) nothing
 
+-- an external declaration (C99 6.9), which begins at level 0
 abbrev pub OfOuter : Outer → Beginning
 OfOuter (structure name fs) = other (w word.Struct) 0 >> OfName 0 name >> other (p punct.OpenBrace) 0 >> OfAllFields fs >> other (p punct.CloseBrace) 0 >> other (p punct.Semicolon) 0
 OfOuter (function is_static s n name xs code) =
     maybe is_static (other (w word.Static) 0) >> OfSpecifier 0 s >> OfStars 0 n >> OfName 0 name >> other (p punct.OpenParen) 0 >> OfParams xs >> other (p punct.CloseParen) 0 >> OfCode code
 OfOuter (objects is_static s os place) = OfStatic is_static s place >> OfSpecifier 0 s >> OfObjects 0 os >> other (p punct.Semicolon) 0
 
+-- a whole source, which may also be empty
 abbrev pub OfProgram : List Outer → Beginning
 OfProgram [] = nothing
 OfProgram (o ∷ os) = OfOuter o >> OfProgram os

@@ -43,6 +43,7 @@ Value a_prefix = PrefixOp
 Value a_binary = BinaryOp
 Value an_assign = AssignOp
 
+-- the lexer's kind for a class and its value: `grab` backwards
 abbrev pub kind_of : (c : Class) → Value c → Kind
 kind_of (sign x) v = kind.Punct x
 kind_of (key x) v = kind.Word x
@@ -102,6 +103,7 @@ punct_code punct.Question = 42
 punct_code punct.Colon = 43
 punct_code punct.Assign = 44
 
+-- the same for words: equal numbers mean the same word
 abbrev pub word_code : Word → ℕ
 word_code word.Int = 0
 word_code word.Long = 1
@@ -125,6 +127,7 @@ word_code word.PthreadBarrierT = 18
 word_code word.PthreadMutexInitializer = 19
 word_code word.PthreadCondInitializer = 20
 
+-- the operator that a sign means before its operand (C99 6.5.3)
 abbrev pub as_prefix : Punct → Option PrefixOp
 as_prefix punct.And = Some prefix_op.Address
 as_prefix punct.Star = Some prefix_op.Indirect
@@ -136,6 +139,7 @@ as_prefix punct.PlusPlus = Some prefix_op.Increment
 as_prefix punct.MinusMinus = Some prefix_op.Decrement
 as_prefix _ = None
 
+-- the operator that a sign means between operands (C99 6.5.5 to 6.5.14)
 abbrev pub as_binary : Punct → Option BinaryOp
 as_binary punct.OrOr = Some binary_op.LogicalOr
 as_binary punct.AndAnd = Some binary_op.LogicalAnd
@@ -157,6 +161,7 @@ as_binary punct.Slash = Some binary_op.Divide
 as_binary punct.Percent = Some binary_op.Remainder
 as_binary _ = None
 
+-- `=` and the compound assignments (C99 6.5.16)
 abbrev pub as_assign : Punct → Option AssignOp
 as_assign punct.Assign = Some assign_op.Assign
 as_assign punct.PlusAssign = Some assign_op.Add
@@ -171,10 +176,12 @@ as_assign punct.ShiftLeftAssign = Some assign_op.ShiftLeft
 as_assign punct.ShiftRightAssign = Some assign_op.ShiftRight
 as_assign _ = None
 
+-- for signs and words, of which only their being there is told
 abbrev pub some_if : Bool → Option (Unit {0})
 some_if true = Some tt
 some_if false = None
 
+-- what the token tells if it is of the class, else none
 abbrev pub grab : (c : Class) → Kind → Option (Value c)
 grab (sign x) (kind.Punct y) = some_if (punct_code x == punct_code y)
 grab (key x) (kind.Word y) = some_if (word_code x == word_code y)
@@ -187,6 +194,7 @@ grab a_binary (kind.Punct y) = as_binary y
 grab an_assign (kind.Punct y) = as_assign y
 grab _ _ = None
 
+-- whether a token of this kind is of the class
 abbrev pub is_of : Class → Kind → Bool
 is_of c k = is_some (grab c k)
 
@@ -212,6 +220,7 @@ follows_declarator _ = false
 
 -- ---- rules
 
+-- how a phrase is read, as data, so that proofs can look at it
 pub data Rule (A : Type 0) : Type 0 where
   -- this is the tree, and no token more
   ret : A → Rule A
@@ -226,6 +235,7 @@ pub data Rule (A : Type 0) : Type 0 where
 
 -- ---- running them
 
+-- no program goes on with this token, or it is nested too deep
 pub data Fault : Type 0 where
   Syntax : Fault
   Nesting : Fault
@@ -236,18 +246,22 @@ pub data Outcome (A : Type 0) : Type 0 where
   Stuck : Fault → List Lexeme → Outcome A
   Spent : Outcome A
 
+-- from the tokens that are left to a tree or a fault
 abbrev pub Parser : Type 0 → Type 0
 Parser A = List Lexeme → Outcome A
 
+-- once one part has a fault or is spent, so is the whole
 abbrev pub and_then : {A B : Type 0} → Outcome A → (A → Parser B) → Outcome B
 and_then (Got a rest) f = f a rest
 and_then (Stuck fault rest) f = Stuck fault rest
 and_then Spent f = Spent
 
 infixl 10 ◌>>=◌
+-- what is read second may depend on the first tree
 abbrev pub ◌>>=◌ : {A B : Type 0} → Parser A → (A → Parser B) → Parser B
 p >>= f = λ ts. and_then (p ts) f
 
+-- a wrong token is a `Syntax` fault even where it stands too deep
 abbrev pub taken : {B : Type 0} → ℕ → ℕ → Option B → Lexeme → List Lexeme → Outcome (B × Position)
 taken limit l None t ts = Stuck Syntax (t ∷ ts)
 taken limit l (Some v) t ts = if nat_le l limit then Got (v, t.place) ts else Stuck Nesting (t ∷ ts)
@@ -257,10 +271,12 @@ abbrev pub token : ℕ → (c : Class) → ℕ → Parser (Value c × Position)
 token limit c l [] = Stuck Syntax []
 token limit c l (t ∷ ts) = taken limit l (grab c t.kind) t ts
 
+-- whether there is a next token, and one that passes the test
 abbrev pub passes : (Kind → Bool) → List Lexeme → Bool
 passes test [] = false
 passes test (t ∷ ts) = test t.kind
 
+-- how many `*` stand at the front, one right after another
 abbrev pub star_count : List Lexeme → ℕ
 star_count [] = 0
 star_count (t ∷ ts) = if is_of (sign punct.Star) t.kind then suc (star_count ts) else 0
@@ -273,9 +289,11 @@ decided limit stars n x place ts =
     else (if passes follows_declarator ts then (if nat_le n limit then Got (object_head n x place) ts else Stuck Nesting (drop limit stars))
     else Stuck Syntax ts)
 
+-- the same where the name may be missing, which is a fault
 abbrev pub decided_by : ℕ → List Lexeme → ℕ → Outcome (List ℕ × Position) → Outcome Head
 decided_by limit stars n o = and_then o (λ x. decided limit stars n x.0 x.1)
 
+-- at file level: stars, a name, and whether it is a function
 abbrev pub outer_head : ℕ → Parser Head
 outer_head limit ts = decided_by limit ts (star_count ts) (token limit a_name 0 (drop (star_count ts) ts))
 

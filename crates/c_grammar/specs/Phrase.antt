@@ -67,6 +67,7 @@ pub data Phrase : Type 0 where
   outer_after : Bool → Specifier → Position → Phrase
   program : List Outer → Phrase
 
+-- the type of what is found when the phrase is read
 abbrev pub TreeOf : Phrase → Type 0
 TreeOf (specifier l) = Specifier
 TreeOf (stars l n) = ℕ

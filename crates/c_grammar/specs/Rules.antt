@@ -21,9 +21,11 @@ use Rattle.c_grammar.specs.Parse as rule
 
 -- ---- short forms
 
+-- this sign at this level, and then what its place leads to
 abbrev pub punct_rule : {A : Type 0} → Punct → ℕ → (Position → Rule A) → Rule A
 punct_rule x l f = one (sign x) l (λ _ place. f place)
 
+-- the same for a word of the language
 abbrev pub word_rule : {A : Type 0} → Word → ℕ → (Position → Rule A) → Rule A
 word_rule x l f = one (key x) l (λ _ place. f place)
 
@@ -31,9 +33,11 @@ word_rule x l f = one (key x) l (λ _ place. f place)
 abbrev pub on_punct : {A : Type 0} → Punct → Rule A → Rule A → Rule A
 on_punct x g h = choose (is_of (sign x)) g h
 
+-- the first rule if this word is next, else the second
 abbrev pub on_word : {A : Type 0} → Word → Rule A → Rule A → Rule A
 on_word x g h = choose (is_of (key x)) g h
 
+-- a name by its bytes and its place
 abbrev pub name_of : List ℕ → Position → Name
 name_of x place = record { text = x; at = place }
 
@@ -51,6 +55,7 @@ long_rule l at =
     (word_rule word.Long l (λ _. on_word word.Int (word_rule word.Int l (λ _. ret (specifiers.Long true true at))) (ret (specifiers.Long true false at))))
     (on_word word.Int (word_rule word.Int l (λ _. ret (specifiers.Long false true at))) (ret (specifiers.Long false false at)))
 
+-- a type specifier (C99 6.7.2), all of it at level l
 abbrev pub specifier_rule : ℕ → Rule Specifier
 specifier_rule l =
     on_word word.Int (word_rule word.Int l (λ at. ret (specifiers.Int at)))
@@ -62,11 +67,13 @@ specifier_rule l =
     (on_word word.PthreadCondT (word_rule word.PthreadCondT l (λ at. ret (specifiers.PthreadCondT at)))
     (word_rule word.PthreadBarrierT l (λ at. ret (specifiers.PthreadBarrierT at)))))))))
 
+-- stars that raise no level, where n were read before
 abbrev pub stars_rule : ℕ → ℕ → Rule ℕ
 stars_rule l n = on_punct punct.Star (punct_rule punct.Star l (λ _. rule.call (phrase.stars l (suc n)) (λ k. ret k))) (ret n)
 
 -- ---- expressions
 
+-- an expression, with the comma operator (C99 6.5.17)
 abbrev pub expression_rule : ℕ → Rule Exp
 expression_rule l =
     rule.call (phrase.assignment l) (λ e.
@@ -74,14 +81,17 @@ expression_rule l =
     (punct_rule punct.Comma l (λ _. rule.call (phrase.assignment l) (λ x. rule.call (phrase.more l (x ∷ [])) (λ es. ret (comma e (listed es) (first_place e))))))
     (ret e))
 
+-- further expressions after commas, where some were read before
 abbrev pub more_rule : ℕ → List Exp → Rule (List Exp)
 more_rule l es = on_punct punct.Comma (punct_rule punct.Comma l (λ _. rule.call (phrase.assignment l) (λ e. rule.call (phrase.more l (es ++ e ∷ [])) (λ all. ret all)))) (ret es)
 
+-- an assignment, which groups to the right (C99 6.5.16)
 abbrev pub assignment_rule : ℕ → Rule Exp
 assignment_rule l =
     rule.call (phrase.conditional_part l) (λ a.
     choose (is_of an_assign) (one an_assign (suc (suc l)) (λ op at. rule.call (phrase.assignment (suc (suc l))) (λ b. ret (assign a op b at)))) (ret a))
 
+-- a conditional, or an operand of one (C99 6.5.15)
 abbrev pub conditional_rule : ℕ → Rule Exp
 conditional_rule l =
     rule.call (phrase.operands l) (λ a.
@@ -90,12 +100,14 @@ conditional_rule l =
     rule.call (phrase.expression (suc (suc l))) (λ b. punct_rule punct.Colon (suc (suc l)) (λ _. rule.call (phrase.conditional_part (suc l)) (λ c. ret (conditional a b c at))))))
     (ret a))
 
+-- further binary operators and operands, each one level deeper
 abbrev pub chain_rule : ℕ → Exp → Rule Exp
 chain_rule l left =
     choose (is_of a_binary)
     (one a_binary (suc (suc l)) (λ op at. rule.call (phrase.unary (suc l)) (λ e. rule.call (phrase.chain (suc l) (push left op e at)) (λ all. ret all))))
     (ret left)
 
+-- a unary expression or a cast (C99 6.5.3, 6.5.4)
 abbrev pub unary_rule : ℕ → Rule Exp
 unary_rule l = on_punct punct.OpenParen (punct_rule punct.OpenParen (suc l) (λ at. rule.call (phrase.opened l at) (λ e. ret e))) (rule.call (phrase.unary_plain l) (λ e. ret e))
 
@@ -109,21 +121,25 @@ sizeof_rule l at =
     (rule.call (phrase.enclosed (suc l) there) (λ e. ret (sizeof_exp e at)))))
     (rule.call (phrase.unary_plain (suc l)) (λ e. ret (sizeof_exp e at)))
 
+-- a unary expression whose first token is no parenthesis
 abbrev pub unary_plain_rule : ℕ → Rule Exp
 unary_plain_rule l =
     choose (is_of a_prefix) (one a_prefix (suc l) (λ op at. rule.call (phrase.unary (suc l)) (λ e. ret (prefix op e at))))
     (on_word word.Sizeof (word_rule word.Sizeof (suc l) (λ at. sizeof_rule l at))
     (rule.call (phrase.atom l) (λ e. rule.call (phrase.postfix l e) (λ all. ret all))))
 
+-- past a parenthesis: a type makes it a cast (C99 6.5.4)
 abbrev pub opened_rule : ℕ → Position → Rule Exp
 opened_rule l at =
     choose is_type
     (rule.call (phrase.type_name (suc l)) (λ t. punct_rule punct.CloseParen (suc l) (λ _. rule.call (phrase.unary (suc l)) (λ e. ret (cast t e at)))))
     (rule.call (phrase.enclosed l at) (λ e. ret e))
 
+-- past a parenthesis that holds an expression, with postfix operators after it
 abbrev pub enclosed_rule : ℕ → Position → Rule Exp
 enclosed_rule l at = rule.call (phrase.expression (suc l)) (λ e. punct_rule punct.CloseParen (suc l) (λ _. rule.call (phrase.postfix l (paren e at)) (λ all. ret all)))
 
+-- a name, a call, a constant, a text or `NULL` (C99 6.5.1)
 abbrev pub atom_rule : ℕ → Rule Exp
 atom_rule l =
     choose (is_of a_name)
@@ -134,6 +150,7 @@ atom_rule l =
     (choose (is_of a_text) (one a_text (suc l) (λ x at. ret (text x at)))
     (word_rule word.Null (suc l) (λ at. ret (null at))))))
 
+-- further postfix operators after this operand, each one level deeper (C99 6.5.2)
 abbrev pub postfix_rule : ℕ → Exp → Rule Exp
 postfix_rule l a =
     on_punct punct.OpenBracket
@@ -145,28 +162,34 @@ postfix_rule l a =
     (on_punct punct.MinusMinus (punct_rule punct.MinusMinus (suc (suc l)) (λ at. rule.call (phrase.postfix (suc l) (post_decrement a at)) (λ all. ret all)))
     (ret a)))))
 
+-- the arguments of a call, with the parenthesis after them (C99 6.5.2.2)
 abbrev pub arguments_rule : ℕ → Rule (List Exp)
 arguments_rule l =
     on_punct punct.CloseParen (punct_rule punct.CloseParen l (λ _. ret []))
     (rule.call (phrase.assignment l) (λ e. rule.call (phrase.more l (e ∷ [])) (λ es. punct_rule punct.CloseParen l (λ _. ret es))))
 
+-- an expression, or none where `stop` is next, which stays unread
 abbrev pub maybe_rule : ℕ → Punct → Rule (Option Exp)
 maybe_rule l stop = on_punct stop (ret None) (rule.call (phrase.expression l) (λ e. ret (Some e)))
 
 -- ---- declarations
 
+-- stars of an object, each one level deeper, where n were read before
 abbrev pub raising_stars_rule : ℕ → ℕ → Rule ℕ
 raising_stars_rule l n = on_punct punct.Star (punct_rule punct.Star (suc (l + n)) (λ _. rule.call (phrase.raising_stars l (suc n)) (λ k. ret k))) (ret n)
 
+-- stars, a name and array lengths (C99 6.7.5)
 abbrev pub declarator_rule : ℕ → Rule Declared
 declarator_rule l = rule.call (phrase.raising_stars l 0) (λ n. one a_name (l + n) (λ x at. rule.call (phrase.lengths (l + n) []) (λ es. ret (declared n (name_of x at) es))))
 
+-- further array lengths (C99 6.7.5.2), where some were read before
 abbrev pub lengths_rule : ℕ → List Exp → Rule (List Exp)
 lengths_rule l es =
     on_punct punct.OpenBracket
     (punct_rule punct.OpenBracket (suc l) (λ _. rule.call (phrase.conditional_part l) (λ e. punct_rule punct.CloseBracket (suc l) (λ _. rule.call (phrase.lengths (suc l) (es ++ e ∷ [])) (λ all. ret all)))))
     (ret es)
 
+-- the brace that closes these initials
 abbrev pub braces_after : ℕ → Initials → Position → Rule Init
 braces_after l (initials is trailing) at = punct_rule punct.CloseBrace l (λ _. ret (braces (listed_inits is) trailing at))
 
@@ -174,6 +197,7 @@ braces_after l (initials is trailing) at = punct_rule punct.CloseBrace l (λ _. 
 abbrev pub braces_rule : ℕ → Position → Rule Init
 braces_rule l at = rule.call (phrase.initial l) (λ i. rule.call (phrase.more_initials l (i ∷ [])) (λ is. braces_after l is at))
 
+-- an initializer (C99 6.7.8), or one that POSIX names
 abbrev pub initial_rule : ℕ → Rule Init
 initial_rule l =
     on_punct punct.OpenBrace
@@ -190,21 +214,26 @@ more_initials_rule l is =
     on_punct punct.CloseBrace (ret (initials is true)) (rule.call (phrase.initial l) (λ i. rule.call (phrase.more_initials l (is ++ i ∷ [])) (λ all. ret all)))))
     (ret (initials is false))
 
+-- a declarator and its first value, if any
 abbrev pub object_rule : ℕ → Rule Object
 object_rule l = rule.call (phrase.declarator l) (λ d. rule.call (phrase.object_past l d) (λ o. ret o))
 
+-- past a declarator: `=` and a first value, or nothing
 abbrev pub object_after_rule : ℕ → Declared → Rule Object
 object_after_rule l d = on_punct punct.Assign (punct_rule punct.Assign l (λ at. rule.call (phrase.initial l) (λ i. ret (initialised d i at)))) (ret (plain d))
 
+-- further objects after commas, where some were read before
 abbrev pub more_objects_rule : ℕ → List Object → Rule (List Object)
 more_objects_rule l os = on_punct punct.Comma (punct_rule punct.Comma l (λ _. rule.call (phrase.object l) (λ o. rule.call (phrase.more_objects l (os ++ o ∷ [])) (λ all. ret all)))) (ret os)
 
+-- a declaration of objects, with its semicolon (C99 6.7)
 abbrev pub declaration_rule : ℕ → Rule Declares
 declaration_rule l =
     rule.call (phrase.specifier l) (λ s. rule.call (phrase.object l) (λ o. rule.call (phrase.more_objects l (o ∷ [])) (λ os. punct_rule punct.Semicolon l (λ _. ret (declares s os (specifier_place s))))))
 
 -- ---- statements
 
+-- the first clause of a `for`, with its semicolon (C99 6.8.5.3)
 abbrev pub start_rule : ℕ → Rule Start
 start_rule l =
     choose is_type (rule.call (phrase.declaration l) (λ d. ret (start_declares d)))
@@ -220,6 +249,7 @@ else_rule l e a at =
     if ends_open a then ret (branch e a at)
     else on_word word.Else (word_rule word.Else l (λ _. rule.call (phrase.statement l) (λ b. ret (branch_else e a b at)))) (ret (branch e a at))
 
+-- a test in its parentheses alone, without the statement after it
 abbrev pub test_rule : ℕ → Rule Exp
 test_rule l = tested l (λ e. ret e)
 
@@ -229,15 +259,18 @@ pub record ForHead : Type 0 where
   pub test : Option Exp
   pub next : Option Exp
 
+-- short for the record: the three clauses in their order
 abbrev pub for_head : Start → Option Exp → Option Exp → ForHead
 for_head s test next = record { start = s; test = test; next = next }
 
+-- the clauses of a `for` in their parentheses, without the statement after them
 abbrev pub for_head_rule : ℕ → Rule ForHead
 for_head_rule l =
     punct_rule punct.OpenParen l (λ _. rule.call (phrase.start l) (λ s.
     rule.call (phrase.maybe_expression l punct.Semicolon) (λ test. punct_rule punct.Semicolon l (λ _.
     rule.call (phrase.maybe_expression l punct.CloseParen) (λ next. punct_rule punct.CloseParen l (λ _. ret (for_head s test next)))))))
 
+-- past the word `for`, with its statement (C99 6.8.5.3)
 abbrev pub for_rule : ℕ → Position → Rule Statement
 for_rule l at =
     punct_rule punct.OpenParen l (λ _. rule.call (phrase.start l) (λ s.
@@ -249,21 +282,27 @@ for_rule l at =
 abbrev pub do_end_rule : ℕ → Rule Exp
 do_end_rule l = word_rule word.While l (λ _. tested l (λ e. punct_rule punct.Semicolon l (λ _. ret e)))
 
+-- past the word `do`, up to its semicolon (C99 6.8.5.2)
 abbrev pub do_rule : ℕ → Position → Rule Statement
 do_rule l at = rule.call (phrase.statement l) (λ a. word_rule word.While l (λ _. tested l (λ e. punct_rule punct.Semicolon l (λ _. ret (do_loop a e at)))))
 
+-- past the word `while` of a loop that tests first (C99 6.8.5.1)
 abbrev pub while_rule : ℕ → Position → Rule Statement
 while_rule l at = tested l (λ e. rule.call (phrase.statement l) (λ a. ret (while_loop e a at)))
 
+-- past the word `if`, with the `else` that is its own (C99 6.8.4.1)
 abbrev pub if_rule : ℕ → Position → Rule Statement
 if_rule l at = tested l (λ e. rule.call (phrase.statement l) (λ a. else_rule l e a at))
 
+-- past the brace, up to the one that closes it (C99 6.8.2)
 abbrev pub block_rule : ℕ → Position → Rule Statement
 block_rule l at = rule.call (phrase.parts l []) (λ ps. punct_rule punct.CloseBrace l (λ _. ret (block (listed_parts ps) at)))
 
+-- past the word `return`: a value or none (C99 6.8.6.4)
 abbrev pub return_rule : ℕ → Position → Rule Statement
 return_rule l at = rule.call (phrase.maybe_expression l punct.Semicolon) (λ e. punct_rule punct.Semicolon l (λ _. ret (gives e at)))
 
+-- an expression and its semicolon (C99 6.8.3)
 abbrev pub compute_rule : ℕ → Rule Statement
 compute_rule l = rule.call (phrase.expression l) (λ e. punct_rule punct.Semicolon l (λ _. ret (compute (Some e) (first_place e))))
 
@@ -287,9 +326,11 @@ simple_rule l =
 abbrev pub inside_rule : ℕ → Rule Statement
 inside_rule l = on_punct punct.OpenBrace (punct_rule punct.OpenBrace l (λ at. block_rule l at)) (simple_rule l)
 
+-- any statement; it stands one level above its context
 abbrev pub statement_rule : ℕ → Rule Statement
 statement_rule l = inside_rule (suc l)
 
+-- the rest of a block up to its brace, where parts were read before
 abbrev pub parts_rule : ℕ → List Part → Rule (List Part)
 parts_rule l ps =
     on_punct punct.CloseBrace (ret ps)
@@ -302,15 +343,18 @@ part_rule l = choose is_type (rule.call (phrase.declaration l) (λ d. ret (part_
 
 -- ---- the outermost level
 
+-- past the specifier of a parameter: stars, and a name if any
 abbrev pub param_after_rule : Specifier → Rule Param
 param_after_rule s =
     rule.call (phrase.stars 0 0) (λ n.
     choose (is_of a_name) (one a_name 0 (λ x at. ret (record { specifier = s; stars = n; name = Some (name_of x at); at = specifier_place s })))
     (ret (record { specifier = s; stars = n; name = None; at = specifier_place s })))
 
+-- further parameters after commas, where some were read before
 abbrev pub more_params_rule : List Param → Rule (List Param)
 more_params_rule xs = on_punct punct.Comma (punct_rule punct.Comma 0 (λ _. rule.call phrase.param (λ x. rule.call (phrase.more_params (xs ++ x ∷ [])) (λ all. ret all)))) (ret xs)
 
+-- the word `void` alone means that there are none (C99 6.7.5.3)
 abbrev pub params_from : List Param → Params
 params_from xs = if is_void_alone xs then params_of.Void else params_of.Listed xs
 
@@ -318,15 +362,18 @@ params_from xs = if is_void_alone xs then params_of.Void else params_of.Listed x
 abbrev pub params_rule : Rule Params
 params_rule = on_punct punct.CloseParen (ret params_of.Nothing) (rule.call phrase.param (λ x. rule.call (phrase.more_params (x ∷ [])) (λ xs. ret (params_from xs))))
 
+-- a function's body, or the semicolon of a prototype
 abbrev pub code_rule : Rule Code
 code_rule =
     on_punct punct.OpenBrace
     (punct_rule punct.OpenBrace 0 (λ at. rule.call (phrase.parts 0 []) (λ ps. punct_rule punct.CloseBrace 0 (λ _. ret (defined (listed_parts ps) at)))))
     (punct_rule punct.Semicolon 0 (λ _. ret prototype))
 
+-- further members of one specifier, where some were read before
 abbrev pub more_declared_rule : List Declared → Rule (List Declared)
 more_declared_rule ds = on_punct punct.Comma (punct_rule punct.Comma 0 (λ _. rule.call (phrase.declarator 0) (λ d. rule.call (phrase.more_declared (ds ++ d ∷ [])) (λ all. ret all)))) (ret ds)
 
+-- members of one specifier, with their semicolon (C99 6.7.2.1)
 abbrev pub member_rule : Rule Fields
 member_rule =
     rule.call (phrase.specifier 0) (λ s.
@@ -352,9 +399,11 @@ abbrev pub after_head : Bool → Specifier → Position → Head → Rule Outer
 after_head is_static s at (function_head n x there) = function_rule is_static s n x there
 after_head is_static s at (object_head n x there) = objects_rule is_static s at n x there
 
+-- past a specifier at file level: a function or objects
 abbrev pub outer_after_rule : Bool → Specifier → Position → Rule Outer
 outer_after_rule is_static s at = heads (λ h. after_head is_static s at h)
 
+-- past the name of a struct that is defined here (C99 6.7.2.1)
 abbrev pub structure_rule : List ℕ → Position → Rule Outer
 structure_rule x there =
     punct_rule punct.OpenBrace 0 (λ _. rule.call phrase.member (λ f.
@@ -367,6 +416,7 @@ after_struct_rule at =
     on_punct punct.OpenBrace (structure_rule x there)
     (rule.call (phrase.outer_after false (specifiers.Struct (name_of x there) at) at) (λ o. ret o)))
 
+-- an external declaration (C99 6.9)
 abbrev pub outer_rule : Rule Outer
 outer_rule =
     on_word word.Static (word_rule word.Static 0 (λ at. rule.call (phrase.specifier 0) (λ s. rule.call (phrase.outer_after true s at) (λ o. ret o))))
@@ -379,6 +429,7 @@ program_rule os = choose (λ k. true) (rule.call phrase.outer (λ o. rule.call (
 
 -- ---- all rules
 
+-- each phrase, and how it is read
 abbrev pub rules : (n : Phrase) → Rule (TreeOf n)
 rules (phrase.specifier l) = specifier_rule l
 rules (phrase.stars l n) = stars_rule l n

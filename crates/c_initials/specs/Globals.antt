@@ -27,6 +27,7 @@ with_global (a_global name) w gs = with_name gs name w
 with_global (a_local f name) w gs = gs
 with_global an_allocation w gs = gs
 
+-- how many global cells: those of a local or a `malloc` lie in arenas
 abbrev pub holder_cells : Holder → ℕ → ℕ
 holder_cells (a_global name) cells = cells
 holder_cells (a_local f name) cells = 0
@@ -39,6 +40,7 @@ globals_after site base gs (spot ∷ spots) [] = gs
 globals_after site base gs (spot ∷ spots) (s ∷ sites) =
     globals_after (site + 1) (base + holder_cells spot.holder s.layout.size) (with_global spot.holder (pack site base s.layout.size 0) gs) spots sites
 
+-- the kinds of the cells that a spot takes among the global ones
 abbrev pub holder_kinds : Holder → List CellKind → List CellKind
 holder_kinds (a_global name) ks = ks
 holder_kinds (a_local f name) ks = []
@@ -50,6 +52,7 @@ global_kinds [] sites = []
 global_kinds (spot ∷ spots) [] = []
 global_kinds (spot ∷ spots) (s ∷ sites) = holder_kinds spot.holder s.layout.kinds ++ global_kinds spots sites
 
+-- only a global's object has a fixed place
 abbrev pub holder_base : Holder → ℕ → Option ℕ
 holder_base (a_global name) base = Some base
 holder_base (a_local f name) base = None
@@ -70,10 +73,12 @@ address_word s (prefix op e at) = address_word s e
 address_word s (paren e at) = address_word s e
 address_word s _ = 0
 
+-- a constant that traps gives 0
 abbrev pub computed_word : Computed → ℕ
 computed_word (Ok z) = word z
 computed_word (Err t) = 0
 
+-- a number in 64 bits, or else an address constant (C99 6.6)
 abbrev pub constant_word : Source → Known → Exp → ℕ
 constant_word s known e = if is_constant e then computed_word (value_here known e) else address_word s e
 
@@ -99,6 +104,7 @@ abbrev pub object_words : Source → Known → Specifier → Object → List ℕ
 object_words s known sp (plain d) = replicate (length (kinds_of_some s (declared_type known sp d))) 0
 object_words s known sp (initialised d i at) = start_words s (after_declared known true sp d) (declared_type known sp d) i
 
+-- the words of all globals of one declaration, in order
 abbrev pub objects_words : Source → Known → Specifier → List Object → List ℕ
 objects_words s known sp [] = []
 objects_words s known sp (o ∷ os) = object_words s known sp o ++ objects_words s (after_declared known true sp (declared_by o)) sp os

@@ -16,6 +16,7 @@ use Rattle.c_values.specs.declared.home.Home.TheVariants as home
 use Rattle.c_values.specs.Context.{Source, Context}
 use Rattle.c_values.specs.Expressions.{is_pointer_type, wanted_of}
 
+-- no cells where the type has a fault
 abbrev pub kinds_of_some : Source → Option ObjectType → List CellKind
 kinds_of_some s None = []
 kinds_of_some s (Some t) = kinds_of_type s.kinds t
@@ -26,6 +27,7 @@ kinds_of_some s (Some t) = kinds_of_type s.kinds t
 abbrev pub cell_stored : ℕ → Position → ℕ → core.Exp → core.Statement
 cell_stored k at offset e = core.compute (core.store (core.member (core.object k at) offset at) e at)
 
+-- cells of mutexes, conditions and barriers get no store
 abbrev pub cell_cleared : ℕ → Position → ℕ → CellKind → List core.Statement
 cell_cleared k at offset cell.Whole = cell_stored k at offset (core.number (pos 0) at) ∷ []
 cell_cleared k at offset cell.Pointer = cell_stored k at offset (core.null at) ∷ []
@@ -40,6 +42,7 @@ cleared k at offset (c ∷ cs) = cell_cleared k at offset c ++ cleared k at (off
 abbrev pub rest_cleared : Source → ℕ → Position → Option ObjectType → ℕ → ℕ → List core.Statement
 rest_cleared s k at t begin offset = cleared k at offset (drop (offset - begin) (kinds_of_some s t))
 
+-- of an array its element, of a struct its member with the number i
 abbrev pub type_of_part : Known → Option ObjectType → ℕ → Option ObjectType
 type_of_part known t i = part_type (part_at known t i)
 
@@ -60,6 +63,7 @@ abbrev mutual
 
 -- ---- a register: braces may stand round its value
 
+-- what a register gets where its braces are empty
 abbrev pub zero_word : Bool → Position → core.Exp
 zero_word true at = core.null at
 zero_word false at = core.number (pos 0) at
@@ -77,6 +81,7 @@ abbrev mutual
 
 -- ---- either
 
+-- a single value goes to the first cell, and braces fill all
 abbrev pub object_begun : Context → ℕ → Option ObjectType → Init → Position → List core.Statement
 object_begun h k t (value e) at = core.compute (core.store (core.object k at) (wanted_of h (is_pointer_type t) (value_target t) e) at) ∷ []
 object_begun h k t (braces is trailing context) at = parts_started h k at t 0 0 0 is

@@ -3,6 +3,7 @@
 use Rattle.std.specs.Prelude.{ℕ, Bool, not, ◌||◌, ◌==◌, nat_le, List}
 use Rattle.std.specs.Char.{is_ascii_alphabetic, is_ascii_alphanumeric}
 
+-- a source or a part of one, each byte as a number
 abbrev pub Text : Type 0
 Text = List ℕ
 

@@ -10,6 +10,7 @@ abbrev pub comment_end : Text → Option ℕ
 comment_end [] = None
 comment_end (b ∷ bs) = if b == 42 && slice_index bs 0 == 47 then Some 2 else option_map suc (comment_end bs)
 
+-- where the comment ends, counted from after its `/*`; none is a fault
 abbrev pub comment_by : Option ℕ → Piece
 comment_by None = piece.Fault OpenComment 0
 comment_by (Some n) = piece.Blank (n + 2)

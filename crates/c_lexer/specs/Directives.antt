@@ -22,6 +22,7 @@ gap_len = prefix_len is_gap
 abbrev pub is_gap_only : Text → Bool
 is_gap_only text = gap_len text == length text
 
+-- a comment that ends after so many bytes, and then spaces and tabs alone
 abbrev pub ends_by : Option ℕ → Text → Bool
 ends_by None text = false
 ends_by (Some n) text = is_gap_only (drop n text)
@@ -41,6 +42,7 @@ abbrev pub header_len : List Text → Text → Option ℕ
 header_len [] text = None
 header_len (h ∷ hs) text = if starts_with nat_eq text h then Some (length h) else header_len hs text
 
+-- a header of this length, after which the line must end
 abbrev pub include_by : Option ℕ → Text → Bool
 include_by None text = false
 include_by (Some n) text = is_tail (drop n text)
@@ -66,6 +68,7 @@ unfoldable pub are_there : Parts → Text → Bool
 are_there parts line =
     nat_lt 7 parts.from && begins_name (slice_index line parts.from) && nat_lt parts.to parts.sign && is_ascii_digit (slice_index line parts.digits)
 
+-- the name's value with its sign; a number from 2^63 on is a fault
 abbrev pub value_by : Option ℕ → Parts → ℕ → Piece
 value_by None parts len = piece.Fault WideNumber parts.digits
 value_by (Some v) parts len = piece.Define parts.from parts.to (if parts.minus then neg_ℤ (pos v) else pos v) len

@@ -27,6 +27,7 @@ LongestIsCut = (text : Text) (spelling : Text) → Contains (map (λ e. e.0) pun
 
 -- ---- words and punctuation are their tokens
 
+-- each word and sign as it is written, with its kind
 abbrev pub spellings : List (Text × Kind)
 spellings = map (λ e. (e.0, kind.Word e.1)) words ++ map (λ e. (e.0, kind.Punct e.1)) puncts
 
@@ -40,6 +41,7 @@ abbrev pub AreFound : List Kind → Found → Type 0
 AreFound kinds (Ok ts) = map (λ t. t.kind) ts ≡ kinds
 AreFound kinds (Err f) = ⊥
 
+-- words and signs with spaces between are read as just themselves
 abbrev pub SpelledAreFound : Type 0
 SpelledAreFound = (es : List (Text × Kind)) → All (Contains spellings) es → AreFound (map (λ e. e.1) es) (tokens_of (spelled es))
 
@@ -53,6 +55,7 @@ line_of text at = 1 + count_by (λ b. b == 10) (take at text)
 abbrev pub column_of : Text → ℕ → ℕ
 column_of text at = 1 + suffix_len is_in_line (take at text)
 
+-- lines and columns count from 1, the offset counts bytes from 0
 pub record IsCursorOf (text : Text) (cursor : Cursor) : Type 0 where
   pub within : cursor.offset ≤ length text
   pub line : cursor.at.line ≡ line_of text cursor.offset
@@ -63,5 +66,6 @@ abbrev pub ArePlaced : Text → Found → Type 0
 ArePlaced text (Ok ts) = All (λ t. IsCursorOf text (record { offset = t.start; at = t.at })) ts
 ArePlaced text (Err f) = (kind : Fault) × (cursor : Cursor) × IsCursorOf text cursor × (f ≡ fault_at kind cursor.at)
 
+-- in every source tokens and faults stand where they say
 abbrev pub PlacesAreTrue : Type 0
 PlacesAreTrue = (text : Text) → ArePlaced text (tokens_of text)

@@ -20,9 +20,11 @@ entry_of (e ∷ es) name = if bytes_eq name e.0 then Some e.1 else entry_of es n
 unfoldable pub word_of : Text → Option Word
 word_of = entry_of words
 
+-- a word of C that the profile refuses, such as `goto`
 unfoldable pub is_refused : Text → Bool
 is_refused = is_among refused_words
 
+-- `const` or `volatile`, which stand for a blank
 unfoldable pub is_blank_word : Text → Bool
 is_blank_word = is_among blank_words
 
@@ -32,10 +34,12 @@ is_free defined name =
     not (is_some (word_of name)) && not (is_blank_word name) && not (is_refused name) && not (is_library_name name)
     && not (is_some (entry_of defined name))
 
+-- a name to which a `#define` gave a value is that number
 abbrev pub name_by : Option ℤ → Text → Kind
 name_by None name = kind.Name name
 name_by (Some v) name = kind.Number v
 
+-- words come first, then refused ones, then what `#define` made
 abbrev pub word_by : Option Word → Defined → Text → Kind
 word_by (Some w) defined name = kind.Word w
 word_by None defined name = if is_refused name then kind.Refused name else name_by (entry_of defined name) name

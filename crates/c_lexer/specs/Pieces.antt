@@ -24,6 +24,7 @@ abbrev pub IsUpTo : Option ℕ → ℕ → Type 0
 IsUpTo None len = Unit {0}
 IsUpTo (Some n) len = n ≤ len
 
+-- a value, if any, that a `long` holds
 abbrev pub IsNarrow : Option ℕ → Type 0
 IsNarrow None = Unit {0}
 IsNarrow (Some v) = v < 2 ^ 63

@@ -20,6 +20,7 @@ escaped b =
     else (if b == 48 then Some 0
     else (if b == 92 || b == 39 || b == 34 then Some b else None))))
 
+-- an escape is two bytes of the source that mean one
 abbrev pub escape_by : Option ℕ → Part
 escape_by None = part.BadEscape
 escape_by (Some v) = part.Byte v 2
@@ -49,11 +50,13 @@ letter_by part.Open text = piece.Fault fault.OpenText 0
 unfoldable pub letter_at : Text → Piece
 letter_at text = letter_by (unit_at 39 (drop 1 text)) text
 
+-- one byte more at the front; a fault after it stays
 abbrev pub with_byte : ℕ → Body → Body
 with_byte v (body.Closed bytes len) = body.Closed (v ∷ bytes) len
 with_byte v (body.BadEscape at) = body.BadEscape at
 with_byte v body.Open = body.Open
 
+-- by the unit here, with `at` bytes before it and `more` after it
 abbrev pub body_by : Part → ℕ → (ℕ → Body) → Body
 body_by (part.Byte v n) at more = with_byte v (more n)
 body_by part.Close at more = body.Closed [] at

@@ -31,6 +31,7 @@ abbrev pub punct_in : List (Text × Punct) → Text → Piece
 punct_in [] text = piece.Fault fault.BadByte 0
 punct_in (e ∷ es) text = if starts_with nat_eq text e.0 then piece.Token (kind.Punct e.1) (length e.0) else punct_in es text
 
+-- the longest sign at the front; without one the byte is a fault
 unfoldable pub punct_at : Text → Piece
 punct_at = punct_in puncts
 
@@ -74,6 +75,7 @@ Found = Result (List Token) LexFault
 abbrev pub token_at : Kind → ℕ → Cursor → Token
 token_at kind len cursor = record { kind = kind; at = cursor.at; start = cursor.offset; end = cursor.offset + len }
 
+-- a token before the others; a fault after it stays the answer
 abbrev pub with_token : Token → Found → Found
 with_token t (Ok ts) = Ok (t ∷ ts)
 with_token t (Err f) = Err f
@@ -107,6 +109,7 @@ tokens_from zero r (b ∷ bs) =
 abbrev pub start : Reading
 start = record { cursor = record { offset = 0; at = position_at 1 1 }; token_line = 0; defined = [] }
 
+-- the tokens of a whole source, or its first fault
 unfoldable pub tokens_of : Text → Found
 tokens_of text = tokens_from 0 start text
 

@@ -16,10 +16,12 @@ pub record Numbered : Type 0 where
   pub next : ℕ
   pub scopes : List (List (Text × ℕ))
 
+-- the innermost name hides the others (C99 6.2.1); globals have no number
 abbrev pub number_seen : List (List (Text × ℕ)) → Text → Option ℕ
 number_seen [] name = None
 number_seen (s ∷ ss) name = or_else (entry_of s name) (number_seen ss name)
 
+-- the name is declared in the innermost scope
 abbrev pub numbered_in : List (List (Text × ℕ)) → Text → ℕ → List (List (Text × ℕ))
 numbered_in [] name n = []
 numbered_in (s ∷ ss) name n = with_name s name n ∷ ss
@@ -32,14 +34,17 @@ following known many = record known { next = known.next + many }
 abbrev pub number_name : Numbered → Name → Numbered
 number_name known name = following (record known { scopes = numbered_in known.scopes name.text known.next }) 1
 
+-- a scope begins (C99 6.2.1)
 abbrev pub inside : Numbered → Numbered
 inside known = record known { scopes = [] ∷ known.scopes }
 
+-- the innermost scope ends; its numbers stay used
 abbrev pub outside : Numbered → Numbered
 outside known = record known { scopes = drop 1 known.scopes }
 
 -- ---- expressions
 
+-- a number or none, as a list
 abbrev pub maybe_listed : Option ℕ → List ℕ
 maybe_listed None = []
 maybe_listed (Some n) = n ∷ []
@@ -50,6 +55,7 @@ number_of_operand known (named name at) = maybe_listed (number_seen known.scopes
 number_of_operand known (paren e at) = number_of_operand known e
 number_of_operand known _ = []
 
+-- the operand counts only if the operator is `&`
 abbrev pub where_address : Bool → List ℕ → List ℕ
 where_address true ns = ns
 where_address false ns = []
@@ -81,10 +87,12 @@ abbrev mutual
   all_addressed known no_exp = []
   all_addressed known (and_exp e es) = addressed known e ++ all_addressed known es
 
+-- an expression that is left out has no `&`
 abbrev pub maybe_addressed : Numbered → Option Exp → List ℕ
 maybe_addressed known None = []
 maybe_addressed known (Some e) = addressed known e
 
+-- an `&` in the lengths of an array
 abbrev pub lengths_addressed : Numbered → List Exp → List ℕ
 lengths_addressed known [] = []
 lengths_addressed known (e ∷ es) = addressed known e ++ lengths_addressed known es
@@ -102,36 +110,45 @@ abbrev mutual
   initials_addressed known no_init = []
   initials_addressed known (and_init i is) = initial_addressed known i ++ initials_addressed known is
 
+-- of a declarator only its lengths may hold an `&`
 abbrev pub declared_addressed : Numbered → Declared → List ℕ
 declared_addressed known (declared stars name lengths) = lengths_addressed known lengths
 
+-- from the end of its declarator on a name is seen (C99 6.2.1)
 abbrev pub after_name : Numbered → Declared → Numbered
 after_name known d = number_name known (declared_name d)
 
+-- in its first value an object's own name is seen
 abbrev pub object_addressed : Numbered → Object → List ℕ
 object_addressed known (plain d) = declared_addressed known d
 object_addressed known (initialised d i at) = declared_addressed known d ++ initial_addressed (after_name known d) i
 
+-- each object sees those before it
 abbrev pub objects_addressed : Numbered → List Object → List ℕ
 objects_addressed known [] = []
 objects_addressed known (o ∷ os) = object_addressed known o ++ objects_addressed (after_name known (declared_by o)) os
 
+-- each object of a declaration takes the next number
 abbrev pub after_names : Numbered → List Object → Numbered
 after_names known [] = known
 after_names known (o ∷ os) = after_names (after_name known (declared_by o)) os
 
+-- an `&` in the lengths and first values of a declaration
 abbrev pub declares_addressed : Numbered → Declares → List ℕ
 declares_addressed known (declares s os at) = objects_addressed known os
 
+-- its names are seen, and their numbers are used
 abbrev pub after_declaration : Numbered → Declares → Numbered
 after_declaration known (declares s os at) = after_names known os
 
 -- ---- statements
 
+-- an `&` in the first clause of a `for`
 abbrev pub start_addressed : Numbered → Start → List ℕ
 start_addressed known (start_declares d) = declares_addressed known d
 start_addressed known (start_computes e) = maybe_addressed known e
 
+-- what the first clause declares is seen in all the `for` (C99 6.8.5.3)
 abbrev pub after_for_start : Numbered → Start → Numbered
 after_for_start known (start_declares d) = after_declaration known d
 after_for_start known (start_computes e) = known
@@ -143,9 +160,11 @@ for_addressed known start test next =
     ++ maybe_addressed (after_for_start known start) test
     ++ maybe_addressed (after_for_start known start) next
 
+-- each object that is declared takes one number
 abbrev pub count_of_declares : Declares → ℕ
 count_of_declares (declares s os at) = length os
 
+-- how many locals a `for` declares in its first clause
 abbrev pub count_of_start : Start → ℕ
 count_of_start (start_declares d) = count_of_declares d
 count_of_start (start_computes e) = 0
@@ -206,6 +225,7 @@ abbrev pub after_formal : Numbered → Option Name → Numbered
 after_formal known None = following known 1
 after_formal known (Some name) = number_name known name
 
+-- the formals take numbers in their order
 abbrev pub after_formals : Numbered → List Param → Numbered
 after_formals known [] = known
 after_formals known (p ∷ ps) = after_formals (after_formal known p.name) ps
@@ -219,20 +239,24 @@ abbrev pub count_of_code : List Param → Code → ℕ
 count_of_code ps prototype = 0
 count_of_code ps (defined parts at) = length ps + count_of_parts parts
 
+-- where its first formal has the number n; a prototype has no `&`
 abbrev pub code_addressed : ℕ → List Param → Code → List ℕ
 code_addressed n ps prototype = []
 code_addressed n ps (defined parts at) = parts_addressed (numbered_from n ps) parts
 
+-- how many numbers it uses: globals and members have none
 abbrev pub count_of_outer : Outer → ℕ
 count_of_outer (structure name fs) = 0
 count_of_outer (function is_static s stars name ps code) = count_of_code (listed_params ps) code
 count_of_outer (objects is_static s os at) = 0
 
+-- only a function's body sees locals; its first formal has the number n
 abbrev pub outer_addressed : ℕ → Outer → List ℕ
 outer_addressed n (structure name fs) = []
 outer_addressed n (function is_static s stars name ps code) = code_addressed n (listed_params ps) code
 outer_addressed n (objects is_static s os at) = []
 
+-- numbers run on from each function to the next
 abbrev pub outers_addressed : ℕ → List Outer → List ℕ
 outers_addressed n [] = []
 outers_addressed n (o ∷ os) = outer_addressed n o ++ outers_addressed (n + count_of_outer o) os
@@ -241,6 +265,7 @@ outers_addressed n (o ∷ os) = outer_addressed n o ++ outers_addressed (n + cou
 abbrev pub program_addressed : List Outer → List ℕ
 program_addressed os = outers_addressed 0 os
 
+-- whether the number is in the list
 abbrev pub is_among : List ℕ → ℕ → Bool
 is_among [] n = false
 is_among (m ∷ ms) n = (m == n) || is_among ms n

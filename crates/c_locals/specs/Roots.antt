@@ -13,14 +13,17 @@ abbrev pub name_of_start : Exp → Option Text
 name_of_start (named name at) = Some name
 name_of_start _ = None
 
+-- the third argument, where it is the bare name of a function
 abbrev pub third_name : Exps → Option Text
 third_name (and_exp a (and_exp b (and_exp c more))) = name_of_start c
 third_name _ = None
 
+-- the function that this call starts a thread with, if it does
 abbrev pub started_by : Option LibraryName → Exps → Option Text
 started_by (Some library.Create) es = third_name es
 started_by _ es = None
 
+-- one name more, unless it is there already
 abbrev pub with_maybe : List Text → Option Text → List Text
 with_maybe names None = names
 with_maybe names (Some name) = with_text names name
@@ -54,6 +57,7 @@ abbrev mutual
   with_all_starts names no_exp = names
   with_all_starts names (and_exp e es) = with_all_starts (with_starts names e) es
 
+-- an expression that is left out starts no thread
 abbrev pub with_maybe_starts : List Text → Option Exp → List Text
 with_maybe_starts names None = names
 with_maybe_starts names (Some e) = with_starts names e
@@ -74,13 +78,16 @@ abbrev pub with_object_starts : List Text → Object → List Text
 with_object_starts names (plain d) = names
 with_object_starts names (initialised d i at) = with_initial_starts names i
 
+-- the starts in the first values of these objects
 abbrev pub with_objects_starts : List Text → List Object → List Text
 with_objects_starts names [] = names
 with_objects_starts names (o ∷ os) = with_objects_starts (with_object_starts names o) os
 
+-- the starts in a declaration of locals
 abbrev pub with_declares_starts : List Text → Declares → List Text
 with_declares_starts names (declares s os at) = with_objects_starts names os
 
+-- the starts in the first clause of a `for`
 abbrev pub with_start_starts : List Text → Start → List Text
 with_start_starts names (start_declares d) = with_declares_starts names d
 with_start_starts names (start_computes e) = with_maybe_starts names e
@@ -104,6 +111,7 @@ abbrev mutual
   with_parts_starts names (and_declares d ps) = with_parts_starts (with_declares_starts names d) ps
   with_parts_starts names (and_does s ps) = with_parts_starts (with_statement_starts names s) ps
 
+-- a prototype starts no thread
 abbrev pub with_code_starts : List Text → Code → List Text
 with_code_starts names prototype = names
 with_code_starts names (defined parts at) = with_parts_starts names parts
@@ -114,6 +122,7 @@ with_outer_starts names (structure name fs) = names
 with_outer_starts names (function is_static s stars name ps code) = with_code_starts names code
 with_outer_starts names (objects is_static s os at) = names
 
+-- the starts in all functions, in the order of the text
 abbrev pub with_outers_starts : List Text → List Outer → List Text
 with_outers_starts names [] = names
 with_outers_starts names (o ∷ os) = with_outers_starts (with_outer_starts names o) os

@@ -30,6 +30,7 @@ impl<'a> NumberTable<'a> {
         Ok(NumberTable { next, scopes })
     }
 
+    /// The number that the next name gets.
     pub fn next(&self) -> usize
         ensures { result ≡ (numbered_of self.now).next }
     {

@@ -17,9 +17,11 @@ use Rattle.c_grammar.specs.Rules.{read}
 abbrev pub limit : ℕ
 limit = 256
 
+-- the lexer's token without its span of bytes
 abbrev pub lexeme_of : Token → Lexeme
 lexeme_of t = record { kind = t.kind; place = t.at }
 
+-- what the lexer found, as the grammar sees it
 abbrev pub lexemes : List Token → List Lexeme
 lexemes ts = map lexeme_of ts
 
@@ -27,12 +29,15 @@ lexemes ts = map lexeme_of ts
 abbrev pub bare : Position → Unit {0} × Position
 bare p = (tt, p)
 
+-- a name as its class of tokens tells it: bytes and place
 abbrev pub name_view : TreeName → List ℕ × Position
 name_view n = (n.text, n.at)
 
+-- the crate's initials, and whether a comma stands after the last
 abbrev pub initials_of : List Initial × Bool → Initials
 initials_of x = initials (map init_of x.0) x.1
 
+-- the same fault with the same tokens left, unless memory runs out
 abbrev pub Stops : {B : Type 0} → Stop → Outcome B → Type 0
 Stops stop.OutOfMemory o = Unit {0}
 Stops (stop.Syntax rest) o = o ≡ Stuck Syntax (lexemes rest.now)

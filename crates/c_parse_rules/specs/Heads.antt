@@ -6,6 +6,7 @@ use Rattle.c_grammar.specs.Grammar.{name_place}
 use Rattle.c_grammar.specs.Phrase.{Head, function_head, object_head}
 use Rattle.c_parse_rules.specs.Gives.{limit}
 
+-- the crate's head, the name by its bytes and its place
 abbrev pub head_of : CodeHead → Head
 head_of (heads.Function stars name) = function_head stars name.text (name_place name)
 head_of (heads.Object stars name) = object_head stars name.text (name_place name)

@@ -34,6 +34,7 @@ abbrev pub is_refused : Kind → Bool
 is_refused (kind.Refused word) = true
 is_refused _ = false
 
+-- the next token is a word that the profile refuses
 abbrev pub begins_refused : List Lexeme → Bool
 begins_refused [] = false
 begins_refused (t ∷ ts) = is_refused t.kind
@@ -57,6 +58,7 @@ stands_at (t ∷ rest) ts = t.place
 abbrev pub StopsAt : Fault → List Lexeme → List Token → Type 0
 StopsAt f rest ts = (front : List Mark) × AllLow limit front × (lexemes ts ≡ erase front ++ rest) × IsFaultOf limit f front rest
 
+-- the fault that is answered is the source's first, unless memory runs out
 abbrev pub IsFault : ParseFault → List Token → Type 0
 IsFault (faults.Syntax at) ts = (rest : List Lexeme) × StopsAt Syntax rest ts × (begins_refused rest ≡ false) × (at ≡ stands_at rest ts)
 IsFault (faults.OutOfProfile at) ts = (rest : List Lexeme) × StopsAt Syntax rest ts × (begins_refused rest ≡ true) × (at ≡ stands_at rest ts)

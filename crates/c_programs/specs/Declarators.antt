@@ -51,19 +51,23 @@ complete_by known (Some t) = if is_complete known t then Some t else None
 abbrev pub declared_type : Known → Specifier → Declared → Option ObjectType
 declared_type known s (declared stars name lengths) = complete_by known (type_by (base_of known s) stars (arrays_of known lengths))
 
+-- faults of a declarator stand at this name
 abbrev pub declared_name : Declared → Name
 declared_name (declared stars name lengths) = name
 
 -- ---- faults
 
+-- `void` before the stars: without one, no object can have it
 abbrev pub is_void_specifier : Specifier → Bool
 is_void_specifier (specifier.Void at) = true
 is_void_specifier _ = false
 
+-- a struct before the stars: without one, no call can pass it
 abbrev pub is_struct_specifier : Specifier → Bool
 is_struct_specifier (specifier.Struct name at) = true
 is_struct_specifier _ = false
 
+-- of each `[n]` of one declarator, at the declared name
 abbrev pub lengths_faults : Known → Position → List Exp → List Found
 lengths_faults known at [] = []
 lengths_faults known at (e ∷ es) = length_faults known at e ++ lengths_faults known at es
@@ -75,14 +79,17 @@ declarator_faults known s (declared stars name lengths) =
     ++ mismatch (is_void_specifier s && (stars == 0)) (name_place name)
     ++ lengths_faults known (name_place name) lengths
 
+-- more cells than one object may have, which are 65535
 abbrev pub is_too_large : ℕ → Bool
 is_too_large cells = nat_lt most_cells cells
 
+-- of an object or a struct, at its name
 abbrev pub size_faults : ℕ → Name → List Found
 size_faults cells name = where_it_comes (is_too_large cells) fault.ObjectTooLarge (name_place name)
 
 -- ---- names
 
+-- a call or a constant of the library, which no source may declare
 abbrev pub is_library_name : Text → Bool
 is_library_name name = is_some (library_named name) || is_some (constant_named name)
 
@@ -90,11 +97,13 @@ is_library_name name = is_some (library_named name) || is_some (constant_named n
 abbrev pub is_taken : Known → Text → Bool
 is_taken known name = is_library_name name || is_some (entry_of (innermost known.scopes) name)
 
+-- a second declaration in one scope, or one of a library name
 abbrev pub taken_faults : Known → Name → List Found
 taken_faults known name = where_it_comes (is_taken known name.text) fault.DuplicateName (name_place name)
 
 -- ---- structs
 
+-- each struct has member names of its own (C99 6.2.3)
 abbrev pub has_member : Members → Text → Bool
 has_member ms name = is_some (entry_of ms name)
 
@@ -104,6 +113,7 @@ one_member_faults known s ms d =
     declarator_faults known s d
     ++ where_it_comes (has_member ms (declared_name d).text) fault.DuplicateName (name_place (declared_name d))
 
+-- also one with a fault, whose type isn't known then
 abbrev pub with_member : Known → Specifier → Members → Declared → Members
 with_member known s ms d = with_name ms (declared_name d).text (declared_type known s d)
 
@@ -112,14 +122,17 @@ abbrev pub some_members_faults : Known → Specifier → Members → List Declar
 some_members_faults known s ms [] = []
 some_members_faults known s ms (d ∷ ds) = one_member_faults known s ms d ++ some_members_faults known s (with_member known s ms d) ds
 
+-- after all declarators of one specifier
 abbrev pub with_members : Known → Specifier → Members → List Declared → Members
 with_members known s ms [] = ms
 with_members known s ms (d ∷ ds) = with_members known s (with_member known s ms d) ds
 
+-- of the members of a struct, line by line
 abbrev pub fields_faults : Known → Members → List Fields → List Found
 fields_faults known ms [] = []
 fields_faults known ms (fields s ds at ∷ fs) = some_members_faults known s ms ds ++ fields_faults known (with_members known s ms ds) fs
 
+-- after the members of all lines in a struct's braces
 abbrev pub with_fields : Known → Members → List Fields → Members
 with_fields known ms [] = ms
 with_fields known ms (fields s ds at ∷ fs) = with_fields known (with_members known s ms ds) fs
@@ -129,13 +142,16 @@ abbrev pub declared_cells : Known → Specifier → List Declared → ℕ
 declared_cells known s [] = 0
 declared_cells known s (d ∷ ds) = cells_of_some known (declared_type known s d) + declared_cells known s ds
 
+-- without a bound, unlike the cells of the struct
 abbrev pub fields_cells : Known → List Fields → ℕ
 fields_cells known [] = 0
 fields_cells known (fields s ds at ∷ fs) = declared_cells known s ds + fields_cells known fs
 
+-- the struct's size, with the bound of one object
 abbrev pub struct_cells : Known → List Fields → ℕ
 struct_cells known fs = counted_cells (fields_cells known fs)
 
+-- structs with lower numbers are those defined so far
 abbrev pub is_numbered_below : ℕ → Option ℕ → Bool
 is_numbered_below many None = false
 is_numbered_below many (Some k) = nat_lt k many
@@ -144,6 +160,7 @@ is_numbered_below many (Some k) = nat_lt k many
 abbrev pub is_struct_defined : Known → Text → Bool
 is_struct_defined known name = is_numbered_below (length known.structs) (struct_numbered known name)
 
+-- of a struct's definition, in which the struct itself has no size yet
 abbrev pub struct_faults : Known → Name → List Fields → List Found
 struct_faults known name fs =
     where_it_comes (is_struct_defined known name.text) fault.DuplicateName (name_place name)
@@ -162,14 +179,17 @@ after_struct known name fs =
 abbrev pub cannot_pass : Specifier → ℕ → Bool
 cannot_pass s stars = (stars == 0) && (is_void_specifier s || is_struct_specifier s)
 
+-- none where it can't be passed or its struct isn't known
 abbrev pub passed_by : Bool → Option BaseType → ℕ → Option ObjectType
 passed_by true b stars = None
 passed_by false None stars = None
 passed_by false (Some b) stars = Some (starred stars b)
 
+-- the type of the formal inside the function, if known
 abbrev pub param_type : Known → Param → Option ObjectType
 param_type known p = passed_by (cannot_pass p.specifier p.stars) (base_of known p.specifier) p.stars
 
+-- a parameter with a fault takes any argument
 abbrev pub wanted_for : Bool → Option BaseType → ℕ → Wanted
 wanted_for true b stars = wants.Anything
 wanted_for false None stars = wants.Anything
@@ -179,6 +199,7 @@ wanted_for false (Some b) stars = fitting_type stars b
 abbrev pub wanted_of : Known → Param → Wanted
 wanted_of known p = wanted_for (cannot_pass p.specifier p.stars) (base_of known p.specifier) p.stars
 
+-- `()` and `(void)` both list none
 abbrev pub listed_params : Params → List Param
 listed_params params.Nothing = []
 listed_params params.Void = []
@@ -192,6 +213,7 @@ param_place p = place_by p.name p.at
     place_by None at = at
     place_by (Some name) at = name_place name
 
+-- a parameter of a prototype may have no name
 abbrev pub param_name_faults : Known → Option Name → List Found
 param_name_faults known None = []
 param_name_faults known (Some name) = taken_faults known name
@@ -204,6 +226,7 @@ param_faults known is_definition p =
     ++ mismatch (is_definition && is_none p.name) (param_place p)
     ++ param_name_faults known p.name
 
+-- its name stands in the function's scope from here on
 abbrev pub after_param : Known → Param → Known
 after_param known p = declared_by known p.name (param_type known p)
   where
@@ -211,10 +234,12 @@ after_param known p = declared_by known p.name (param_type known p)
     declared_by known None t = known
     declared_by known (Some name) t = declare known name.text (variable t)
 
+-- each sees the ones before it; the flag tells a definition from a prototype
 abbrev pub params_faults : Known → Bool → List Param → List Found
 params_faults known is_definition [] = []
 params_faults known is_definition (p ∷ ps) = param_faults known is_definition p ++ params_faults (after_param known p) is_definition ps
 
+-- known where the body begins
 abbrev pub after_params : Known → List Param → Known
 after_params known [] = known
 after_params known (p ∷ ps) = after_params (after_param known p) ps

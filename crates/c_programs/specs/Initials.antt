@@ -33,6 +33,7 @@ base_part known base.Int k = alike_part 1 (bare base.Int) k
 base_part known (base.Struct s) k = member_at known s k
 base_part known _ k = None
 
+-- a pointer may stand in braces as one part (C99 6.7.8)
 abbrev pub layered_part : Known → List Layer → BaseType → ℕ → Option (Option ObjectType)
 layered_part known [] b k = base_part known b k
 layered_part known (layer.Pointer ∷ ls) b k = alike_part 1 (record { layers = layer.Pointer ∷ ls; base = b }) k
@@ -43,6 +44,7 @@ abbrev pub part_at : Known → Option ObjectType → ℕ → Option (Option Obje
 part_at known None k = Some None
 part_at known (Some t) k = layered_part known t.layers t.base k
 
+-- a part too many counts as one of unknown type
 abbrev pub part_type : Option (Option ObjectType) → Option ObjectType
 part_type None = None
 part_type (Some t) = t
@@ -55,20 +57,24 @@ layered_is_array [] = false
 layered_is_array (layer.Pointer ∷ ls) = false
 layered_is_array (layer.Array n ∷ ls) = true
 
+-- its name alone is an address constant (C99 6.6); unknown types may be arrays
 abbrev pub is_array_meaning : Option Meaning → Bool
 is_array_meaning (Some (variable None)) = true
 is_array_meaning (Some (variable (Some t))) = layered_is_array t.layers
 is_array_meaning _ = false
 
+-- an object, and no function or undeclared name
 abbrev pub is_variable : Option Meaning → Bool
 is_variable (Some (variable t)) = true
 is_variable _ = false
 
+-- a name whose address `&` takes, also in parentheses
 abbrev pub is_variable_name : Known → Exp → Bool
 is_variable_name known (named name at) = is_variable (seen known name)
 is_variable_name known (paren e at) = is_variable_name known e
 is_variable_name known _ = false
 
+-- of the prefix operators only `&` gives an address constant
 abbrev pub is_address : PrefixOp → Bool
 is_address prefix_op.Address = true
 is_address _ = false
@@ -82,6 +88,7 @@ is_constant_address known (prefix op e at) = is_address op && is_variable_name k
 is_constant_address known (paren e at) = is_constant_address known e
 is_constant_address known _ = false
 
+-- it starts as an address, not as a number
 abbrev pub layered_is_pointer : List Layer → Bool
 layered_is_pointer [] = false
 layered_is_pointer (layer.Pointer ∷ ls) = true
@@ -100,10 +107,12 @@ abbrev pub starts_as : Option ObjectType → Operand → Bool
 starts_as None a = is_scalar a
 starts_as (Some t) a = accepts t a
 
+-- what a `malloc` after the `=` is to make
 abbrev pub value_target : Option ObjectType → Target
 value_target None = some_target
 value_target (Some t) = type_target t
 
+-- the type is this base itself, without pointers or arrays
 abbrev pub layered_is_base : BaseType → List Layer → BaseType → Bool
 layered_is_base c [] b = same_base c b
 layered_is_base c (l ∷ ls) b = false
@@ -113,6 +122,7 @@ abbrev pub may_be_base : BaseType → Option ObjectType → Bool
 may_be_base c None = true
 may_be_base c (Some t) = layered_is_base c t.layers t.base
 
+-- objects with static storage need constants to start as (C99 6.7.8)
 abbrev pub where_global : Bool → List Found → List Found
 where_global true own = own
 where_global false own = []

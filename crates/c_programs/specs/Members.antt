@@ -5,5 +5,6 @@ use Rattle.c_lexer.specs.Bytes.{Text}
 use Rattle.c_types.specs.declared.types.ObjectType.{ObjectType}
 use Rattle.c_types.specs.Scopes.{Members}
 
+-- in the order of their declarations, as cells are laid out
 abbrev pub shown_members : List (Bor Text × Option ObjectType) → Members
 shown_members ms = map (λ m. (m.0.now, m.1)) ms

@@ -25,6 +25,7 @@ use Rattle.c_programs.specs.Statements.{objects_faults, after_objects, parts_fau
 
 -- ---- the types of functions
 
+-- none where it can't be given or its struct isn't known
 abbrev pub result_by : Bool → Option BaseType → ℕ → Option StarredType
 result_by true b stars = None
 result_by false None stars = None
@@ -34,12 +35,15 @@ result_by false (Some b) stars = Some (record { stars = stars; base = b })
 abbrev pub cannot_give : Specifier → ℕ → Bool
 cannot_give s stars = (stars == 0) && is_struct_specifier s
 
+-- the type that a function gives; `void` without stars is allowed
 abbrev pub result_of : Known → Specifier → ℕ → Option StarredType
 result_of known s stars = result_by (cannot_give s stars) (base_of known s) stars
 
+-- what calls of the function and its later declarations are judged by
 abbrev pub signature_of : Known → Specifier → ℕ → Params → Signature
 signature_of known s stars ps = record { result = result_of known s stars; params = map (wanted_of known) (listed_params ps) }
 
+-- the same base with as many stars
 abbrev pub same_starred : StarredType → StarredType → Bool
 same_starred s t = (s.stars == t.stars) && same_base s.base t.base
 
@@ -48,15 +52,18 @@ abbrev pub agree_on_result : Option StarredType → Option StarredType → Bool
 agree_on_result (Some s) (Some t) = same_starred s t
 agree_on_result _ _ = true
 
+-- a parameter with a fault agrees with every one
 abbrev pub agree_on_one : Wanted → Wanted → Bool
 agree_on_one (wants.Fits s) (wants.Fits t) = same_starred s t
 agree_on_one _ _ = true
 
+-- as many parameters, each of the same type
 abbrev pub agree_on_params : List Wanted → List Wanted → Bool
 agree_on_params [] [] = true
 agree_on_params (x ∷ xs) (y ∷ ys) = agree_on_one x y && agree_on_params xs ys
 agree_on_params _ _ = false
 
+-- two declarations of one function are compatible (C99 6.7.5.3)
 abbrev pub agree : Signature → Signature → Bool
 agree f g = agree_on_result f.result g.result && agree_on_params f.params g.params
 
@@ -64,6 +71,7 @@ agree f g = agree_on_result f.result g.result && agree_on_params f.params g.para
 abbrev pub int_result : Option StarredType
 int_result = Some (record { stars = 0; base = base.Int })
 
+-- `main` takes no arguments here and gives a number (C99 5.1.2.2.1)
 abbrev pub is_main_signature : Signature → Bool
 is_main_signature f = agree f (record { result = int_result; params = [] })
 
@@ -75,10 +83,12 @@ again_faults None has_body f at = []
 again_faults (Some (variable t)) has_body f at = found_at fault.DuplicateName at ∷ []
 again_faults (Some (function_of g)) has_body f at = where_it_comes has_body fault.DuplicateName at ++ mismatch (not (agree g f)) at
 
+-- it has a body, where a prototype has none
 abbrev pub is_definition : Code → Bool
 is_definition (defined ps at) = true
 is_definition prototype = false
 
+-- of a name that is taken or declared otherwise, and of another `main`
 abbrev pub function_name_faults : Known → Name → Signature → Code → List Found
 function_name_faults known name f code =
     where_it_comes (is_library_name name.text) fault.DuplicateName (name_place name)
@@ -95,10 +105,12 @@ abbrev pub body_faults : Known → Option StarredType → Code → List Found
 body_faults known result prototype = []
 body_faults known result (defined ps at) = parts_faults known result false ps
 
+-- known at the closing brace of the body
 abbrev pub after_body : Known → Code → Known
 after_body known prototype = known
 after_body known (defined ps at) = after_parts known ps
 
+-- its scope opens after the name, before the parameters
 abbrev pub function_faults : Known → Specifier → ℕ → Name → Params → Code → List Found
 function_faults known s stars name ps code =
     let f = signature_of known s stars ps in
@@ -111,16 +123,19 @@ function_faults known s stars name ps code =
 
 -- ---- a source
 
+-- of one declaration or definition at file scope (C99 6.9)
 abbrev pub outer_faults : Known → Outer → List Found
 outer_faults known (structure name fs) = struct_faults known name fs
 outer_faults known (function is_static s stars name ps code) = function_faults known s stars name ps code
 outer_faults known (objects is_static s os at) = objects_faults known true s os
 
+-- of a function only its name and its types stay known
 abbrev pub after_outer : Known → Outer → Known
 after_outer known (structure name fs) = after_struct known name fs
 after_outer known (function is_static s stars name ps code) = after_function known name (signature_of known s stars ps) code
 after_outer known (objects is_static s os at) = after_objects known true s os
 
+-- each sees what stands before it in the source
 abbrev pub outers_faults : Known → List Outer → List Found
 outers_faults known [] = []
 outers_faults known (o ∷ os) = outer_faults known o ++ outers_faults (after_outer known o) os
@@ -132,6 +147,7 @@ structs_with names (structure name fs ∷ os) = structs_with (with_text names na
 structs_with names (function is_static s stars name ps code ∷ os) = structs_with names os
 structs_with names (objects is_static s items at ∷ os) = structs_with names os
 
+-- only a definition counts, a prototype doesn't
 abbrev pub named_by : Code → List Text → Text → List Text
 named_by (defined ps at) names name = with_text names name
 named_by prototype names name = names
@@ -155,5 +171,6 @@ known_at_start os = record {
   scopes = [] ∷ [];
 }
 
+-- all faults but those of `main` missing and of too many sites
 abbrev pub program_faults : List Outer → List Found
 program_faults os = outers_faults (known_at_start os) os

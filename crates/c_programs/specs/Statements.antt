@@ -24,10 +24,12 @@ use Rattle.c_programs.specs.Initials.{start_faults}
 abbrev pub most_global_cells : ℕ
 most_global_cells = 2 ^ 20
 
+-- what is declared, without what it starts as
 abbrev pub declared_by : Object → Declared
 declared_by (plain d) = d
 declared_by (initialised d i at) = d
 
+-- of an object; 0 where its type isn't known
 abbrev pub cells_of_declared : Known → Specifier → Declared → ℕ
 cells_of_declared known s d = cells_of_some known (declared_type known s d)
 
@@ -52,6 +54,7 @@ global_name_faults true cells name =
     ++ where_it_comes (nat_lt most_global_cells cells) fault.GlobalsTooLarge (name_place name)
 global_name_faults false cells name = []
 
+-- of one declared object, but for what it starts as
 abbrev pub declared_faults : Known → Bool → Specifier → Declared → List Found
 declared_faults known is_global s d =
     declarator_faults known s d
@@ -59,16 +62,19 @@ declared_faults known is_global s d =
     ++ size_faults (cells_of_declared known s d) (declared_name d)
     ++ global_name_faults is_global (global_cells_with true known.global_cells (cells_of_declared known s d)) (declared_name d)
 
+-- the name is known already in what the object starts as (C99 6.2.1)
 abbrev pub object_faults : Known → Bool → Specifier → Object → List Found
 object_faults known is_global s (plain d) = declared_faults known is_global s d
 object_faults known is_global s (initialised d i at) =
     declared_faults known is_global s d
     ++ start_faults (after_declared known is_global s d) is_global (declared_type known s d) at i
 
+-- of one declaration's objects, each of which sees those before it
 abbrev pub objects_faults : Known → Bool → Specifier → List Object → List Found
 objects_faults known is_global s [] = []
 objects_faults known is_global s (o ∷ os) = object_faults known is_global s o ++ objects_faults (after_declared known is_global s (declared_by o)) is_global s os
 
+-- known after the whole declaration
 abbrev pub after_objects : Known → Bool → Specifier → List Object → Known
 after_objects known is_global s [] = known
 after_objects known is_global s (o ∷ os) = after_objects (after_declared known is_global s (declared_by o)) is_global s os
@@ -77,6 +83,7 @@ after_objects known is_global s (o ∷ os) = after_objects (after_declared known
 abbrev pub declares_faults : Known → Declares → List Found
 declares_faults known (declares s os at) = objects_faults known false s os
 
+-- known in the rest of the block
 abbrev pub after_declares : Known → Declares → Known
 after_declares known (declares s os at) = after_objects known false s os
 
@@ -91,6 +98,7 @@ computed_faults known (Some e) = expression_faults known e ++ go_faults (standin
 abbrev pub condition_faults : Known → Position → Exp → List Found
 condition_faults known at e = expression_faults known e ++ mismatch (not (is_scalar (operand_of (standing known no_target e)))) at
 
+-- the condition of a `for`, which may be left out (C99 6.8.5.3)
 abbrev pub test_faults : Known → Position → Option Exp → List Found
 test_faults known at None = []
 test_faults known at (Some e) = condition_faults known at e
@@ -100,6 +108,7 @@ abbrev pub gives_fit : Option StarredType → Operand → Bool
 gives_fit None a = is_scalar a
 gives_fit (Some t) a = accepts (starred_type t) a
 
+-- without a value it is allowed in each function
 abbrev pub return_faults : Known → Option StarredType → Position → Option Exp → List Found
 return_faults known result at None = []
 return_faults known result at (Some e) = expression_faults known e ++ mismatch (not (gives_fit result (operand_of (standing known no_target e)))) at
@@ -109,6 +118,7 @@ abbrev pub start_of_for_faults : Known → Start → List Found
 start_of_for_faults known (start_declares d) = declares_faults known d
 start_of_for_faults known (start_computes e) = computed_faults known e
 
+-- known in the rest of a `for`
 abbrev pub after_start : Known → Start → Known
 after_start known (start_declares d) = after_declares known d
 after_start known (start_computes e) = known

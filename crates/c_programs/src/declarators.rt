@@ -72,12 +72,14 @@ pub fn declared_type<N: Names>(
     }
 }
 
+/// Whether it is `void`.
 pub fn is_void_specifier(specifier: &Specifier) -> bool
     ensures { result ≡ spec.is_void_specifier specifier.now }
 {
     matches!(specifier, Specifier::Void { .. })
 }
 
+/// Whether it names a struct.
 pub fn is_struct_specifier(specifier: &Specifier) -> bool
     ensures { result ≡ spec.is_struct_specifier specifier.now }
 {
@@ -121,6 +123,7 @@ pub fn note_size(cells: u32, name: &Name, first: &mut Option<Found>)
     );
 }
 
+/// Whether the library has the name.
 pub fn is_library_name(name: &[u8]) -> bool
     ensures { result ≡ spec.is_library_name name.now }
 {

@@ -29,6 +29,7 @@ use Rattle.c_types.specs.Standing.{Target, no_target, assigned_target, cast_targ
 
 -- ---- places
 
+-- that of the operator, or of the called name or word
 abbrev pub own_place : Exp → Position
 own_place (comma e es at) = at
 own_place (assign a op b at) = at
@@ -51,6 +52,7 @@ own_place (text bytes at) = at
 own_place (null at) = at
 own_place (paren a at) = at
 
+-- where the text of the expression begins
 abbrev pub first_place : Exp → Position
 first_place (comma e es at) = first_place e
 first_place (assign a op b at) = first_place a
@@ -73,9 +75,11 @@ first_place (text bytes at) = at
 first_place (null at) = at
 first_place (paren a at) = at
 
+-- faults of a declaration stand at the declared name
 abbrev pub name_place : Name → Position
 name_place name = name.at
 
+-- a wrong type at this place, where it comes
 abbrev pub mismatch : Bool → Position → List Found
 mismatch comes at = where_it_comes comes fault.TypeMismatch at
 
@@ -86,9 +90,11 @@ abbrev pub lacks_struct_by : Known → Bool → Option ℕ → Bool
 lacks_struct_by known needs_size None = true
 lacks_struct_by known needs_size (Some k) = needs_size && not (nat_lt k (length known.structs))
 
+-- it names a struct that can't be used at this place
 abbrev pub is_unknown_struct : Known → Bool → Name → Bool
 is_unknown_struct known needs_size name = lacks_struct_by known needs_size (struct_numbered known name.text)
 
+-- only a struct can be unknown; the flag says whether its size is needed
 abbrev pub specifier_faults : Known → Bool → Specifier → List Found
 specifier_faults known needs_size (specifier.Struct name at) = where_it_comes (is_unknown_struct known needs_size name) fault.UnknownName (name_place name)
 specifier_faults known needs_size (specifier.Int at) = []
@@ -99,6 +105,7 @@ specifier_faults known needs_size (specifier.PthreadMutexT at) = []
 specifier_faults known needs_size (specifier.PthreadCondT at) = []
 specifier_faults known needs_size (specifier.PthreadBarrierT at) = []
 
+-- not where the type isn't known
 abbrev pub is_some_void : Option ObjectType → Bool
 is_some_void None = false
 is_some_void (Some t) = is_void t
@@ -111,10 +118,12 @@ name_can_be_place (Some (variable t)) name = true
 name_can_be_place (Some (function_of f)) name = false
 name_can_be_place None name = not (is_some (constant_named name)) && not (is_some (library_named name))
 
+-- of the prefix operators only `*` gives a place
 abbrev pub is_indirect : PrefixOp → Bool
 is_indirect prefix_op.Indirect = true
 is_indirect _ = false
 
+-- its form allows a place; whether the types do is another fault
 abbrev pub can_be_place : Known → Exp → Bool
 can_be_place known (prefix op a at) = is_indirect op
 can_be_place known (index a b at) = true
@@ -124,6 +133,7 @@ can_be_place known (named name at) = name_can_be_place (seen known name) name
 can_be_place known (paren a at) = can_be_place known a
 can_be_place known _ = false
 
+-- a `NULL` counts as a `void *`; none where there is a fault
 abbrev pub standing_type : Standing → Option ObjectType
 standing_type no_type = None
 standing_type zero_literal = Some int_type
@@ -131,19 +141,23 @@ standing_type null_literal = Some (pointer_to (bare base.Void))
 standing_type (a_value t) = Some t
 standing_type (a_place t) = Some t
 
+-- where the left side's type isn't known, some type would do
 abbrev pub assigns_to : AssignOp → Option ObjectType → Operand → Bool
 assigns_to op None a = assigns_some op a
 assigns_to op (Some t) a = assigns op t a
 
+-- `++` and `--` can apply; also where the type isn't known
 abbrev pub steps : Option ObjectType → Bool
 steps None = true
 steps (Some t) = moves t whole
 
+-- unary `*` may go through it: a pointer, but no `void *`
 abbrev pub can_follow : Operand → Bool
 can_follow any_operand = true
 can_follow (pointing t) = not (is_void t)
 can_follow _ = false
 
+-- the constraints on types; that of a place is judged apart (C99 6.5.3)
 abbrev pub prefix_takes : PrefixOp → Standing → Bool
 prefix_takes prefix_op.Address s = true
 prefix_takes prefix_op.Indirect s = can_follow (operand_of s)
@@ -154,12 +168,14 @@ prefix_takes prefix_op.Complement s = is_whole (operand_of s)
 prefix_takes prefix_op.Increment s = steps (standing_type s)
 prefix_takes prefix_op.Decrement s = steps (standing_type s)
 
+-- `&`, `++` and `--` want an lvalue (C99 6.5.2.4, 6.5.3)
 abbrev pub needs_place : PrefixOp → Bool
 needs_place prefix_op.Address = true
 needs_place prefix_op.Increment = true
 needs_place prefix_op.Decrement = true
 needs_place _ = false
 
+-- what should be a place is none
 abbrev pub place_faults : Bool → Position → List Found
 place_faults is_place at = where_it_comes (not is_place) fault.NotPlace at
 
@@ -170,20 +186,24 @@ abbrev pub lacks_struct : Operand → Option ℕ → Bool
 lacks_struct any_operand k = false
 lacks_struct a k = is_none k
 
+-- the struct has no such member, or isn't defined yet
 abbrev pub lacks_member : Known → Option ℕ → Text → Bool
 lacks_member known None name = false
 lacks_member known (Some k) name = is_none (member_of known k name)
 
+-- no struct stands at the operator, no such member at the name
 abbrev pub member_faults : Known → Operand → Option ℕ → Name → Position → List Found
 member_faults known a k name at = mismatch (lacks_struct a k) at ++ where_it_comes (lacks_member known k name.text) fault.UnknownName (name_place name)
 
 -- ---- names
 
+-- a constant has none, and a library call is no value
 abbrev pub undeclared_faults : Text → Position → List Found
 undeclared_faults name at =
     if is_some (constant_named name) then []
     else (if is_some (library_named name) then found_at fault.TypeMismatch at ∷ [] else found_at fault.UnknownName at ∷ [])
 
+-- a function's name is no value, and undefined it is unknown too
 abbrev pub named_faults : Known → Option Meaning → Text → Position → List Found
 named_faults known (Some (variable t)) name at = []
 named_faults known (Some (function_of f)) name at = where_it_comes (not (has_name known.defined name)) fault.UnknownName at ++ mismatch true at
@@ -191,13 +211,16 @@ named_faults known None name at = undeclared_faults name at
 
 -- ---- calls
 
+-- how many arguments a call passes
 abbrev pub count_of : Exps → ℕ
 count_of no_exp = 0
 count_of (and_exp e es) = suc (count_of es)
 
+-- a call with more or fewer arguments than are wanted (C99 6.5.2.2)
 abbrev pub count_faults : ℕ → ℕ → Position → List Found
 count_faults many count at = where_it_comes (not (many == count)) fault.BadCall at
 
+-- the first argument is a string literal, as a format must be
 abbrev pub begins_with_text : Exps → Bool
 begins_with_text (and_exp (text bytes at) es) = true
 begins_with_text _ = false
@@ -207,19 +230,23 @@ abbrev pub printf_wants : Option ℕ → List Wanted
 printf_wants None = wants.Text ∷ []
 printf_wants (Some n) = callee_wants (printf_callee (Some n))
 
+-- those of `printf` go by how many conversions its format has
 abbrev pub some_library_wants : LibraryName → Option ℕ → List Wanted
 some_library_wants library.PrintFormat format = printf_wants format
 some_library_wants c format = wanted_by c
 
+-- nothing is wanted where no call has the name
 abbrev pub library_wants : Option LibraryName → Option ℕ → List Wanted
 library_wants None format = []
 library_wants (Some c) format = some_library_wants c format
 
+-- what the arguments are judged by; surplus ones as expressions only
 abbrev pub wants_of : Text → Option ℕ → Option Meaning → List Wanted
 wants_of name format (Some (variable t)) = []
 wants_of name format (Some (function_of f)) = f.params
 wants_of name format None = library_wants (library_named name) format
 
+-- no pointer type tells what a `malloc` is to make
 abbrev pub has_no_target : Target → Bool
 has_no_target no_target = true
 has_no_target _ = false
@@ -230,11 +257,13 @@ printf_count_faults true None many at = []
 printf_count_faults true (Some n) many at = count_faults many (n + 1) at
 printf_count_faults false format many at = where_it_comes (many == 0) fault.BadCall at
 
+-- a `malloc` without a target is out of the profile
 abbrev pub library_call_faults : LibraryName → Target → Bool → Option ℕ → ℕ → Position → List Found
 library_call_faults library.Malloc w is_format format many at = where_it_comes (has_no_target w) fault.OutOfProfile at ++ count_faults many 1 at
 library_call_faults library.PrintFormat w is_format format many at = printf_count_faults is_format format many at
 library_call_faults c w is_format format many at = count_faults many (length (wanted_by c)) at
 
+-- the name isn't declared: a library call, a constant, or unknown
 abbrev pub unseen_call_faults : Option LibraryName → Text → Target → Bool → Option ℕ → ℕ → Position → List Found
 unseen_call_faults (Some c) name w is_format format many at = library_call_faults c w is_format format many at
 unseen_call_faults None name w is_format format many at = if is_some (constant_named name) then found_at fault.TypeMismatch at ∷ [] else found_at fault.UnknownName at ∷ []
@@ -257,6 +286,7 @@ root_name_faults known (Some (variable t)) name at = []
 root_name_faults known (Some (function_of f)) name at = where_it_comes (not (has_name known.defined name)) fault.UnknownName at
 root_name_faults known None name at = where_it_comes (not (is_some (constant_named name)) && not (is_some (library_named name))) fault.UnknownName at
 
+-- where the start of a thread is a name that nothing declares or defines
 abbrev pub root_faults : Known → Exp → List Found
 root_faults known (named name at) = root_name_faults known (seen known name) name at
 root_faults known _ = []
@@ -269,6 +299,7 @@ argument_faults known wants.Attribute e s at = where_it_comes (not (is_null s)) 
 argument_faults known wants.Root e s at = where_it_comes (not (is_root known e)) fault.BadRoot (first_place e) ++ root_faults known e
 argument_faults known wants.Text e s at = where_it_comes (not (is_text e)) fault.OutOfProfile (first_place e)
 
+-- a name alone, without parentheses
 abbrev pub is_named : Exp → Bool
 is_named (named name at) = true
 is_named _ = false
@@ -281,6 +312,7 @@ is_judged wants.Attribute e = true
 is_judged wants.Root e = not (is_named e)
 is_judged wants.Text e = not (is_text e)
 
+-- its own faults count only where it is judged
 abbrev pub where_judged : Bool → List Found → List Found
 where_judged true own = own
 where_judged false own = []
@@ -291,6 +323,7 @@ one_argument_faults known w at e own = where_judged (is_judged w e) own ++ argum
 
 -- ---- expressions
 
+-- the constraints on the operands of `?:` (C99 6.5.15)
 abbrev pub condition_takes : Operand → Operand → Operand → Bool
 condition_takes a b c = is_scalar a && can_choose b c
 
@@ -302,22 +335,28 @@ go_faults s e = mismatch (not (can_go s)) (own_place e)
 abbrev pub step_faults : Known → Exp → Standing → Position → List Found
 step_faults known a s at = place_faults (can_be_place known a) at ++ mismatch (not (steps (standing_type s))) at
 
+-- for faults in a format; (0, 0) without an argument, never shown
 abbrev pub place_of_first : Exps → Position
 place_of_first no_exp = position_at 0 0
 place_of_first (and_exp e es) = own_place e
 
+-- `void` has no size, nor a struct before its definition
 abbrev pub sizeof_type_faults : Known → CType → Position → List Found
 sizeof_type_faults known t at = mismatch (is_some_void (type_named known t)) at ++ specifier_faults known (t.stars == 0) t.specifier
 
+-- the operand must be scalar too; the size of a struct doesn't matter
 abbrev pub cast_faults : Known → CType → Operand → Position → List Found
 cast_faults known t a at = mismatch (not (casts_to (type_named known t) t.stars && is_scalar a)) at ++ specifier_faults known false t.specifier
 
+-- the left side is a place, and takes the right one (C99 6.5.16)
 abbrev pub assign_faults : Known → AssignOp → Exp → Standing → Operand → Position → List Found
 assign_faults known op a s b at = place_faults (can_be_place known a) at ++ mismatch (not (assigns_to op (standing_type s) b)) at
 
+-- of the operator itself, not of its operand
 abbrev pub prefix_faults : Known → PrefixOp → Exp → Standing → Position → List Found
 prefix_faults known op a s at = place_faults (not (needs_place op) || can_be_place known a) at ++ mismatch (not (prefix_takes op s)) at
 
+-- at the called name and in its format, but for the arguments' own
 abbrev pub call_faults : Known → Target → Text → Exps → Position → List Found
 call_faults known w name es at =
     callee_faults known name w (begins_with_text es) (format_of es) (count_of es) at (seen known name)

@@ -27,6 +27,7 @@ size_here known (sizeof_exp a at) = cells_of_standing known (standing known no_t
 size_here known (sizeof_type t at) = cells_of_some known (type_named known t)
 size_here known _ = 0
 
+-- the value of a constant expression with the sizes known here
 abbrev pub value_here : Known → Exp → Computed
 value_here known e = value_of (size_here known) e
 
@@ -34,6 +35,7 @@ value_here known e = value_of (size_here known) e
 abbrev pub chosen_value : Computed → Computed → Computed → Computed
 chosen_value a b c = and_then a (λ n. if is_zero n then c else b)
 
+-- computing it overflows, divides by zero or shifts too far
 abbrev pub is_trap : Computed → Bool
 is_trap (Ok n) = false
 is_trap (Err t) = true
@@ -48,6 +50,7 @@ constant_faults known e = where_it_comes (not (is_constant e) || (is_sound known
 
 -- ---- the length of an array
 
+-- C has no arrays without elements (C99 6.7.5.2)
 abbrev pub is_positive : ℤ → Bool
 is_positive (pos n) = nat_lt 0 n
 is_positive (negsuc n) = false
@@ -57,6 +60,7 @@ abbrev pub is_short : Computed → Bool
 is_short (Ok n) = not (is_positive n)
 is_short (Err t) = false
 
+-- a sound constant, but no length that an array can have
 abbrev pub is_short_length : Known → Exp → Bool
 is_short_length known e = is_constant e && is_sound known e && is_short (value_here known e)
 
@@ -64,10 +68,12 @@ is_short_length known e = is_constant e && is_sound known e && is_short (value_h
 abbrev pub length_faults : Known → Position → Exp → List Found
 length_faults known at e = expression_faults known e ++ constant_faults known e ++ mismatch (is_short_length known e) at
 
+-- the same number, as one that can count elements
 abbrev pub positive : ℤ → Option ℕ
 positive (pos n) = if nat_lt 0 n then Some n else None
 positive (negsuc n) = None
 
+-- none of a trap, which has its own fault
 abbrev pub positive_value : Computed → Option ℕ
 positive_value (Ok n) = positive n
 positive_value (Err t) = None

@@ -74,6 +74,7 @@ pub struct Arguments {
     pub format: Option<usize>,
 }
 
+/// The first arguments of a call, as far as there are any.
 pub fn arguments_of(arguments: &[Expr]) -> Arguments
     ensures { IsSeenOf result (listed (map exp_of arguments.now)) }
 {

@@ -123,12 +123,14 @@ pub fn is_root<N: Names>(names: &N, e: &Expr) -> bool
     has_root_types(of) && !is_main(name.as_slice()) && names.is_function_defined(name.as_slice())
 }
 
+/// Whether it is a text, through parentheses.
 pub fn is_text(e: &Expr) -> bool
     ensures { result ≡ spec.is_text (exp_of e.now) }
 {
     matches!(e, Expr::Text { .. })
 }
 
+/// Whether it is the null pointer (C99 6.3.2.3).
 pub fn is_null(of: Standing) -> bool
     ensures { result ≡ spec.is_null (shown_standing of.entry) }
 {
@@ -214,6 +216,7 @@ pub fn following<'a>(first: Standing<'a>, second: Standing<'a>) -> Standing<'a>
     }
 }
 
+/// What a number is as an expression: a constant, and the null pointer if it is 0.
 pub fn number_standing<'a>(number: i64) -> Standing<'a>
     ensures { shown_standing result ≡ spec.number_standing number }
 {

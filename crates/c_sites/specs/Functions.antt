@@ -15,12 +15,15 @@ use Rattle.c_locals.specs.Roots.{program_starts, is_root_among}
 
 -- ---- for each formal and local in the order of the text, whether its type keeps it in cells
 
+-- a local that is an array, a struct, a mutex or its kin
 abbrev pub object_kept : Specifier → Object → Bool
 object_kept s o = is_kept_declared s (declared_by o)
 
+-- one mark for each object that is declared
 abbrev pub declares_kept : Declares → List Bool
 declares_kept (declares s os at) = map (object_kept s) os
 
+-- a `for` may declare locals in its first clause
 abbrev pub start_kept : Start → List Bool
 start_kept (start_declares d) = declares_kept d
 start_kept (start_computes e) = []
@@ -43,14 +46,17 @@ abbrev mutual
   parts_kept (and_declares d ps) = declares_kept d ++ parts_kept ps
   parts_kept (and_does s ps) = statement_kept s ++ parts_kept ps
 
+-- the same for a formal, which is never an array
 abbrev pub param_kept : Param → Bool
 param_kept p = is_kept p.specifier p.stars []
 
+-- the formals come first, and then the locals of the body
 abbrev pub definition_kept : List Param → Parts → List Bool
 definition_kept ps parts = map param_kept ps ++ parts_kept parts
 
 -- ---- functions
 
+-- how many registers it takes: none if it is kept in cells
 abbrev pub register_where : Bool → ℕ
 register_where kept = if kept then 0 else 1
 
@@ -59,6 +65,7 @@ abbrev pub registers_from : List ℕ → ℕ → List Bool → ℕ
 registers_from ns n [] = 0
 registers_from ns n (kept ∷ more) = register_where (kept || is_among ns n) + registers_from ns (n + 1) more
 
+-- `ns` are the numbers to which `&` is applied, n the first formal's
 abbrev pub info_of : List ℕ → List Text → ℕ → Name → List Param → Parts → FunctionInfo
 info_of ns starts n name ps parts = record {
   name = name.text;
@@ -67,15 +74,18 @@ info_of ns starts n name ps parts = record {
   is_root = is_root_among starts name.text;
 }
 
+-- a prototype defines no function
 abbrev pub code_functions : List ℕ → List Text → ℕ → Name → List Param → Code → List FunctionInfo
 code_functions ns starts n name ps prototype = []
 code_functions ns starts n name ps (defined parts at) = info_of ns starts n name ps parts ∷ []
 
+-- structs and globals define no function
 abbrev pub outer_functions : List ℕ → List Text → ℕ → Outer → List FunctionInfo
 outer_functions ns starts n (structure name fs) = []
 outer_functions ns starts n (function is_static s stars name ps code) = code_functions ns starts n name (listed_params ps) code
 outer_functions ns starts n (objects is_static s os at) = []
 
+-- the first formal or local of these has the number n
 abbrev pub outers_functions : List ℕ → List Text → ℕ → List Outer → List FunctionInfo
 outers_functions ns starts n [] = []
 outers_functions ns starts n (o ∷ os) = outer_functions ns starts n o ++ outers_functions ns starts (n + count_of_outer o) os

@@ -38,25 +38,31 @@ pub record Spot : Type 0 where
   pub at : Position
   pub of : Option ObjectType
 
+-- short for the record: the holder, its place, its type
 abbrev pub spot_at : Holder → Position → Option ObjectType → Spot
 spot_at holder at t = record { holder = holder; at = at; of = t }
 
+-- what is declared stands where its name does
 abbrev pub spot_named : Holder → Name → Option ObjectType → Spot
 spot_named holder name t = spot_at holder (name_place name) t
 
 -- ---- allocations
 
+-- what a `malloc` is to make, where the context tells it
 abbrev pub type_of_target : Target → Option ObjectType
 type_of_target (target_of t) = Some t
 type_of_target _ = None
 
+-- of the library's calls only `malloc` makes cells
 abbrev pub is_malloc_call : Option LibraryName → Bool
 is_malloc_call (Some library.Malloc) = true
 is_malloc_call _ = false
 
+-- the library's `malloc`, not a name of the source that hides it
 abbrev pub is_malloc : Known → Text → Bool
 is_malloc known name = not (is_some (seen known name)) && is_malloc_call (library_named name)
 
+-- a call of `malloc` has cells of its own, at its place
 abbrev pub where_malloc : Bool → Target → Position → List Spot
 where_malloc true w at = spot_at an_allocation at (type_of_target w) ∷ []
 where_malloc false w at = []
@@ -89,10 +95,12 @@ abbrev mutual
   all_allocations known no_exp = []
   all_allocations known (and_exp e es) = allocations known no_target e ++ all_allocations known es
 
+-- an expression that is left out allocates nothing
 abbrev pub maybe_allocations : Known → Option Exp → List Spot
 maybe_allocations known None = []
 maybe_allocations known (Some e) = allocations known no_target e
 
+-- the calls of `malloc` in the lengths of an array
 abbrev pub lengths_allocations : Known → List Exp → List Spot
 lengths_allocations known [] = []
 lengths_allocations known (e ∷ es) = allocations known no_target e ++ lengths_allocations known es
@@ -121,6 +129,7 @@ is_kept_specifier (specifier.PthreadMutexT at) = true
 is_kept_specifier (specifier.PthreadCondT at) = true
 is_kept_specifier (specifier.PthreadBarrierT at) = true
 
+-- it is an array: at least one length stands after its name
 abbrev pub is_some_length : List Exp → Bool
 is_some_length [] = false
 is_some_length (e ∷ es) = true
@@ -129,9 +138,11 @@ is_some_length (e ∷ es) = true
 abbrev pub is_kept : Specifier → ℕ → List Exp → Bool
 is_kept s stars lengths = is_some_length lengths || ((stars == 0) && is_kept_specifier s)
 
+-- the same, by a declarator and its specifier
 abbrev pub is_kept_declared : Specifier → Declared → Bool
 is_kept_declared s (declared stars name lengths) = is_kept s stars lengths
 
+-- one spot, or none for what has no cells
 abbrev pub where_kept : Bool → Spot → List Spot
 where_kept true spot = spot ∷ []
 where_kept false spot = []
@@ -141,44 +152,54 @@ pub data Where : Type 0 where
   file_level : Where
   in_function : Text → List ℕ → Where
 
+-- a name at file level is a global, in a function a local
 abbrev pub holder_in : Where → Text → Holder
 holder_in file_level name = a_global name
 holder_in (in_function f ns) name = a_local f name
 
+-- each global has cells, a local by its type or by `&`
 abbrev pub is_cell_in : Where → ℕ → Bool → Bool
 is_cell_in file_level n by_type = true
 is_cell_in (in_function f ns) n by_type = by_type || is_among ns n
 
+-- at file level, where names have static storage (C99 6.2.4)
 abbrev pub is_global_level : Where → Bool
 is_global_level file_level = true
 is_global_level (in_function f ns) = false
 
+-- the lengths of its arrays, of which an object may have none
 abbrev pub declared_lengths : Declared → List Exp
 declared_lengths (declared stars name lengths) = lengths
 
+-- the object with the number n, then the calls in its lengths
 abbrev pub declared_spots : Where → Known → ℕ → Specifier → Declared → List Spot
 declared_spots here known n s d =
     where_kept (is_cell_in here n (is_kept_declared s d)) (spot_named (holder_in here (declared_name d).text) (declared_name d) (declared_type known s d))
     ++ lengths_allocations known (declared_lengths d)
 
+-- in its first value an object's own name is seen (C99 6.2.1)
 abbrev pub initialised_spots : Where → Known → ℕ → Specifier → Declared → Init → List Spot
 initialised_spots here known n s d i =
     declared_spots here known n s d
     ++ initial_allocations (after_declared known (is_global_level here) s d) (value_target (declared_type known s d)) i
 
+-- what an object has, with or without a first value
 abbrev pub object_spots : Where → Known → ℕ → Specifier → Object → List Spot
 object_spots here known n s (plain d) = declared_spots here known n s d
 object_spots here known n s (initialised d i at) = initialised_spots here known n s d i
 
+-- each sees those before it; the first has the number n
 abbrev pub objects_spots : Where → Known → ℕ → Specifier → List Object → List Spot
 objects_spots here known n s [] = []
 objects_spots here known n s (o ∷ os) = object_spots here known n s o ++ objects_spots here (after_declared known (is_global_level here) s (declared_by o)) (n + 1) s os
 
+-- all objects of a declaration; the first has the number n
 abbrev pub declares_spots : Where → Known → ℕ → Declares → List Spot
 declares_spots here known n (declares s os at) = objects_spots here known n s os
 
 -- ---- statements
 
+-- the first clause of a `for`; its first local has the number n
 abbrev pub start_spots : Where → Known → ℕ → Start → List Spot
 start_spots here known n (start_declares d) = declares_spots here known n d
 start_spots here known n (start_computes e) = maybe_allocations known e
@@ -213,14 +234,17 @@ abbrev mutual
 
 -- ---- a source
 
+-- the calls of `malloc` in the lengths of members
 abbrev pub members_allocations : Known → List Declared → List Spot
 members_allocations known [] = []
 members_allocations known (d ∷ ds) = lengths_allocations known (declared_lengths d) ++ members_allocations known ds
 
+-- members have no cells of their own, but for calls in their lengths
 abbrev pub fields_allocations : Known → List Fields → List Spot
 fields_allocations known [] = []
 fields_allocations known (fields s ds at ∷ fs) = members_allocations known ds ++ fields_allocations known fs
 
+-- a formal without a name has no cells
 abbrev pub formal_spot : Where → Known → ℕ → Param → Option Name → List Spot
 formal_spot here known n p None = []
 formal_spot here known n p (Some name) =
@@ -231,36 +255,44 @@ abbrev pub formals_spots : Where → Known → ℕ → List Param → List Spot
 formals_spots here known n [] = []
 formals_spots here known n (p ∷ ps) = formal_spot here known n p p.name ++ formals_spots here (after_param known p) (n + 1) ps
 
+-- formals come before the body; the first has the number n
 abbrev pub definition_spots : Where → Known → ℕ → List Param → Parts → List Spot
 definition_spots here known n ps parts = formals_spots here known n ps ++ parts_spots here (after_params known ps) (n + length ps) parts
 
+-- a prototype has no cells
 abbrev pub code_spots : Where → Known → ℕ → List Param → Code → List Spot
 code_spots here known n ps prototype = []
 code_spots here known n ps (defined parts at) = definition_spots here (opened known) n ps parts
 
+-- `ns` are the numbers to which `&` is applied, n the next
 abbrev pub outer_spots : List ℕ → Known → ℕ → Outer → List Spot
 outer_spots ns known n (structure name fs) = fields_allocations known fs
 outer_spots ns known n (function is_static s stars name ps code) =
     code_spots (in_function name.text ns) (after_function known name (signature_of known s stars ps) code) n (listed_params ps) code
 outer_spots ns known n (objects is_static s os at) = objects_spots file_level known n s os
 
+-- each sees what is declared before it; the first begins with the number n
 abbrev pub outers_spots : List ℕ → Known → ℕ → List Outer → List Spot
 outers_spots ns known n [] = []
 outers_spots ns known n (o ∷ os) = outer_spots ns known n o ++ outers_spots ns (after_outer known o) (n + count_of_outer o) os
 
+-- all that has cells in a source, in the order of the text
 abbrev pub program_spots : List Outer → List Spot
 program_spots os = outers_spots (program_addressed os) (known_at_start os) 0 os
 
 -- ---- the sites of a source without a fault
 
+-- what is declared at the end of the source
 abbrev pub known_after : Known → List Outer → Known
 known_after known [] = known
 known_after known (o ∷ os) = known_after (after_outer known o) os
 
+-- a type with a fault counts for nothing
 abbrev pub known_type : Option ObjectType → List ObjectType
 known_type None = []
 known_type (Some t) = t ∷ []
 
+-- the types that have no fault, in the same order
 abbrev pub known_types : List (Option ObjectType) → List ObjectType
 known_types [] = []
 known_types (t ∷ ts) = known_type t ++ known_types ts
@@ -277,14 +309,17 @@ kinds_of_structs os = struct_kinds (map types_of_members (known_after (known_at_
 abbrev pub at_place : Text → Position → Text
 at_place name place = name ++ 64 ∷ decimal place.line ++ 58 ∷ decimal place.column
 
+-- `f.x@L:C`, the name of a local's or a formal's site
 abbrev pub local_name : Text → Text → Position → Text
 local_name f name place = at_place (f ++ 46 ∷ name) place
 
+-- a global goes by its name, all others by their place too
 abbrev pub site_name : Holder → Position → Text
 site_name (a_global name) place = name
 site_name (a_local f name) place = local_name f name place
 site_name an_allocation place = at_place (codes "malloc") place
 
+-- no cells: for what has no type, or too many cells
 abbrev pub empty_layout : Layout
 empty_layout = record { size = 0; element = 0; kinds = [] }
 
@@ -292,6 +327,7 @@ empty_layout = record { size = 0; element = 0; kinds = [] }
 abbrev pub is_laid_out : List (List CellKind) → ObjectType → Bool
 is_laid_out structs t = nat_le (length (kinds_of_type structs t)) most_cells && nat_le (layered_element structs t.layers t.base) most_cells
 
+-- the layout of a site; a type with a fault gets the empty one
 abbrev pub layout_by : List (List CellKind) → Option ObjectType → Layout
 layout_by structs None = empty_layout
 layout_by structs (Some t) = if is_laid_out structs t then layout_of_type structs t else empty_layout
@@ -304,5 +340,6 @@ site_of structs spot = record {
   at = spot.at;
 }
 
+-- the sites of a source, in the order of the text
 abbrev pub program_sites : List Outer → List Site
 program_sites os = map (site_of (kinds_of_structs os)) (program_spots os)

@@ -13,6 +13,7 @@ use Rattle.c_sites.specs.Spots.{Spot, program_spots}
 abbrev pub most_sites : ℕ
 most_sites = 1023
 
+-- the fault stands at the first site too many
 abbrev pub spot_faults : Option Spot → List Found
 spot_faults None = []
 spot_faults (Some spot) = found_at fault.TooManySites spot.at ∷ []
@@ -21,6 +22,7 @@ spot_faults (Some spot) = found_at fault.TooManySites spot.at ∷ []
 abbrev pub sites_faults : List Spot → List Found
 sites_faults spots = spot_faults (slice_get spots most_sites)
 
+-- told at line 1 and column 1, as it stands nowhere
 abbrev pub no_main : Found
 no_main = found_at fault.NoMain (position_at 1 1)
 
@@ -29,5 +31,6 @@ abbrev pub first_fault_by : Option Found → Bool → Option Found
 first_fault_by (Some x) has_main = Some x
 first_fault_by None has_main = if has_main then None else Some no_main
 
+-- the fault that comes first in the text; `NoMain` only without any
 abbrev pub first_fault : List Outer → Option Found
 first_fault os = first_fault_by (first_among None (program_faults os ++ sites_faults (program_spots os))) (has_name (known_at_start os).defined (codes "main"))

@@ -78,6 +78,7 @@ pub fn sizes_of(alloc: Global, structs: &[List<CellKind>]) -> Result<List<u32>, 
     Ok(sizes)
 }
 
+/// Whether all of the type's cells are known.
 pub fn is_laid_out(of: &ObjectType, structs: &[List<CellKind>], sizes: &[u32]) -> bool
     requires { sizes.now ≡ map (λ kinds. counted_cells (length kinds)) structs.now }
     ensures { result ≡ spec.is_laid_out structs.now of.now }

@@ -47,6 +47,7 @@ pub enum Where<'a> {
 }
 
 impl<'a> Where<'a> {
+    /// Whether it is outside of functions.
     pub fn is_global(self) -> bool
         ensures { result ≡ spec.is_global_level (shown_where self.entry) }
     {

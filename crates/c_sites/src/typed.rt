@@ -38,6 +38,7 @@ impl Typed {
         }
     }
 
+    /// The tree of the source.
     pub fn program(&self) -> &Program
         ensures value { result.now ≡ program_in self.now }
         ensures sound { first_fault (program_of result.now) ≡ None }
@@ -61,6 +62,7 @@ impl Typed {
         &self.functions
     }
 
+    /// The tree of the source alone.
     pub fn into_program(self) -> Program
         ensures value { result ≡ program_in self }
         ensures sound { first_fault (program_of result) ≡ None }
@@ -69,6 +71,7 @@ impl Typed {
         program
     }
 
+    /// The sites alone.
     pub fn into_sites(self) -> List<Site>
         ensures value { result ≡ sites_in self }
         ensures own { result ≡ program_sites (program_of (program_in self)) }

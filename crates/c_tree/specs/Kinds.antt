@@ -21,6 +21,7 @@ use Rattle.c_tree.specs.declared.program.Params.TheVariants as params
 use Rattle.c_tree.specs.declared.program.Param.{Param}
 use Rattle.c_tree.specs.Tree.{Exp, comma, assign, conditional, binary, prefix, sizeof_exp, sizeof_type, cast, index, member, arrow, post_increment, post_decrement, named, call, number, letter, text, null, paren, Exps, no_exp, and_exp, Declared, declared, Init, value, braces, mutex_start, cond_start, Inits, no_init, and_init, Object, plain, initialised, Declares, declares, Start, start_declares, start_computes, Statement, block, compute, break_at, continue_at, gives, branch, branch_else, while_loop, do_loop, for_loop, Parts, no_part, and_declares, and_does, Code, defined, prototype, Fields, fields, Outer, structure, function, objects}
 
+-- the sign of an operator that stands before its operand (C99 6.5.3)
 abbrev pub prefix_punct : PrefixOp → Punct
 prefix_punct prefix_op.Address = punct.And
 prefix_punct prefix_op.Indirect = punct.Star
@@ -31,6 +32,7 @@ prefix_punct prefix_op.Complement = punct.Tilde
 prefix_punct prefix_op.Increment = punct.PlusPlus
 prefix_punct prefix_op.Decrement = punct.MinusMinus
 
+-- the sign of an operator between two operands (C99 6.5.5 to 6.5.14)
 abbrev pub binary_punct : BinaryOp → Punct
 binary_punct binary_op.LogicalOr = punct.OrOr
 binary_punct binary_op.LogicalAnd = punct.AndAnd
@@ -51,6 +53,7 @@ binary_punct binary_op.Multiply = punct.Star
 binary_punct binary_op.Divide = punct.Slash
 binary_punct binary_op.Remainder = punct.Percent
 
+-- the sign of an assignment, simple or compound (C99 6.5.16)
 abbrev pub assign_punct : AssignOp → Punct
 assign_punct assign_op.Assign = punct.Assign
 assign_punct assign_op.Add = punct.PlusAssign
@@ -64,19 +67,24 @@ assign_punct assign_op.Xor = punct.CaretAssign
 assign_punct assign_op.ShiftLeft = punct.ShiftLeftAssign
 assign_punct assign_op.ShiftRight = punct.ShiftRightAssign
 
+-- short for a sign
 abbrev pub p : Punct → Kind
 p = λ x. kind.Punct x
 
+-- short for a word of the language
 abbrev pub w : Word → Kind
 w = λ x. kind.Word x
 
+-- a name as the lexer gives it, without its place
 abbrev pub name_kind : Name → Kind
 name_kind n = kind.Name n.text
 
+-- one token, or none where the source leaves it out
 abbrev pub if_there : Bool → Kind → List Kind
 if_there true k = k ∷ []
 if_there false k = []
 
+-- a specifier as it was written: `long` has four forms (C99 6.7.2)
 abbrev pub specifier_kinds : Specifier → List Kind
 specifier_kinds (specifier.Int at) = w word.Int ∷ []
 specifier_kinds (specifier.Long second int at) = w word.Long ∷ (if_there second (w word.Long) ++ if_there int (w word.Int))
@@ -87,10 +95,12 @@ specifier_kinds (specifier.PthreadMutexT at) = w word.PthreadMutexT ∷ []
 specifier_kinds (specifier.PthreadCondT at) = w word.PthreadCondT ∷ []
 specifier_kinds (specifier.PthreadBarrierT at) = w word.PthreadBarrierT ∷ []
 
+-- so many stars, one for each level of pointer
 abbrev pub stars_kinds : ℕ → List Kind
 stars_kinds zero = []
 stars_kinds (suc n) = p punct.Star ∷ stars_kinds n
 
+-- a type name, as in a cast (C99 6.7.6)
 abbrev pub type_kinds : CType → List Kind
 type_kinds t = specifier_kinds t.specifier ++ stars_kinds t.stars
 
@@ -127,16 +137,19 @@ abbrev mutual
   rest_kinds no_exp = []
   rest_kinds (and_exp e es) = p punct.Comma ∷ (exp_kinds e ++ rest_kinds es)
 
+-- an expression that is left out has no tokens
 abbrev pub maybe_kinds : Option Exp → List Kind
 maybe_kinds None = []
 maybe_kinds (Some e) = exp_kinds e
 
 -- ---- declarations
 
+-- array lengths, each in brackets of its own (C99 6.7.5.2)
 abbrev pub length_kinds : List Exp → List Kind
 length_kinds [] = []
 length_kinds (e ∷ es) = p punct.OpenBracket ∷ (exp_kinds e ++ p punct.CloseBracket ∷ length_kinds es)
 
+-- a declarator (C99 6.7.5), without its specifier
 abbrev pub declared_kinds : Declared → List Kind
 declared_kinds (declared stars name lengths) = stars_kinds stars ++ name_kind name ∷ length_kinds lengths
 
@@ -155,18 +168,22 @@ abbrev mutual
   rest_init_kinds no_init = []
   rest_init_kinds (and_init i is) = p punct.Comma ∷ (init_kinds i ++ rest_init_kinds is)
 
+-- a declarator, and `=` with its first value, if any
 abbrev pub object_kinds : Object → List Kind
 object_kinds (plain d) = declared_kinds d
 object_kinds (initialised d i place) = declared_kinds d ++ p punct.Assign ∷ init_kinds i
 
+-- the objects after the first, each with a comma before it
 abbrev pub rest_objects_kinds : List Object → List Kind
 rest_objects_kinds [] = []
 rest_objects_kinds (o ∷ os) = p punct.Comma ∷ (object_kinds o ++ rest_objects_kinds os)
 
+-- the objects of one specifier, with commas between them
 abbrev pub objects_kinds : List Object → List Kind
 objects_kinds [] = []
 objects_kinds (o ∷ os) = object_kinds o ++ rest_objects_kinds os
 
+-- a declaration of objects, with its semicolon (C99 6.7)
 abbrev pub declares_kinds : Declares → List Kind
 declares_kinds (declares s os place) = specifier_kinds s ++ (objects_kinds os ++ p punct.Semicolon ∷ [])
 
@@ -198,51 +215,63 @@ abbrev mutual
 
 -- ---- the outermost level
 
+-- the name of a parameter, which need have none
 abbrev pub named_kinds : Option Name → List Kind
 named_kinds None = []
 named_kinds (Some n) = name_kind n ∷ []
 
+-- one parameter, without a comma (C99 6.7.5.3)
 abbrev pub param_kinds : Param → List Kind
 param_kinds x = specifier_kinds x.specifier ++ (stars_kinds x.stars ++ named_kinds x.name)
 
+-- the parameters after the first, each with a comma before it
 abbrev pub rest_params_kinds : List Param → List Kind
 rest_params_kinds [] = []
 rest_params_kinds (x ∷ xs) = p punct.Comma ∷ (param_kinds x ++ rest_params_kinds xs)
 
+-- the parameters with commas between them
 abbrev pub listed_params_kinds : List Param → List Kind
 listed_params_kinds [] = []
 listed_params_kinds (x ∷ xs) = param_kinds x ++ rest_params_kinds xs
 
+-- what stands in a function's parentheses (C99 6.7.5.3)
 abbrev pub params_kinds : Params → List Kind
 params_kinds params.Nothing = []
 params_kinds params.Void = w word.Void ∷ []
 params_kinds (params.Listed xs) = listed_params_kinds xs
 
+-- a body in braces, or the semicolon of a prototype
 abbrev pub code_kinds : Code → List Kind
 code_kinds (defined ps place) = p punct.OpenBrace ∷ (parts_kinds ps ++ p punct.CloseBrace ∷ [])
 code_kinds prototype = p punct.Semicolon ∷ []
 
+-- the members after the first, each with a comma before it
 abbrev pub rest_declared_kinds : List Declared → List Kind
 rest_declared_kinds [] = []
 rest_declared_kinds (d ∷ ds) = p punct.Comma ∷ (declared_kinds d ++ rest_declared_kinds ds)
 
+-- the members of one specifier, with commas between them
 abbrev pub all_declared_kinds : List Declared → List Kind
 all_declared_kinds [] = []
 all_declared_kinds (d ∷ ds) = declared_kinds d ++ rest_declared_kinds ds
 
+-- members of one specifier, with their semicolon (C99 6.7.2.1)
 abbrev pub fields_kinds : Fields → List Kind
 fields_kinds (fields s ds place) = specifier_kinds s ++ (all_declared_kinds ds ++ p punct.Semicolon ∷ [])
 
+-- all that stands in a struct's braces
 abbrev pub all_fields_kinds : List Fields → List Kind
 all_fields_kinds [] = []
 all_fields_kinds (f ∷ fs) = fields_kinds f ++ all_fields_kinds fs
 
+-- an external declaration (C99 6.9), with what ends it
 abbrev pub outer_kinds : Outer → List Kind
 outer_kinds (structure name fs) = w word.Struct ∷ name_kind name ∷ p punct.OpenBrace ∷ (all_fields_kinds fs ++ p punct.CloseBrace ∷ p punct.Semicolon ∷ [])
 outer_kinds (function is_static s stars name xs code) =
     if_there is_static (w word.Static) ++ (specifier_kinds s ++ (stars_kinds stars ++ name_kind name ∷ p punct.OpenParen ∷ (params_kinds xs ++ p punct.CloseParen ∷ code_kinds code)))
 outer_kinds (objects is_static s os place) = if_there is_static (w word.Static) ++ (specifier_kinds s ++ (objects_kinds os ++ p punct.Semicolon ∷ []))
 
+-- a whole source, in the order of the text
 abbrev pub kinds_of : List Outer → List Kind
 kinds_of [] = []
 kinds_of (o ∷ os) = outer_kinds o ++ kinds_of os

@@ -59,6 +59,7 @@ pub data Object : Type 0 where
   plain : Declared → Object
   initialised : Declared → Init → Position → Object
 
+-- a declaration (C99 6.7): the specifier, the objects, the place
 pub data Declares : Type 0 where
   declares : Specifier → List Object → Position → Declares
 
@@ -95,6 +96,7 @@ pub data Code : Type 0 where
 pub data Fields : Type 0 where
   fields : Specifier → List Declared → Position → Fields
 
+-- an external declaration (C99 6.9): what a source is made of
 pub data Outer : Type 0 where
   structure : Name → List Fields → Outer
   -- whether `static` stands before it, the specifier, stars, the name
@@ -103,10 +105,12 @@ pub data Outer : Type 0 where
 
 -- ---- lists of trees
 
+-- expressions as the data of their own that the tree holds
 abbrev pub listed : List Exp → Exps
 listed [] = no_exp
 listed (e ∷ es) = and_exp e (listed es)
 
+-- the same for the initials in braces
 abbrev pub listed_inits : List Init → Inits
 listed_inits [] = no_init
 listed_inits (i ∷ is) = and_init i (listed_inits is)
@@ -116,10 +120,12 @@ pub data Part : Type 0 where
   part_declares : Declares → Part
   part_does : Statement → Part
 
+-- one thing before the others in a block
 abbrev pub with_part : Part → Parts → Parts
 with_part (part_declares d) ps = and_declares d ps
 with_part (part_does s) ps = and_does s ps
 
+-- the things in a block, in the same order
 abbrev pub listed_parts : List Part → Parts
 listed_parts [] = no_part
 listed_parts (p ∷ ps) = with_part p (listed_parts ps)

@@ -47,6 +47,7 @@ abbrev mutual
   exps_of_row end_of-Expr = no_exp
   exps_of_row (more_of-Expr e row) = and_exp (exp_of e) (exps_of_row row)
 
+-- a declarator without its specifier (C99 6.7.5)
 abbrev pub declared_of : Declarator → Declared
 declared_of d = declared d.stars d.name (map exp_of d.lengths)
 
@@ -61,21 +62,26 @@ abbrev mutual
   inits_of_row end_of-Initial = no_init
   inits_of_row (more_of-Initial i row) = and_init (init_of i) (inits_of_row row)
 
+-- one object of a declaration, with its first value, if any
 abbrev pub object_of : Item → Object
 object_of (item.Plain d) = plain (declared_of d)
 object_of (item.Initialised d i at) = initialised (declared_of d) (init_of i) at
 
+-- a declaration of objects (C99 6.7)
 abbrev pub declares_of : Declaration → Declares
 declares_of d = declares d.specifier (map object_of d.items) d.at
 
+-- an expression that the source may leave out
 abbrev pub maybe_of : Option Expr → Option Exp
 maybe_of None = None
 maybe_of (Some e) = Some (exp_of e)
 
+-- the first clause of a `for` (C99 6.8.5.3)
 abbrev pub start_of : ForStart → Start
 start_of (start.Declares d) = start_declares (declares_of d)
 start_of (start.Computes e) = start_computes (maybe_of e)
 
+-- the crate has one `if`; here one with an `else` is another
 abbrev pub branch_by : Exp → Statement → Option Statement → Position → Statement
 branch_by e a None place = branch e a place
 branch_by e a (Some b) place = branch_else e a b place
@@ -104,17 +110,21 @@ abbrev mutual
   parts_of_row end_of-Part = no_part
   parts_of_row (more_of-Part p row) = with_part (part_of p) (parts_of_row row)
 
+-- a function's body; a prototype has none
 abbrev pub code_of : Body → Code
 code_of (body.Block parts at) = defined (listed_parts (map part_of parts)) at
 code_of body.Prototype = prototype
 
+-- members of one specifier (C99 6.7.2.1)
 abbrev pub fields_of : Member → Fields
 fields_of m = fields m.specifier (map declared_of m.declarators) m.at
 
+-- an external declaration (C99 6.9)
 abbrev pub outer_of : External → Outer
 outer_of (external.Struct name members) = structure name (map fields_of members)
 outer_of (external.Function is_static specifier stars name params code) = function is_static specifier stars name params (code_of code)
 outer_of (external.Objects is_static specifier items at) = objects is_static specifier (map object_of items) at
 
+-- a whole source, in the order of the text
 abbrev pub program_of : Program → List Outer
 program_of p = map outer_of p.externals

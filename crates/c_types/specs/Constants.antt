@@ -23,6 +23,7 @@ constants =
     (codes "EXIT_FAILURE", pos 1) ∷
     []
 
+-- `NULL` isn't among them: it is a literal of its own
 unfoldable pub constant_named : Text → Option ℤ
 constant_named name = entry_of constants name
 
@@ -37,6 +38,7 @@ is_int_specifier (specifier.PthreadMutexT at) = false
 is_int_specifier (specifier.PthreadCondT at) = false
 is_int_specifier (specifier.PthreadBarrierT at) = false
 
+-- the only type to which a constant expression may be cast
 abbrev pub is_int : CType → Bool
 is_int t = is_int_specifier t.specifier && (t.stars == 0)
 

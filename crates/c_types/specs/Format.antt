@@ -25,5 +25,6 @@ conversions_from inside.Long n (b ∷ bs) =
 conversions_from inside.LongLong n [] = None
 conversions_from inside.LongLong n (b ∷ bs) = if is_decimal b then conversions_from inside.Text (n + 1) bs else None
 
+-- each conversion wants one further argument, a whole number
 abbrev pub conversions : Text → Option ℕ
 conversions text = conversions_from inside.Text 0 text

@@ -5,6 +5,7 @@ use Rattle.c_types.specs.declared.fault.FaultKind.TheVariants as fault
 use Rattle.c_types.specs.declared.fault.Found.{Found}
 use Rattle.rr_base.specs.declared.position.Position.{Position}
 
+-- the number shown for it; at one place the lowest comes first
 abbrev pub number_of : FaultKind → ℕ
 number_of fault.UnknownName = 9
 number_of fault.DuplicateName = 10
@@ -19,12 +20,14 @@ number_of fault.GlobalsTooLarge = 18
 number_of fault.NotConstant = 19
 number_of fault.OutOfProfile = 20
 
+-- by line, then by column, then by the number of the fault
 abbrev pub is_before : Found → Found → Bool
 is_before x y =
     if x.at.line == y.at.line
     then (if x.at.column == y.at.column then nat_lt (number_of x.fault) (number_of y.fault) else nat_lt x.at.column y.at.column)
     else nat_lt x.at.line y.at.line
 
+-- one broken rule at one place of the source
 abbrev pub found_at : FaultKind → Position → Found
 found_at kind at = record { fault = kind; at = at }
 

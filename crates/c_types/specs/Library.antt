@@ -12,6 +12,7 @@ use Rattle.c_types.specs.declared.library.LibraryName.{LibraryName}
 use Rattle.c_types.specs.declared.library.LibraryName.TheVariants as call
 use Rattle.c_types.specs.Scopes.{starred}
 
+-- all functions of C99 and of POSIX threads that the profile has
 abbrev pub calls : List (Text × LibraryName)
 calls =
     (codes "pthread_create", call.Create) ∷
@@ -40,9 +41,11 @@ calls =
     (codes "puts", call.PutText) ∷
     []
 
+-- none of these names can be declared by a source
 unfoldable pub library_named : Text → Option LibraryName
 library_named name = entry_of calls name
 
+-- a type without arrays as an object's type
 abbrev pub starred_type : StarredType → ObjectType
 starred_type t = starred t.stars t.base
 
@@ -50,9 +53,11 @@ starred_type t = starred t.stars t.base
 abbrev pub fitting_type : ℕ → BaseType → Wanted
 fitting_type n b = wants.Fits (record { stars = n; base = b })
 
+-- every whole number fits, which a `pthread_t` is too
 abbrev pub an_int : Wanted
 an_int = fitting_type 0 base.Int
 
+-- a pointer to one such object, as `pthread_mutex_t *`
 abbrev pub to_one : BaseType → Wanted
 to_one b = fitting_type 1 b
 

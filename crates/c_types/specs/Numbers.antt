@@ -15,10 +15,12 @@ use Rattle.c_tree.specs.declared.expr.PrefixOp.TheVariants as prefix_op
 abbrev pub Computed : Type 0
 Computed = Result ℤ Trap
 
+-- from -2^63 to 2^63 - 1
 abbrev pub fits : ℤ → Bool
 fits (pos n) = nat_lt n (2 ^ 63)
 fits (negsuc n) = nat_lt n (2 ^ 63)
 
+-- signed overflow is undefined in C (C99 6.5)
 abbrev pub fitting : ℤ → Computed
 fitting z = if fits z then Ok z else Err Overflow
 
@@ -27,6 +29,7 @@ abbrev pub truth : Bool → ℤ
 truth true = pos 1
 truth false = pos 0
 
+-- a number counts as false just where it is 0 (C99 6.5.13)
 abbrev pub is_zero : ℤ → Bool
 is_zero (pos n) = n == 0
 is_zero (negsuc n) = false
@@ -40,6 +43,7 @@ abbrev pub is_shift : ℤ → Bool
 is_shift (pos n) = nat_lt n 64
 is_shift (negsuc n) = false
 
+-- by how many bits to shift; meant for numbers from 0 to 63
 abbrev pub places : ℤ → ℕ
 places (pos n) = n
 places (negsuc n) = 0
@@ -49,6 +53,7 @@ abbrev pub moved_left : ℤ → ℕ → Computed
 moved_left (pos a) n = fitting (pos (a * 2 ^ n))
 moved_left (negsuc a) n = Err Overflow
 
+-- undefined in C by a negative count, or by 64 and more (C99 6.5.7)
 abbrev pub shifted_left : ℤ → ℤ → Computed
 shifted_left a n = if is_shift n then moved_left a (places n) else Err ShiftRange
 

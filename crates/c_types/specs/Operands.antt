@@ -34,6 +34,7 @@ pub data Operand : Type 0 where
   -- Void, a struct, a mutex, a condition variable or a barrier
   no_operand : Operand
 
+-- of the types without layers operators take only whole numbers
 abbrev pub base_operand : BaseType → Operand
 base_operand base.Int = whole
 base_operand base.Void = no_operand
@@ -42,14 +43,17 @@ base_operand base.Mutex = no_operand
 base_operand base.Cond = no_operand
 base_operand base.Barrier = no_operand
 
+-- an array decays to a pointer here (C99 6.3.2.1)
 abbrev pub layered_operand : List Layer → BaseType → Operand
 layered_operand [] b = base_operand b
 layered_operand (layer.Pointer ∷ ls) b = pointing (record { layers = ls; base = b })
 layered_operand (layer.Array n ∷ ls) b = pointing (record { layers = ls; base = b })
 
+-- what operators see of an object or a value of this type
 abbrev pub type_operand : ObjectType → Operand
 type_operand t = layered_operand t.layers t.base
 
+-- a literal `0` stays apart, since it fits pointers too
 abbrev pub operand_of : Standing → Operand
 operand_of no_type = any_operand
 operand_of zero_literal = zero_operand
@@ -63,9 +67,11 @@ layered_value [] b = a_value (bare b)
 layered_value (layer.Pointer ∷ ls) b = a_value (pointer_to (record { layers = ls; base = b }))
 layered_value (layer.Array n ∷ ls) b = a_value (pointer_to (record { layers = ls; base = b }))
 
+-- reading an object, where an array decays to a pointer (C99 6.3.2.1)
 abbrev pub type_value : ObjectType → Standing
 type_value t = layered_value t.layers t.base
 
+-- no longer a place, nor a literal that fits several types
 abbrev pub as_value : Standing → Standing
 as_value no_type = no_type
 as_value zero_literal = a_value int_type
@@ -75,6 +81,7 @@ as_value (a_place t) = type_value t
 
 -- ---- tests
 
+-- two structs are the same type where their definitions are the same
 abbrev pub same_base : BaseType → BaseType → Bool
 same_base base.Int base.Int = true
 same_base base.Void base.Void = true
@@ -84,27 +91,33 @@ same_base base.Cond base.Cond = true
 same_base base.Barrier base.Barrier = true
 same_base _ _ = false
 
+-- arrays of different lengths are different types
 abbrev pub same_layers : List Layer → List Layer → Bool
 same_layers [] [] = true
 same_layers (layer.Pointer ∷ x) (layer.Pointer ∷ y) = same_layers x y
 same_layers (layer.Array m ∷ x) (layer.Array n ∷ y) = (m == n) && same_layers x y
 same_layers _ _ = false
 
+-- compatible types, which here are equal ones (C99 6.2.7)
 abbrev pub same_type : ObjectType → ObjectType → Bool
 same_type s t = same_base s.base t.base && same_layers s.layers t.layers
 
+-- the type is `void` itself, no pointer to it
 abbrev pub layered_is_void : List Layer → BaseType → Bool
 layered_is_void [] base.Void = true
 layered_is_void [] _ = false
 layered_is_void (l ∷ ls) b = false
 
+-- no object has this type, but a pointer may point to it
 abbrev pub is_void : ObjectType → Bool
 is_void t = layered_is_void t.layers t.base
 
+-- the operand has no fault in it
 abbrev pub is_typed : Operand → Bool
 is_typed any_operand = false
 is_typed _ = true
 
+-- a number, the literal `0`, or what may be one despite a fault
 abbrev pub is_whole : Operand → Bool
 is_whole any_operand = true
 is_whole whole = true
@@ -131,6 +144,7 @@ is_movable any_operand = true
 is_movable (pointing t) = not (is_void t)
 is_movable _ = false
 
+-- a `void *`, which has no arithmetic here
 abbrev pub points_to_void : Operand → Bool
 points_to_void (pointing t) = is_void t
 points_to_void _ = false
@@ -145,9 +159,11 @@ abbrev pub are_compatible : Operand → Operand → Bool
 are_compatible (pointing s) (pointing t) = is_void s || is_void t || same_type s t
 are_compatible a b = is_some_pointer a && is_some_pointer b
 
+-- operands for arithmetic and bitwise operators
 abbrev pub are_whole : Operand → Operand → Bool
 are_whole a b = is_whole a && is_whole b
 
+-- two numbers, or a pointer and a number in either order (C99 6.5.6)
 abbrev pub can_add : Operand → Operand → Bool
 can_add a b = are_whole a b || (is_movable a && is_whole b) || (is_whole a && is_movable b)
 
@@ -155,9 +171,11 @@ can_add a b = are_whole a b || (is_movable a && is_whole b) || (is_whole a && is
 abbrev pub have_distance : Operand → Operand → Bool
 have_distance a b = are_alike a b && not (points_to_void a) && not (points_to_void b) && (is_movable a || is_movable b)
 
+-- two numbers, a pointer less a number, or two pointers (C99 6.5.6)
 abbrev pub can_subtract : Operand → Operand → Bool
 can_subtract a b = are_whole a b || (is_movable a && is_whole b) || have_distance a b
 
+-- the constraints on both operands (C99 6.5.5 to 6.5.14); a fault inside may pass
 abbrev pub takes : BinaryOp → Operand → Operand → Bool
 takes op.LogicalOr a b = is_scalar a && is_scalar b
 takes op.LogicalAnd a b = is_scalar a && is_scalar b
@@ -180,18 +198,22 @@ takes op.Remainder a b = are_whole a b
 
 -- ---- results
 
+-- the one arithmetic type here, to which all numbers belong
 abbrev pub int_value : Standing
 int_value = a_value int_type
 
+-- a pointer moved by elements, or a number
 abbrev pub sum_of : Operand → Operand → Standing
 sum_of (pointing t) b = a_value (pointer_to t)
 sum_of a (pointing t) = a_value (pointer_to t)
 sum_of a b = int_value
 
+-- a pointer moved back, or the distance of two pointers as a number
 abbrev pub difference_of : Operand → Operand → Standing
 difference_of (pointing t) b = if is_whole b then a_value (pointer_to t) else int_value
 difference_of a b = int_value
 
+-- the type where both operands are taken; comparisons give a number
 abbrev pub result_of : BinaryOp → Operand → Operand → Standing
 result_of op.Add a b = sum_of a b
 result_of op.Subtract a b = difference_of a b
@@ -201,6 +223,7 @@ result_of _ a b = int_value
 abbrev pub settled : Bool → Operand → Operand → Standing → Standing
 settled allowed a b s = if allowed && is_typed a && is_typed b then s else no_type
 
+-- the type of `a op b`, if its operands are allowed
 abbrev pub binary_standing : BinaryOp → Operand → Operand → Standing
 binary_standing o a b = settled (takes o a b) a b (result_of o a b)
 
@@ -213,6 +236,7 @@ layered_accepts [] _ a = false
 layered_accepts (layer.Pointer ∷ ls) b a = are_compatible (pointing (record { layers = ls; base = b })) a
 layered_accepts (layer.Array n ∷ ls) b a = false
 
+-- what `=` may store into the object (C99 6.5.16.1)
 abbrev pub accepts : ObjectType → Operand → Bool
 accepts t a = layered_accepts t.layers t.base a
 
@@ -223,14 +247,17 @@ layered_moves [] _ a = false
 layered_moves (layer.Pointer ∷ ls) b a = not (is_void (record { layers = ls; base = b })) && is_whole a
 layered_moves (layer.Array n ∷ ls) b a = false
 
+-- `+=`, `-=`, `++` and `--` may change the object by this operand
 abbrev pub moves : ObjectType → Operand → Bool
 moves t a = layered_moves t.layers t.base a
 
+-- the type is the whole number, without pointers or arrays
 abbrev pub layered_is_int : List Layer → BaseType → Bool
 layered_is_int [] base.Int = true
 layered_is_int [] _ = false
 layered_is_int (l ∷ ls) b = false
 
+-- all other compound assignments, as `*=`, need this type (C99 6.5.16.2)
 abbrev pub is_int_type : ObjectType → Bool
 is_int_type t = layered_is_int t.layers t.base
 
@@ -248,6 +275,7 @@ assigns_some _ a = is_whole a
 
 -- ---- the choice `?:`
 
+-- the second and third operands have a type in common (C99 6.5.15)
 abbrev pub can_choose : Operand → Operand → Bool
 can_choose a b = are_whole a b || are_compatible a b
 
@@ -255,11 +283,13 @@ can_choose a b = are_whole a b || are_compatible a b
 abbrev pub voider : ObjectType → ObjectType → ObjectType
 voider s t = if is_void t then t else s
 
+-- to what the result points; to `void` where both are null pointers
 abbrev pub chosen_target : Operand → Operand → ObjectType
 chosen_target (pointing s) (pointing t) = voider s t
 chosen_target (pointing s) b = s
 chosen_target a (pointing t) = t
 chosen_target a b = bare base.Void
 
+-- the type that the second and third operands have in common
 abbrev pub chosen : Operand → Operand → Standing
 chosen a b = if are_whole a b then int_value else a_value (pointer_to (chosen_target a b))

@@ -24,6 +24,7 @@ pub data Meaning : Type 0 where
   variable : Option ObjectType → Meaning
   function_of : Signature → Meaning
 
+-- the ordinary names of one block or of the file, the oldest first
 abbrev pub Scope : Type 0
 Scope = List (Text × Meaning)
 
@@ -44,6 +45,7 @@ pub record Known : Type 0 where
 
 -- ---- ordinary names
 
+-- the second counts only where there is no first
 abbrev pub or_else : {A : Type 0} → Option A → Option A → Option A
 or_else (Some x) other = Some x
 or_else None other = other
@@ -53,9 +55,11 @@ abbrev pub seen_in : List Scope → Text → Option Meaning
 seen_in [] name = None
 seen_in (s ∷ ss) name = or_else (entry_of s name) (seen_in ss name)
 
+-- what an ordinary name means at this place, if it is declared
 abbrev pub seen : Known → Text → Option Meaning
 seen known name = seen_in known.scopes name
 
+-- the text is in the list, byte by byte
 abbrev pub has_name : List Text → Text → Bool
 has_name [] name = false
 has_name (n ∷ ns) name = bytes_eq name n || has_name ns name
@@ -70,6 +74,7 @@ function_numbered known name = position (λ n. bytes_eq name n) known.defined
 abbrev pub struct_numbered : Known → Text → Option ℕ
 struct_numbered known name = position (λ n. bytes_eq name n) known.struct_names
 
+-- none where the file defines no such struct; a `pthread_t` is a number
 abbrev pub base_of : Known → Specifier → Option BaseType
 base_of known (specifier.Int at) = Some base.Int
 base_of known (specifier.Long second int at) = Some base.Int
@@ -84,6 +89,7 @@ base_of known (specifier.PthreadBarrierT at) = Some base.Barrier
 abbrev pub starred : ℕ → BaseType → ObjectType
 starred n b = record { layers = replicate n layer.Pointer; base = b }
 
+-- the type in a cast or a `sizeof`
 abbrev pub type_named : Known → CType → Option ObjectType
 type_named known t = option_map (starred t.stars) (base_of known t.specifier)
 
@@ -92,6 +98,7 @@ abbrev pub member_among : Option Members → Text → Option (Option ObjectType)
 member_among None name = None
 member_among (Some members) name = entry_of members name
 
+-- none without such a member; a type of none where its declaration has a fault
 abbrev pub member_of : Known → ℕ → Text → Option (Option ObjectType)
 member_of known k name = member_among (slice_get known.structs k) name
 
@@ -100,9 +107,11 @@ abbrev pub numbered_among : Option Members → Text → Option ℕ
 numbered_among None name = None
 numbered_among (Some members) name = position (λ m. bytes_eq name m.0) members
 
+-- by this number code addresses a member, counted from 0
 abbrev pub member_numbered : Known → ℕ → Text → Option ℕ
 member_numbered known k name = numbered_among (slice_get known.structs k) name
 
+-- the types only, in order; no members where there is no struct
 abbrev pub members_of : Option Members → List (Option ObjectType)
 members_of None = []
 members_of (Some members) = map (λ m. m.1) members
@@ -120,11 +129,13 @@ is_complete_base known base.Mutex = true
 is_complete_base known base.Cond = true
 is_complete_base known base.Barrier = true
 
+-- a pointer has a size whatever it points to
 abbrev pub is_complete_layered : Known → List Layer → BaseType → Bool
 is_complete_layered known [] b = is_complete_base known b
 is_complete_layered known (layer.Pointer ∷ ls) b = true
 is_complete_layered known (layer.Array n ∷ ls) b = is_complete_layered known ls b
 
+-- an object may have the type, and `sizeof` apply to it (C99 6.2.5)
 abbrev pub is_complete : Known → ObjectType → Bool
 is_complete known t = is_complete_layered known t.layers t.base
 
@@ -138,15 +149,18 @@ most_cells = 65535
 abbrev pub counted_cells : ℕ → ℕ
 counted_cells n = min n (most_cells + 1)
 
+-- what `sizeof` gives: it counts cells, not bytes
 abbrev pub cells_of_type : Known → ObjectType → ℕ
 cells_of_type known t = counted_cells (size_of_type known.sizes t)
 
+-- a type that isn't known counts as none
 abbrev pub cells_of_some : Known → Option ObjectType → ℕ
 cells_of_some known None = 0
 cells_of_some known (Some t) = cells_of_type known t
 
 -- ---- scopes
 
+-- where a declaration at this place puts its name
 abbrev pub innermost : List Scope → Scope
 innermost [] = []
 innermost (s ∷ ss) = s
@@ -155,16 +169,20 @@ innermost (s ∷ ss) = s
 abbrev pub with_name : {A : Type 0} → List (Text × A) → Text → A → List (Text × A)
 with_name es name x = if is_some (entry_of es name) then es else es ++ (name, x) ∷ []
 
+-- into the innermost scope
 abbrev pub declared_in : List Scope → Text → Meaning → List Scope
 declared_in [] name m = []
 declared_in (s ∷ ss) name m = with_name s name m ∷ ss
 
+-- known after an ordinary name is declared at this place
 abbrev pub declare : Known → Text → Meaning → Known
 declare known name m = record known { scopes = declared_in known.scopes name m }
 
+-- known where a block, a function or a `for` begins its scope
 abbrev pub opened : Known → Known
 opened known = record known { scopes = [] ∷ known.scopes }
 
+-- known after the block, whose names are gone
 abbrev pub closed : Known → Known
 closed known = record known { scopes = drop 1 known.scopes }
 

@@ -25,6 +25,7 @@ use Rattle.c_types.specs.Operands.{Standing, no_type, zero_literal, null_literal
 abbrev pub shown_type : TypeRef → ObjectType
 shown_type t = record { layers = replicate t.stars layer.Pointer ++ t.layers.now; base = t.base }
 
+-- what the program's form of a standing means
 abbrev pub shown_standing : RustStanding → Standing
 shown_standing standing.NoType = no_type
 shown_standing standing.Zero = zero_literal
@@ -34,6 +35,7 @@ shown_standing (standing.Pointer t) = a_value (pointer_to (shown_type t))
 shown_standing (standing.Bare b) = a_value (bare b)
 shown_standing (standing.Place t) = a_place (shown_type t)
 
+-- what the program's form of an operand means
 abbrev pub shown_operand : RustOperand → Operand
 shown_operand operand.Any = any_operand
 shown_operand operand.Whole = whole
@@ -42,14 +44,17 @@ shown_operand operand.Null = null_operand
 shown_operand (operand.Pointing t) = pointing (shown_type t)
 shown_operand operand.Unfit = no_operand
 
+-- a type that isn't known shows as none too
 abbrev pub shown_maybe : Option TypeRef → Option ObjectType
 shown_maybe None = None
 shown_maybe (Some t) = Some (shown_type t)
 
+-- what a look-up of a member gives: whether there is one, then its type
 abbrev pub shown_member : Option (Option TypeRef) → Option (Option ObjectType)
 shown_member None = None
 shown_member (Some m) = Some (shown_maybe m)
 
+-- what a look-up of an ordinary name gives
 abbrev pub shown_meaning : Option RustMeaning → Option Meaning
 shown_meaning None = None
 shown_meaning (Some (meaning.Variable t)) = Some (variable (shown_maybe t))
@@ -59,6 +64,7 @@ shown_meaning (Some (meaning.Function f)) = Some (function_of f.now)
 abbrev pub Peeled : Type 0
 Peeled = Option (Layer × ObjectType)
 
+-- none of a type without layers
 abbrev pub peeled : ObjectType → Peeled
 peeled t = peeled_by t.layers t.base
   where
@@ -66,10 +72,12 @@ peeled t = peeled_by t.layers t.base
     peeled_by [] b = None
     peeled_by (l ∷ ls) b = Some (l, record { layers = ls; base = b })
 
+-- the same of a type that borrows from its declaration
 abbrev pub shown_peeled : Option (Layer × TypeRef) → Peeled
 shown_peeled None = None
 shown_peeled (Some p) = Some (p.0, shown_type p.1)
 
+-- what the program's form of a `malloc` target means
 abbrev pub shown_target : RustTarget → Target
 shown_target target.No = no_target
 shown_target target.Some = some_target

@@ -28,12 +28,14 @@ use Rattle.c_types.specs.Format.{conversions}
 
 -- ---- `malloc`: what it is to make an object of
 
+-- the object's type comes from the pointer that takes the result
 pub data Target : Type 0 where
   no_target : Target
   -- there is one, whose type isn't known for a fault
   some_target : Target
   target_of : ObjectType → Target
 
+-- a `void *` or no pointer says nothing of the object's type
 abbrev pub layered_target : List Layer → BaseType → Target
 layered_target [] b = no_target
 layered_target (layer.Pointer ∷ ls) b = if is_void (record { layers = ls; base = b }) then no_target else target_of (record { layers = ls; base = b })
@@ -54,6 +56,7 @@ abbrev pub cast_target : Option ObjectType → ℕ → Target
 cast_target (Some t) stars = type_target t
 cast_target None stars = if stars == 0 then no_target else some_target
 
+-- the call gives a typed pointer, and has a fault without a target
 abbrev pub malloc_standing : Target → Standing
 malloc_standing no_target = no_type
 malloc_standing some_target = no_type
@@ -61,10 +64,12 @@ malloc_standing (target_of t) = a_value (pointer_to t)
 
 -- ---- parts
 
+-- the object that a unary `*` gives; none through a `void *` (C99 6.5.3.2)
 abbrev pub pointee : Operand → Standing
 pointee (pointing t) = if is_void t then no_type else a_place t
 pointee _ = no_type
 
+-- only an object has one, a function and a value none (C99 6.5.3.2)
 abbrev pub address : Standing → Standing
 address (a_place t) = a_value (pointer_to t)
 address _ = no_type
@@ -74,9 +79,11 @@ abbrev pub stepped : Standing → Standing
 stepped (a_place t) = if moves t whole then type_value t else no_type
 stepped _ = no_type
 
+-- a number where the operator takes the operand and this has no fault
 abbrev pub made_int : Bool → Operand → Standing
 made_int allowed a = if allowed && is_typed a then int_value else no_type
 
+-- the type of a prefix operator's result (C99 6.5.3)
 abbrev pub prefix_standing : PrefixOp → Standing → Standing
 prefix_standing prefix_op.Address s = address s
 prefix_standing prefix_op.Indirect s = pointee (operand_of s)
@@ -87,9 +94,11 @@ prefix_standing prefix_op.Complement s = made_int (is_whole (operand_of s)) (ope
 prefix_standing prefix_op.Increment s = stepped s
 prefix_standing prefix_op.Decrement s = stepped s
 
+-- the type of `a ? b : c`, whose `a` is scalar (C99 6.5.15)
 abbrev pub conditional_standing : Operand → Operand → Operand → Standing
 conditional_standing a b c = if is_scalar a && is_typed a then settled (can_choose b c) b c (chosen b c) else no_type
 
+-- the type of the object after the assignment, as a value (C99 6.5.16)
 abbrev pub assign_standing : AssignOp → Standing → Operand → Standing
 assign_standing o (a_place t) a = if assigns o t a && is_typed a then type_value t else no_type
 assign_standing o _ a = no_type
@@ -102,9 +111,11 @@ is_sized known null_literal = true
 is_sized known (a_value t) = is_complete known t
 is_sized known (a_place t) = is_complete known t
 
+-- `sizeof e`: a number, if `e` has a size (C99 6.5.3.4)
 abbrev pub sizeof_standing : Known → Standing → Standing
 sizeof_standing known s = made_int (is_sized known s) (operand_of s)
 
+-- `sizeof (type)`: a number, if the type is complete (C99 6.5.3.4)
 abbrev pub sizeof_type_standing : Known → Option ObjectType → Standing
 sizeof_type_standing known None = no_type
 sizeof_type_standing known (Some t) = if is_complete known t then int_value else no_type
@@ -114,28 +125,34 @@ abbrev pub casts_to : Option ObjectType → ℕ → Bool
 casts_to (Some t) stars = is_scalar (type_operand t)
 casts_to None stars = not (stars == 0)
 
+-- the type of `(type) e`, between numbers and pointers (C99 6.5.4)
 abbrev pub cast_standing : Option ObjectType → ℕ → Operand → Standing
 cast_standing None stars a = no_type
 cast_standing (Some t) stars a = if casts_to (Some t) stars && is_scalar a && is_typed a then type_value t else no_type
 
+-- a pointer and a number, in either order (C99 6.5.2.1)
 abbrev pub can_index : Operand → Operand → Bool
 can_index a b = (is_movable a && is_whole b) || (is_whole a && is_movable b)
 
+-- the object to which the one of the two that is a pointer points
 abbrev pub element_place : Operand → Operand → Standing
 element_place (pointing t) b = a_place t
 element_place a (pointing t) = a_place t
 element_place a b = no_type
 
+-- the type of `a[b]`, which is the place `*(a + b)`
 abbrev pub index_standing : Operand → Operand → Standing
 index_standing a b = settled (can_index a b) a b (element_place a b)
 
 -- ---- members
 
+-- the number of the struct, where the type is one itself
 abbrev pub layered_struct : List Layer → BaseType → Option ℕ
 layered_struct [] (base.Struct k) = Some k
 layered_struct [] _ = None
 layered_struct (l ∷ ls) b = None
 
+-- no number of a pointer to a struct or of an array of them
 abbrev pub type_struct : ObjectType → Option ℕ
 type_struct t = layered_struct t.layers t.base
 
@@ -145,25 +162,30 @@ struct_of (a_value t) = type_struct t
 struct_of (a_place t) = type_struct t
 struct_of _ = None
 
+-- for `->`, where an array of structs counts as a pointer too
 abbrev pub pointed_struct : Operand → Option ℕ
 pointed_struct (pointing t) = type_struct t
 pointed_struct _ = None
 
+-- what a look-up of a member gives as a place
 abbrev pub place_by : Option (Option ObjectType) → Standing
 place_by None = no_type
 place_by (Some None) = no_type
 place_by (Some (Some t)) = a_place t
 
+-- the type of `.name` and `->name`, in the struct of this number (C99 6.5.2.3)
 abbrev pub member_standing : Known → Option ℕ → Text → Standing
 member_standing known None name = no_type
 member_standing known (Some k) name = place_by (member_of known k name)
 
 -- ---- names
 
+-- a constant of the library is a number and no literal `0`
 abbrev pub constant_standing : Option ℤ → Standing
 constant_standing None = no_type
 constant_standing (Some n) = int_value
 
+-- a function's name alone has no type: pointers to functions aren't in the profile
 abbrev pub named_standing : Option Meaning → Option ℤ → Standing
 named_standing (Some (variable None)) constant = no_type
 named_standing (Some (variable (Some t))) constant = a_place t
@@ -172,6 +194,7 @@ named_standing None constant = constant_standing constant
 
 -- ---- calls
 
+-- no call and no thread may begin `main` again
 abbrev pub is_main : Text → Bool
 is_main name = bytes_eq name (codes "main")
 
@@ -180,6 +203,7 @@ pub data Callee : Type 0 where
   no_callee : Callee
   callee : List Wanted → Standing → Callee
 
+-- none where there is nothing to call
 abbrev pub callee_wants : Callee → List Wanted
 callee_wants no_callee = []
 callee_wants (callee ws s) = ws
@@ -194,6 +218,7 @@ abbrev pub call_standing : Callee → Bool → Standing
 call_standing no_callee fit = no_type
 call_standing (callee ws s) fit = if fit then s else no_type
 
+-- what a call of a source's function gives, if that is known
 abbrev pub given_type : Option StarredType → Standing
 given_type None = no_type
 given_type (Some t) = type_value (starred_type t)
@@ -203,35 +228,43 @@ abbrev pub printf_callee : Option ℕ → Callee
 printf_callee None = no_callee
 printf_callee (Some n) = callee (wants.Text ∷ replicate n an_int) int_value
 
+-- how many conversions a literal format has; none where it can't be told
 abbrev pub format_of : Exps → Option ℕ
 format_of (and_exp (text bytes at) es) = conversions bytes
 format_of _ = None
 
+-- `printf` goes by its format, and `malloc` by its target
 abbrev pub some_library_callee : LibraryName → Target → Option ℕ → Callee
 some_library_callee library.PrintFormat w format = printf_callee format
 some_library_callee library.Malloc w format = callee (wanted_by library.Malloc) (malloc_standing w)
 some_library_callee c w format = callee (wanted_by c) (type_value (bare (given_by c)))
 
+-- there is nothing to call without such a name in the library
 abbrev pub library_callee : Option LibraryName → Target → Option ℕ → Callee
 library_callee None w format = no_callee
 library_callee (Some c) w format = some_library_callee c w format
 
+-- it can be called only where the flag says so
 abbrev pub function_callee : Bool → Signature → Callee
 function_callee false f = no_callee
 function_callee true f = callee f.params (given_type f.result)
 
+-- what a call wants and gives; a declared name goes before the library's
 abbrev pub callee_of : Known → Target → Text → Option ℕ → Option Meaning → Callee
 callee_of known w name format (Some (variable t)) = no_callee
 callee_of known w name format (Some (function_of f)) = function_callee (not (is_main name) && has_name known.defined name) f
 callee_of known w name format None = library_callee (library_named name) w format
 
+-- `void *`, what a thread takes and gives
 abbrev pub is_pointer_to_void : StarredType → Bool
 is_pointer_to_void t = (t.stars == 1) && is_void (bare t.base)
 
+-- one parameter only, a `void *`
 abbrev pub wants_pointer_to_void : List Wanted → Bool
 wants_pointer_to_void (wants.Fits t ∷ []) = is_pointer_to_void t
 wants_pointer_to_void _ = false
 
+-- the result is a `void *`, and known
 abbrev pub gives_pointer_to_void : Option StarredType → Bool
 gives_pointer_to_void None = false
 gives_pointer_to_void (Some t) = is_pointer_to_void t
@@ -240,18 +273,22 @@ gives_pointer_to_void (Some t) = is_pointer_to_void t
 abbrev pub has_root_types : Signature → Bool
 has_root_types f = gives_pointer_to_void f.result && wants_pointer_to_void f.params
 
+-- a name that means a function of the form `void *f(void *)`
 abbrev pub is_root_type : Option Meaning → Bool
 is_root_type (Some (function_of f)) = has_root_types f
 is_root_type _ = false
 
+-- the third argument of `pthread_create`: a defined function's name, not in parentheses
 abbrev pub is_root : Known → Exp → Bool
 is_root known (named name at) = is_root_type (seen known name) && not (is_main name) && has_name known.defined name
 is_root known _ = false
 
+-- a string literal, which may stand only as an argument that wants one
 abbrev pub is_text : Exp → Bool
 is_text (text bytes at) = true
 is_text _ = false
 
+-- the literals `0` and `NULL`, as attributes are passed
 abbrev pub is_null : Standing → Bool
 is_null zero_literal = true
 is_null null_literal = true
@@ -267,11 +304,13 @@ fits_wanted known wants.Text e s = is_text e
 
 -- ---- a value that is let go, as a statement or before a comma
 
+-- a number may be dropped, and so may what a `void` call gives
 abbrev pub is_kept_base : BaseType → Bool
 is_kept_base base.Int = true
 is_kept_base base.Void = true
 is_kept_base _ = false
 
+-- a pointer or an array may always be dropped
 abbrev pub layered_can_go : List Layer → BaseType → Bool
 layered_can_go [] b = is_kept_base b
 layered_can_go (l ∷ ls) b = true
@@ -282,6 +321,7 @@ can_go (a_value t) = layered_can_go t.layers t.base
 can_go (a_place t) = layered_can_go t.layers t.base
 can_go _ = true
 
+-- it has no type where its value can't be dropped
 abbrev pub let_go : Standing → Standing
 let_go s = if can_go s then s else no_type
 
@@ -290,6 +330,7 @@ abbrev pub following : Standing → Standing → Standing
 following no_type s = no_type
 following _ s = s
 
+-- a written `0` is a null pointer constant too (C99 6.3.2.3)
 abbrev pub number_standing : ℤ → Standing
 number_standing n = if is_zero n then zero_literal else int_value
 

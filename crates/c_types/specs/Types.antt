@@ -13,12 +13,15 @@ use Rattle.c_types.specs.declared.types.ObjectType.{ObjectType}
 abbrev pub bare : BaseType → ObjectType
 bare b = record { layers = []; base = b }
 
+-- a number of 64 bits: `int`, `long` and `pthread_t`
 abbrev pub int_type : ObjectType
 int_type = bare base.Int
 
+-- the new layer is the outermost
 abbrev pub pointer_to : ObjectType → ObjectType
 pointer_to t = record { layers = layer.Pointer ∷ t.layers; base = t.base }
 
+-- so many elements of the type, one after another
 abbrev pub array_of : ℕ → ObjectType → ObjectType
 array_of n t = record { layers = layer.Array n ∷ t.layers; base = t.base }
 
@@ -29,6 +32,7 @@ abbrev pub repeated : {A : Type 0} → ℕ → List A → List A
 repeated zero xs = []
 repeated (suc n) xs = xs ++ repeated n xs
 
+-- `void` and a struct that isn't known have no cells
 abbrev pub base_kinds : List (List CellKind) → BaseType → List CellKind
 base_kinds structs base.Int = cell.Whole ∷ []
 base_kinds structs base.Void = []
@@ -37,11 +41,13 @@ base_kinds structs base.Mutex = cell.Mutex ∷ []
 base_kinds structs base.Cond = cell.Cond ∷ []
 base_kinds structs base.Barrier = cell.Barrier ∷ []
 
+-- a pointer takes one cell whatever it points to
 abbrev pub layered_kinds : List (List CellKind) → List Layer → BaseType → List CellKind
 layered_kinds structs [] b = base_kinds structs b
 layered_kinds structs (layer.Pointer ∷ ls) b = cell.Pointer ∷ []
 layered_kinds structs (layer.Array n ∷ ls) b = repeated n (layered_kinds structs ls b)
 
+-- the kind of each cell of an object, in order
 abbrev pub kinds_of_type : List (List CellKind) → ObjectType → List CellKind
 kinds_of_type structs t = layered_kinds structs t.layers t.base
 
@@ -51,6 +57,7 @@ layered_element structs [] b = length (base_kinds structs b)
 layered_element structs (layer.Pointer ∷ ls) b = 1
 layered_element structs (layer.Array n ∷ ls) b = layered_element structs ls b
 
+-- sizes in cells; an array of arrays counts by its innermost elements
 abbrev pub layout_of_type : List (List CellKind) → ObjectType → Layout
 layout_of_type structs t = record {
   size = length (kinds_of_type structs t);
@@ -70,11 +77,13 @@ abbrev pub kinds_after : List (List CellKind) → List (List ObjectType) → Lis
 kinds_after known [] = known
 kinds_after known (s ∷ more) = kinds_after (known ++ members_kinds known s ∷ []) more
 
+-- the cells of each struct, given the types of its members
 abbrev pub struct_kinds : List (List ObjectType) → List (List CellKind)
 struct_kinds structs = kinds_after [] structs
 
 -- ---- sizes, where each struct has the given one
 
+-- in cells: one each but for `void` and structs
 abbrev pub base_size : List ℕ → BaseType → ℕ
 base_size sizes base.Int = 1
 base_size sizes base.Void = 0
@@ -83,10 +92,12 @@ base_size sizes base.Mutex = 1
 base_size sizes base.Cond = 1
 base_size sizes base.Barrier = 1
 
+-- in cells, the layers taken from the outermost
 abbrev pub layered_size : List ℕ → List Layer → BaseType → ℕ
 layered_size sizes [] b = base_size sizes b
 layered_size sizes (layer.Pointer ∷ ls) b = 1
 layered_size sizes (layer.Array n ∷ ls) b = n * layered_size sizes ls b
 
+-- how many cells an object takes, without a bound
 abbrev pub size_of_type : List ℕ → ObjectType → ℕ
 size_of_type sizes t = layered_size sizes t.layers t.base

@@ -40,6 +40,7 @@ pub enum Operand<'a> {
 }
 
 impl<'a> Operand<'a> {
+    /// A value of the type.
     pub fn of_type(of: TypeRef<'a>) -> Operand<'a>
         ensures { shown_operand result ≡ spec.type_operand (shown_type of.entry) }
     {
@@ -63,6 +64,7 @@ impl<'a> Operand<'a> {
         }
     }
 
+    /// An expression as an operand: an array is a pointer to its first element (C99 6.3.2.1).
     pub fn of(standing: Standing<'a>) -> Operand<'a>
         ensures { shown_operand result ≡ spec.operand_of (shown_standing standing.entry) }
     {
@@ -92,6 +94,7 @@ impl<'a> Standing<'a> {
         }
     }
 
+    /// What it is as an expression again.
     pub fn as_value(self) -> Standing<'a>
         ensures { shown_standing result ≡ spec.as_value (shown_standing self.entry) }
     {

@@ -10,6 +10,7 @@ use crate::types::{BaseType, Layer};
 use c_tree::{AssignOp, BinaryOp};
 
 impl<'a> Operand<'a> {
+    /// Whether it has a type.
     pub fn is_typed(self) -> bool
         ensures { result ≡ spec.is_typed (shown_operand self.entry) }
     {
@@ -23,6 +24,7 @@ impl<'a> Operand<'a> {
         }
     }
 
+    /// Whether it is a whole number.
     pub fn is_whole(self) -> bool
         ensures { result ≡ spec.is_whole (shown_operand self.entry) }
     {

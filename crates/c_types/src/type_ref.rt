@@ -15,6 +15,7 @@ pub struct TypeRef<'a> {
 }
 
 impl<'a> TypeRef<'a> {
+    /// The type that is declared.
     pub fn of(declared: &'a ObjectType) -> TypeRef<'a>
         ensures { shown_type result ≡ declared.now }
     {
@@ -61,6 +62,7 @@ impl<'a> TypeRef<'a> {
         }
     }
 
+    /// Whether it is `void`, no pointer to it.
     pub fn is_void(self) -> bool
         ensures { result ≡ spec.is_void (shown_type self.entry) }
     {

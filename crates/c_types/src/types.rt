@@ -42,6 +42,7 @@ impl ObjectType {
         }
     }
 
+    /// The same type once more.
     pub fn copied(&self, alloc: Global) -> Result<ObjectType, AllocError>
         ensures { IfOk result (λ t. t ≡ self.now) }
     {

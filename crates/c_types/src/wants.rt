@@ -13,6 +13,7 @@ pub struct Wants<'a> {
 }
 
 impl<'a> Wants<'a> {
+    /// What arguments are wanted, one after another.
     pub fn listed(listed: &'a [Wanted]) -> Wants<'a>
         ensures { shown_wants result ≡ listed.entry.now }
     {

@@ -23,9 +23,11 @@ use Rattle.c_values.specs.Context.{function_counted}
 
 -- ---- formats
 
+-- a byte of a format that is printed as it is
 abbrev pub byte_piece : ℕ → Piece
 byte_piece b = piece.Byte b
 
+-- for the text of `puts`, where a percent sign means nothing
 abbrev pub bytes_pieces : Text → List Piece
 bytes_pieces bytes = map byte_piece bytes
 
@@ -43,6 +45,7 @@ pieces_from inside.Long (b ∷ bs) = if b == 108 then pieces_from inside.LongLon
 pieces_from inside.LongLong [] = []
 pieces_from inside.LongLong (b ∷ bs) = piece.Number ∷ pieces_from inside.Text bs
 
+-- the format of `printf` from its begin
 abbrev pub format_pieces : Text → List Piece
 format_pieces bytes = pieces_from inside.Text bytes
 
@@ -57,6 +60,7 @@ first_text _ = []
 abbrev pub is_pointer_wanted : StarredType → Bool
 is_pointer_wanted t = nat_lt 0 t.stars
 
+-- none for what the call holds itself: attributes, texts, a thread's function
 abbrev pub operand_for : Wanted → Part → List core.Exp
 operand_for (wants.Fits t) p = wanted_in (is_pointer_wanted t) p ∷ []
 operand_for wants.Anything p = value_in p ∷ []
@@ -66,6 +70,7 @@ operand_for wants.Text p = []
 
 -- ---- calls
 
+-- the number of the function that `pthread_create` names; 0 where none is
 abbrev pub started_function : Known → Option Text → ℕ
 started_function known None = 0
 started_function known (Some name) = function_counted (function_numbered known name)
@@ -97,6 +102,7 @@ library_of known library.PrintFormat es = call.Print (format_pieces (first_text 
 library_of known library.PutChar es = call.PutChar
 library_of known library.PutText es = call.Print (bytes_pieces (first_text es) ++ byte_piece 10 ∷ [])
 
+-- the size that a `malloc` is given; `0` where it has none
 abbrev pub first_of : List core.Exp → Position → core.Exp
 first_of [] at = core.number (pos 0) at
 first_of (e ∷ es) at = e
@@ -107,6 +113,7 @@ library_called known site None es arguments at = core.number (pos 0) at
 library_called known site (Some library.Malloc) es arguments at = core.allocate site (first_of arguments at) at
 library_called known site (Some c) es arguments at = core.library (library_of known c es) (core.listed arguments) at
 
+-- of a function's result, where none is that of `void`
 abbrev pub gives_pointer : Option StarredType → Bool
 gives_pointer None = false
 gives_pointer (Some t) = is_pointer_wanted t

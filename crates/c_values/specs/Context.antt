@@ -11,6 +11,7 @@ use Rattle.c_locals.specs.Addresses.{Numbered, number_seen}
 use Rattle.c_types.specs.Operands.{Operand, pointing}
 use Rattle.c_values.specs.declared.home.Home.{Home}
 
+-- what is the same wherever in the source an expression stands
 pub record Source : Type 0 where
   -- what is known after the whole source: each struct has its members and sizes
   pub whole : Known
@@ -20,6 +21,7 @@ pub record Source : Type 0 where
   -- the name of each global, and the pointer to it; its base counts from the first global cell
   pub globals : List (Text × ℕ)
 
+-- what is the same all through a function's body
 pub record Frame : Type 0 where
   -- the number of the first formal, and where each formal and local is kept
   pub first : ℕ
@@ -27,17 +29,20 @@ pub record Frame : Type 0 where
   -- whether the function gives a pointer
   pub gives_pointer : Bool
 
+-- the whole source, the function, and which names are seen at the place
 pub record Context : Type 0 where
   pub source : Source
   pub frame : Frame
   pub known : Known
   pub numbers : Numbered
 
+-- where these names are seen, with these numbers for formals and locals
 abbrev pub context_in : Source → Frame → Known → Numbered → Context
 context_in s f known numbers = record { source = s; frame = f; known = known; numbers = numbers }
 
 -- ---- sites
 
+-- a site is known by the line and column where it stands
 abbrev pub stands_at : Position → Site → Bool
 stands_at at s = (s.at.line == at.line) && (s.at.column == at.column)
 
@@ -57,13 +62,16 @@ abbrev pub home_numbered : Frame → Option ℕ → Option Home
 home_numbered f None = None
 home_numbered f (Some n) = if nat_le f.first n then slice_get f.homes (n - f.first) else None
 
+-- none for a name that is no formal or local, such as a global
 abbrev pub home_of : Context → Text → Option Home
 home_of h name = home_numbered h.frame (number_seen h.numbers.scopes name)
 
+-- a name that no global has gives 0
 abbrev pub pointer_or_null : Option ℕ → ℕ
 pointer_or_null None = 0
 pointer_or_null (Some w) = w
 
+-- the pointer to the first cell of the global
 abbrev pub global_named : Source → Text → ℕ
 global_named s name = pointer_or_null (entry_of s.globals name)
 
@@ -80,6 +88,7 @@ cells_of_first known zero ts = 0
 cells_of_first known (suc n) [] = 0
 cells_of_first known (suc n) (t ∷ ts) = cells_of_some known t + cells_of_first known n ts
 
+-- in cells from the struct's begin; 0 where there is no such member
 abbrev pub offset_numbered : Known → List (Option ObjectType) → Option ℕ → ℕ
 offset_numbered known ts None = 0
 offset_numbered known ts (Some i) = cells_of_first known i ts

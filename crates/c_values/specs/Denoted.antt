@@ -5,9 +5,11 @@ use Rattle.c_types.specs.Operands.{Standing, no_type, zero_literal, null_literal
 use Rattle.c_programs.specs.Initials.{layered_is_array}
 use Rattle.c_core.specs.Core as core
 
+-- the place in the type of the core tree
 abbrev pub position_of : Position → Position
 position_of at = record { line = at.line; column = at.column }
 
+-- an expression before it is known whether its word, pointer or place is wanted
 pub data Denoted : Type 0 where
   -- a local or formal that is a register
   denoted_register : ℕ → Position → Denoted
@@ -22,12 +24,15 @@ pub record Part : Type 0 where
   pub standing : Standing
   pub denoted : Denoted
 
+-- the type side and the value side of one expression
 abbrev pub part_by : Standing → Denoted → Part
 part_by s h = record { standing = s; denoted = h }
 
+-- its type as operators judge it, after C99 6.3.2.1
 abbrev pub operand_in : Part → Operand
 operand_in p = operand_of p.standing
 
+-- a pointer to a known type, so neither `NULL` nor a literal `0`
 abbrev pub is_pointing : Operand → Bool
 is_pointing (pointing t) = true
 is_pointing any_operand = false
@@ -36,6 +41,7 @@ is_pointing zero_operand = false
 is_pointing null_operand = false
 is_pointing no_operand = false
 
+-- such an object is not loaded but gives its address (C99 6.3.2.1)
 abbrev pub is_array : Standing → Bool
 is_array (a_place t) = layered_is_array t.layers
 is_array no_type = false
@@ -50,12 +56,14 @@ value_by s (denoted_cells e at) = if is_array s then e else core.load e (is_poin
 value_by s (denoted_zero at) = core.number (pos 0) at
 value_by s (denoted_value e) = e
 
+-- where a pointer is wanted: the literal `0` becomes null (C99 6.3.2.3)
 abbrev pub pointer_by : Standing → Denoted → core.Exp
 pointer_by s (denoted_register n at) = value_by s (denoted_register n at)
 pointer_by s (denoted_cells e at) = value_by s (denoted_cells e at)
 pointer_by s (denoted_zero at) = core.null at
 pointer_by s (denoted_value e) = e
 
+-- where no pointer is wanted
 abbrev pub value_in : Part → core.Exp
 value_in p = value_by p.standing p.denoted
 

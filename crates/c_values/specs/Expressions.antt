@@ -25,6 +25,7 @@ use Rattle.c_values.specs.Commas.{with_last, joined}
 
 -- ---- constants
 
+-- where computing the constant traps, the expression stays, and traps when it runs
 abbrev pub constant_by : Bool → Computed → Position → Denoted → Denoted
 constant_by true (Ok n) at h = denoted_value (core.number n at)
 constant_by true (Err t) at h = h
@@ -36,6 +37,7 @@ folded known e at h = constant_by (is_constant e) (value_here known e) at h
 
 -- ---- names
 
+-- a formal or local where the function keeps it
 abbrev pub denoted_in : Home → Position → Denoted
 denoted_in (home.Register n) at = denoted_register n at
 denoted_in (home.Object n) at = denoted_cells (core.object n at) at
@@ -45,17 +47,20 @@ abbrev pub variable_denoted : Context → Text → Option Home → Position → 
 variable_denoted h name (Some x) at = denoted_in x at
 variable_denoted h name None at = denoted_cells (core.global (global_named h.source name) at) at
 
+-- a function's name or an unknown one gives no value
 abbrev pub named_denoted : Context → Text → Option Meaning → Position → Denoted
 named_denoted h name (Some (variable t)) at = variable_denoted h name (home_of h name) at
 named_denoted h name (Some (function_of f)) at = denoted_zero at
 named_denoted h name None at = denoted_zero at
 
+-- whether an object of the type gives a pointer where it is an operand
 abbrev pub is_pointer_type : Option ObjectType → Bool
 is_pointer_type None = false
 is_pointer_type (Some t) = is_pointing (type_operand t)
 
 -- ---- expressions
 
+-- `e` alone, or `e` and then the rest behind its commas
 abbrev pub with_tail : core.Exp → Option core.Exp → Position → core.Exp
 with_tail e None at = e
 with_tail e (Some tail) at = core.comma e tail at
@@ -100,6 +105,7 @@ abbrev mutual
   arguments h (x ∷ xs) no_exp = []
   arguments h (x ∷ xs) (and_exp e es) = operand_for x (part_by (standing h.known no_target e) (denoted h no_target e)) ++ arguments h xs es
 
+-- an expression with both its type and what stands for it
 abbrev pub part : Context → Target → Exp → Part
 part h w e = part_by (standing h.known w e) (denoted h w e)
 
@@ -107,5 +113,6 @@ part h w e = part_by (standing h.known w e) (denoted h w e)
 abbrev pub value_of : Context → Exp → core.Exp
 value_of h e = value_in (part h no_target e)
 
+-- for a returned or stored value, where its type says if a pointer is wanted
 abbrev pub wanted_of : Context → Bool → Target → Exp → core.Exp
 wanted_of h pointer w e = wanted_in pointer (part h w e)

@@ -78,6 +78,7 @@ abbrev pub operated_in : FlowOp → Part → Part → Position → core.Exp
 operated_in o a b at =
     core.binary o (wanted_in (not (are_whole (operand_in a) (operand_in b))) a) (wanted_in (not (are_whole (operand_in a) (operand_in b))) b) at
 
+-- each operator between two operands, C99 6.5.5 to 6.5.14
 abbrev pub binary_in : Source → BinaryOp → Part → Part → Position → core.Exp
 binary_in s op.LogicalOr a b at = core.either (value_in a) (value_in b) at
 binary_in s op.LogicalAnd a b at = core.both (value_in a) (value_in b) at
@@ -85,6 +86,7 @@ binary_in s op.Add a b at = sum_in s a b at
 binary_in s op.Subtract a b at = difference_in s a b at
 binary_in s o a b at = operated_in (flow_operator o) a b at
 
+-- `a ? b : c`, whose results both are numbers or both are pointers
 abbrev pub conditional_in : Part → Part → Part → Position → core.Exp
 conditional_in a b c at =
     core.conditional (value_in a) (wanted_in (not (are_whole (operand_in b) (operand_in c))) b) (wanted_in (not (are_whole (operand_in b) (operand_in c))) c) at
@@ -110,6 +112,7 @@ changed_by c (denoted_cells e loaded) by old at = core.change_cell e loaded c by
 changed_by c (denoted_zero loaded) by old at = by
 changed_by c (denoted_value e) by old at = by
 
+-- for `++`, `--` and compound assignments: the left side is evaluated once
 abbrev pub changed_in : Source → FlowOp → Part → core.Exp → Bool → Position → core.Exp
 changed_in s o a by old at = changed_by (change_of s (operand_in a) o) a.denoted by old at
 
@@ -124,6 +127,7 @@ stored_in (denoted_cells to loaded) e at = core.store to e at
 stored_in (denoted_zero loaded) e at = e
 stored_in (denoted_value v) e at = e
 
+-- `=` stores the right side, and all others change the left side by it
 abbrev pub assigned_in : Source → AssignOp → Part → Part → Position → core.Exp
 assigned_in s assign_op.Assign a b at = stored_in a.denoted (wanted_in (is_pointing (operand_in a)) b) at
 assigned_in s o a b at = changed_in s (changing_operator o) a (value_in b) false at
@@ -137,6 +141,7 @@ address_in (denoted_register n at) = denoted_zero at
 address_in (denoted_zero at) = denoted_zero at
 address_in (denoted_value e) = denoted_value e
 
+-- the unary operators of C99 6.5.3, with `++` and `--` before their operand
 abbrev pub prefix_in : Source → PrefixOp → Part → Position → Denoted
 prefix_in s prefix_op.Address a at = address_in a.denoted
 prefix_in s prefix_op.Indirect a at = denoted_cells (value_in a) at
@@ -147,6 +152,7 @@ prefix_in s prefix_op.Complement a at = denoted_value (core.unary unary.Compleme
 prefix_in s prefix_op.Increment a at = denoted_value (stepped_in s flow.Add a false at)
 prefix_in s prefix_op.Decrement a at = denoted_value (stepped_in s flow.Subtract a false at)
 
+-- a pointer or `NULL`, but not the literal `0`
 abbrev pub is_some_address : Operand → Bool
 is_some_address (pointing t) = true
 is_some_address null_operand = true
@@ -168,5 +174,6 @@ member_in (denoted_register n loaded) by at = denoted_zero at
 member_in (denoted_zero loaded) by at = denoted_zero at
 member_in (denoted_value e) by at = denoted_value e
 
+-- the member so many cells into the struct to which the operand points
 abbrev pub arrow_in : Part → ℕ → Position → Denoted
 arrow_in a by at = denoted_cells (core.member (value_in a) by at) at

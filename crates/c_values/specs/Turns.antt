@@ -16,6 +16,7 @@ module _ (p : Program) (s : SetupView) (t : ℕ) (calls : Calls) (h : Context) w
   one_by_one before no_exp = before
   one_by_one before (and_exp e es) = one_by_one (before >> value p s t calls (value_of h e)) es
 
+-- left to right, each with all that it does before the next one
 abbrev pub CommasGoInTurn : Type 0
 CommasGoInTurn =
     (p : Program) (s : SetupView) (t : ℕ) (calls : Calls) (h : Context) (e : Exp) (es : Exps) (at : Position) →

@@ -25,6 +25,7 @@ pub enum Denoted {
     Value(Box<Value>),
 }
 
+/// Whether its word is a pointer.
 pub fn is_pointing(of: Operand) -> bool
     ensures { result ≡ spec.is_pointing (shown_operand of.entry) }
 {

@@ -16,6 +16,7 @@ pub fn boxed(alloc: Global, value: Value) -> Result<Box<Value>, AllocError>
     Ok(boxed)
 }
 
+/// A number (C99 6.4.4.1).
 pub fn number(alloc: Global, number: i64, at: Position) -> Result<Box<Value>, AllocError>
     ensures { IfOk result (λ v. exp_of v.value ≡ core.number number at) }
 {
@@ -23,6 +24,7 @@ pub fn number(alloc: Global, number: i64, at: Position) -> Result<Box<Value>, Al
     boxed(alloc, Value::Simple { simple, at })
 }
 
+/// The null pointer (C99 6.3.2.3).
 pub fn null(alloc: Global, at: Position) -> Result<Box<Value>, AllocError>
     ensures { IfOk result (λ v. exp_of v.value ≡ core.null at) }
 {
@@ -30,6 +32,7 @@ pub fn null(alloc: Global, at: Position) -> Result<Box<Value>, AllocError>
     boxed(alloc, Value::Simple { simple, at })
 }
 
+/// What a register holds.
 pub fn register(
     alloc: Global,
     number: u32,
@@ -42,6 +45,7 @@ pub fn register(
     boxed(alloc, Value::Simple { simple, at })
 }
 
+/// The address of a local or formal that is kept in cells.
 pub fn object(alloc: Global, number: u32, at: Position) -> Result<Box<Value>, AllocError>
     ensures { IfOk result (λ v. exp_of v.value ≡ core.object number at) }
 {
@@ -49,6 +53,7 @@ pub fn object(alloc: Global, number: u32, at: Position) -> Result<Box<Value>, Al
     boxed(alloc, Value::Simple { simple, at })
 }
 
+/// The address of a global.
 pub fn global(alloc: Global, address: PtrWord, at: Position) -> Result<Box<Value>, AllocError>
     ensures { IfOk result (λ v. exp_of v.value ≡ core.global address at) }
 {
@@ -56,6 +61,7 @@ pub fn global(alloc: Global, address: PtrWord, at: Position) -> Result<Box<Value
     boxed(alloc, Value::Simple { simple, at })
 }
 
+/// What a cell holds.
 pub fn load(
     alloc: Global,
     through: Box<Value>,
@@ -74,6 +80,7 @@ pub fn load(
     )
 }
 
+/// An operator on one word (C99 6.5.3.3).
 pub fn unary(
     alloc: Global,
     op: UnaryOp,
@@ -85,6 +92,7 @@ pub fn unary(
     boxed(alloc, Value::Operates(Operation::Unary { op, operand, at }))
 }
 
+/// An operator on two words (C99 6.5.5 to 6.5.12).
 pub fn binary(
     alloc: Global,
     op: BinaryOp,
@@ -105,6 +113,7 @@ pub fn binary(
     )
 }
 
+/// A pointer moved by so many elements, or back (C99 6.5.6).
 pub fn move_by(
     alloc: Global,
     pointer: Box<Value>,
@@ -127,6 +136,7 @@ pub fn move_by(
     )
 }
 
+/// A number added to a pointer that stands right of it (C99 6.5.6).
 pub fn advance(
     alloc: Global,
     by: Box<Value>,
@@ -147,6 +157,7 @@ pub fn advance(
     )
 }
 
+/// A pointer moved to a member of its struct (C99 6.5.2.3).
 pub fn member(
     alloc: Global,
     pointer: Box<Value>,
@@ -161,6 +172,7 @@ pub fn member(
     )
 }
 
+/// How many elements are between two pointers (C99 6.5.6).
 pub fn between(
     alloc: Global,
     left: Box<Value>,
@@ -181,6 +193,7 @@ pub fn between(
     )
 }
 
+/// A number cast to a pointer (C99 6.3.2.3).
 pub fn to_pointer(
     alloc: Global,
     operand: Box<Value>,
@@ -191,18 +204,21 @@ pub fn to_pointer(
     boxed(alloc, Value::Operates(Operation::ToPointer { operand, at }))
 }
 
+/// A pointer cast to a number (C99 6.3.2.3).
 pub fn to_number(alloc: Global, operand: Box<Value>, at: Position) -> Result<Box<Value>, AllocError>
     ensures { IfOk result (λ v. exp_of v.value ≡ core.to_number (exp_of operand.value) at) }
 {
     boxed(alloc, Value::Operates(Operation::ToNumber { operand, at }))
 }
 
+/// A copy of a word, in a register of its own.
 pub fn copy(alloc: Global, operand: Box<Value>, at: Position) -> Result<Box<Value>, AllocError>
     ensures { IfOk result (λ v. exp_of v.value ≡ core.copy (exp_of operand.value) at) }
 {
     boxed(alloc, Value::Operates(Operation::Copy { operand, at }))
 }
 
+/// `&&` (C99 6.5.13).
 pub fn both(
     alloc: Global,
     left: Box<Value>,
@@ -214,6 +230,7 @@ pub fn both(
     boxed(alloc, Value::Chooses(Choice::And { left, right, at }))
 }
 
+/// `||` (C99 6.5.14).
 pub fn either(
     alloc: Global,
     left: Box<Value>,
@@ -225,6 +242,7 @@ pub fn either(
     boxed(alloc, Value::Chooses(Choice::Or { left, right, at }))
 }
 
+/// `?` with its two choices (C99 6.5.15).
 pub fn conditional(
     alloc: Global,
     test: Box<Value>,
@@ -240,6 +258,7 @@ pub fn conditional(
     )
 }
 
+/// One word after another (C99 6.5.17).
 pub fn comma(
     alloc: Global,
     before: Box<Value>,
@@ -251,6 +270,7 @@ pub fn comma(
     boxed(alloc, Value::Chooses(Choice::Comma { before, value, at }))
 }
 
+/// A register is set (C99 6.5.16.1).
 pub fn set_register(
     alloc: Global,
     register: u32,
@@ -269,6 +289,7 @@ pub fn set_register(
     )
 }
 
+/// A cell is set (C99 6.5.16.1).
 pub fn store(
     alloc: Global,
     through: Box<Value>,
@@ -283,6 +304,7 @@ pub fn store(
     )
 }
 
+/// A register is changed, and gives its old word or its new one (C99 6.5.16.2, 6.5.2.4).
 pub fn change_register(
     alloc: Global,
     register: u32,
@@ -305,6 +327,7 @@ pub fn change_register(
     )
 }
 
+/// A cell is changed, and gives its old word or its new one (C99 6.5.16.2, 6.5.2.4).
 pub fn change_cell(
     alloc: Global,
     through: Box<Value>,
@@ -329,6 +352,7 @@ pub fn change_cell(
     )
 }
 
+/// A call of a function of the source (C99 6.5.2.2).
 pub fn call(
     alloc: Global,
     function: u32,
@@ -349,6 +373,7 @@ pub fn call(
     )
 }
 
+/// A call of the library.
 pub fn library(
     alloc: Global,
     call: LibraryCall,
@@ -367,6 +392,7 @@ pub fn library(
     )
 }
 
+/// A `malloc` (C99 7.20.3.3).
 pub fn allocate(
     alloc: Global,
     site: u16,

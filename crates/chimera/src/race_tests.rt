@@ -62,6 +62,7 @@ pthread_join(a, NULL); pthread_join(b, NULL);
 return 0; }
 ";
 
+// Two threads with accesses that may race on one line.
 pub const ONE_LINE: &str = "#include <pthread.h>
 #include <stdio.h>
 int x;

@@ -84,6 +84,7 @@ pub fn with_source(alloc: Global, source: &[&str]) -> Result<MemShelf, Fail> {
     Ok(files_of(alloc, source, &["{\"pairs\":[]}"])?)
 }
 
+// Fails unless file `l` of the shelf is this log; where none is given, any will do.
 pub fn same_log(
     rt: &impl Abort,
     alloc: Global,

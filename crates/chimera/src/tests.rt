@@ -9,6 +9,7 @@ use std::sync::Wait;
 use std::test::Fail;
 use std::thread::Threads;
 
+// Two threads pay under a lock, and `main` prints the sum.
 pub const BANK: &str = "#include <pthread.h>
 #include <stdio.h>
 pthread_mutex_t m = PTHREAD_MUTEX_INITIALIZER;
@@ -31,30 +32,40 @@ pthread_mutex_unlock(&m);
 return 0; }
 ";
 
+// The first line of a log.
 pub const FIRST: &str = "chimera log 1\n";
 
+// The head of a log with one slot, and so for the other numbers.
 pub const SLOTS_1: &str = "slots 1\ncells 16384\nlimit 16777216\nprofile all\ninput 0\n\n";
 
+// Two slots.
 pub const SLOTS_2: &str = "slots 2\ncells 16384\nlimit 16777216\nprofile all\ninput 0\n\n";
 
+// Eight slots.
 pub const SLOTS_8: &str = "slots 8\ncells 16384\nlimit 16777216\nprofile all\ninput 0\n\n";
 
 // The bank's entries at positions 0 to 3, 4, 5, 6, 7 to 23, and 24.
 pub const STARTS: &str = "0 1 draw T\n0 4 start s1\n0 5 draw T\n0 8 start s2\n";
 
+// The first thread of the bank begins.
 pub const BEGIN: &str = "1 0 begin s1\n";
 
+// It takes the lock.
 pub const LOCK: &str = "1 3 lock m16\n";
 
+// It gives the lock back.
 pub const UNLOCK: &str = "1 8 unlock m16\n";
 
+// What comes after it, but for the last entry.
 pub const GOES_ON: &str =
     "1 10 end s1\n0 10 join s1\n1 11 leave T\n2 0 begin s2\n2 3 lock m16\n2 8 unlock m16\n\
 2 10 end s2\n0 12 join s2\n0 13 lock m16\n0 15 print O\n0 16 unlock m16\n0 17 halt H\n2 11 leave T\n\
 3 0 close s3\n4 0 close s4\n5 0 close s5\n6 0 close s6\n";
 
+// The last slot is closed.
 pub const LAST: &str = "7 0 close s7\n";
 
+// A mutex is unlocked that isn't held.
 pub const MISUSE: &str =
     "pthread_mutex_t m;\nint main(void) { pthread_mutex_unlock(&m); return 0; }\n";
 
@@ -76,6 +87,7 @@ return 0; }
 const SUM: &str =
     "#include <stdio.h>\nint x;\nint main(void) { x = 1 + 2; printf(\"%d\\n\", x); return 0; }\n";
 
+// Three slots.
 pub const SLOTS_3: &str = "slots 3\ncells 16384\nlimit 16777216\nprofile all\ninput 0\n\n";
 
 // One thread reads these two bytes.
@@ -128,6 +140,7 @@ return 0; }
 
 const OVERFLOWS: &str = "int main(void) { long x = 9223372036854775807; x = x + 1; return 0; }\n";
 
+// The input is written to the output.
 pub const ECHOES: &str =
     "int main(void) { int c = getchar(); while (c != EOF) { putchar(c); c = getchar(); } return 0; }\n";
 
@@ -450,6 +463,7 @@ static NO_JOBS: [&[&str]; 7] = [
     &["profile", "a", "b", "p", "--reads", "r"],
 ];
 
+// The parts of a text, one after another.
 pub fn joined(alloc: Global, parts: &[&str]) -> Result<Bytes, AllocError> {
     let mut text = List::new(alloc);
     for part in parts {

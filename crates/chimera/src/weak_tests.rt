@@ -84,21 +84,28 @@ static LISTINGS: [(&str, &str, u8); 9] = [
 // The entries of `main` up to the begin of both threads, in sources that start two of them and join them.
 pub const STARTS: &str = "0 1 draw T\n0 4 start s1\n0 5 draw T\n0 8 start s2\n1 0 begin s1\n";
 
+// The second thread begins.
 pub const BEGIN: &str = "2 0 begin s2\n";
 
 // Each thread of the counter loads it, and then stores it.
 pub const LOAD_1: &str = "1 3 take w0.0\n1 4 give w0.0\n";
 
+// The first thread stores the counter under its weak lock.
 pub const STORE_1: &str = "1 4 take w0.0\n1 5 give w0.0\n";
 
+// The second thread loads it.
 pub const LOAD_2: &str = "2 3 take w0.0\n2 4 give w0.0\n";
 
+// The second thread stores it.
 pub const STORE_2: &str = "2 4 take w0.0\n2 5 give w0.0\n";
 
+// The first thread ends and is joined.
 pub const JOIN_1: &str = "1 6 end s1\n0 10 join s1\n1 7 leave T\n";
 
+// The second thread ends and is joined.
 pub const END_2: &str = "2 6 end s2\n0 12 join s2\n";
 
+// `main` prints the counter, and the program halts.
 pub const PRINT: &str = "0 13 take w0.0\n0 14 give w0.0\n0 14 print O\n0 15 halt H\n2 7 leave T\n";
 
 // No two functions are at work at once.

@@ -20,6 +20,7 @@ abbrev pub fit : Computed → Bool
 fit (Ok n) = fits n
 fit (Err t) = true
 
+-- may leave its second operand unevaluated (C99 6.5.13, 6.5.14)
 abbrev pub is_logical : BinaryOp → Bool
 is_logical op.LogicalOr = true
 is_logical op.LogicalAnd = true

@@ -24,6 +24,7 @@ written h w (cast t a at) =
 written h w (paren a at) = written h w a
 written h w e = denoted h w e
 
+-- of a whole constant expression, for its value (C99 6.6)
 abbrev pub written_of : Context → Exp → core.Exp
 written_of h e = value_by (standing h.known no_target e) (written h no_target e)
 

@@ -22,6 +22,7 @@ abbrev pub needs_of_act : Code → Option Act → ℕ
 needs_of_act code (Some (act.Call function arguments into)) = registers_in (slice_get code.functions function)
 needs_of_act code _ = 0
 
+-- a thread that begins enters its function; one that runs may call one
 abbrev pub needs_of_phase : Code → Phase → Option Act → ℕ
 needs_of_phase code (phase.Begun f) at = registers_in (slice_get code.functions f)
 needs_of_phase code (phase.Loaded f w) at = registers_in (slice_get code.functions f)
@@ -37,10 +38,12 @@ abbrev pub pairs_of_region : Code → Thread → Option Region → ℕ
 pairs_of_region code th None = 0
 pairs_of_region code th (Some r) = length (taken_pairs th) + (8 * end_lock code r - left_from th r)
 
+-- only a Take gives its thread stripes of a region
 abbrev pub pairs_of_act : Code → Thread → Option Act → ℕ
 pairs_of_act code th (Some (act.Take r)) = pairs_of_region code th (region_of code th.top r)
 pairs_of_act code th _ = 0
 
+-- for how many stripes of a region the next step needs room
 abbrev pub needs_pairs : Code → Thread → ℕ
 needs_pairs code th = pairs_of_act code th (act_at code th.top)
 
@@ -62,6 +65,7 @@ has_stripe_room code k = k.has_stripe && k.has_region && nat_le (needs_pairs cod
 abbrev pub is_ready : Code → Kept → Bool
 is_ready code k = k.has_place && nat_le (needs code k.thread) k.registers && has_stripe_room code k
 
+-- one slot's thread, as the interpreter keeps it while it runs
 pub record Running : Type 0 where
   pub code : Code
   pub setup : SetupView
@@ -73,6 +77,7 @@ abbrev pub changed_at : {A : Type 0} → (A → A) → Option A → List A → �
 changed_at f None xs i = xs
 changed_at f (Some x) xs i = slice_set xs i (f x)
 
+-- the thread takes back a stripe that was revoked
 abbrev pub is_retake : Op → Bool
 is_retake op.Retake = true
 is_retake _ = false

@@ -13,6 +13,7 @@ use Rattle.runs.specs.Steps.{State, AllEnded, Reaches, run}
 abbrev pub run_of : Code → SetupView → List Label → Option (State Told)
 run_of code s labels = run (machine code s) labels (start_state code s)
 
+-- some run from the start leads to the state
 abbrev pub IsReachable : Code → SetupView → State Told → Type 0
 IsReachable code s st = Reaches (machine code s) (start_state code s) st
 
@@ -29,9 +30,11 @@ abbrev pub list_in : Option Told → List Noted
 list_in None = []
 list_in (Some told) = told.entries
 
+-- those of thread t; none where the machine has no such thread
 abbrev pub list_of : State Told → ℕ → List Noted
 list_of st t = list_in (slice_get st.threads t)
 
+-- one list for each thread, in the order of their numbers
 abbrev pub lists_of : State Told → List (List Noted)
 lists_of st = map (λ (told : Told). told.entries) st.threads
 

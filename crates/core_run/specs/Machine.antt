@@ -51,9 +51,11 @@ abbrev pub change_of : Told → Entry → List (List ℕ) → (ℤ → Thread) �
 change_of told e printed after old NoRow = NotAllowed
 change_of told e printed after old (Advances new answer) = Becomes new answer (operated told (after answer) (record { entry = e; number = number_of old }) printed)
 
+-- the entry of a log for an operation that thread t makes next
 abbrev pub entry_of : ℕ → Thread → OpName → ObjId → Entry
 entry_of t th o obj = record { thread = t; count = th.count; op = o; obj = obj }
 
+-- a load or store of thread t, with the value read or written
 abbrev pub access_of : ℕ → Thread → ℕ → ℕ → Bool → Access
 access_of t th cell value store = record { thread = t; count = th.count; cell = cell; value = value; store = store }
 
@@ -110,6 +112,7 @@ machine code s = record {
 abbrev pub main_of : Code → ℕ
 main_of code = unwrap_or (position (λ f. is_main_in (Some f)) code.functions) 0
 
+-- what stands on top before a thread enters its first function
 abbrev pub no_frame : Frame
 no_frame = record { function = 0; instr = 0; made = 0; kept = pos 0; registers = [] }
 
@@ -118,9 +121,11 @@ abbrev pub start_phase : Code → ℕ → Phase
 start_phase code zero = phase.Begun (main_of code)
 start_phase code (suc k) = phase.Fresh
 
+-- thread 0 is to enter `main`; the others wait to be started
 abbrev pub start_thread : Code → SetupView → ℕ → Thread
 start_thread code s k = record { count = 0; arena = arena_start code s k; entries = 0; revokes = 0; printed = 0; phase = start_phase code k; top = no_frame; below = []; stripes = []; regions = [] }
 
+-- a thread that has left no entries, accesses or printed pieces yet
 abbrev pub start_told : Code → SetupView → ℕ → Told
 start_told code s k = record { thread = start_thread code s k; entries = []; accesses = []; pieces = [] }
 
@@ -129,5 +134,6 @@ abbrev pub start_threads_from : Code → SetupView → ℕ → ℕ → List Told
 start_threads_from code s k zero = []
 start_threads_from code s k (suc n) = start_told code s k ∷ start_threads_from code s (k + 1) n
 
+-- the words and the threads of all slots before any step
 abbrev pub start_state : Code → SetupView → State Told
 start_state code s = record { words = start_words code s; threads = start_threads_from code s 0 s.slots }

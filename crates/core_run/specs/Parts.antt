@@ -62,6 +62,7 @@ printed_by (made.Printed bytes) = bytes ∷ []
 abbrev pub noted : Code → SetupView → List ℕ → Entry → ℕ
 noted code s ws e = number_of (slice_index ws (place_of (cells_of code s) e.obj))
 
+-- the same of an effect, where just this entry is wanted
 abbrev pub MadeOutcome : Code → SetupView → Told → Entry → List ℕ → List ℕ → Thread → Made → Effect Told → Type 0
 MadeOutcome code s told e ws ws1 th1 made.Refused effect = made_outcome (cells_of code s) e ws effect ≡ Blocked
 MadeOutcome code s told e ws ws1 th1 made.Silent effect = made_outcome (cells_of code s) e ws effect ≡ Leaves ws1 (operated told th1 (record { entry = e; number = noted code s ws e }) [])
@@ -76,6 +77,7 @@ pub record KeepsObjects (cells : ℕ) (ws ws1 : List ℕ) : Type 0 where
   pub len : length ws1 ≡ length ws
   pub objects : (i : ℕ) → cells ≤ i → slice_get ws1 i ≡ slice_get ws i
 
+-- the one operation that adds to what the program prints
 abbrev pub is_print : Op → Bool
 is_print op.Print = true
 is_print _ = false

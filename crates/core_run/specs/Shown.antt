@@ -19,9 +19,11 @@ use Rattle.runs.specs.Labels.{Go}
 use Rattle.runs.specs.Steps.{State, stepped, added}
 use Rattle.runs.specs.Walk.{alone, made, part}
 
+-- its state alone, without the room that is kept for it
 abbrev pub running_thread : Running → Thread
 running_thread r = r.kept.thread
 
+-- its state alone, without what it has done so far
 abbrev pub told_thread : Told → Thread
 told_thread told = told.thread
 
@@ -51,6 +53,7 @@ pub record StepsTo (code : Code) (s : SetupView) (f : Formula) (t : ℕ) (st : S
   pub shown : IsShown f flows words reads next
   pub same_pieces : pieces_of (slice_get next.threads t) ≡ pieces_of (slice_get st.threads t)
 
+-- true: the step was made; false: the thread can make none alone
 abbrev pub OwnStep : Code → SetupView → Formula → ℕ → State Told → List Running → List ℕ → List (List Access) → Bool → Type 0
 OwnStep code s f t st flows words reads true = StepsTo code s f t st flows words reads
 OwnStep code s f t st flows words reads false = (n : ℕ) → alone (machine code s) (suc n) t st ≡ None
@@ -62,6 +65,7 @@ pub record GoesTo (code : Code) (s : SetupView) (f : Formula) (n t : ℕ) (st : 
   pub shown : IsShown f flows words reads next
   pub same_pieces : pieces_of (slice_get next.threads t) ≡ pieces_of (slice_get st.threads t)
 
+-- true: all the steps were made; false: the thread can't make so many
 abbrev pub OwnSteps : Code → SetupView → Formula → ℕ → ℕ → State Told → List Running → List ℕ → List (List Access) → Bool → Type 0
 OwnSteps code s f n t st flows words reads true = GoesTo code s f n t st flows words reads
 OwnSteps code s f n t st flows words reads false = alone (machine code s) n t st ≡ None
@@ -73,6 +77,7 @@ pub record MakesTo (code : Code) (s : SetupView) (f : Formula) (e : Entry) (st :
   pub shown : IsShown f flows words reads next
   pub prints : printed ≡ printed_between e.thread st next
 
+-- true: the entry was made, and its bytes follow; false: it can't be made
 abbrev pub EntryStep : Code → SetupView → Formula → Entry → State Told → List Running → List ℕ → List (List Access) → List ℕ → List ℕ → Bool → Type 0
 EntryStep code s f e st flows words reads before after true = (printed : List ℕ) × (after ≡ before ++ printed) × MakesTo code s f e st flows words reads printed
 EntryStep code s f e st flows words reads before after false = made (machine code s) e st ≡ None
@@ -84,6 +89,7 @@ pub record PartTo (code : Code) (s : SetupView) (f : Formula) (e : Entry) (st : 
   pub shown : IsShown f flows words reads next
   pub prints : printed ≡ printed_between e.thread st next
 
+-- true: its thread went to the entry and made it; false: it can't
 abbrev pub PartStep : Code → SetupView → Formula → Entry → State Told → List Running → List ℕ → List (List Access) → List ℕ → List ℕ → Bool → Type 0
 PartStep code s f e st flows words reads before after true = (printed : List ℕ) × (after ≡ before ++ printed) × PartTo code s f e st flows words reads printed
 PartStep code s f e st flows words reads before after false = part (machine code s) e st ≡ None
@@ -97,13 +103,16 @@ pub record AreStarted (code : Code) (s : SetupView) (flows : List Running) : Typ
 
 -- ---- the end
 
+-- no thread goes on; a trap is an end, too
 abbrev pub all_ended : List Running → Bool
 all_ended [] = true
 all_ended (r ∷ rs) = has_ended r.kept.thread.phase && all_ended rs
 
+-- how the threads have ended, in the order of their numbers
 abbrev pub endings : List Running → List Ending
 endings rs = filter_map (λ r. ending_of r.kept.thread.phase) rs
 
+-- the trap of the lowest thread that has one, numbered from t on
 abbrev pub trap_from : ℕ → List Running → Trapping
 trap_from t [] = NoTrap
 trap_from t (r ∷ rs) = trap_or t (trap_of r.kept.thread.phase) (trap_from (t + 1) rs)

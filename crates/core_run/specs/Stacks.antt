@@ -14,5 +14,6 @@ abbrev pub stack_in : Phase → Thread → List ℕ
 stack_in phase.Running th = functions_of th.below ++ th.top.function ∷ []
 stack_in _ th = []
 
+-- the functions that the thread is in now, the running one last
 abbrev pub stack_of : Thread → List ℕ
 stack_of th = stack_in th.phase th

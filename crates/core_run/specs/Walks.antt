@@ -19,15 +19,18 @@ use Rattle.runs.specs.Walk as solo
 
 -- ---- what is kept of accesses
 
+-- equal whole numbers, with their signs
 abbrev pub same_number : ℤ → ℤ → Bool
 same_number (pos a) (pos b) = a == b
 same_number (negsuc a) (negsuc b) = a == b
 same_number _ _ = false
 
+-- a formula that names no thread asks for all
 abbrev pub is_of_thread : Option ℕ → ℕ → Bool
 is_of_thread None t = true
 is_of_thread (Some u) t = u == t
 
+-- a formula without a value asks for all; words are read with signs
 abbrev pub has_value : Option ℤ → ℕ → Bool
 has_value None w = true
 has_value (Some z) w = same_number z (number w)
@@ -50,10 +53,12 @@ reads_of f st = flat_map (kept_reads f) st.threads
 
 -- ---- what is printed
 
+-- nothing where the machine has no such thread
 abbrev pub pieces_of : Option Told → List (List ℕ)
 pieces_of None = []
 pieces_of (Some told) = told.pieces
 
+-- all pieces as one run of bytes
 abbrev pub joined : List (List ℕ) → List ℕ
 joined [] = []
 joined (p ∷ ps) = p ++ joined ps
@@ -69,6 +74,7 @@ pub data Trapping : Type 0 where
   NoTrap : Trapping
   TrapOf : (thread : ℕ) → (kind : Trap) → (line : ℕ) → Trapping
 
+-- the thread's own trap comes before those of later threads
 abbrev pub trap_or : ℕ → Option (Trap × ℕ) → Trapping → Trapping
 trap_or t None rest = rest
 trap_or t (Some x) rest = TrapOf t x.0 x.1
@@ -78,6 +84,7 @@ abbrev pub first_trap : ℕ → List Told → Trapping
 first_trap t [] = NoTrap
 first_trap t (told ∷ tolds) = trap_or t (trap_of told.thread.phase) (first_trap (t + 1) tolds)
 
+-- how those that have ended did so, by thread
 abbrev pub ends_of : State Told → List Ending
 ends_of st = filter_map (λ told. ending_of told.thread.phase) st.threads
 

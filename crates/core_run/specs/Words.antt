@@ -43,6 +43,7 @@ abbrev pub start_global : ℕ → CellKind → ℕ → ℕ
 start_global slots kind.Pointer w = if w == 0 then 0 else based slots w
 start_global slots _ w = w
 
+-- the values of initialized objects (C99 6.7.8), for this many slots
 abbrev pub start_globals : ℕ → List CellKind → List ℕ → List ℕ
 start_globals slots [] ws = ws
 start_globals slots (k ∷ ks) [] = []
@@ -61,8 +62,10 @@ objects_from cells locks =
     ++ start_word object.Threads ∷ start_word object.Halt ∷ start_word object.Input ∷ start_word object.Output ∷ []
     ++ replicate (8 * locks) 0
 
+-- the words of mutexes, stripes and all other objects at the start
 abbrev pub start_objects : Code → SetupView → List ℕ
 start_objects code s = objects_from (cells_of code s) (length code.locks)
 
+-- the cells' words at the start, and after them the objects'
 abbrev pub start_words : Code → SetupView → List ℕ
 start_words code s = start_cells code s ++ start_objects code s

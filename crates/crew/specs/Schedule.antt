@@ -17,6 +17,7 @@ pub record PlayState (J : Type 0) : Type 0 where
   pub over : List Bool
   pub left : ℕ
 
+-- no job is known to have ended, and all turns are left
 abbrev pub begin : {J : Type 0} → (jobs : List J) → (most : ℕ) → PlayState J
 begin jobs most = record { jobs = jobs; over = replicate (length jobs) false; left = most }
 

@@ -12,6 +12,7 @@ pub struct ScopeCrew {
 }
 
 impl ScopeCrew {
+    /// A crew that has done nothing yet.
     pub fn new() -> ScopeCrew
         ensures jobs_run { result.tally.jobs ≡ 0 }
         ensures turns { result.tally.turns ≡ 0 }

@@ -11,14 +11,17 @@ pub record Access : Type 0 where
   pub store : Bool
   pub through : ℕ
 
+-- a store to the cell to which register r points
 abbrev pub stores_through : ℕ → Option Access
 stores_through r = Some (record { store = true; through = r })
 
+-- the cell of the program that a library call stores to, if it does
 abbrev pub library_access : LibraryCall → List ℕ → Option Access
 library_access (call.Create g) (thread ∷ argument ∷ []) = stores_through thread
 library_access call.Join (thread ∷ into ∷ []) = stores_through into
 library_access _ _ = None
 
+-- the load or store that an instruction makes, if it makes one
 abbrev pub access_of : Act → Option Access
 access_of (act.LoadCell into through) = Some (record { store = false; through = through })
 access_of (act.StoreCell through from) = stores_through through

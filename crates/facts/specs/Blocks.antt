@@ -19,6 +19,7 @@ ends_block (act.Library c arguments into) = true
 ends_block (act.Return value) = true
 ends_block _ = false
 
+-- a jump, or one way of a branch, leads to the k-th instruction
 abbrev pub goes_to : ℕ → Act → Bool
 goes_to k (act.Jump to) = to == k
 goes_to k (act.Branch on then_at else_at) = (then_at == k) || (else_at == k)
@@ -28,6 +29,7 @@ goes_to k _ = false
 abbrev pub is_target : List Instr → ℕ → Bool
 is_target is k = list_any (λ i. goes_to k i.act) is
 
+-- a block ends here, as it does behind the last instruction
 abbrev pub may_end_block : Option Act → Bool
 may_end_block None = true
 may_end_block (Some a) = ends_block a
@@ -37,6 +39,7 @@ abbrev pub follows_end : List Instr → ℕ → Bool
 follows_end is zero = true
 follows_end is (suc k) = may_end_block (act_in (slice_get is k))
 
+-- control may come here from elsewhere than the instruction before
 abbrev pub begins_block : List Instr → ℕ → Bool
 begins_block is k = follows_end is k || is_target is k
 
@@ -55,16 +58,19 @@ assigned (act.Call g arguments into) = into
 assigned (act.Library c arguments into) = into
 assigned _ = None
 
+-- an assigned register is this one; none is no register
 abbrev pub is_register : ℕ → Option ℕ → Bool
 is_register r None = false
 is_register r (Some q) = q == r
 
+-- the instruction may change what register r holds
 abbrev pub assigns : ℕ → Option Act → Bool
 assigns r None = false
 assigns r (Some a) = is_register r (assigned a)
 
 -- ---- constants
 
+-- the constant that an instruction puts in its register, if it is one
 abbrev pub constant_of : Option Act → Option ℤ
 constant_of (Some (act.Compute into (work.Constant z))) = Some z
 constant_of _ = None
@@ -83,6 +89,7 @@ amount_register (Some (act.Compute into (work.Move r by element back))) = Some b
 amount_register (Some (act.Compute into (work.Binary op left right))) = Some right
 amount_register _ = None
 
+-- the constant in a register, where there is a register and it is known
 abbrev pub constant_of_register : (ℕ → Option ℤ) → Option ℕ → Option ℤ
 constant_of_register constant None = None
 constant_of_register constant (Some r) = constant r
@@ -91,6 +98,7 @@ constant_of_register constant (Some r) = constant r
 abbrev pub amount_by : (ℕ → Option ℤ) → Option Act → Option ℤ
 amount_by constant a = constant_of_register constant (amount_register a)
 
+-- the constant amount of the k-th instruction, if its block tells it
 abbrev pub amount_at : List Instr → ℕ → Option ℤ
 amount_at is k = amount_by (constant_at is k) (act_in (slice_get is k))
 

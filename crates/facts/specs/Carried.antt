@@ -36,6 +36,7 @@ pub record AreFixed (f : Function) (fixed : List Bool) : Type 0 where
 abbrev pub formal_in : List Bool → ℕ → Option Known
 formal_in fixed r = if slice_index_or fixed r false then Some (record { root = formal r; cells = 0 }) else None
 
+-- what register r leads to, by its block or else as a formal
 abbrev pub put_or_formal : List Bool → ℕ → Option (Option Reach) → Option Known
 put_or_formal fixed r None = formal_in fixed r
 put_or_formal fixed r (Some o) = known_by o

@@ -19,17 +19,20 @@ use Rattle.facts.specs.Paths.{naming_at, names_cell, actual_of, substituted, are
 
 -- ---- sets of paths, as lists that ascend: cells first, then formals by index and offset
 
+-- the order in which sets list paths: global cells before formals
 abbrev pub is_less : LockPath → LockPath → Bool
 is_less (Cell a) (Cell b) = nat_lt a b
 is_less (Cell a) (Formal j n) = true
 is_less (Formal i m) (Cell b) = false
 is_less (Formal i m) (Formal j n) = nat_lt i j || ((i == j) && nat_lt m n)
 
+-- both are one path; two different ones may still be one lock
 abbrev pub is_same : LockPath → LockPath → Bool
 is_same (Cell a) (Cell b) = a == b
 is_same (Formal i m) (Formal j n) = (i == j) && (m == n)
 is_same _ _ = false
 
+-- the path itself is in the set, not one that may be it
 abbrev pub has : LockPath → List LockPath → Bool
 has p qs = list_any (is_same p) qs
 
@@ -38,10 +41,12 @@ abbrev pub with : LockPath → List LockPath → List LockPath
 with p [] = p ∷ []
 with p (q ∷ qs) = if is_less p q then p ∷ q ∷ qs else if is_same p q then q ∷ qs else q ∷ with p qs
 
+-- all paths of both sets, each once, if the first ascends
 abbrev pub union : List LockPath → List LockPath → List LockPath
 union ps [] = ps
 union ps (q ∷ qs) = with q (union ps qs)
 
+-- a set's list has no path twice, and one order only
 abbrev pub are_ascending : List LockPath → Bool
 are_ascending [] = true
 are_ascending (p ∷ []) = true
@@ -53,15 +58,18 @@ are_ascending (p ∷ q ∷ ps) = is_less p q && are_ascending (q ∷ ps)
 abbrev pub is_clear : List LockPath → LockPath → Bool
 is_clear qs p = list_all (λ q. not (may_be p q)) qs
 
+-- locks that are surely still held once these may have been given back
 abbrev pub without : Minus → List LockPath → List LockPath
 without All ps = []
 without (Listed qs) ps = filter (is_clear qs) ps
 
+-- what may have been given back by the one or by the other
 abbrev pub both : Minus → Minus → Minus
 both All m = All
 both (Listed ps) All = All
 both (Listed ps) (Listed qs) = Listed (union ps qs)
 
+-- at a function's entry: none taken since, none given back
 abbrev pub nothing : RelLocks
 nothing = record { plus = []; minus = Listed [] }
 
@@ -78,6 +86,7 @@ unlocked (Named q) l = record { plus = without (Listed (q ∷ [])) l.plus; minus
 
 -- ---- a called function's locks as the caller sees them
 
+-- the path is added if it is known and leads to a cell
 abbrev pub and_path : Option LockPath → List LockPath → List LockPath
 and_path None ps = ps
 and_path (Some p) ps = if names_cell p then with p ps else ps
@@ -93,10 +102,12 @@ minus_with None m = All
 minus_with (Some p) All = All
 minus_with (Some p) (Listed ps) = Listed (and_path (Some p) ps)
 
+-- those that the called function may have given back, by the caller's names
 abbrev pub listed_seen : List (Option LockPath) → List LockPath → Minus
 listed_seen actuals [] = Listed []
 listed_seen actuals (p ∷ ps) = minus_with (substituted p actuals) (listed_seen actuals ps)
 
+-- the same where it may have given back any lock
 abbrev pub minus_seen : List (Option LockPath) → Minus → Minus
 minus_seen actuals All = All
 minus_seen actuals (Listed ps) = listed_seen actuals ps
@@ -113,6 +124,7 @@ abbrev pub minus_is_small : Minus → Bool
 minus_is_small All = true
 minus_is_small (Listed ps) = are_small ps
 
+-- all numbers in its paths are below 2^31, so sums fit 32 bits
 abbrev pub locks_are_small : RelLocks → Bool
 locks_are_small l = are_small l.plus && minus_is_small l.minus
 
@@ -121,14 +133,17 @@ abbrev pub minus_is_sized : Minus → Bool
 minus_is_sized All = true
 minus_is_sized (Listed ps) = are_sized ps
 
+-- its paths are of cells that objects can have
 abbrev pub locks_are_sized : RelLocks → Bool
 locks_are_sized l = are_sized l.plus && minus_is_sized l.minus
 
+-- what is known of each argument of the call at the k-th instruction
 abbrev pub actuals_at : Function → ℕ → List ℕ → List (Option LockPath)
 actuals_at f k arguments = map (λ r. actual_of (naming_at f k r)) arguments
 
 -- ---- instructions
 
+-- POSIX calls that take or give a mutex; a trylock tells nothing
 abbrev pub after_library : Function → ℕ → LibraryCall → List ℕ → RelLocks → RelLocks
 after_library f k call.MutexLock (m ∷ []) l = locked (naming_at f k m) l
 after_library f k call.MutexUnlock (m ∷ []) l = unlocked (naming_at f k m) l
@@ -154,12 +169,14 @@ successors k (act.Branch on then_at else_at) = then_at ∷ else_at ∷ []
 successors k (act.Return value) = []
 successors k _ = (k + 1) ∷ []
 
+-- control leaves the function here, so these locks count for its exit
 abbrev pub returns : Act → Bool
 returns (act.Return value) = true
 returns _ = false
 
 -- ---- the locks at all points of a function
 
+-- the first allows all that the second says may have been given back
 abbrev pub MinusBelow : Minus → Minus → Type 0
 MinusBelow All m = Unit {0}
 MinusBelow (Listed ps) All = ⊥
@@ -170,6 +187,7 @@ pub record Below (l m : RelLocks) : Type 0 where
   pub plus : (p : LockPath) → has p l.plus ≡ true → has p m.plus ≡ true
   pub minus : MinusBelow l.minus m.minus
 
+-- all locks that the function could know are held, none given back
 abbrev pub topmost : List LockPath → RelLocks
 topmost top = record { plus = top; minus = Listed [] }
 
@@ -187,14 +205,17 @@ pub record IsSolution (exits : List RelLocks) (f : Function) (top : List LockPat
   pub exit_within : Below x.exit (topmost top)
   pub returned : (k : ℕ) (i : Instr) (l : RelLocks) → slice_get f.instrs k ≡ Some i → returns i.act ≡ true → slice_get x.before k ≡ Some l → Below x.exit l
 
+-- at no point and not at the exit does x know more than y
 pub record PointsBelow (x y : Points) : Type 0 where
   pub before : (k : ℕ) (l m : RelLocks) → slice_get x.before k ≡ Some l → slice_get y.before k ≡ Some m → Below l m
   pub exit : Below x.exit y.exit
 
+-- the list is in the order of sets; any lock has no list
 abbrev pub minus_ascends : Minus → Bool
 minus_ascends All = true
 minus_ascends (Listed ps) = are_ascending ps
 
+-- both of its lists are in the order of sets
 abbrev pub ascends : RelLocks → Bool
 ascends l = are_ascending l.plus && minus_ascends l.minus
 

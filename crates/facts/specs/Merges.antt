@@ -18,6 +18,7 @@ abbrev pub after_path : LockPath → List LockPath → List LockPath
 after_path p [] = []
 after_path p (q ∷ qs) = if is_less q p then after_path p qs else if is_same q p then qs else q ∷ qs
 
+-- the union of two sets in one pass, with each path once
 abbrev pub merge : List LockPath → List LockPath → List LockPath
 merge [] qs = qs
 merge (p ∷ ps) qs = before_path p qs ++ p ∷ merge ps (after_path p qs)

@@ -21,6 +21,7 @@ use Rattle.facts.specs.PointsTo.{Tables, list_at}
 
 -- ---- roots
 
+-- the instruction is a `pthread_create` that names function g
 abbrev pub creates : ℕ → Act → Bool
 creates g (act.Library (call.Create h) arguments into) = h == g
 creates g _ = false
@@ -39,13 +40,16 @@ may_meet code r s = not (r == s) || not (is_main code r)
 
 -- ---- accesses
 
+-- what the instruction of an access does, if the code has it
 abbrev pub act_of : Code → AccessAt → Option Act
 act_of code a = act_in (slice_get (instrs_in (slice_get code.functions a.function)) a.instr)
 
+-- all places that the register of an access may point to; none without one
 abbrev pub places_through : Tables → ℕ → Option Access → List Place
 places_through t f None = []
 places_through t f (Some a) = list_at t.registers f a.through
 
+-- the access of an instruction that may be missing
 abbrev pub access_in : Option Act → Option Access
 access_in None = None
 access_in (Some x) = access_of x
@@ -54,10 +58,12 @@ access_in (Some x) = access_of x
 abbrev pub places_of : Code → Tables → AccessAt → List Place
 places_of code t a = places_through t a.function (access_in (act_of code a))
 
+-- a summary's accesses with the locks at each; none without a summary
 abbrev pub guarded_in : Option Summary → List Guarded
 guarded_in None = []
 guarded_in (Some s) = s.guarded
 
+-- a lock that all threads know by one name: a global cell
 abbrev pub is_global_lock : LockPath → Bool
 is_global_lock (Cell c) = true
 is_global_lock (Formal i n) = false
@@ -66,6 +72,7 @@ is_global_lock (Formal i n) = false
 abbrev pub share_lock : List LockPath → List LockPath → Bool
 share_lock ps qs = list_any (λ p. is_global_lock p && has p qs) ps
 
+-- where in the code a guarded access is made
 abbrev pub stands : Guarded → AccessAt
 stands x = record { function = x.function; instr = x.instr }
 
@@ -89,15 +96,19 @@ pub record MayRace (code : Code) (t : Tables) (ss : List Summary) (p : Place) (a
 
 -- ---- their order
 
+-- by function, then by instruction: the order within and among pairs
 abbrev pub access_less : AccessAt → AccessAt → Bool
 access_less a b = nat_lt a.function b.function || ((a.function == b.function) && nat_lt a.instr b.instr)
 
+-- both are one instruction of one function
 abbrev pub access_same : AccessAt → AccessAt → Bool
 access_same a b = (a.function == b.function) && (a.instr == b.instr)
 
+-- by site, then by class within an element
 abbrev pub place_less : Place → Place → Bool
 place_less p q = nat_lt p.site q.site || ((p.site == q.site) && nat_lt p.class q.class)
 
+-- both are the same cells of objects that one site made
 abbrev pub place_same : Place → Place → Bool
 place_same p q = (p.site == q.site) && (p.class == q.class)
 
@@ -105,6 +116,7 @@ place_same p q = (p.site == q.site) && (p.class == q.class)
 abbrev pub pair_less : Pair → Pair → Bool
 pair_less v w = place_less v.place w.place || (place_same v.place w.place && (access_less v.first w.first || (access_same v.first w.first && access_less v.second w.second)))
 
+-- each pair comes before the next, so none stands twice
 abbrev pub pairs_ascend : List Pair → Bool
 pairs_ascend [] = true
 pairs_ascend (v ∷ []) = true

@@ -23,14 +23,17 @@ pub data Root : Type 0 where
   global : ℕ → Root
   formal : ℕ → Root
 
+-- a register points for sure to this cell, counted from a root
 pub record Known : Type 0 where
   pub root : Root
   -- how many cells after it
   pub cells : ℕ
 
+-- all through the function the register holds what it held at entry
 abbrev pub is_never_assigned : List Instr → ℕ → Bool
 is_never_assigned is r = list_all (λ i. not (assigns r (Some i.act))) is
 
+-- a formal that is never assigned points where the caller's argument pointed
 abbrev pub known_formal : (formals : ℕ) → List Instr → ℕ → Option Known
 known_formal formals is r = if nat_lt r formals && is_never_assigned is r then Some (record { root = formal r; cells = 0 }) else None
 
@@ -39,10 +42,12 @@ abbrev pub at_cells : Root → ℤ → Option Known
 at_cells root (pos n) = Some (record { root = root; cells = n })
 at_cells root (negsuc n) = None
 
+-- what is known of a pointer moved by so many cells
 abbrev pub known_on : Option Known → ℤ → Option Known
 known_on None by = None
 known_on (Some k) by = at_cells k.root (pos k.cells +ℤ by)
 
+-- the same by elements of so many cells, if their number is a constant
 abbrev pub known_on_by : Option Known → Option ℤ → (element : ℕ) → Bool → Option Known
 known_on_by k None element back = None
 known_on_by k (Some z) element back = known_on k (directed back z *ℤ pos element)
@@ -70,10 +75,12 @@ known_at formals is (suc k) r =
 abbrev pub most_cells : ℕ
 most_cells = 65535
 
+-- the name of the lock that lies n cells after a root
 abbrev pub path_to : Root → ℕ → LockPath
 path_to (global c) n = Cell (c + n)
 path_to (formal i) n = Formal i n
 
+-- the lock's name from what is known; past 65,535 cells there is none
 abbrev pub naming_of : Option Known → Naming
 naming_of None = Unknown
 naming_of (Some k) = if nat_le k.cells most_cells then Named (path_to k.root k.cells) else Nowhere
@@ -82,6 +89,7 @@ naming_of (Some k) = if nat_le k.cells most_cells then Named (path_to k.root k.c
 abbrev pub naming_at : Function → ℕ → ℕ → Naming
 naming_at f k r = naming_of (known_at f.formals f.instrs k r)
 
+-- the registers that a call of a function or of the library hands over
 abbrev pub arguments_of : Act → List ℕ
 arguments_of (act.Call g arguments into) = arguments
 arguments_of (act.Library c arguments into) = arguments
@@ -98,6 +106,7 @@ argument_namings f = namings_from f 0 f.instrs
 
 -- ---- paths of a called function, as the caller sees them
 
+-- the path may lead to a cell, as no object has over 65,535
 abbrev pub names_cell : LockPath → Bool
 names_cell (Cell c) = true
 names_cell (Formal i n) = nat_le n most_cells
@@ -108,6 +117,7 @@ actual_of Unknown = None
 actual_of Nowhere = Some (Formal 0 (most_cells + 1))
 actual_of (Named p) = Some p
 
+-- the path n cells after an argument's, if that is there and known
 abbrev pub following : ℕ → Option (Option LockPath) → Option LockPath
 following n (Some (Some (Cell c))) = Some (Cell (c + n))
 following n (Some (Some (Formal i m))) = Some (Formal i (m + n))
@@ -125,13 +135,16 @@ abbrev pub is_small : LockPath → Bool
 is_small (Cell c) = nat_lt c (2 ^ 31)
 is_small (Formal i n) = nat_lt n (2 ^ 31)
 
+-- all numbers in these paths are below 2^31
 abbrev pub are_small : List LockPath → Bool
 are_small ps = list_all is_small ps
 
+-- an unknown argument is small, as it has no path
 abbrev pub is_small_actual : Option LockPath → Bool
 is_small_actual None = true
 is_small_actual (Some p) = is_small p
 
+-- the same for all arguments of a call
 abbrev pub are_small_actuals : List (Option LockPath) → Bool
 are_small_actuals actuals = list_all is_small_actual actuals
 
@@ -140,6 +153,7 @@ abbrev pub is_sized : LockPath → Bool
 is_sized (Cell c) = nat_lt c (2 ^ 31)
 is_sized (Formal i n) = nat_le n most_cells
 
+-- all these paths are such as functions can name
 abbrev pub are_sized : List LockPath → Bool
 are_sized ps = list_all is_sized ps
 

@@ -27,9 +27,11 @@ use Rattle.facts.specs.declared.constraint.Constraint.TheVariants.{Given, Includ
 
 -- ---- places
 
+-- all cells of one class in the objects that one site makes
 abbrev pub place : ℕ → ℕ → Place
 place site class = record { site = site; class = class }
 
+-- how many cells one element has; 1 where there is no site
 abbrev pub element_in : Option Site → ℕ
 element_in None = 1
 element_in (Some site) = site.layout.element
@@ -42,6 +44,7 @@ element_of sites s = element_in (site_at sites s)
 abbrev pub classes_of : ℕ → ℕ
 classes_of element = if nat_lt 64 element then 1 else element
 
+-- which class of an element lies so many cells on, round its end
 abbrev pub class_on : (element class : ℕ) → ℤ → ℕ
 class_on element class by = if nat_lt 64 element then 0 else unsigned_abs (int_rem_euclid (pos class +ℤ by) (pos element))
 
@@ -55,6 +58,7 @@ abbrev pub IsReached : Bool → (element from to : ℕ) → Type 0
 IsReached true element from to = to ≡ from
 IsReached false element from to = to < classes_of element
 
+-- steps of so many cells lead to the same cell of another element
 abbrev pub are_whole_elements : (stride element : ℕ) → Bool
 are_whole_elements stride element = stride % element == 0
 
@@ -78,6 +82,7 @@ abbrev pub argument_constraints : (f : ℕ) → List ℕ → (g i : ℕ) → Lis
 argument_constraints f [] g i = []
 argument_constraints f (r ∷ rs) g i = Included (Register f r) (Register g i) ∷ argument_constraints f rs g (i + 1)
 
+-- the register that gets the call's value may point where g's results do
 abbrev pub result_constraints : (f g : ℕ) → Option ℕ → List Constraint
 result_constraints f g None = []
 result_constraints f g (Some into) = Included (Result g) (Register f into) ∷ []
@@ -90,6 +95,7 @@ library_constraints f call.Join (thread ∷ into ∷ []) = Stored (Register f in
 library_constraints f call.Exit (value ∷ []) = Included (Register f value) Ended ∷ []
 library_constraints f _ _ = []
 
+-- function f's results may point where the returned register does
 abbrev pub return_constraints : (f : ℕ) → Option ℕ → List Constraint
 return_constraints f None = []
 return_constraints f (Some r) = Included (Register f r) (Result f) ∷ []
@@ -128,6 +134,7 @@ cells_constraints s element offset [] ws = []
 cells_constraints s element offset (k ∷ ks) [] = []
 cells_constraints s element offset (k ∷ ks) (w ∷ ws) = word_constraints s element offset (address_at k w) ++ cells_constraints s element (offset + 1) ks ws
 
+-- where the cells of one global point at the start; no global, none
 abbrev pub object_constraints : Code → (s : ℕ) → Site → Option ℕ → List Constraint
 object_constraints code s site None = []
 object_constraints code s site (Some base) = cells_constraints s site.layout.element 0 (take site.layout.size (drop base code.global_kinds)) (drop base code.globals)
@@ -137,6 +144,7 @@ abbrev pub sites_constraints : Code → (s : ℕ) → List Site → List Constra
 sites_constraints code s [] = []
 sites_constraints code s (site ∷ sites) = object_constraints code s site (base_at code.global_bases s) ++ sites_constraints code (s + 1) sites
 
+-- those of all functions' instructions and all globals' initial values
 abbrev pub constraints_of : Code → List Constraint
 constraints_of code = functions_constraints 0 code.functions ++ sites_constraints code 1 code.sites
 
@@ -151,11 +159,13 @@ pub data May (sites : List Site) (cs : List Constraint) : Node → Place → Typ
   loaded : {a b : Node} {o p : Place} → Contains cs (Loaded a b) → May sites cs a o → May sites cs (Cells o) p → May sites cs b p
   stored : {a b : Node} {o p : Place} → Contains cs (Stored a b) → May sites cs a o → May sites cs b p → May sites cs (Cells o) p
 
+-- some order of the code's instructions may make the node point there
 abbrev pub MayPoint : Code → Node → Place → Type 0
 MayPoint code n p = May code.sites (constraints_of code) n p
 
 -- ---- the sets as lists
 
+-- the order of places in a list: by site, then by class
 abbrev pub is_before : Place → Place → Bool
 is_before p q = nat_lt p.site q.site || ((p.site == q.site) && nat_lt p.class q.class)
 
@@ -175,6 +185,7 @@ pub record Tables : Type 0 where
   pub registers : List (List (List Place))
   pub cells : List (List (List Place))
 
+-- the places listed for row i, entry j; none where the table ends before
 abbrev pub list_at : List (List (List Place)) → ℕ → ℕ → List Place
 list_at rows i j = slice_index_or (slice_index_or rows i []) j []
 

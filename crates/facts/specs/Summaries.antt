@@ -33,10 +33,12 @@ mutex_of call.MutexDestroy (m ∷ []) = Some m
 mutex_of call.CondWait (c ∷ m ∷ []) = Some m
 mutex_of _ _ = None
 
+-- the name of the mutex in a register; unknown where there is no register
 abbrev pub naming_in : Function → ℕ → Option ℕ → Naming
 naming_in f k None = Unknown
 naming_in f k (Some m) = naming_at f k m
 
+-- the name of the mutex that the instruction speaks of, if it does
 abbrev pub mutex_naming : Function → ℕ → Act → Naming
 mutex_naming f k (act.Library c arguments into) = naming_in f k (mutex_of c arguments)
 mutex_naming f k _ = Unknown
@@ -56,11 +58,13 @@ pub record ListsKnown (code : Code) (f : ℕ) (ps : List LockPath) : Type 0 wher
   pub ascending : are_ascending ps ≡ true
   pub of : (p : LockPath) → (has p ps ≡ true) ↔ Knows code f p
 
+-- for each function of the code, the list of locks that it knows
 abbrev pub AllListsKnown : Code → List (List LockPath) → Type 0
 AllListsKnown code tops = (length tops ≡ length code.functions) × ((f : ℕ) (ps : List LockPath) → slice_get tops f ≡ Some ps → ListsKnown code f ps)
 
 -- ---- the locks at all points of all functions
 
+-- of each function the locks as it returns, which its callers need
 abbrev pub exits_of : List Points → List RelLocks
 exits_of xs = map (λ x. x.exit) xs
 
@@ -69,9 +73,11 @@ pub record AreSolution (code : Code) (tops : List (List LockPath)) (xs : List Po
   pub long : length xs ≡ length code.functions
   pub each : (f : ℕ) (fn : Function) (top : List LockPath) (x : Points) → slice_get code.functions f ≡ Some fn → slice_get tops f ≡ Some top → slice_get xs f ≡ Some x → IsSolution (exits_of xs) fn top x
 
+-- all lists of paths at a function's points ascend
 abbrev pub in_order : Points → Bool
 in_order x = list_all ascends x.before && ascends x.exit
 
+-- of all solutions the one that knows most, so one alone
 pub record AreGreatest (code : Code) (tops : List (List LockPath)) (xs : List Points) : Type 0 where
   pub solves : AreSolution code tops xs
   pub most : (ys : List Points) → AreSolution code tops ys → (f : ℕ) (x y : Points) → slice_get xs f ≡ Some x → slice_get ys f ≡ Some y → PointsBelow y x
@@ -79,9 +85,11 @@ pub record AreGreatest (code : Code) (tops : List (List LockPath)) (xs : List Po
 
 -- ---- guarded accesses
 
+-- the locks at an access, without where it stands
 abbrev pub locks_of : Guarded → RelLocks
 locks_of a = record { plus = a.plus; minus = a.minus }
 
+-- the access at function f's k-th instruction, with these locks
 abbrev pub guarded_by : (f k : ℕ) → Bool → RelLocks → Guarded
 guarded_by f k store l = record { function = f; instr = k; store = store; plus = l.plus; minus = l.minus }
 
@@ -97,22 +105,26 @@ pub data Guards (code : Code) (xs : List Points) : ℕ → Guarded → Type 0 wh
 -- ---- their order: by function, instruction, loads before stores, then by the locks that are held and those that may have
 -- been given back; any lock comes last
 
+-- the order of words in a dictionary: the first different path decides
 abbrev pub paths_less : List LockPath → List LockPath → Bool
 paths_less [] [] = false
 paths_less [] (q ∷ qs) = true
 paths_less (p ∷ ps) [] = false
 paths_less (p ∷ ps) (q ∷ qs) = is_less p q || (is_same p q && paths_less ps qs)
 
+-- the same paths one by one, and as many
 abbrev pub paths_same : List LockPath → List LockPath → Bool
 paths_same [] [] = true
 paths_same (p ∷ ps) (q ∷ qs) = is_same p q && paths_same ps qs
 paths_same _ _ = false
 
+-- the order of those that may have been given back; any lock comes last
 abbrev pub minus_less : Minus → Minus → Bool
 minus_less All m = false
 minus_less (Listed ps) All = true
 minus_less (Listed ps) (Listed qs) = paths_less ps qs
 
+-- first by what is held, then by what may have been given back
 abbrev pub locks_less : RelLocks → RelLocks → Bool
 locks_less l m = paths_less l.plus m.plus || (paths_same l.plus m.plus && minus_less l.minus m.minus)
 
@@ -120,13 +132,16 @@ locks_less l m = paths_less l.plus m.plus || (paths_same l.plus m.plus && minus_
 abbrev pub first_less : (x y : ℕ) → Bool → Bool
 first_less x y then_less = nat_lt x y || ((x == y) && then_less)
 
+-- loads have 0 and stores 1, so that loads come first
 abbrev pub number_of : Bool → ℕ
 number_of false = 0
 number_of true = 1
 
+-- the order in which a summary lists its accesses
 abbrev pub guarded_less : Guarded → Guarded → Bool
 guarded_less a b = first_less a.function b.function (first_less a.instr b.instr (first_less (number_of a.store) (number_of b.store) (locks_less (locks_of a) (locks_of b))))
 
+-- each access comes before the next, so none stands twice
 abbrev pub guarded_ascend : List Guarded → Bool
 guarded_ascend [] = true
 guarded_ascend (a ∷ []) = true

@@ -33,6 +33,7 @@ impl LockPath {
         }
     }
 
+    /// Whether both name the same object.
     pub fn is_same(self, other: LockPath) -> bool
         ensures { result ≡ is_same_of self other }
     {

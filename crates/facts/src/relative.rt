@@ -91,6 +91,7 @@ fn listed_seen(
 }
 
 impl Minus {
+    /// The same locks once more.
     pub fn copied(&self, alloc: Global) -> Result<Minus, AllocError>
         ensures { IfOk result (λ minus. minus ≡ self.now) }
     {
@@ -158,6 +159,7 @@ impl Minus {
 }
 
 impl RelLocks {
+    /// The same locks once more.
     pub fn copied(&self, alloc: Global) -> Result<RelLocks, AllocError>
         ensures { IfOk result (λ locks. locks ≡ self.now) }
     {

@@ -69,6 +69,7 @@ abbrev pub object_fits : Code → Option ℕ → Site → List (Option ℕ) → 
 object_fits code None site bases sites = true
 object_fits code (Some base) site bases sites = nat_le (base + site.layout.size) (length code.globals) && begin_with (drop base code.global_kinds) site.layout.kinds && all_apart base site.layout.size bases sites
 
+-- from this site on, each global's object fits and shares no cell with another
 abbrev pub objects_fit : Code → List (Option ℕ) → List Site → Bool
 objects_fit code [] sites = true
 objects_fit code (o ∷ os) [] = true
@@ -76,6 +77,7 @@ objects_fit code (o ∷ os) (site ∷ sites) = object_fits code o site os sites 
 
 -- ---- the start words
 
+-- a pointer cell starts out as null or as the address of a global
 abbrev pub word_fits : Code → Option ℕ → Bool
 word_fits code None = true
 word_fits code (Some w) = is_address code w

@@ -14,9 +14,11 @@ abbrev pub constant_fits : Act → Bool
 constant_fits (act.Compute into (work.Constant z)) = fits z
 constant_fits _ = true
 
+-- one function's constants all fit 64 bits
 abbrev pub constants_fit_in : List Instr → Bool
 constants_fit_in is = list_all (λ i. constant_fits i.act) is
 
+-- the constants of all these functions fit 64 bits
 abbrev pub constants_fit_of : List Function → Bool
 constants_fit_of fs = list_all (λ f. constants_fit_in f.instrs) fs
 

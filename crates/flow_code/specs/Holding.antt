@@ -21,9 +21,11 @@ use Rattle.flow_code.specs.Threads.{Frame, Thread, OpenRegion, instr_in}
 
 -- ---- lists of stripes
 
+-- 8 times its weak lock's number, plus which of eight stripes it is
 abbrev pub number_of_stripe : Stripe → ℕ
 number_of_stripe x = 8 * x.lock + x.stripe
 
+-- the same number where only lock and stripe are given
 abbrev pub number_of_pair : ℕ × ℕ → ℕ
 number_of_pair x = 8 * x.0 + x.1
 
@@ -31,6 +33,7 @@ number_of_pair x = 8 * x.0 + x.1
 abbrev pub is_listed : List Stripe → ℕ → Bool
 is_listed xs n = list_any (λ x. number_of_stripe x == n) xs
 
+-- whether the stripe of number n is among these pairs of lock and stripe
 abbrev pub has_stripe : List (ℕ × ℕ) → ℕ → Bool
 has_stripe xs n = list_any (λ x. number_of_pair x == n) xs
 
@@ -56,18 +59,22 @@ nesting rs n = count_by (λ r. has_stripe r.stripes n) rs
 abbrev pub has_stripes : OpenRegion → Bool
 has_stripes r = not (length r.stripes == 0)
 
+-- what stays on a thread's list: regions that still have stripes
 abbrev pub open_ones : List OpenRegion → List OpenRegion
 open_ones rs = filter has_stripes rs
 
+-- the region with other stripes; frame and Take stay
 abbrev pub with_pairs : OpenRegion → List (ℕ × ℕ) → OpenRegion
 with_pairs r xs = record r { stripes = xs }
 
 -- ---- taking
 
+-- the function's region of number r; none without a function
 abbrev pub region_in : Option Function → ℕ → Option Region
 region_in None r = None
 region_in (Some f) r = slice_get f.regions r
 
+-- the region that a Take or Give in this frame names
 abbrev pub region_of : Code → Frame → ℕ → Option Region
 region_of code frame r = region_in (slice_get code.functions frame.function) r
 
@@ -76,6 +83,7 @@ abbrev pub after_pair : Option (ℕ × ℕ) → ℕ
 after_pair None = 0
 after_pair (Some x) = number_of_pair x + 1
 
+-- where the search goes on after ascending stripes; 0 where there are none
 abbrev pub after_pairs : List (ℕ × ℕ) → ℕ
 after_pairs xs = after_pair (slice_get xs (length xs - 1))
 
@@ -84,9 +92,11 @@ abbrev pub is_opened_here : Thread → Option OpenRegion → Bool
 is_opened_here th None = false
 is_opened_here th (Some r) = (r.frame == length th.below) && (r.instr == th.top.instr)
 
+-- the innermost open region, which stands last in the thread's list
 abbrev pub latest : Thread → Option OpenRegion
 latest th = slice_get th.regions (length th.regions - 1)
 
+-- an open region's stripes; none where there is no region
 abbrev pub pairs_at : Option OpenRegion → List (ℕ × ℕ)
 pairs_at None = []
 pairs_at (Some r) = r.stripes
@@ -112,6 +122,7 @@ lacked code th (Some r) = first_from (is_lacked code th r) (8 * end_lock code r 
 abbrev pub taken_before : Code → Thread → Region → ℕ → List (ℕ × ℕ)
 taken_before code th r to = taken_pairs th ++ stripes_from (wants_number code th.top.registers r) (to - left_from th r) (left_from th r)
 
+-- the innermost open region gets these stripes, the others keep theirs
 abbrev pub latest_with : Option OpenRegion → List (ℕ × ℕ) → List OpenRegion → List OpenRegion
 latest_with None xs rs = rs
 latest_with (Some r) xs rs = slice_set rs (length rs - 1) (with_pairs r xs)
@@ -127,6 +138,7 @@ abbrev pub take_or_quiet : Option ℕ → Due
 take_or_quiet None = due.Quiet
 take_or_quiet (Some n) = due.Operate op.Take (object.Weak (stripe_of n).0 (stripe_of n).1)
 
+-- what is due at a Take: an operation, or a quiet step at last
 abbrev pub take_due : Code → Thread → Option Region → Due
 take_due code th r = take_or_quiet (lacked code th r)
 
@@ -138,10 +150,12 @@ taken code th (Some r) (Some n) = record th { stripes = with_stripe n th.stripes
 
 -- ---- giving
 
+-- the instruction is the Take of region r
 abbrev pub takes_region : Act → ℕ → Bool
 takes_region (act.Take k) r = k == r
 takes_region _ r = false
 
+-- the same of an instruction that may be missing
 abbrev pub takes : Option Instr → ℕ → Bool
 takes None r = false
 takes (Some i) r = takes_region i.act r
@@ -169,6 +183,7 @@ abbrev pub alone_at : List OpenRegion → Option ℕ → Option (ℕ × ℕ)
 alone_at rs None = None
 alone_at rs (Some i) = first_alone rs (pairs_at (slice_get rs i))
 
+-- what a Give of region r gives up to other threads now, if anything
 abbrev pub to_give : Code → Thread → ℕ → Option (ℕ × ℕ)
 to_give code th r = alone_at th.regions (open_place code th r)
 
@@ -177,6 +192,7 @@ abbrev pub give_or_quiet : Option (ℕ × ℕ) → Due
 give_or_quiet None = due.Quiet
 give_or_quiet (Some x) = due.Operate op.Give (object.Weak x.0 x.1)
 
+-- what is due at a Give: an operation, or a quiet step at last
 abbrev pub give_due : Code → Thread → ℕ → Due
 give_due code th r = give_or_quiet (to_give code th r)
 
@@ -184,6 +200,7 @@ give_due code th r = give_or_quiet (to_give code th r)
 abbrev pub pairs_after : ℕ → List (ℕ × ℕ) → List (ℕ × ℕ)
 pairs_after n xs = filter (λ x. nat_lt n (number_of_pair x)) xs
 
+-- the region at place i gets these stripes, the others keep theirs
 abbrev pub region_with : Option OpenRegion → List (ℕ × ℕ) → List OpenRegion → ℕ → List OpenRegion
 region_with None xs rs i = rs
 region_with (Some r) xs rs i = slice_set rs i (with_pairs r xs)
@@ -197,10 +214,12 @@ abbrev pub left_by : Option (ℕ × ℕ) → List (ℕ × ℕ) → List (ℕ × 
 left_by None xs = []
 left_by (Some x) xs = pairs_after (number_of_pair x) xs
 
+-- what the thread still holds or owes once one stripe is given
 abbrev pub released : Option (ℕ × ℕ) → List Stripe → List Stripe
 released None xs = xs
 released (Some x) xs = without_stripe (number_of_pair x) xs
 
+-- the thread once the region at this place, if any, has given
 abbrev pub gives_at : Thread → Option ℕ → Option (ℕ × ℕ) → Thread
 gives_at th None next = th
 gives_at th (Some i) next = record th { stripes = released next th.stripes; regions = cut th.regions i (left_by next (pairs_at (slice_get th.regions i))) }
@@ -216,6 +235,7 @@ abbrev pub parting : LibraryCall → ℕ → List Stripe → List Stripe
 parting call.Exit zero xs = xs
 parting _ made xs = []
 
+-- some of these stripes were revoked and not taken again yet
 abbrev pub owes : List Stripe → Bool
 owes xs = list_any (λ x. x.owed) xs
 
@@ -224,6 +244,7 @@ abbrev pub parting_due : List Stripe → Due → Due
 parting_due [] d = d
 parting_due (x ∷ xs) d = if owes (x ∷ xs) then due.Quiet else due.Operate op.Give (object.Weak x.lock x.stripe)
 
+-- the stripes that other threads can't take, as none of them is owed
 abbrev pub held : List Stripe → List Stripe
 held xs = filter (λ x. not x.owed) xs
 
@@ -231,9 +252,11 @@ held xs = filter (λ x. not x.owed) xs
 abbrev pub keeping : Thread → List Stripe → Thread
 keeping th xs = record th { stripes = xs; regions = open_ones (map (λ r. with_pairs r (filter (λ x. is_listed xs (number_of_pair x)) r.stripes)) th.regions) }
 
+-- what is left after one parting step: debts go at once, held ones singly
 abbrev pub left_of : List Stripe → List Stripe
 left_of xs = if owes xs then held xs else drop 1 xs
 
+-- at `pthread_exit` stripes go first; without any, the call's own step counts
 abbrev pub left_after : Thread → List Stripe → Thread → Thread
 left_after th [] q = q
 left_after th (x ∷ xs) q = keeping th (left_of (x ∷ xs))

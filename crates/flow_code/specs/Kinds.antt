@@ -16,6 +16,7 @@ use Rattle.abstract_machine.specs.Kinds.{is_comparison, library_kinds}
 
 -- ---- registers
 
+-- registers are numbered from 0, so r is below their count
 abbrev pub has_register : Function → ℕ → Bool
 has_register f r = nat_lt r f.registers
 
@@ -32,6 +33,7 @@ abbrev pub has_kind : Function → Bool → ℕ → Bool
 has_kind f true r = has_pointer f r
 has_kind f false r = has_whole f r
 
+-- both registers are there, and both are pointers or both whole numbers
 abbrev pub same_register_kind : Function → ℕ → ℕ → Bool
 same_register_kind f r q = has_kind f (is_pointer f.pointers r) q && has_register f r
 
@@ -43,6 +45,7 @@ have_kinds f _ _ = false
 
 -- ---- what an instruction computes (C99 6.5.2.3 to 6.5.12)
 
+-- the only number that a constant pointer may have (C99 6.3.2.3)
 abbrev pub is_null : ℤ → Bool
 is_null (pos n) = n == 0
 is_null (negsuc n) = false
@@ -59,6 +62,7 @@ binary_fits f into o left right = has_whole f into && (not (is_pointer f.pointer
 abbrev pub move_fits : Function → ℕ → (pointer by element : ℕ) → Bool
 move_fits f into pointer by element = has_pointer f into && has_pointer f pointer && has_whole f by && nat_le 1 element
 
+-- the difference of two pointers, in elements, is a whole number (C99 6.5.6)
 abbrev pub between_fits : Function → ℕ → (left right element : ℕ) → Bool
 between_fits f into left right element = has_whole f into && has_pointer f left && has_pointer f right && nat_le 1 element
 
@@ -98,6 +102,7 @@ abbrev pub may_start : Option Function → Bool
 may_start None = false
 may_start (Some g) = not (is_main_in (Some g)) && (g.formals == 1) && is_pointer g.pointers 0 && g.gives_pointer
 
+-- a function that `pthread_create` names is one that a thread may run
 abbrev pub starts_fit : Code → LibraryCall → Bool
 starts_fit code (call.Create g) = may_start (slice_get code.functions g)
 starts_fit code _ = true
@@ -108,14 +113,17 @@ library_value_fits f into call.Exit = not (is_some into)
 library_value_fits f into call.Free = not (is_some into)
 library_value_fits f into _ = value_fits f into false
 
+-- the call's started function, arguments and value are of the kinds that POSIX asks
 abbrev pub library_fits : Code → Function → LibraryCall → List ℕ → Option ℕ → Bool
 library_fits code f c arguments into = starts_fit code c && have_kinds f arguments (library_kinds c) && library_value_fits f into c
 
 -- ---- instructions
 
+-- jumps, branches and loops may name only instructions of their own function
 abbrev pub has_instr : Function → ℕ → Bool
 has_instr f k = nat_lt k (length f.instrs)
 
+-- a Take or Give may name only a region of its own function
 abbrev pub has_region : Function → ℕ → Bool
 has_region f k = nat_lt k (length f.regions)
 

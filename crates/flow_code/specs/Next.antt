@@ -45,6 +45,7 @@ past f = record f { instr = f.instr + 1; made = 0; kept = pos 0 }
 abbrev pub jumped : Frame → ℕ → Frame
 jumped f to = record f { instr = to; made = 0; kept = pos 0 }
 
+-- the frame once register r holds the word w
 abbrev pub with_register : Frame → ℕ → ℕ → Frame
 with_register f r w = record f { registers = slice_set f.registers r w }
 
@@ -53,34 +54,42 @@ abbrev pub given : Frame → Option ℕ → ℕ → Frame
 given f None w = f
 given f (Some r) w = with_register f r w
 
+-- the word that a `return` gives; 0 where it gives none
 abbrev pub value_of : List ℕ → Option ℕ → ℕ
 value_of registers None = 0
 value_of registers (Some r) = register registers r
 
+-- what an instruction does, without its place in the source
 abbrev pub act_in : Option Instr → Option Act
 act_in None = None
 act_in (Some i) = Some i.act
 
+-- what the frame does next; none where it has no instruction
 abbrev pub act_at : Code → Frame → Option Act
 act_at code frame = act_in (instr_at code frame)
 
+-- for each of the function's registers, whether it is a pointer
 abbrev pub pointers_in : Option Function → List Bool
 pointers_in None = []
 pointers_in (Some f) = f.pointers
 
+-- the same for the function that runs in this frame
 abbrev pub pointers_of : Code → Frame → List Bool
 pointers_of code frame = pointers_in (slice_get code.functions frame.function)
 
 -- ---- what comes next by the code alone
 
+-- a computation touches no shared cell: a quiet step, or its trap
 abbrev pub quiet_unless : Result ℕ Trap → Due
 quiet_unless (Ok w) = due.Quiet
 quiet_unless (Err t) = due.Trap t
 
+-- a load, or the trap of a pointer that leads nowhere
 abbrev pub load_due : Result ℕ Trap → Due
 load_due (Ok c) = due.Load c
 load_due (Err t) = due.Trap t
 
+-- a store of w, or the trap of a pointer that leads nowhere
 abbrev pub store_due : Result ℕ Trap → ℕ → Due
 store_due (Ok c) w = due.Store c w
 store_due (Err t) w = due.Trap t
@@ -89,6 +98,7 @@ store_due (Err t) w = due.Trap t
 abbrev pub malloc_due : ℕ → ℕ → ℕ → ℤ → Due
 malloc_due unit arena end n = if is_size unit n then (if nat_le (arena + cells_in n) end then due.Quiet else due.Trap trap.ArenaFull) else due.Trap trap.BadSize
 
+-- a function is entered only where the arena has room for its objects
 abbrev pub mark_if : Option ℕ → Due
 mark_if None = due.Trap trap.ArenaFull
 mark_if (Some arena) = due.Mark
@@ -108,12 +118,15 @@ end_due false t zero value = due.Store (result_cell t) value
 end_due false t (suc zero) value = due.Operate op.End (object.Slot t)
 end_due false t (suc (suc n)) value = due.Operate op.Leave object.Threads
 
+-- back to a caller is quiet; the outermost `return` ends the thread
 abbrev pub return_due : Code → ℕ → Thread → ℕ → Due
 return_due code t th value = if length th.below == 0 then end_due (is_main code th.top.function) t th.top.made value else due.Quiet
 
+-- what library calls may know of thread t
 abbrev pub caller : Code → SetupView → ℕ → Thread → Caller
 caller code s t th = record { sites = code.sites; setup = s; thread = t; printed = th.printed }
 
+-- what is due at a running thread's instruction, limits and owed stripes aside
 abbrev pub act_due : Code → SetupView → ℕ → Thread → Option Act → Due
 act_due code s t th None = due.Nothing
 act_due code s t th (Some (act.Compute into work)) = quiet_unless (work_of s.slots code.sites (pointers_of code th.top) th.top.registers work)
@@ -135,6 +148,7 @@ abbrev pub begun_due : Code → SetupView → ℕ → Thread → ℕ → Due
 begun_due code s zero th f = enter_due code s zero th 0 f
 begun_due code s (suc k) th f = due.Load (argument_cell (suc k))
 
+-- what is due in each phase of a thread's life; at last nothing
 abbrev pub phase_due : Code → SetupView → ℕ → Thread → Phase → Due
 phase_due code s t th phase.Fresh = due.Operate op.Begin (object.Slot t)
 phase_due code s t th (phase.Begun f) = begun_due code s t th f
@@ -153,10 +167,12 @@ limited true due.Mark = due.Trap trap.Limit
 limited true (due.Operate o obj) = if is_free_of_limit o then due.Operate o obj else due.Trap trap.Limit
 limited true d = d
 
+-- the least stripe that was revoked and is to be taken again
 abbrev pub first_owed : List Stripe → Option Stripe
 first_owed [] = None
 first_owed (x ∷ xs) = if x.owed then Some x else first_owed xs
 
+-- the operation that gets a revoked stripe back
 abbrev pub retake : Stripe → Due
 retake x = due.Operate op.Retake (object.Weak x.lock x.stripe)
 
@@ -179,6 +195,7 @@ listed _ d = d
 abbrev pub due_of : Code → SetupView → ℕ → Thread → Due
 due_of code s t th = listed (nat_le most_entries th.entries) (owing (first_owed th.stripes) (limited (nat_le s.limit th.count) (phase_due code s t th th.phase)))
 
+-- what others see of it; a trap shows as an operation at the halt
 abbrev pub action_of : Due → Action
 action_of due.Nothing = action.Ended
 action_of due.Quiet = action.Quiet
@@ -194,10 +211,12 @@ action_of (due.Trap kind) = action.Operate op.TrapHere object.Halt
 abbrev pub in_frame : Thread → Frame → Thread
 in_frame th f = record th { top = f }
 
+-- the thread with the result in its register; a trap changes nothing
 abbrev pub computed : Thread → ℕ → Result ℕ Trap → Thread
 computed th into (Ok w) = in_frame th (past (with_register th.top into w))
 computed th into (Err t) = th
 
+-- the number, or n where there is none
 abbrev pub or_else : Option ℕ → ℕ → ℕ
 or_else None n = n
 or_else (Some m) n = m
@@ -221,26 +240,32 @@ abbrev pub back_in : Code → Thread → ℕ → Option Frame → Thread
 back_in code th value None = th
 back_in code th value (Some f) = record th { top = past (given f (result_of (act_at code f)) value); below = take (length th.below - 1) th.below }
 
+-- one more event of the same instruction is made, and its answer kept
 abbrev pub one_made : Frame → ℤ → Frame
 one_made f kept = record f { made = f.made + 1; kept = kept }
 
+-- `main` halts the program; another thread ends after three events
 abbrev pub end_onward : Bool → Thread → ℕ → Thread
 end_onward true th made = record th { phase = phase.Halted }
 end_onward false th zero = in_frame th (one_made th.top (pos 0))
 end_onward false th (suc zero) = in_frame th (one_made th.top (pos 0))
 end_onward false th (suc (suc n)) = record th { phase = phase.Ended }
 
+-- after a `return`: on in the caller, or towards the thread's end
 abbrev pub returned : Code → Thread → ℕ → Thread
 returned code th value = if length th.below == 0 then end_onward (is_main code th.top.function) th th.top.made else back_in code th value (slice_get th.below (length th.below - 1))
 
+-- the thread as the library says: within the call, past it, or ended
 abbrev pub resumed : Thread → Option ℕ → Onward → Thread
 resumed th into (onward.Stays kept) = in_frame th (one_made th.top kept)
 resumed th into (onward.Gives w) = in_frame th (past (given th.top into w))
 resumed th into onward.Ends = record th { phase = phase.Ended }
 
+-- a condition holds where its word isn't 0 (C99 6.8.4.1)
 abbrev pub branch_to : ℕ → ℕ → ℕ → ℕ
 branch_to w then_at else_at = if w == 0 then else_at else then_at
 
+-- after `malloc`: a pointer to the arena's next free cells, which are used up
 abbrev pub allocated : Thread → ℕ → ℕ → ℕ → Thread
 allocated th into site cells = record th { top = past (with_register th.top into (pointer_at site th.arena cells)); arena = th.arena + cells }
 
@@ -253,6 +278,7 @@ abbrev pub on_unless : {A : Type 0} → Option A → Thread → Thread
 on_unless None th = in_frame th (past th.top)
 on_unless (Some x) th = th
 
+-- the thread after its instruction, given the loaded number or the operation's answer
 abbrev pub act_after : Code → SetupView → ℕ → Thread → Option Act → ℤ → Thread
 act_after code s t th None answer = th
 act_after code s t th (Some (act.Compute into work)) answer = computed th into (work_of s.slots code.sites (pointers_of code th.top) th.top.registers work)
@@ -269,10 +295,12 @@ act_after code s t th (Some (act.Return value)) answer = returned code th (value
 act_after code s t th (Some (act.Take region)) answer = on_unless (lacked code th (region_of code th.top region)) (taken code th (region_of code th.top region) (lacked code th (region_of code th.top region)))
 act_after code s t th (Some (act.Give region)) answer = on_unless (to_give code th region) (gave code th region)
 
+-- thread 0 enters `main`; another one has its argument from its hand-off cell
 abbrev pub begun_after : Code → SetupView → ℕ → Thread → ℕ → ℤ → Thread
 begun_after code s zero th f answer = entered code s zero th [] f []
 begun_after code s (suc k) th f answer = record th { phase = phase.Loaded f (word answer) }
 
+-- the thread after a step that is no trap and no retake
 abbrev pub phase_after : Code → SetupView → ℕ → Thread → Phase → ℤ → Thread
 phase_after code s t th phase.Fresh answer = record th { phase = phase.Begun (count_in answer) }
 phase_after code s t th (phase.Begun f) answer = begun_after code s t th f answer
@@ -287,9 +315,11 @@ counted o th = record th {
   entries = if is_ending (name_of o) then th.entries else th.entries + 1;
 }
 
+-- a load, store or mark counts as one event
 abbrev pub one_more : Thread → Thread
 one_more th = record th { count = th.count + 1 }
 
+-- the stripe found at place i is owed or held; without one nothing changes
 abbrev pub owed_at : Bool → List Stripe → ℕ → Option Stripe → List Stripe
 owed_at owed xs i None = xs
 owed_at owed xs i (Some x) = slice_set xs i (record x { owed = owed })
@@ -316,6 +346,7 @@ after_due code s t th (due.Trap kind) answer = counted op.TrapHere (record th { 
 
 -- ---- what other threads' ends and wants do to a thread
 
+-- the stripe is this one of this weak lock, held or owed
 abbrev pub same_stripe : ℕ → ℕ → Stripe → Bool
 same_stripe lock stripe x = (x.lock == lock) && (x.stripe == stripe)
 
@@ -336,9 +367,11 @@ gave_up th lock stripe = counted op.Revoke (record th { stripes = lost th.stripe
 abbrev pub stopped : Thread → Thread
 stopped th = counted op.Stop (record th { phase = phase.Stopped })
 
+-- a slot whose thread hasn't begun and never will
 abbrev pub slot_closed : Thread → Thread
 slot_closed th = counted op.Close (record th { phase = phase.Closed })
 
+-- the thread makes no more events: ended, halted, trapped, stopped or closed
 abbrev pub has_ended : Phase → Bool
 has_ended phase.Fresh = false
 has_ended (phase.Begun f) = false
@@ -346,6 +379,7 @@ has_ended (phase.Loaded f w) = false
 has_ended phase.Running = false
 has_ended _ = true
 
+-- the thread runs or has run; till then it can be closed
 abbrev pub has_begun : Phase → Bool
 has_begun phase.Fresh = false
 has_begun phase.Closed = false

@@ -14,6 +14,7 @@ use Rattle.abstract_machine.specs.Library.{IsSoundCall}
 use Rattle.flow_code.specs.Threads.{Frame, Thread, instrs_in}
 use Rattle.flow_code.specs.Next.{due_of, action_at, stepped, act_in}
 
+-- the step touches nothing but the thread itself
 abbrev pub is_quiet : Due → Bool
 is_quiet due.Quiet = true
 is_quiet _ = false
@@ -27,6 +28,7 @@ left_in code f = length (instrs_in (slice_get code.functions f.function)) - f.in
 unfoldable pub weight : Code → SetupView → ℕ → Thread → ℕ
 weight code s t th = if is_quiet (due_of code s t th) then 1 + left_in code th.top + sum_by (left_in code) th.below + length th.stripes else 0
 
+-- goes on after a quiet step, and stands still before any other
 abbrev pub settle_on : (Thread → Thread) → Code → SetupView → ℕ → Thread → Bool → Thread
 settle_on next code s t th true = next (stepped code s t th (pos 0))
 settle_on next code s t th false = th
@@ -52,6 +54,7 @@ after code s t th answer = stepped code s t (settled code s t th) answer
 abbrev pub IsJump : List Instr → ℕ → ℕ → Type 0
 IsJump is at to = (at < to) ⊎ (act_in (slice_get is to) ≡ Some act.Mark)
 
+-- what one instruction must obey so that threads can run it
 abbrev pub IsSoundAct : List Instr → ℕ → Option Act → Type 0
 IsSoundAct is at (Some (act.Jump to)) = IsJump is at to
 IsSoundAct is at (Some (act.Branch on then_at else_at)) = IsJump is at then_at × IsJump is at else_at

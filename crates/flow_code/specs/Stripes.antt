@@ -38,6 +38,7 @@ abbrev pub lock_guards : Option LockInfo → List Site → (word offset stripe :
 lock_guards None sites w offset stripe = false
 lock_guards (Some l) sites w offset stripe = (l.site == site_of w) && (l.class == class_in (site_at sites (site_of w)) offset) && (stripe == stripe_at l.stripes offset (length_of w))
 
+-- that stripe of that weak lock protects the cell at this offset
 abbrev pub guards : Code → (word offset lock stripe : ℕ) → Bool
 guards code w offset lock stripe = lock_guards (slice_get code.locks lock) code.sites w offset stripe
 
@@ -71,6 +72,7 @@ abbrev pub cells_want : Code → (word : ℕ) → (first following : ℤ) → (l
 cells_want code w first following lock stripe =
     not (site_of w == 0) && any_from (λ offset. guards code w offset lock stripe) (clamped (length_of w) following - clamped (length_of w) first) (clamped (length_of w) first)
 
+-- the weak lock is one of these
 abbrev pub among : List ℕ → ℕ → Bool
 among locks lock = list_any (λ l. l == lock) locks
 
@@ -82,10 +84,12 @@ range_wants code w a b shift lock stripe = cells_want code w (pos (offset_of w) 
 abbrev pub span_wants : Code → List ℕ → (counter bound : ℤ) → (lock stripe : ℕ) → Span → Bool
 span_wants code registers a b lock stripe span = among span.locks lock && range_wants code (base_word code.sites registers span.base) a b span.shift lock stripe
 
+-- the counter stays below this number, which a register may hold
 abbrev pub bound_of : List ℕ → Bound → ℤ
 bound_of registers (bound.Number z) = z
 bound_of registers (bound.Register r) = number (register registers r)
 
+-- a weak lock has 1 or 8 stripes, a missing one 0
 abbrev pub stripes_in : Option LockInfo → ℕ
 stripes_in None = 0
 stripes_in (Some l) = l.stripes
@@ -99,13 +103,16 @@ wants code registers (region.Whole locks) lock stripe = among locks lock && nat_
 wants code registers (region.Ranged counter bound spans) lock stripe = list_any (span_wants code registers (number (register registers counter)) (bound_of registers bound) lock stripe) spans
 wants code registers (region.Cell base locks) lock stripe = among locks lock && cell_wants code (base_word code.sites registers base) lock stripe
 
+-- the same for a stripe by its number, 8 l + k
 abbrev pub wants_number : Code → List ℕ → Region → ℕ → Bool
 wants_number code registers r n = wants code registers r (n / 8) (n % 8)
 
+-- lock 0 where a region has no locks
 abbrev pub or_zero : Option ℕ → ℕ
 or_zero None = 0
 or_zero (Some l) = l
 
+-- the number after the lock; 0 where a region has no locks
 abbrev pub after_lock : Option ℕ → ℕ
 after_lock None = 0
 after_lock (Some l) = l + 1
@@ -116,6 +123,7 @@ first_lock (region.Whole locks) = or_zero (slice_get locks 0)
 first_lock (region.Ranged counter bound spans) = 0
 first_lock (region.Cell base locks) = or_zero (slice_get locks 0)
 
+-- a region's locks are below this number; a loop's search ends at 65,536
 abbrev pub end_lock : Code → Region → ℕ
 end_lock code (region.Whole locks) = after_lock (slice_get locks (length locks - 1))
 end_lock code (region.Ranged counter bound spans) = min (length code.locks) 65536
@@ -128,6 +136,7 @@ abbrev pub first_from : (ℕ → Bool) → (many k : ℕ) → Option ℕ
 first_from p zero k = None
 first_from p (suc n) k = if p k then Some k else first_from p n (k + 1)
 
+-- the stripe of number n in front of the rest, if it passed
 abbrev pub and_stripe : Bool → ℕ → List (ℕ × ℕ) → List (ℕ × ℕ)
 and_stripe false n rest = rest
 and_stripe true n rest = stripe_of n ∷ rest

@@ -50,22 +50,27 @@ pub record Thread : Type 0 where
 abbrev pub arena_start : Code → SetupView → ℕ → ℕ
 arena_start code s k = 2 * s.slots + length code.globals + k * s.cells
 
+-- thread k's objects all lie before this cell
 abbrev pub arena_end : Code → SetupView → ℕ → ℕ
 arena_end code s k = arena_start code s k + s.cells
 
 -- the function and the instruction
 
+-- the function's instruction there; none past its end
 abbrev pub instr_in : Option Function → ℕ → Option Instr
 instr_in None at = None
 instr_in (Some f) at = slice_get f.instrs at
 
+-- the instruction at which the frame stands
 abbrev pub instr_at : Code → Frame → Option Instr
 instr_at code frame = instr_in (slice_get code.functions frame.function) frame.instr
 
+-- the instruction's line in the source; 0 where there is none
 abbrev pub line_in : Option Instr → ℕ
 line_in None = 0
 line_in (Some i) = i.at.line
 
+-- the function's line in the source; 0 where there is no function
 abbrev pub line_of_function : Option Function → ℕ
 line_of_function None = 0
 line_of_function (Some f) = f.line
@@ -77,6 +82,7 @@ line_of code (phase.Begun f) top = line_of_function (slice_get code.functions f)
 line_of code (phase.Loaded f w) top = line_of_function (slice_get code.functions f)
 line_of code _ top = line_in (instr_at code top)
 
+-- a function is known as `main` by its name alone
 abbrev pub is_main_in : Option Function → Bool
 is_main_in None = false
 is_main_in (Some f) = pointwise nat_eq f.name (codes "main")
@@ -91,10 +97,12 @@ is_main code f = is_main_in (slice_get code.functions f)
 pub data Object : Type 0 where
   object : (into : ℕ) → (site : ℕ) → Object
 
+-- the object that an instruction makes; `malloc`, which has a size, makes none here
 abbrev pub object_of : Act → Option Object
 object_of (act.Alloc into site None) = Some (object into site)
 object_of _ = None
 
+-- the object in front of the others, if there is one
 abbrev pub and_objects : Option Object → List Object → List Object
 and_objects None os = []
 and_objects (Some o) os = o ∷ os
@@ -120,14 +128,17 @@ with_arguments zero arguments = []
 with_arguments (suc n) [] = 0 ∷ with_arguments n []
 with_arguments (suc n) (a ∷ arguments) = a ∷ with_arguments n arguments
 
+-- the function's instructions; none where there is no function
 abbrev pub instrs_in : Option Function → List Instr
 instrs_in None = []
 instrs_in (Some f) = f.instrs
 
+-- how many registers the function has; 0 where there is no function
 abbrev pub registers_in : Option Function → ℕ
 registers_in None = 0
 registers_in (Some f) = f.registers
 
+-- the objects that function f has from its entry on
 abbrev pub objects_in : Code → ℕ → List Object
 objects_in code f = objects_of (instrs_in (slice_get code.functions f))
 

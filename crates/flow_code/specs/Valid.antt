@@ -18,30 +18,39 @@ use Rattle.flow_code.specs.Addresses.{globals_fit}
 abbrev pub registers_fit : Function → Bool
 registers_fit f = nat_le f.formals f.registers && (length f.pointers == f.registers)
 
+-- the function's instructions name what is there, with registers of the right kinds
 abbrev pub acts_fit : Code → Function → List Instr → Bool
 acts_fit code f is = list_all (λ i. act_fits code f i.act) is
 
+-- the function's loops name its own instructions and registers
 abbrev pub loops_fit : Function → List LoopInfo → Bool
 loops_fit f loops = list_all (loop_fits f) loops
 
+-- each region names what is there, with its locks in order
 abbrev pub regions_fit : Code → Function → List Region → Bool
 regions_fit code f regions = list_all (region_fits code f) regions
 
+-- all that a valid code asks of one function
 abbrev pub function_fits : Code → Function → Bool
 function_fits code f = registers_fit f && order_fits f.instrs && acts_fit code f f.instrs && loops_fit f f.loops && regions_fit code f f.regions
 
+-- the same for each of the code's functions
 abbrev pub functions_fit : Code → List Function → Bool
 functions_fit code fs = list_all (function_fits code) fs
 
+-- each weak lock has a site of the code and 1 or 8 stripes
 abbrev pub all_locks_fit : Code → List LockInfo → Bool
 all_locks_fit code locks = list_all (lock_fits code) locks
 
+-- the program's first function, by its name (C99 5.1.2.2.1)
 abbrev pub is_main_function : Function → Bool
 is_main_function f = is_main_in (Some f)
 
+-- how many functions are named `main`; a valid code has 1
 abbrev pub mains_in : List Function → ℕ
 mains_in fs = count_by is_main_function fs
 
+-- `main` is declared without `argc` and `argv`
 abbrev pub mains_have_no_formals : List Function → Bool
 mains_have_no_formals fs = list_all (λ f. not (is_main_function f) || (f.formals == 0)) fs
 
@@ -53,6 +62,7 @@ has_one_main fs = (mains_in fs == 1) && mains_have_no_formals fs
 abbrev pub most_locks : ℕ
 most_locks = 65472
 
+-- at most 2^20 functions, 1,023 sites, 2^20 global cells, 65,472 weak locks
 abbrev pub is_within_limits : Code → Bool
 is_within_limits code = nat_le (length code.functions) (2 ^ 20) && nat_le (length code.sites) 1023 && nat_le (length code.globals) (2 ^ 20) && nat_le (length code.locks) most_locks
 

@@ -88,9 +88,11 @@ abbrev mutual
 abbrev pub before : Position → Exp → Exp → Exp
 before at a b = copied_if (loses a (λ n. assigns n b)) at (kept a)
 
+-- for an argument of a call, which later arguments may assign
 abbrev pub before_all : Position → Exp → Exps → Exp
 before_all at e es = copied_if (loses e (λ n. any_assigns n es)) at (kept e)
 
+-- of a part that a `for` or a `return` may leave out
 abbrev pub maybe_kept : Option Exp → Option Exp
 maybe_kept None = None
 maybe_kept (Some e) = Some (kept e)

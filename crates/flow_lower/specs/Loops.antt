@@ -18,6 +18,7 @@ o >>= f = option_and_then f o
 
 -- ---- the form of a counted loop
 
+-- the step of a counted loop must be written as a number
 abbrev pub number_of : Exp → Option ℤ
 number_of (core.number z at) = Some z
 number_of _ = None
@@ -27,6 +28,7 @@ abbrev pub register_of : Exp → Option ℕ
 register_of (register n false at) = Some n
 register_of _ = None
 
+-- what the counter is compared with: a number, or a register without a pointer
 abbrev pub bound_of : Exp → Option Bound
 bound_of (core.number z at) = Some (bound.Number z)
 bound_of (register n false at) = Some (bound.Register n)

@@ -20,12 +20,15 @@ use Rattle.flow_lower.specs.Kept.{statement_kept}
 use Rattle.flow_lower.specs.Loops.{statement_loops}
 pub use Rattle.flow_lower.specs.Sizes.{gives_nothing, library_size, exp_size, exps_size, maybe_size, test_size, statement_size, statements_size}
 
+-- the instruction's place in the source is that of its tree
 abbrev pub instr : Position → Act → Instr
 instr at a = record { at = at; act = a }
 
+-- for a part of a tree that needs a single instruction
 abbrev pub one : Position → Act → List Instr
 one at a = instr at a ∷ []
 
+-- one instruction, whose result goes to the register `into`
 abbrev pub computes : Position → ℕ → Work → List Instr
 computes at into w = one at (act.Compute into w)
 
@@ -67,9 +70,11 @@ abbrev mutual
   exps_kinds no_exp = []
   exps_kinds (and_exp e es) = exp_kinds e ++ exps_kinds es
 
+-- how many registers of its own an expression takes
 abbrev pub width : Exp → ℕ
 width e = length (exp_kinds e)
 
+-- a part that isn't there needs no register
 abbrev pub maybe_kinds : Option Exp → List Bool
 maybe_kinds None = []
 maybe_kinds (Some e) = exp_kinds e
@@ -93,11 +98,13 @@ abbrev mutual
 
 -- ---- expressions
 
+-- of the word in register r
 abbrev pub unary_work : UnaryOp → ℕ → Work
 unary_work unary_op.Minus r = work.Minus r
 unary_work unary_op.Complement r = work.Complement r
 unary_work unary_op.Not r = work.Not r
 
+-- of the word in register r, by the one in register `by`
 abbrev pub change_work : Change → ℕ → ℕ → Work
 change_work (change.Compute o) r by = work.Binary o r by
 change_work (change.Move element back) r by = work.Move r by element back
@@ -174,6 +181,7 @@ abbrev mutual
 
 -- ---- statements
 
+-- nothing for the missing last part of a `for`
 abbrev pub maybe_code : (first : ℕ) → Option Exp → (r pc : ℕ) → List Instr
 maybe_code first None r pc = []
 maybe_code first (Some e) r pc = exp_code first e r pc
@@ -183,6 +191,7 @@ abbrev pub test_code : (first : ℕ) → Position → Option Exp → (r pc out :
 test_code first at None r pc out = []
 test_code first at (Some e) r pc out = exp_code first e r pc ++ one at (act.Branch (held first e r) (pc + exp_size e + 1) out)
 
+-- a `return` with or without a value (C99 6.8.6.4)
 abbrev pub return_code : (first : ℕ) → Position → Option Exp → (r pc : ℕ) → List Instr
 return_code first at None r pc = one at (act.Return None)
 return_code first at (Some e) r pc = exp_code first e r pc ++ one at (act.Return (Some (held first e r)))
@@ -259,9 +268,11 @@ body_code f =
     (arrivals_code first f.arrivals ++
     (statement_code first (body_kept f) (first + length f.objects) pc end end ++ one f.place (act.Return None)))
 
+-- whether each register is a pointer: first the named, then addresses, then values
 abbrev pub function_kinds : Function → List Bool
 function_kinds f = f.pointers ++ (replicate (length f.objects) true ++ statement_kinds (body_kept f))
 
+-- a function in flow code, still without regions for weak locks
 abbrev pub function_code : Function → FlowFunction
 function_code f = record {
   name = f.name;
@@ -275,6 +286,7 @@ function_code f = record {
   regions = [];
 }
 
+-- a program in flow code, where no weak lock is placed yet
 abbrev pub lowered : Program → Code
 lowered p = record {
   functions = map function_code p.functions;

@@ -11,6 +11,7 @@ gives_nothing library_call.Exit = true
 gives_nothing library_call.Free = true
 gives_nothing _ = false
 
+-- one more where a register gets 0 in place of an answer
 abbrev pub library_size : LibraryCall → ℕ
 library_size c = if gives_nothing c then 2 else 1
 
@@ -48,6 +49,7 @@ abbrev mutual
   exps_size no_exp = 0
   exps_size (and_exp e es) = exp_size e + exps_size es
 
+-- no instruction for a part that isn't there
 abbrev pub maybe_size : Option Exp → ℕ
 maybe_size None = 0
 maybe_size (Some e) = exp_size e

@@ -57,6 +57,7 @@ pub fn push_work(
     push(out, at, Act::Compute { into, work })
 }
 
+/// The work of an operator on one register.
 pub fn unary_work(op: UnaryOp, register: u32) -> Work
     ensures { result ≡ spec.unary_work op register }
 {
@@ -67,6 +68,7 @@ pub fn unary_work(op: UnaryOp, register: u32) -> Work
     }
 }
 
+/// The work of `+=` and its kin, on what a register holds (C99 6.5.16.2).
 pub fn change_work(change: Change, register: u32, by: u32) -> Work
     ensures { result ≡ spec.change_work change register by }
 {

@@ -56,6 +56,7 @@ pub fn push_given(
     })
 }
 
+/// Computes a work into the next register.
 pub fn push_computed(
     out: &mut List<Instr>,
     at: Position,

@@ -23,11 +23,13 @@ use Rattle.front.specs.declared.reading.CompileFault.{CompileFault}
 use Rattle.front.specs.declared.reading.CompileFault.TheVariants as faults
 use Rattle.front.specs.declared.reading.SourceFault.{SourceFault}
 
+-- what is read from a text: its tree, or the fault that refuses it
 pub data Reading : Type 0 where
   -- a tree without a fault
   sound : List Outer → Reading
   refused : SourceFault → Reading
 
+-- by the number of the fault, and its line and column
 abbrev pub refused_at : ℕ → Position → Reading
 refused_at number at = refused (record { number = number; at = at })
 
@@ -39,12 +41,14 @@ fault_at (Some number) (Some at) = Some (record { number = number; at = at })
 
 -- ---- types
 
+-- a tree is sound if no rule of types is broken
 abbrev pub by_first_fault : List Outer → Option Found → Reading
 by_first_fault os None = sound os
 by_first_fault os (Some x) = refused_at (types.number_of x.fault) x.at
 
 -- ---- the grammar
 
+-- 8: nested too deep; 20: C that isn't taken; 7: any other
 abbrev pub fault_number : Fault → List Lexeme → ℕ
 fault_number Nesting rest = 8
 fault_number Syntax rest = if begins_refused rest then 20 else 7
@@ -65,10 +69,12 @@ told_of f = fault_at (grammar.number_of f) (grammar.place_of f)
 abbrev pub refusal_of : LexFault → Option SourceFault
 refusal_of f = fault_at (lex.number_of f) (lex.place_of f)
 
+-- a fault of the tokens is told before any of the grammar
 abbrev pub IsByTokens : Result (List Token) LexFault → Reading → Type 0
 IsByTokens (Ok tokens) r = IsByTree tokens (parsed limit (lexemes tokens)) r
 IsByTokens (Err fault) r = option_map refused (refusal_of fault) ≡ Some r
 
+-- what the text is read as: each text has one reading
 abbrev pub IsReading : Text → Reading → Type 0
 IsReading text r = IsByTokens (tokens_of text) r
 
@@ -79,6 +85,7 @@ abbrev pub IsRefusedBy : (Reading → Type 0) → CompileFault → Type 0
 IsRefusedBy Reads faults.OutOfMemory = Unit {0}
 IsRefusedBy Reads (faults.Source fault) = Reads (refused fault)
 
+-- why a compilation of the text may have failed
 abbrev pub IsRefusedFor : Text → CompileFault → Type 0
 IsRefusedFor text f = IsRefusedBy (IsReading text) f
 

@@ -33,8 +33,10 @@ pub record IsBasisOf (code : Code) (ps : List Pair) (rs : List Range) (profile :
   pub met : (a : AccessAt) → is_listed b.met.items a ≡ is_met code ps profile a
   pub loops : (a : AccessAt) → loop_at b.loops a ≡ loop_of rs a
 
+-- the access's grain by the lists that its basis has
 abbrev pub grain_by : Code → Basis → AccessAt → Grain
 grain_by code b a = if is_listed b.met.items a then loop_grain (loop_at b.loops a) (if is_load_or_store (act_of code a) then together (beside code b.narrow.items a) else grain.Instruction) else grain.Function
 
+-- a row of the listing: the access with its grain
 abbrev pub row_by : Code → Basis → AccessAt → Grained
 row_by code b a = record { access = a; grain = grain_by code b a }

@@ -11,12 +11,15 @@ pub record AreFirsts (is : List Instr) (firsts : List ℕ) : Type 0 where
   pub long : length firsts ≡ length is
   pub each : (k : ℕ) → k < length is → slice_index_or firsts k 0 ≡ block_at is k
 
+-- the same of each function of the code
 pub record HaveFirsts (code : Code) (firsts : List (List ℕ)) : Type 0 where
   pub each : (f : ℕ) → AreFirsts (instrs_of code f) (slice_index_or firsts f [])
 
+-- the first instruction of the access's block
 abbrev pub block_in : List (List ℕ) → AccessAt → Option ℕ
 block_in firsts a = slice_get (slice_index_or firsts a.function []) a.instr
 
+-- there is a block, and it begins at b
 abbrev pub is_block : ℕ → Option ℕ → Bool
 is_block b None = false
 is_block b (Some c) = c == b
@@ -25,6 +28,7 @@ is_block b (Some c) = c == b
 abbrev pub is_in_block : List (List ℕ) → AccessAt → (f b : ℕ) → Bool
 is_in_block firsts a f b = (a.function == f) && is_block b (block_in firsts a)
 
+-- no access is in no block
 abbrev pub holds_in_block : List (List ℕ) → Option AccessAt → (f b : ℕ) → Bool
 holds_in_block firsts None f b = false
 holds_in_block firsts (Some a) f b = is_in_block firsts a f b

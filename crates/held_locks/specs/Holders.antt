@@ -33,6 +33,7 @@ abbrev pub holds_in : ℕ → ℕ → Option Told → Bool
 holds_in lock stripe None = false
 holds_in lock stripe (Some told) = holds told.thread.stripes lock stripe
 
+-- the same of thread t in this state
 abbrev pub holds_stripe : ℕ → ℕ → ℕ → State Told → Bool
 holds_stripe lock stripe t st = holds_in lock stripe (slice_get st.threads t)
 
@@ -48,6 +49,7 @@ abbrev pub held_after_event : ObjId → LockState → Option Event → LockState
 held_after_event o before (Some (Did t x answer)) = if same_object x.entry.obj o then held_after x.entry.op answer t before else before
 held_after_event o before _ = before
 
+-- a run that can't go on leaves the holder as it is
 abbrev pub held_on : (State Told → LockState → LockState) → Option (State Told) → LockState → LockState
 held_on rest None before = before
 held_on rest (Some st) before = rest st before

@@ -16,6 +16,7 @@ AscendFrom number stripe n (x ∷ xs) = (n ≤ number x) × (stripe x < 8) × As
 abbrev pub AreSorted : List Stripe → Type 0
 AreSorted xs = AscendFrom number_of_stripe (λ x. x.stripe) 0 xs
 
+-- the same of the pairs, lock and stripe, that an open region has
 abbrev pub ArePairsSorted : List (ℕ × ℕ) → Type 0
 ArePairsSorted xs = AscendFrom number_of_pair (λ x. x.1) 0 xs
 

@@ -36,6 +36,7 @@ call_so_far f k call.MutexUnlock (m ∷ []) (suc n) l = unlocked (naming_at f k 
 call_so_far f k call.CondWait (c ∷ m ∷ []) (suc (suc n)) l = unlocked (naming_at f k m) l
 call_so_far f k _ arguments made l = l
 
+-- an instruction that is half done has changed locks only in library calls
 abbrev pub so_far : Function → ℕ → Act → ℕ → RelLocks → RelLocks
 so_far f k (act.Library c arguments into) made l = call_so_far f k c arguments made l
 so_far f k _ made l = l
@@ -69,6 +70,7 @@ Levels code slots xs entry f (g ∷ gs) = IsCalledBy code f g × (before : ℕ �
 abbrev pub Stack : Code → (slots : ℕ) → List Points → (now : ℕ → Bool) → Frame → List Frame → Type 0
 Stack code slots xs now f fs = (before : ℕ → Bool) × FrameMeans code slots xs f before now × Levels code slots xs before f fs
 
+-- of a thread's state, which lists its other frames from the outermost on
 abbrev pub ThreadStack : Code → (slots : ℕ) → List Points → (now : ℕ → Bool) → Thread → Type 0
 ThreadStack code slots xs now th = Stack code slots xs now th.top (reverse th.below)
 

@@ -51,6 +51,7 @@ abbrev pub IsLogOf : (file : Result (List ℕ) Answer) → Result LogView Answer
 IsLogOf (Ok bytes) r = IsLogIn bytes r
 IsLogOf (Err a) r = r ≡ Err a
 
+-- a log file has at most 512 MiB (536870912 bytes)
 abbrev pub IsLogFile : Files → (log : List ℕ) → Result LogView Answer → Type 0
 IsLogFile files log r = (file : Result (List ℕ) Answer) × IsFile (Some files) 536870912 part.Log log file × IsLogOf file r
 
@@ -94,6 +95,7 @@ Walks (Races source) = ⊥
 Walks (Weaken source name) = ⊥
 Walks _ = Unit {0}
 
+-- its entries come from a log, and one may be wrong
 abbrev pub FollowsLog : Asked → Type 0
 FollowsLog (Replay source log reads) = Unit {0}
 FollowsLog (Profile source log name) = Unit {0}
@@ -113,6 +115,7 @@ MayAnswer job _ = ⊥
 
 -- ---- causes
 
+-- why the program may have ended with this exit status
 pub data CauseOf (files : Files) (left : List ℕ) (job : Option Asked) (old new : Outside) (status : ℕ) : Type 0 where
   NoJob : job ≡ None → status ≡ 1 → CauseOf files left job old new status
   Refused : (asked : Asked) → job ≡ Some asked → (a : Answer) → Refuses files left asked a → status ≡ status_of a → CauseOf files left job old new status

@@ -23,15 +23,18 @@ use Rattle.jobs.specs.Works.{IsOfRun, Work}
 abbrev pub IsSource : Option Files → List ℕ → (List ℕ → Outcome → Type 0) → Outcome → Type 0
 IsSource files source Next o = Comes (IsFile files 1048576 part.Source source) Next o
 
+-- `races`: the file, its tree, and then the list of pairs
 abbrev pub IsRaces : Option Files → (source : List ℕ) → Outcome → Type 0
 IsRaces files source o = IsSource files source (λ text. Comes (IsTree text) ListsRaces) o
 
+-- `weaken`: a fault of the profile is told before one of the source's tree
 abbrev pub IsWeaken : Option Files → (source : List ℕ) → (profile : Option (List ℕ)) → Outcome → Type 0
 IsWeaken files source profile o =
     IsSource files source (λ text.
     Comes (IsProfile files profile) (λ p.
     Comes (IsTree text) (ListsWeakLocks p))) o
 
+-- `replay`: a fault of the log is told before one of the source's tree
 abbrev pub IsReplay : (old new : Work) → Option Files → (source log : List ℕ) → (reads : Option (List ℕ)) → Outcome → Type 0
 IsReplay old new files source log reads o =
     IsSource files source (λ text.
@@ -39,6 +42,7 @@ IsReplay old new files source log reads o =
     Comes (IsLogIn bytes) (λ view.
     Comes (IsTree text) (Replays old new view reads)))) o
 
+-- `profile`: reads what a replay reads, and puts a profile
 abbrev pub IsProfiling : Option Files → (source log name : List ℕ) → Outcome → Type 0
 IsProfiling files source log name o =
     IsSource files source (λ text.
@@ -46,6 +50,7 @@ IsProfiling files source log name o =
     Comes (IsLogIn bytes) (λ view.
     Comes (IsTree text) (ShowsLog view name)))) o
 
+-- `record`: only for a sound source is the input read, 1 MiB at most
 abbrev pub IsRecord : (old new : Work) → Option Files → (left : Option (List ℕ)) → RecordAsked → Outcome → Type 0
 IsRecord old new files left r o =
     IsSource files r.source (λ text.
@@ -56,14 +61,17 @@ IsRecord old new files left r o =
 
 -- ---- what a job touches
 
+-- all jobs read or put files
 abbrev pub UsesShelf : Option Asked → Type 0
 UsesShelf None = ⊥
 UsesShelf _ = Unit {0}
 
+-- only `record` reads the standard input
 abbrev pub ReadsInput : Option Asked → Type 0
 ReadsInput (Some (Record r)) = Unit {0}
 ReadsInput _ = ⊥
 
+-- those that need a crew
 abbrev pub RunsThreads : Option Asked → Type 0
 RunsThreads (Some (Record r)) = Unit {0}
 RunsThreads (Some (Replay source log reads)) = Unit {0}

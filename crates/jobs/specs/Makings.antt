@@ -25,6 +25,7 @@ use Rattle.jobs.specs.Works.{HasRun, Work}
 
 -- ---- what is put
 
+-- the source with this many functions, as a file of this name
 abbrev pub source_put : (count : ℕ) → (name : List ℕ) → Put
 source_put count name = record { name = name; content = program_text count }
 

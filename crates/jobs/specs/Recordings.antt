@@ -20,6 +20,7 @@ use Rattle.jobs.specs.Sources.{IsFound, IsSourceWalk, AreOrdered}
 use Rattle.jobs.specs.Works.{HasRun, Work}
 use Rattle.walk_answers.specs.Walking.{formula_of, outcome_of}
 
+-- slots, cells and limit as they were asked for, with the input read
 abbrev pub setup_of : RecordAsked → (input : List ℕ) → SetupView
 setup_of r input = record { slots = r.slots; cells = r.cells; limit = r.limit; input = input }
 
@@ -27,6 +28,7 @@ setup_of r input = record { slots = r.slots; cells = r.cells; limit = r.limit; i
 abbrev pub log_of : RecordAsked → Profile → (input : List ℕ) → List Entry → LogView
 log_of r p input entries = record { setup = setup_of r input; profile = p; entries = entries }
 
+-- the log of the run, as a file of the name asked for
 abbrev pub log_put : RecordAsked → Profile → (input : List ℕ) → List Entry → Put
 log_put r p input entries = record { name = r.log; content = log_text (log_of r p input entries) }
 

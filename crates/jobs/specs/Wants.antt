@@ -11,6 +11,7 @@ use Rattle.rr_base.specs.Files.{Files}
 abbrev pub LacksEither : Option Files → (source : List ℕ) → (LacksLater : Type 0) → Type 0
 LacksEither files source LacksLater = Lacks files source ⊎ ((text : List ℕ) × IsFile files 1048576 part.Source source (Ok text) × LacksLater)
 
+-- the shelf doesn't have a file that the job reads
 abbrev pub LacksFile : Option Files → Option Asked → Type 0
 LacksFile files None = ⊥
 LacksFile files (Some (Races source)) = Lacks files source

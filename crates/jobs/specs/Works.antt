@@ -13,6 +13,7 @@ pub record Work : Type 0 where
   pub jobs : ℕ
   pub turns : ℕ
 
+-- how many jobs and turns the crew has counted so far
 abbrev pub work_of : {C : Type 0} → Crew.Ghosts C → C → Work
 work_of g crew = record { jobs = g.jobs_run crew; turns = g.turns crew }
 

@@ -10,6 +10,7 @@ use Rattle.listing.specs.declared.line.Line.{Line}
 use Rattle.listing.specs.declared.line.Shown.{Shown}
 use Rattle.listing.specs.Lines.{line_of, sorted_lines}
 
+-- the empty name where the code has no such site
 abbrev pub name_in : Option Site → List ℕ
 name_in None = []
 name_in (Some site) = site.name
@@ -18,6 +19,7 @@ name_in (Some site) = site.name
 abbrev pub place_text : Code → Place → List ℕ
 place_text code p = name_in (site_at code.sites p.site) ++ (codes "+" ++ decimal p.class)
 
+-- with a space before and after it
 abbrev pub kind_text : Bool → List ℕ
 kind_text true = codes " store "
 kind_text false = codes " load "
@@ -30,6 +32,7 @@ shown_text x = (kind_text x.store ++ decimal x.at.line) ++ (codes ":" ++ decimal
 abbrev pub line_text : Code → Line → List ℕ
 line_text code l = codes "race " ++ place_text code l.place ++ shown_text l.first ++ shown_text l.second ++ 10 ∷ []
 
+-- of all pairs, without the last line, which counts them
 abbrev pub lines_text : Code → List Line → List ℕ
 lines_text code ls = flat_map (line_text code) ls
 

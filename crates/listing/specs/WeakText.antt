@@ -30,9 +30,11 @@ locks_text code n (l ∷ ls) = lock_text code n l ++ locks_text code (n + 1) ls
 abbrev pub spot_text : List ℕ → Position → List ℕ
 spot_text word at = (word ++ decimal at.line) ++ (codes ":" ++ decimal at.column)
 
+-- what stands at the k-th instruction of the same function
 abbrev pub beside : AccessAt → ℕ → AccessAt
 beside a k = record { function = a.function; instr = k }
 
+-- `function main`
 abbrev pub function_text : Code → ℕ → List ℕ
 function_text code f = codes "function " ++ name_of code f
 
@@ -52,6 +54,7 @@ access_text code g = spot_text (codes "access ") (shown code g.access).at ++ kin
 abbrev pub access_before : Code → Grained → Grained → Bool
 access_before code g h = shown_less (shown code g.access) (shown code h.access)
 
+-- a line for each, in the order in which they are given
 abbrev pub accesses_text : Code → List Grained → List ℕ
 accesses_text code gs = flat_map (access_text code) gs
 

@@ -10,6 +10,7 @@ use Rattle.facts.specs.Locks.{successors, locks_are_sized, Points}
 abbrev pub FlowsWithin : Function → Type 0
 FlowsWithin f = (k to : ℕ) (i : Instr) → slice_get f.instrs k ≡ Some i → Contains (successors k i.act) to → to < length f.instrs
 
+-- of the exits of all functions
 abbrev pub all_sized : List RelLocks → Bool
 all_sized exits = list_all locks_are_sized exits
 

@@ -13,6 +13,7 @@ abbrev pub from_path : LockPath → List LockPath → List LockPath
 from_path p [] = []
 from_path p (q ∷ qs) = if is_less q p then from_path p qs else q ∷ qs
 
+-- the list's first path is this one
 abbrev pub begins_with_path : LockPath → List LockPath → Bool
 begins_with_path p [] = false
 begins_with_path p (q ∷ qs) = is_same p q

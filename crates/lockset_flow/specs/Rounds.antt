@@ -19,12 +19,14 @@ use Rattle.facts.specs.Locks.{has, both, locked, unlocked, after_call, nothing, 
 
 -- ---- the locks after an instruction, where the arguments have these names
 
+-- a condition wait unlocks its mutex and locks it again
 abbrev pub library_by : LibraryCall → List Naming → RelLocks → RelLocks
 library_by call.MutexLock (n ∷ []) l = locked n l
 library_by call.MutexUnlock (n ∷ []) l = unlocked n l
 library_by call.CondWait (c ∷ n ∷ []) l = locked n (unlocked n l)
 library_by _ _ l = l
 
+-- a call changes the locks as its function's exit tells
 abbrev pub after_by : List RelLocks → List Naming → Act → RelLocks → RelLocks
 after_by exits names (act.Library c arguments into) l = library_by c names l
 after_by exits names (act.Call g arguments into) l = after_call (map actual_of names) (slice_get exits g) l
@@ -41,13 +43,16 @@ abbrev pub minus_weight : Minus → ℕ
 minus_weight All = 0
 minus_weight (Listed ps) = 1 + (2 ^ 64 - length ps)
 
+-- how many times, at most, the locks of one point can still fall
 abbrev pub weight : RelLocks → ℕ
 weight l = length l.plus + minus_weight l.minus
 
+-- the sum over several points
 abbrev pub weights : List RelLocks → ℕ
 weights [] = 0
 weights (l ∷ ls) = weight l + weights ls
 
+-- the sum over all points, which falls in each round but the last
 abbrev pub points_weight : Points → ℕ
 points_weight x = weights x.before + weight x.exit
 
@@ -64,13 +69,16 @@ abbrev pub start_row : List LockPath → ℕ → RelLocks
 start_row top zero = nothing
 start_row top (suc k) = topmost top
 
+-- the first n points as they are before the rounds
 abbrev pub starts : List LockPath → ℕ → List RelLocks
 starts top zero = []
 starts top (suc n) = starts top n ++ start_row top n ∷ []
 
+-- other locks before the k-th instruction
 abbrev pub with_row : Points → ℕ → RelLocks → Points
 with_row x k l = record { before = slice_set x.before k l; exit = x.exit }
 
+-- other locks at the function's end
 abbrev pub with_exit : Points → RelLocks → Points
 with_exit x l = record { before = x.before; exit = l }
 
@@ -93,12 +101,15 @@ pub record MetAt (exits : List RelLocks) (f : Function) (k : ℕ) (x : Points) :
   pub flows : (to : ℕ) (i : Instr) → slice_get f.instrs k ≡ Some i → Contains (successors k i.act) to → Agree exits f k to x
   pub left : (i : Instr) → slice_get f.instrs k ≡ Some i → returns i.act ≡ true → Leaves k x
 
+-- a round has come as far as the k-th instruction
 abbrev pub MetTo : List RelLocks → Function → ℕ → Points → Type 0
 MetTo exits f k x = (j : ℕ) → j < k → MetAt exits f j x
 
+-- a round has gone through the whole function
 abbrev pub MetAll : List RelLocks → Function → Points → Type 0
 MetAll exits f x = (j : ℕ) → j < length f.instrs → MetAt exits f j x
 
+-- paths in order, of sizes that can be kept
 abbrev pub Good : RelLocks → Type 0
 Good l = (ascends l ≡ true) × (locks_are_sized l ≡ true)
 
@@ -107,6 +118,7 @@ pub record AllGood (x : Points) : Type 0 where
   pub before : (k : ℕ) (l : RelLocks) → slice_get x.before k ≡ Some l → Good l
   pub exit : Good x.exit
 
+-- true: the points can fall less far than before; false: just as far
 abbrev pub FallsTo : Bool → Points → Points → Type 0
 FallsTo true old new = points_weight new < points_weight old
 FallsTo false old new = points_weight new ≡ points_weight old
@@ -124,6 +136,7 @@ pub record Relaxes (exits : List RelLocks) (f : Function) (Met : Points → Type
 abbrev pub starting : List LockPath → ℕ → Points
 starting top n = record { before = starts top n; exit = topmost top }
 
+-- what the rounds come to: all ways are met, no solution lost
 pub record Settled (exits : List RelLocks) (f : Function) (old new : Points) : Type 0 where
   pub long : length new.before ≡ length old.before
   pub down : PointsBelow new old

@@ -85,6 +85,7 @@ impl FlowFacts {
     }
 
     // The locks before an instruction.
+    /// The locks before an instruction.
     pub fn row(&self, k: usize) -> &RelLocks
         requires { k < length self.now.before }
         ensures { slice_get self.now.before k ≡ Some result.now }
@@ -93,6 +94,7 @@ impl FlowFacts {
     }
 
     // Before an instruction no more is known than the others tell; whether that is less than before.
+    /// Meets the locks before an instruction with others, and tells whether they changed.
     pub fn meet_at(&mut self, alloc: Global, k: usize, other: &RelLocks) -> Result<bool, AllocError>
         requires { k < length self.old.before }
         ensures { IfOk result (λ changed. (b : Locks) → slice_get self.old.before k ≡ Some b → (self.new ≡ with_row self.old k (meet_of b other.now)) × (changed ≡ false → meet_of b other.now ≡ b) × (changed ≡ true → weight (meet_of b other.now) < weight b)) }
@@ -101,6 +103,7 @@ impl FlowFacts {
     }
 
     // At the exit no more is known than the others tell; whether that is less than before.
+    /// Meets the locks at the exit with others, and tells whether they changed.
     pub fn meet_exit(&mut self, alloc: Global, other: &RelLocks) -> Result<bool, AllocError>
         ensures { IfOk result (λ changed. (self.new ≡ with_exit self.old (meet_of self.old.exit other.now)) × (changed ≡ false → meet_of self.old.exit other.now ≡ self.old.exit) × (changed ≡ true → weight (meet_of self.old.exit other.now) < weight self.old.exit)) }
     {

@@ -4,6 +4,7 @@ use Rattle.facts.specs.declared.locks.Guarded.{Guarded}
 use Rattle.facts.specs.declared.locks.Summary.{Summary}
 use Rattle.facts.specs.Locks.{Points}
 
+-- of the first `count` functions each summary has its exit and its accesses
 pub record AreCollected (xs : List Points) (rows : List (List Guarded)) (count : ℕ) (ss : List Summary) : Type 0 where
   pub long : length ss ≡ count
   pub exit : (f : ℕ) (x : Points) (s : Summary) → slice_get xs f ≡ Some x → slice_get ss f ≡ Some s → s.exit ≡ x.exit

@@ -25,6 +25,7 @@ pub record ExitsBelow (es gs : List RelLocks) : Type 0 where
 abbrev pub topmost_exits : List (List LockPath) → List RelLocks
 topmost_exits tops = map topmost tops
 
+-- where unlocked mutexes are listed, the function knows each of them
 abbrev pub IsMinusKnown : Code → ℕ → Minus → Type 0
 IsMinusKnown code f All = Unit {0}
 IsMinusKnown code f (Listed ps) = (p : LockPath) → has p ps ≡ true → Knows code f p
@@ -49,21 +50,26 @@ pub record AreNearing (code : Code) (tops : List (List LockPath)) (exits : List 
 
 -- ---- how far exits can still fall
 
+-- 0 where any mutex may be unlocked: nothing is left to fall
 abbrev pub minus_weight : Minus → ℕ
 minus_weight All = 0
 minus_weight (Listed ps) = 1 + (2 ^ 64 - length ps)
 
+-- how many times, at most, the locks of one exit can still change
 abbrev pub weight : RelLocks → ℕ
 weight l = length l.plus + minus_weight l.minus
 
+-- the sum over all exits, which falls in each round but the last
 abbrev pub weights : List RelLocks → ℕ
 weights [] = 0
 weights (l ∷ ls) = weight l + weights ls
 
+-- a listed minus has fewer than 2^64 paths, as `minus_weight` supposes
 abbrev pub IsSmallMinus : Minus → Type 0
 IsSmallMinus All = Unit {0}
 IsSmallMinus (Listed ps) = length ps < 2 ^ 64
 
+-- of all exits, so that their weights can fall
 abbrev pub AreSmall : List RelLocks → Type 0
 AreSmall [] = Unit {0}
 AreSmall (l ∷ ls) = IsSmallMinus l.minus × AreSmall ls
@@ -77,14 +83,17 @@ pub record AreFalling (code : Code) (tops : List (List LockPath)) (exits : List 
 
 -- ---- whether exits are the same
 
+-- that any mutex may be unlocked equals only itself
 abbrev pub minus_same : Minus → Minus → Bool
 minus_same All All = true
 minus_same (Listed ps) (Listed qs) = paths_same ps qs
 minus_same _ _ = false
 
+-- the same mutexes locked, and the same that may be unlocked
 abbrev pub locks_same : RelLocks → RelLocks → Bool
 locks_same l m = paths_same l.plus m.plus && minus_same l.minus m.minus
 
+-- exit by exit; then the rounds are over
 abbrev pub all_same : List RelLocks → List RelLocks → Bool
 all_same [] [] = true
 all_same (l ∷ ls) (m ∷ ms) = locks_same l m && all_same ls ms

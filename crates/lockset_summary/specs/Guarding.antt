@@ -46,9 +46,11 @@ pub record AreReady (code : Code) (xs : List Points) : Type 0 where
   pub points : (f : ℕ) (fn : Function) (x : Points) → slice_get code.functions f ≡ Some fn → slice_get xs f ≡ Some x → length x.before ≡ length fn.instrs
   pub known : (f k : ℕ) (x : Points) (l : RelLocks) → slice_get xs f ≡ Some x → slice_get x.before k ≡ Some l → AreLocksKnown code f l
 
+-- the f-th row; no accesses where there is none
 abbrev pub accesses_of : List (List Guarded) → ℕ → List Guarded
 accesses_of rows f = slice_index_or rows f []
 
+-- whether the access is a store, where there is one
 abbrev pub store_of : Option Access → Option Bool
 store_of None = None
 store_of (Some a) = Some a.store
@@ -62,12 +64,15 @@ pub record IsMet (f k : ℕ) (fn : Function) (i : Instr) (l : RelLocks) (rows : 
   pub own : (a : Access) → access_of i.act ≡ Some a → InRow rows f (guarded_by f k a.store l)
   pub called : (g : ℕ) (arguments : List ℕ) (into : Option ℕ) (b : Guarded) → i.act ≡ act.Call g arguments into → InRow rows g b → InRow rows f (seen_by (actuals_at fn k arguments) l b)
 
+-- the same at each place of the code, with the locks found before it
 abbrev pub IsMetAt : Code → List Points → (f k : ℕ) → List (List Guarded) → Type 0
 IsMetAt code xs f k rows = (fn : Function) (i : Instr) (x : Points) (l : RelLocks) → StandsAt code f k fn i → slice_get xs f ≡ Some x → slice_get x.before k ≡ Some l → IsMet f k fn i l rows
 
+-- at all instructions of the f-th function
 abbrev pub AreAllMetAt : Code → List Points → ℕ → List (List Guarded) → Type 0
 AreAllMetAt code xs f rows = (k : ℕ) → IsMetAt code xs f k rows
 
+-- at all instructions of all functions: a round adds nothing more
 abbrev pub AreAllMet : Code → List Points → List (List Guarded) → Type 0
 AreAllMet code xs rows = (f : ℕ) → AreAllMetAt code xs f rows
 

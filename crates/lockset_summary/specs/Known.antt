@@ -11,6 +11,7 @@ use Rattle.facts.specs.Paths.{substituted, names_cell}
 use Rattle.facts.specs.Summaries.{mutex_naming, Knows}
 use Rattle.lockset_summary.specs.Rounds.{Changes, room}
 
+-- the f-th row; no paths where there is none
 abbrev pub row_of : List (List LockPath) → ℕ → List LockPath
 row_of rows f = slice_index_or rows f []
 
@@ -35,9 +36,11 @@ pub record IsTold (f k : ℕ) (fn : Function) (i : Instr) (rows : List (List Loc
   pub own : (q : LockPath) → mutex_naming fn k i.act ≡ Named q → In rows f q
   pub called : (g : ℕ) (arguments : List ℕ) (into : Option ℕ) (p q : LockPath) → i.act ≡ act.Call g arguments into → In rows g p → substituted p (actuals_at fn k arguments) ≡ Some q → names_cell q ≡ true → In rows f q
 
+-- of all instructions of the f-th function
 abbrev pub IsAllTold : ℕ → Function → List (List LockPath) → Type 0
 IsAllTold f fn rows = (k : ℕ) (i : Instr) → slice_get fn.instrs k ≡ Some i → IsTold f k fn i rows
 
+-- of all functions: a round adds nothing more
 abbrev pub AreAllTold : Code → List (List LockPath) → Type 0
 AreAllTold code rows = (f : ℕ) (fn : Function) → slice_get code.functions f ≡ Some fn → IsAllTold f fn rows
 

@@ -16,9 +16,11 @@ pub record Changes (S : Type 0) (room : S → ℕ) (Sound Met : S → Type 0) (o
 abbrev pub ForEach : (S X : Type 0) → (S → List X) → (ℕ → X → S → Type 0) → S → Type 0
 ForEach S X read P s = (j : ℕ) (x : X) → slice_get (read s) j ≡ Some x → P j x s
 
+-- what a loop has come to before its k-th item
 abbrev pub ForFirst : (S X : Type 0) → (S → List X) → (ℕ → X → S → Type 0) → ℕ → S → Type 0
 ForFirst S X read P k s = (j : ℕ) (x : X) → j < k → slice_get (read s) j ≡ Some x → P j x s
 
+-- what one turn of the loop adds; nothing past the end
 abbrev pub ForThe : (S X : Type 0) → (S → List X) → (ℕ → X → S → Type 0) → ℕ → S → Type 0
 ForThe S X read P k s = (x : X) → slice_get (read s) k ≡ Some x → P k x s
 

@@ -38,6 +38,7 @@ fn place_of(row: &[Guarded], access: &Guarded) -> Result<usize, usize>
 }
 
 // Puts the access into the row, unless it is there, and tells whether it wasn't.
+/// Puts an access in its place in an ascending row, and tells whether it wasn't there.
 pub fn insert(row: &mut List<Guarded>, access: Guarded) -> Result<bool, AllocError>
     requires { guarded_ascend row.old ≡ true }
     ensures { IfOk result (λ added. IsPut row.old access row.new added) }

@@ -43,6 +43,7 @@ pub record IsLastPart (is : List Instr) (l : LoopInfo) : Type 0 where
   pub apart : old ≢ by
   pub raises : nth is (l.last - 1) ≡ Some (act.Compute l.counter (work.Copy new))
 
+-- the instructions are those of a counted `for` (C99 6.8.5.3)
 pub record IsBorneOut (is : List Instr) (l : LoopInfo) : Type 0 where
   pub begins : l.first ≡ condition_end l + 1
   pub marks : nth is l.at ≡ Some act.Mark

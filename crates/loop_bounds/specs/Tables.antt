@@ -17,6 +17,7 @@ AreEnds is ends = (m k : ℕ) → m < length is → is_target (drop k is) m ≡ 
 abbrev pub AreFirsts : List Instr → List ℕ → Type 0
 AreFirsts is firsts = (m k : ℕ) → m < length is → k ≤ length is → is_target (take k is) m ≡ nat_lt (slice_index_or firsts m 0) k
 
+-- of each instruction, the first and the last jump or branch to it
 pub record AreWays (is : List Instr) (w : Ways) : Type 0 where
   pub firsts_long : length w.firsts.items ≡ length is
   pub ends_long : length w.ends.items ≡ length is
@@ -36,9 +37,11 @@ AreRounds is rounds = (k : ℕ) → k < length rounds → slice_get rounds k ≡
 abbrev pub is_calm : List Instr → LoopInfo → Bool
 is_calm is l = calls_nothing (loop_code is l)
 
+-- only these can have accesses with ranges
 abbrev pub calm_loops : List Instr → List LoopInfo → List LoopInfo
 calm_loops is ls = filter (is_calm is) ls
 
+-- none of the loops calls a function or the library
 abbrev pub AreCalm : List Instr → List LoopInfo → Type 0
 AreCalm is ls = (k : ℕ) (l : LoopInfo) → slice_get ls k ≡ Some l → is_calm is l ≡ true
 
@@ -52,10 +55,12 @@ abbrev pub one_more : ℕ → Option (Option ℕ) → Option (Option ℕ)
 one_more n None = Some (Some n)
 one_more n (Some o) = Some None
 
+-- no maker; just one; or several, which count as unknown
 abbrev pub makers_in : List Instr → (n r : ℕ) → Option (Option ℕ)
 makers_in is zero r = None
 makers_in is (suc n) r = if assigns r (nth is n) then one_more n (makers_in is n r) else makers_in is n r
 
+-- none where there is no maker, or more than one
 abbrev pub the_one : Option (Option ℕ) → Option ℕ
 the_one None = None
 the_one (Some o) = o

@@ -46,12 +46,14 @@ pub fn assigns(register: u32, act: &Act) -> bool
     }
 }
 
+/// Whether it is the Mark of a loop.
 pub fn is_mark(act: Option<&Act>) -> bool
     ensures { result ≡ order.is_mark (option_copied act.entry) }
 {
     matches!(act, Some(Act::Mark))
 }
 
+/// Whether it calls a function of the code.
 pub fn is_call(act: &Act) -> bool
     ensures { result ≡ ranges.is_call act.now }
 {
@@ -223,6 +225,7 @@ pub fn is_any_copy(act: Option<&Act>) -> bool
     )
 }
 
+/// Whether it jumps there.
 pub fn is_jump(target: u32, act: Option<&Act>) -> bool
     ensures { result ≡ loops.is_jump target (option_copied act.entry) }
 {

@@ -42,12 +42,14 @@ pub fn loop_code<'a>(instrs: &'a [Instr], counted: &LoopInfo) -> &'a [Instr]
     part(instrs, counted.at as usize, counted.last as usize + 2)
 }
 
+/// Whether none of the instructions assigns the register.
 pub fn is_never_assigned(instrs: &[Instr], register: u32) -> bool
     ensures { result ≡ paths.is_never_assigned instrs.now register }
 {
     instrs.iter().all(|instr| !assigns(register, &instr.act))
 }
 
+/// Whether none of the instructions calls a function.
 pub fn calls_nothing(instrs: &[Instr]) -> bool
     ensures { result ≡ ranges.calls_nothing instrs.now }
 {

@@ -52,6 +52,7 @@ abbrev pub starts_as : Program → ℕ → Phase
 starts_as p zero = phase.Begun (main_of p)
 starts_as p (suc k) = phase.Fresh
 
+-- the machine's thread has made no event, printed nothing and called nothing
 pub record IsAtStart (p : Program) (s : SetupView) (t : ℕ) (m : Thread) : Type 0 where
   pub phase : m.phase ≡ starts_as p t
   pub count : m.count ≡ 0

@@ -43,6 +43,7 @@ pub record IsAccess (code : Code) (s : SetupView) (made : List Object) (th : Thr
 
 -- ---- all threads after their quiet steps
 
+-- the thread after its quiet steps, with all that it has done
 abbrev pub resting : Code → SetupView → ℕ → Told → Told
 resting code s t told = record told { thread = settled code s t told.thread }
 

@@ -17,6 +17,7 @@ use Rattle.sync_objects.specs.Names.{kind_of, object_kind}
 use Rattle.order_log.specs.Names.{begins_name, continues_name}
 
 infixl 10 ◌>>=◌
+-- a line is refused as soon as one part of it is
 abbrev pub ◌>>=◌ : {A B : Type 0} → Option A → (A → Option B) → Option B
 o >>= f = option_and_then f o
 
@@ -38,6 +39,7 @@ abbrev pub digits_from : ℕ → Text → Option ℕ
 digits_from v [] = Some v
 digits_from v (b ∷ bs) = if is_ascii_digit b then digits_from (v * 10 + (b - 48)) bs else None
 
+-- after a leading 0 no digit may stand
 abbrev pub only_zero : Text → Option ℕ
 only_zero [] = Some 0
 only_zero (b ∷ bs) = None
@@ -51,16 +53,19 @@ number_in (b ∷ bs) = if b == 48 then only_zero bs else digits_from 0 (b ∷ bs
 abbrev pub capped : ℕ → ℕ
 capped n = min n 18446744073709551615
 
+-- the test for a name of C, in bytes
 abbrev pub is_name : Text → Bool
 is_name [] = false
 is_name (b ∷ bs) = begins_name b && list_all continues_name bs
 
 -- ---- entries
 
+-- none where no operation has this name
 abbrev pub op_among : List (Text × OpName) → Text → Option OpName
 op_among [] text = None
 op_among (row ∷ rows) text = if bytes_eq row.0 text then Some row.1 else op_among rows text
 
+-- each operation once by its name, so the order decides nothing
 abbrev pub op_rows : List (Text × OpName)
 op_rows =
     (codes "take", op.Take) ∷
@@ -117,10 +122,12 @@ object_by b bs =
     (if b == 115 then option_map object.Slot (number_in bs) else
     (if length bs == 0 then lone_object b else None)))))
 
+-- an object by its first byte and its number
 unfoldable pub object_in : Text → Option ObjId
 object_in [] = None
 object_in (b ∷ bs) = object_by b bs
 
+-- kinds have numbers only so that they can be compared
 abbrev pub kind_number : ObjKind → ℕ
 kind_number kind.Mutex = 0
 kind_number kind.Cond = 1
@@ -132,9 +139,11 @@ kind_number kind.Halt = 6
 kind_number kind.Input = 7
 kind_number kind.Output = 8
 
+-- the test for an operation on an object of its own kind
 abbrev pub fits : OpName → ObjId → Bool
 fits op obj = kind_number (kind_of op) == kind_number (object_kind obj)
 
+-- thread, count, operation and object, with a space between each
 unfoldable pub entry_in : Text → Option Entry
 entry_in line = do
   t ← cut 32 line
@@ -148,6 +157,7 @@ entry_in line = do
 
 -- ---- an entry in the code's types, whose greatest numbers stand for all from there on
 
+-- cells have 32 bits, locks 16, stripes and slots 8
 abbrev pub clipped_object : ObjId → ObjId
 clipped_object (object.Mutex cell) = object.Mutex (min cell 4294967295)
 clipped_object (object.Cond cell) = object.Cond (min cell 4294967295)
@@ -159,6 +169,7 @@ clipped_object object.Halt = object.Halt
 clipped_object object.Input = object.Input
 clipped_object object.Output = object.Output
 
+-- threads have 8 bits, counts 32
 abbrev pub clipped : Entry → Entry
 clipped e = record { thread = min e.thread 255; count = min e.count 4294967295; op = e.op; obj = clipped_object e.obj }
 
@@ -170,6 +181,7 @@ ends_before [] p = true
 ends_before (q ∷ []) p = is_lt (pair_order q p)
 ends_before (q ∷ r ∷ rs) p = ends_before (r ∷ rs) p
 
+-- `pair` and two names, the lesser first, after all pairs so far
 unfoldable pub pair_in : List Pair → Text → Option Pair
 pair_in ps line = do
   rest ← after_word (codes "pair ") line
@@ -178,19 +190,23 @@ pair_in ps line = do
 
 -- ---- bytes in hexadecimal digits
 
+-- capital letters are no digits here
 abbrev pub hex_value : ℕ → Option ℕ
 hex_value b = if is_in_range 48 57 b then Some (b - 48) else (if is_in_range 97 102 b then Some (b - 87) else None)
 
+-- of two digits, the high one first
 unfoldable pub byte_in : ℕ → ℕ → Option ℕ
 byte_in a b = do
   high ← hex_value a
   low ← hex_value b
   Some (16 * high + low)
 
+-- an odd digit at the end spoils them all
 abbrev pub bytes_in : Text → Option (List ℕ)
 bytes_in [] = Some []
 bytes_in (a ∷ []) = None
 bytes_in (a ∷ b ∷ rest) = byte_in a b >>= λ byte. bytes_in rest >>= λ bytes. Some (byte ∷ bytes)
 
+-- none unless there are two digits for each of `size` bytes
 abbrev pub hex_in : ℕ → Text → Option (List ℕ)
 hex_in size line = if length line == 2 * size then bytes_in line else None

@@ -27,6 +27,7 @@ pub record IsNamePair (p : Pair) : Type 0 where
   pub second : IsName p.1
   pub lesser_first : IsLesserFirst p
 
+-- pairs ascend, each once, so that each profile has one text
 abbrev pub HasNames : Profile → Type 0
 HasNames profile.All = Unit {0}
 HasNames (profile.Pairs ps) = AreAscending ps × AllByRecursion IsNamePair ps
@@ -39,6 +40,7 @@ pub record IsLog (v : LogView) : Type 0 where
 
 -- ---- the limits
 
+-- cells below 2^22, locks to 65471, stripes to 7, slots below the setup's
 abbrev pub IsObjectWithin : ℕ → ObjId → Type 0
 IsObjectWithin slots (object.Mutex cell) = cell < 4194304
 IsObjectWithin slots (object.Cond cell) = cell < 4194304
@@ -54,14 +56,17 @@ IsObjectWithin slots object.Output = Unit {0}
 abbrev pub last_count : ℕ → OpName → ℕ
 last_count limit op = if is_ending op then limit + 1 else limit
 
+-- its thread has a slot, its count is within the limit, and its object is too
 pub record IsEntryWithin (s : SetupView) (e : Entry) : Type 0 where
   pub thread : e.thread < s.slots
   pub count : e.count ≤ last_count s.limit e.op
   pub object : IsObjectWithin s.slots e.obj
 
+-- counts to the 6 endings that a thread may have
 abbrev pub is_ending_of : ℕ → Entry → Bool
 is_ending_of thread e = e.thread == thread && is_ending e.op
 
+-- counts to the 2^20 entries that a thread may have besides its endings
 abbrev pub is_other_of : ℕ → Entry → Bool
 is_other_of thread e = e.thread == thread && not (is_ending e.op)
 

@@ -3,6 +3,7 @@ use Rattle.std.specs.Prelude.{ℕ, List, codes}
 use Rattle.sync_objects.specs.declared.operation.OpName.{OpName}
 use Rattle.sync_objects.specs.declared.operation.OpName.TheVariants as op
 
+-- the word for an operation, as it stands in an entry's line
 abbrev pub op_text : OpName → List ℕ
 op_text op.Lock = codes "lock"
 op_text op.TryLock = codes "trylock"

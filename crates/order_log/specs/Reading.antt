@@ -64,6 +64,7 @@ IsFirstAt IsFault bytes number = (before : ℕ) × (number ≡ shown (before + 1
 
 -- ---- answers
 
+-- what each answer says of the bytes; for want of memory see below
 abbrev pub IsAnswer : Text → Result LogView LogFault → Type 0
 IsAnswer bytes (Ok v) = IsLog v × KeepsLimits v × (bytes ≡ log_text v)
 IsAnswer bytes (Err (LogSyntax number)) = IsFirstAt (IsSyntaxFault bytes) bytes number

@@ -17,6 +17,7 @@ use Rattle.order_log.specs.Reading.{lines_of}
 use Rattle.order_log.specs.Line.{after_word, number_in, pair_in, hex_in, entry_in}
 
 infixl 10 ◌>>=◌
+-- reading ends at the first fault
 abbrev pub ◌>>=◌ : {A B : Type 0} → Result A LogFault → (A → Result B LogFault) → Result B LogFault
 (Ok x) >>= f = f x
 (Err e) >>= f = Err e
@@ -27,12 +28,14 @@ Fails (LogSyntax number) read = read ≡ Err (LogSyntax number)
 Fails (LogLimit number) read = read ≡ Err (LogLimit number)
 Fails OutOfMemory read = Unit {0}
 
+-- a returned value or fault is the one that reading gives, but for memory
 abbrev pub Gives : {X Y : Type 0} → (X → Y) → Result X LogFault → Result Y LogFault → Type 0
 Gives view (Ok x) read = read ≡ Ok (view x)
 Gives view (Err e) read = Fails e read
 
 -- ---- lines that are left
 
+-- a byte in front of what is unfinished belongs to it, unless a whole line follows
 abbrev pub kept : ℕ → List Text → Text → Text → Text
 kept b [] bs rest = b ∷ bs
 kept b (line ∷ lines) bs rest = rest
@@ -48,6 +51,7 @@ pub record Lines : Type 0 where
   pub whole : List Text
   pub rest : Text
 
+-- the bytes that are left, the first of them in the line `at`
 abbrev pub lines_in : ℕ → Text → Lines
 lines_in at bytes = record { at = at; whole = lines_of bytes; rest = unfinished_of bytes }
 
@@ -55,13 +59,16 @@ lines_in at bytes = record { at = at; whole = lines_of bytes; rest = unfinished_
 abbrev pub left : Reader → Lines
 left r = lines_in r.line r.bytes.now
 
+-- line numbers stop at the greatest of 32 bits
 abbrev pub next : ℕ → ℕ
 next at = min (at + 1) 4294967295
 
+-- where no whole line is left, the fault is that of a missing line
 abbrev pub first_of : ℕ → List Text → Text → Result (Text × Lines) LogFault
 first_of at [] rest = Err (LogSyntax at)
 first_of at (line ∷ lines) rest = Ok (line, record { at = next at; whole = lines; rest = rest })
 
+-- the next whole line, and those after it
 abbrev pub next_line : Lines → Result (Text × Lines) LogFault
 next_line l = first_of l.at l.whole l.rest
 
@@ -72,6 +79,7 @@ found_at at (Some x) = Ok x
 
 -- ---- the head
 
+-- a log of this format and version begins with `chimera log 1`
 unfoldable pub first_line : Lines → Result Lines LogFault
 first_line l = do
   line ← next_line l
@@ -89,9 +97,11 @@ abbrev pub pairs_from : ℕ → List Pair → Lines → Result (List Pair × Lin
 pairs_from zero ps l = Ok (ps, l)
 pairs_from (suc left) ps l = next_line l >>= λ line. found_at l.at (pair_in ps line.0) >>= λ p. pairs_from left (ps ++ p ∷ []) line.1
 
+-- a profile that names pairs
 abbrev pub as_profile : List Pair × Lines → Profile × Lines
 as_profile x = (profile.Pairs x.0, x.1)
 
+-- `profile all`, or `profile` with a number and so many pairs below it
 unfoldable pub profile_at : Lines → Result (Profile × Lines) LogFault
 profile_at l = do
   line ← next_line l
@@ -107,6 +117,7 @@ input_at size l = do
 
 -- ---- entries
 
+-- the test for what `IsObjectWithin` demands
 abbrev pub is_object_within : ℕ → ObjId → Bool
 is_object_within slots (object.Mutex cell) = nat_lt cell 4194304
 is_object_within slots (object.Cond cell) = nat_lt cell 4194304
@@ -118,6 +129,7 @@ is_object_within slots object.Halt = true
 is_object_within slots object.Input = true
 is_object_within slots object.Output = true
 
+-- the test for what `IsEntryWithin` demands
 abbrev pub is_entry_within : SetupView → Entry → Bool
 is_entry_within s e = nat_lt e.thread s.slots && (nat_le e.count (last_count s.limit e.op) && is_object_within s.slots e.obj)
 
@@ -126,9 +138,11 @@ abbrev pub has_room : Bool → ℕ → List Entry → Bool
 has_room true thread es = nat_lt (count_by (is_ending_of thread) es) 6
 has_room false thread es = nat_lt (count_by (is_other_of thread) es) 1048576
 
+-- within the limits, and its thread has room for it after those before
 abbrev pub may_follow : SetupView → List Entry → Entry → Bool
 may_follow s es e = is_entry_within s e && has_room (is_ending e.op) e.thread es
 
+-- bytes without a newline behind the last line are a fault
 abbrev pub ended : List Entry → ℕ → Text → Result (List Entry) LogFault
 ended es at [] = Ok es
 ended es at (b ∷ bs) = Err (LogSyntax at)
@@ -138,11 +152,13 @@ abbrev pub entries_from : SetupView → List Entry → ℕ → List Text → Tex
 entries_from s es at [] rest = ended es at rest
 entries_from s es at (line ∷ lines) rest = found_at at (entry_in line) >>= λ e. if may_follow s es e then entries_from s (es ++ e ∷ []) (next at) lines rest else Err (LogLimit at)
 
+-- all lines below the head are entries
 abbrev pub entries_at : SetupView → Lines → Result (List Entry) LogFault
 entries_at s l = entries_from s [] l.at l.whole l.rest
 
 -- ---- the whole
 
+-- the head's lines in their one order, then the entries
 unfoldable pub log_at : Lines → Result LogView LogFault
 log_at l = do
   first ← first_line l

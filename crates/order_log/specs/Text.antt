@@ -23,6 +23,7 @@ hex_digit d = if nat_lt d 10 then 48 + d else 87 + d
 abbrev pub hex_text : List ℕ → Text
 hex_text bytes = flat_map (λ b. hex_digit (b / 16) ∷ hex_digit (b % 16) ∷ []) bytes
 
+-- a letter for the kind, small before a number, and capital where there is one object
 abbrev pub object_text : ObjId → Text
 object_text (object.Mutex cell) = codes "m" ++ number_text cell
 object_text (object.Cond cell) = codes "c" ++ number_text cell
@@ -36,12 +37,15 @@ object_text object.Output = codes "O"
 
 -- ---- lines
 
+-- such as `3 17 lock m1040`: thread, count, operation, object
 abbrev pub entry_line : Entry → Text
 entry_line e = number_text e.thread ++ codes " " ++ number_text e.count ++ codes " " ++ op_text e.op ++ codes " " ++ object_text e.obj
 
+-- two functions that may run in parallel
 abbrev pub pair_line : Pair → Text
 pair_line p = codes "pair " ++ p.0 ++ codes " " ++ p.1
 
+-- a head with how many pairs there are, then each in its own line
 abbrev pub profile_lines : Profile → List Text
 profile_lines profile.All = codes "profile all" ∷ []
 profile_lines (profile.Pairs ps) = (codes "profile " ++ number_text (length ps)) ∷ map pair_line ps
@@ -57,6 +61,7 @@ head_lines v =
     hex_text v.setup.input ∷
     []
 
+-- the format and its version stand first, the entries last
 abbrev pub log_lines : LogView → List Text
 log_lines v = codes "chimera log 1" ∷ head_lines v ++ map entry_line v.entries
 
@@ -64,5 +69,6 @@ log_lines v = codes "chimera log 1" ∷ head_lines v ++ map entry_line v.entries
 abbrev pub text_of : List Text → Text
 text_of lines = flat_map (λ line. line ++ 10 ∷ []) lines
 
+-- the bytes of the log's file, the only ones that mean it
 abbrev pub log_text : LogView → Text
 log_text v = text_of (log_lines v)

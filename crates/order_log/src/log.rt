@@ -38,6 +38,7 @@ fn law_bytes(bytes: &[u8])
 {}
 
 impl Log {
+    /// A log of these parts.
     pub fn new(setup: Setup, profile: Profile, entries: List<Entry>) -> Log
         requires names { HasNames profile }
         requires fitting { AllByRecursion (λ e. Fits e.op e.obj) entries }
@@ -52,6 +53,7 @@ impl Log {
         }
     }
 
+    /// In which setup its run was made.
     pub fn setup(&self) -> &Setup
         ensures { result.now ≡ self.now.setup }
     {

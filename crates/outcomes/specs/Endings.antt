@@ -38,6 +38,7 @@ pub record Outside : Type 0 where
   pub counts : Counts
   pub out : Sight
 
+-- the shelf of an outside: its files, and how many faults it has given
 abbrev pub shelf_of : Outside → ShelfSight
 shelf_of x = record { files = x.files; faults = x.counts.shelf }
 

@@ -2,6 +2,7 @@
 use Rattle.std.specs.Prelude.{◌≡◌, refl, ℕ, List, [], ◌∷◌, ◌++◌, Option, Some, None, option_map, codes}
 use Rattle.rr_base.specs.Files.{Files, with_file, LeavesOthers}
 
+-- a file that is put: its name and its bytes
 pub record Put : Type 0 where
   pub name : List ℕ
   pub content : List ℕ

@@ -24,6 +24,7 @@ impl<'a> Model for Put<'a> {
 }
 
 impl<'a> Put<'a> {
+    /// A file of this name with these bytes.
     pub fn new(name: &'a str, content: Bytes) -> Put<'a>
         ensures { result ≡ record { name = name.now; content = content } }
     {

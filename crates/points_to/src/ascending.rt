@@ -54,6 +54,7 @@ impl Rows {
         Ok(Rows { rows })
     }
 
+    /// How many rows there are.
     pub fn count(&self) -> usize
         ensures { result ≡ length self.now }
     {
@@ -70,6 +71,7 @@ impl Rows {
         }
     }
 
+    /// How many numbers a row has.
     pub fn len_of(&self, n: usize) -> usize
         ensures { result ≡ length (row_of self.now n) }
     {

@@ -60,6 +60,7 @@ impl Sets {
         }
     }
 
+    /// How many places a set has.
     pub fn len_of(&self, spot: RowIndex) -> usize
         ensures { result ≡ length (row_at self.now spot.block spot.at) }
     {
@@ -69,6 +70,7 @@ impl Sets {
         }
     }
 
+    /// How many blocks of sets there are.
     pub fn blocks(&self) -> usize
         ensures { result ≡ length self.now }
     {

@@ -4,6 +4,7 @@ use Rattle.profiles.specs.Profile.{Text, Pair, AreAscending, ordered}
 use Rattle.serde_json.specs.Data.{Data, Items, no_items, item, Members, no_members, member}
 use Rattle.serde_json.specs.Find.{get_member, as_object, as_array, as_str}
 
+-- two function names with the lesser first, in byte order
 abbrev pub pair_of : Option Text → Option Text → Option Pair
 pair_of (Some f) (Some g) = Some (ordered f g)
 pair_of _ _ = None
@@ -13,6 +14,7 @@ abbrev pub pair_of_items : Items → Option Pair
 pair_of_items (item d (item e no_items)) = pair_of (as_str d) (as_str e)
 pair_of_items _ = None
 
+-- the pair in a JSON array of two strings
 abbrev pub pair_in : Data → Option Pair
 pair_in d = option_and_then pair_of_items (as_array d)
 

@@ -9,6 +9,7 @@ use Rattle.serde_json.specs.Written.{compact_text}
 abbrev pub pair_value : Pair → Data
 pair_value p = array (item (string p.0) (item (string p.1) no_items))
 
+-- `["f","g"],["f","main"]`
 abbrev pub items_of_pairs : List Pair → Items
 items_of_pairs ps = items_of (map pair_value ps)
 

@@ -22,6 +22,7 @@ fn array_in(value: &Value) -> Option<&Vec<Value>>
     value.get("pairs")?.as_array()
 }
 
+// Two texts, the lesser one first.
 fn ordered<'a>(f: &'a str, g: &'a str) -> (&'a str, &'a str)
     ensures { (result.0.now, result.1.now) ≡ ordered_texts f.now g.now }
 {

@@ -2,6 +2,7 @@
 use Rattle.std.specs.Prelude.{ℕ, ◌<◌, List, ◌⊎◌}
 use Rattle.std.specs.List.{Contains}
 
+-- the new list has the old items, those with the fact, and no others
 pub record Gains {X : Type 0} (P : X → Type 0) (old new : List X) : Type 0 where
   pub kept : (x : X) → Contains old x → Contains new x
   pub gained : (x : X) → P x → Contains new x

@@ -52,9 +52,11 @@ pub record IsIn (ss : List Summary) (g : Group) (w : Touch) : Type 0 where
   pub locks : Gains (λ n. Contains x.plus (Cell n)) [] g.locks
   pub access : Contains g.accesses w.access.at
 
+-- no group has a lesser place than one before it
 abbrev pub HasPlacesInOrder : List Group → Type 0
 HasPlacesInOrder gs = (i j : ℕ) (g h : Group) → i ≤ j → slice_get gs i ≡ Some g → slice_get gs j ≡ Some h → place_less h.place g.place ≡ false
 
+-- the numbers of each group's locks never fall
 abbrev pub HasLocksInOrder : List Group → Type 0
 HasLocksInOrder gs = (g : Group) → Contains gs g → IsNonDecreasing g.locks
 

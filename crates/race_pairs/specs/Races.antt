@@ -42,6 +42,7 @@ pair_of p a b = if access_less b a then record { place = p; first = b; second = 
 abbrev pub RowAt : Place → AccessAt → List AccessAt → (from k : ℕ) → Pair → Type 0
 RowAt p a bs from k v = (from ≤ k) × (b : AccessAt) × (slice_get bs k ≡ Some b) × (v ≡ pair_of p a b)
 
+-- with any that stands at `from` or after it
 abbrev pub RowFrom : Place → AccessAt → List AccessAt → (from : ℕ) → Pair → Type 0
 RowFrom p a bs from v = (k : ℕ) × RowAt p a bs from k v
 
@@ -58,6 +59,7 @@ pub record IsPairOf (g h : Group) (v : Pair) : Type 0 where
   pub of_h : Contains h.accesses b
   pub is : v ≡ pair_of g.place a b
 
+-- an access of each group, where the groups may race
 abbrev pub IsRacingPair : Group → Group → Pair → Type 0
 IsRacingPair g h v = AreRacing g h × IsPairOf g h v
 
@@ -69,6 +71,7 @@ PairAt gs i j v = (g : Group) × (h : Group) × (slice_get gs i ≡ Some g) × (
 abbrev pub PairsFrom : List Group → (i : ℕ) → Pair → Type 0
 PairsFrom gs i v = (j : ℕ) × PairAt gs i j v
 
+-- all race pairs of a code, by its groups
 abbrev pub PairsOf : List Group → Pair → Type 0
 PairsOf gs v = (i : ℕ) × PairsFrom gs i v
 

@@ -6,6 +6,7 @@ pub record Marks (test : ℕ → Bool) (old new : List Bool) : Type 0 where
   pub long : length new ≡ length old
   pub at : (g : ℕ) → g < length old → slice_index_or new g false ≡ slice_index_or old g false || test g
 
+-- there is a number, and it is g
 abbrev pub is_number : Option ℕ → ℕ → Bool
 is_number None g = false
 is_number (Some h) g = h == g

@@ -30,6 +30,7 @@ TouchesOf code t r xs w = (k : ℕ) × TouchesNth code t r xs k w
 abbrev pub TouchesFrom : Code → Tables → (r : ℕ) → Summary → Touch → Type 0
 TouchesFrom code t r s w = (is_root code r ≡ true) × TouchesOf code t r s.guarded w
 
+-- the same for a root's number, by the table of summaries
 abbrev pub TouchesRoot : Code → Tables → List Summary → (r : ℕ) → Touch → Type 0
 TouchesRoot code t ss r w = (s : Summary) × (slice_get ss r ≡ Some s) × TouchesFrom code t r s w
 

@@ -17,6 +17,7 @@ value_text word = signed_decimal (number word)
 abbrev pub read_text : Access → List ℕ
 read_text a = number_text a.thread ++ number_text a.count ++ number_text a.cell ++ value_text a.value ++ 10 ∷ []
 
+-- what `record` and `replay` put under the name of `--reads`
 abbrev pub reads_text_of : List Access → List ℕ
 reads_text_of reads = flat_map read_text reads
 

@@ -51,6 +51,7 @@ pub record IsOnTrack (f : Following) : Type 0 where
   pub bound : (view_of f.seat).met ≤ f.bound
   pub stands : StandsSo f.has_departed f
 
+-- what holds of a follower between its turns
 pub record IsSound (f : Following) : Type 0 where
   pub runnable : IsRunnable f.cells.code
   pub limits : IsWithinLimits f.cells.setup

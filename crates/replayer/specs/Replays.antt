@@ -50,6 +50,7 @@ pub record AreDone (cells : Board) (es : List Entry) (fs : List Following) : Typ
 abbrev pub AreWhole : List Following → Type 0
 AreWhole fs = (k : ℕ) (f : Following) → slice_get fs k ≡ Some f → (f.is_out ≡ false) × IsSound f
 
+-- the follower's thread goes on no more; a trap is an end, too
 abbrev pub has_ended_in : Following → Bool
 has_ended_in f = has_ended f.run.flow.kept.thread.phase
 

@@ -81,6 +81,7 @@ SightIs sight.Elsewhere t word number o = number_of word ≢ number
 SightIs sight.Barred t word number o = (number_of word ≡ number) × (advanced o t word ≡ NotAllowed)
 SightIs sight.Open t word number o = number_of word ≡ number
 
+-- the seat has looked at the word once, without changing it
 pub record Sees (old new : Seat) (o : Op) (obj : ObjId) (number : ℕ) (s : Sight) : Type 0 where
   pub word : ℕ
   pub view : view_of new ≡ looked (view_of old) (place_in (view_of old) obj) word

@@ -16,6 +16,7 @@ abbrev pub SinkFaults : SinkEnd → ℕ → ℕ → Type 0
 SinkFaults sink_end.Failed old new = Rose old new
 SinkFaults sink_end.OutOfMemory old new = new ≡ old
 
+-- the same rule where a shelf of files fails
 abbrev pub ShelfFaults : ShelfEnd → ℕ → ℕ → Type 0
 ShelfFaults shelf_end.Failed old new = Rose old new
 ShelfFaults shelf_end.OutOfMemory old new = new ≡ old

@@ -2,6 +2,7 @@
 use Rattle.std.specs.Prelude.{◌≡◌, ◌≢◌, ℕ, List, Option, Some, None, if◌then◌else◌}
 use Rattle.std.specs.Str.{bytes_eq}
 
+-- what a shelf holds under each name; none where there is no such file
 abbrev pub Files : Type 0
 Files = List ℕ → Option (List ℕ)
 

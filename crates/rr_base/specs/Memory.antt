@@ -29,6 +29,7 @@ is_due plan = list_any (λ n. n == plan.calls) plan.fails
 abbrev pub after_call : Plan → Plan
 after_call plan = record plan { calls = one_more plan.calls }
 
+-- the failed call counts as a call and as a fault
 abbrev pub after_fault : Plan → Plan
 after_fault plan = record plan { calls = one_more plan.calls; faults = one_more plan.faults }
 
@@ -71,16 +72,19 @@ found shelf name = if is_due shelf.plan then None else content_of shelf.files na
 
 -- ---- how each form stands after a call
 
+-- a read takes `room` bytes at most, or none where it fails
 abbrev pub after_read : Supply → (room : ℕ) → Supply
 after_read source room =
     if is_due source.plan then record source { plan = after_fault source.plan }
     else record { left = drop room source.left; plan = after_call source.plan }
 
+-- want of memory leaves the sink as it was, and counts as no call
 abbrev pub after_write : Store → (piece : List ℕ) → Result ℕ SinkEnd → Store
 after_write sink piece (Ok n) = record sink { held = sink.held ++ take n piece; plan = after_call sink.plan }
 after_write sink piece (Err sink_end.Failed) = record sink { plan = after_fault sink.plan }
 after_write sink piece (Err sink_end.OutOfMemory) = sink
 
+-- a call on a shelf that ends for want of memory isn't counted
 abbrev pub plan_after : {T : Type 0} → Result T ShelfEnd → Plan → Plan
 plan_after (Ok _) plan = after_call plan
 plan_after (Err shelf_end.Failed) plan = after_fault plan

@@ -3,6 +3,7 @@ use Rattle.std.specs.Prelude.{ℕ}
 use Rattle.rr_base.specs.declared.trap.Trap.{Trap}
 use Rattle.rr_base.specs.declared.trap.Trap.TheVariants.{DivideByZero, Overflow, ShiftRange, BadDereference, OutOfObject, BadKind, BadSize, ArenaFull, MutexMisuse, BarrierMisuse, BadThread, Limit, CastRange, PointerToNumber, CompareObjects, Depth, LogFull}
 
+-- from 1 to 17, as a run's answers print it
 abbrev pub trap_number : Trap → ℕ
 trap_number DivideByZero = 1
 trap_number Overflow = 2

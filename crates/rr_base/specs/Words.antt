@@ -8,15 +8,19 @@ use Rattle.rr_base.specs.declared.layout.Place.{Place}
 
 -- ---- the parts of a word
 
+-- the top 10 bits: which site made the object, 0 for a whole number
 abbrev pub site_of : ℕ → ℕ
 site_of w = w / 2 ^ 54
 
+-- 22 bits: the number of the object's first cell
 abbrev pub base_of : ℕ → ℕ
 base_of w = w / 2 ^ 32 % 2 ^ 22
 
+-- 16 bits: how many cells the object has
 abbrev pub length_of : ℕ → ℕ
 length_of w = w / 2 ^ 16 % 2 ^ 16
 
+-- the low 16 bits: how many cells past the object's first one
 abbrev pub offset_of : ℕ → ℕ
 offset_of w = w % 2 ^ 16
 

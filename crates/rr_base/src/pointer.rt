@@ -28,12 +28,14 @@ impl Model for PtrWord {
 const NUMBERS: i64 = 1 << 53;
 
 impl PtrWord {
+    /// The null pointer.
     pub fn null() -> PtrWord
         ensures { result ≡ 0 }
     {
         PtrWord(0)
     }
 
+    /// The pointer of a word.
     pub fn from_word(word: u64) -> PtrWord
         ensures value { result ≡ word }
         ensures parts { pack (site_of result) (base_of result) (length_of result) (offset_of result) ≡ result }
@@ -41,6 +43,7 @@ impl PtrWord {
         PtrWord(word)
     }
 
+    /// Its word.
     pub fn word(self) -> u64
         ensures { result ≡ self }
     {

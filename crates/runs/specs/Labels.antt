@@ -13,6 +13,7 @@ pub data Label : Type 0 where
   Stop : (thread : ℕ) → Label
   Close : (thread : ℕ) → Label
 
+-- the thread that the step changes, even where it comes from outside
 abbrev pub label_thread : Label → ℕ
 label_thread (Go t) = t
 label_thread (Revoke t lock stripe) = t
@@ -24,6 +25,7 @@ abbrev pub revoke_label : ℕ → ObjId → Label
 revoke_label t (Weak lock stripe) = Revoke t lock stripe
 revoke_label t _ = Go t
 
+-- only revokes, stops and closes come from outside the thread
 abbrev pub operation_label : ℕ → OpName → ObjId → Label
 operation_label t RevokeOp obj = revoke_label t obj
 operation_label t StopOp obj = Stop t

@@ -18,6 +18,7 @@ Conflict (StoreOf c) (LoadOf d) = c ≡ d
 Conflict (StoreOf c) (StoreOf d) = c ≡ d
 Conflict _ _ = ⊥
 
+-- operations and marks touch no cell, so they race with nothing
 abbrev pub access_of : {T : Type 0} → Effect T → Access
 access_of Refused = NoAccess
 access_of (Marks th) = NoAccess

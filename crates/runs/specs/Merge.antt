@@ -35,6 +35,7 @@ pub data Taken : Type 0 where
   Stuck : Taken
   Takes : (entry : Noted) → (rest : List (List Noted)) → Taken
 
+-- a list that gave nothing stays in front of what is left
 abbrev pub after_list : List Noted → Taken → Taken
 after_list xs Stuck = Stuck
 after_list xs (Takes x rest) = Takes x (xs ∷ rest)
@@ -45,6 +46,7 @@ next_entry before [] = Stuck
 next_entry before ([] ∷ lists) = after_list [] (next_entry before lists)
 next_entry before ((x ∷ xs) ∷ lists) = if x.number == entries_at x.entry.obj before then Takes x (xs ∷ lists) else after_list (x ∷ xs) (next_entry before lists)
 
+-- the entry that was taken, and what comes after it
 abbrev pub merged_on : (List Noted → List (List Noted) → List Noted) → List Noted → Taken → List Noted
 merged_on rest before Stuck = []
 merged_on rest before (Takes x lists) = x ∷ rest (before ++ x ∷ []) lists
@@ -54,6 +56,7 @@ abbrev pub merged_after : ℕ → List Noted → List (List Noted) → List Note
 merged_after zero before lists = []
 merged_after (suc n) before lists = merged_on (merged_after n) before (next_entry before lists)
 
+-- how many entries the lists have together
 abbrev pub total_length : List (List Noted) → ℕ
 total_length [] = 0
 total_length (xs ∷ lists) = length xs + total_length lists

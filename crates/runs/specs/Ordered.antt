@@ -16,18 +16,21 @@ pub data Event : Type 0 where
   Stored : (thread : ℕ) → (cell : ℕ) → Event
   Did : (thread : ℕ) → Noted → (answer : ℤ) → Event
 
+-- the thread of which the event is
 abbrev pub event_thread : Event → ℕ
 event_thread (Marked t) = t
 event_thread (Loaded t c) = t
 event_thread (Stored t c) = t
 event_thread (Did t x answer) = t
 
+-- only loads and stores touch a cell
 abbrev pub event_access : Event → Access
 event_access (Marked t) = NoAccess
 event_access (Loaded t c) = LoadOf c
 event_access (Stored t c) = StoreOf c
 event_access (Did t x answer) = NoAccess
 
+-- none where the object's word doesn't allow the operation
 abbrev pub operation_event : {T : Type 0} → ℕ → Noted → Change T → Option Event
 operation_event t x NotAllowed = None
 operation_event t x (Becomes word answer th) = Some (Did t x answer)

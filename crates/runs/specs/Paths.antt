@@ -4,6 +4,7 @@ use Rattle.sync_objects.specs.declared.entry.Noted.{Noted}
 use Rattle.runs.specs.Labels.{Label, label_thread}
 use Rattle.runs.specs.Steps.{Machine, State, stepped, trace, count_of, entries_of}
 
+-- the second list begins with the whole first one
 abbrev pub IsPrefixOf : {A : Type 0} → List A → List A → Type 0
 IsPrefixOf {A} xs ys = (rest : List A) × (xs ++ rest ≡ ys)
 

@@ -6,6 +6,7 @@ use Rattle.sync_objects.specs.declared.object.ObjId.TheVariants.{Mutex, Cond, Ba
 use Rattle.sync_objects.specs.declared.operation.OpName.{OpName}
 use Rattle.sync_objects.specs.declared.operation.OpName.TheVariants.{Lock, TryLock, Unlock, MutexInit, CondEnter, CondWake, Signal, BarrierInit, Arrive, Pass, Take, Retake, Give, Revoke, Draw, Start, Begin, End, Join, Close, Leave, HaltAll, TrapHere, Stop, GetChar, Print}
 
+-- the same kind with the same numbers
 abbrev pub same_object : ObjId → ObjId → Bool
 same_object (Mutex c) (Mutex d) = c == d
 same_object (Cond c) (Cond d) = c == d
@@ -47,8 +48,10 @@ operation_index Stop = 23
 operation_index GetChar = 24
 operation_index Print = 25
 
+-- by their places in the list of all operations
 abbrev pub same_operation : OpName → OpName → Bool
 same_operation a b = operation_index a == operation_index b
 
+-- in all four parts that a log's entry has
 abbrev pub same_entry : Entry → Entry → Bool
 same_entry a b = (a.thread == b.thread) && (a.count == b.count) && same_operation a.op b.op && same_object a.obj b.obj

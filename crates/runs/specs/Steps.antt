@@ -47,6 +47,7 @@ abbrev pub load_outcome : {T : Type 0} → List ℕ → (ℕ → T) → Option �
 load_outcome ws next None = Blocked
 load_outcome ws next (Some w) = Leaves ws (next w)
 
+-- what a change leaves, where the word has place i
 abbrev pub changed_outcome : {T : Type 0} → List ℕ → ℕ → Change T → Outcome T
 changed_outcome ws i NotAllowed = Blocked
 changed_outcome ws i (Becomes w answer th) = Leaves (slice_set ws i w) th

@@ -34,10 +34,12 @@ pub record WereAtOnce (code : Code) (s : SetupView) (es : List Entry) (f g : ℕ
   pub walked : walk_of code s (take (at + 1) es) (start_state code s) ≡ Some state
   pub at_once : AreAtOnce (stacks_in state) f g
 
+-- a function that isn't there has the empty name
 abbrev pub name_in : Option Function → Text
 name_in None = []
 name_in (Some f) = f.name
 
+-- the name in the source, by which a profile names the function
 abbrev pub name_of : Code → ℕ → Text
 name_of code f = name_in (slice_get code.functions f)
 

@@ -16,6 +16,7 @@ use Rattle.shared_cells.specs.Words.{objects_end, HasGoneOn}
 use Rattle.shared_cells.specs.Rule.{Carries}
 use Rattle.shared_cells.specs.declared.asked.Asked.{Asked}
 
+-- what the seat that makes a step knows: its view
 abbrev pub Mine : Type 0
 Mine = Me Asked SeatView
 
@@ -58,10 +59,12 @@ pub record Exchanges (it : Asked) (step : Step Asked) (me : Mine) (found : ℕ) 
   pub done : found ≡ step.first → Makes me.0 step.word it.marks it.op it.obj step.first it.answer after.0
   pub other : found ≢ step.first → after.0 ≡ missed me.0 step.word found
 
+-- a step that says nothing claims nothing
 abbrev pub if_said : Option Asked → (Asked → Type 0) → Type 0
 if_said none P = ⊤
 if_said (some it) P = P it
 
+-- of an exchange that says for which operation it is
 abbrev pub exchanging : Step Asked → Mine → ℕ → Mine → Type 0
 exchanging step me found after = if_said step.said (λ it. Exchanges it step me found after)
 

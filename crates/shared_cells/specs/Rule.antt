@@ -71,6 +71,7 @@ pub record Shows (code : Code) (s : SetupView) (words : List ℕ) (views : List 
   pub low : (d : ℕ) → slice_get words (departure_place code s) ≡ Some d → d ≤ never
   pub departed : (d : ℕ) → slice_get words (departure_place code s) ≡ Some d → IsPut views d
 
+-- the rule itself, which each step on the table keeps
 abbrev pub Holds : Knowledge → table.State Asked SeatView → Type 0
 Holds key s = Shows key.code key.setup s.words s.views
 
@@ -86,5 +87,6 @@ everyone key = record { code = key.code; setup = key.setup; from = 0; carried = 
 abbrev pub first_part : SeatView → SeatView
 first_part v = record v { carried = take 1 v.carried }
 
+-- all threads but the first, for a seat of their own
 abbrev pub other_part : SeatView → SeatView
 other_part v = record v { from = v.from + 1; carried = drop 1 v.carried }

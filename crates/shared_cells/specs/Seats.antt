@@ -77,12 +77,14 @@ pub record HasMoved (old new : Seat) (obj : ObjId) (seen : ℕ) : Type 0 where
   pub view : view_of new ≡ missed (looked (view_of old) (place_in (view_of old) obj) was) (place_in (view_of old) obj) seen
   pub marks : new.marks ≡ old.marks
 
+-- made; or refused by the word, or the word was changed between
 abbrev pub AttemptIs : (old new : Seat) → Op → ObjId → Attempt → Type 0
 AttemptIs old new o obj (attempt.Done answer number) = IsDone old new o obj answer number
 AttemptIs old new o obj (attempt.NotYet seen) = IsRefused old new o obj seen ⊎ HasMoved old new obj seen
 
 -- ---- what a look tells
 
+-- any number but 0 counts as set, as in C (C99 6.3.1.2)
 abbrev pub is_set : ℕ → Bool
 is_set value = not (value == 0)
 

@@ -57,6 +57,7 @@ pub data Way : Type 0 where
   Stops : Way
   Closes : (slot : ℕ) → Way
 
+-- all but revokes, stops and closes are the thread's own actions
 abbrev pub way_of : Op → ObjId → Way
 way_of op.Revoke (object.Weak lock stripe) = Revokes lock stripe
 way_of op.Stop object.Halt = Stops
@@ -70,6 +71,7 @@ IsDueBy (Revokes lock stripe) code s t told o obj = may_revoke told.thread lock 
 IsDueBy Stops code s t told o obj = may_stop told.thread ≡ true
 IsDueBy (Closes k) code s t told o obj = (k ≡ t) × (may_close told.thread ≡ true)
 
+-- the same, with the way that the operation itself asks for
 abbrev pub IsDue : Code → SetupView → ℕ → Told → Op → ObjId → Type 0
 IsDue code s t told o obj = IsDueBy (way_of o obj) code s t told o obj
 
@@ -84,6 +86,7 @@ after_by (Revokes lock stripe) code s t told o obj answer n = operated told (gav
 after_by Stops code s t told o obj answer n = operated told (stopped told.thread) (noted_by t told o obj n) []
 after_by (Closes k) code s t told o obj answer n = operated told (slot_closed told.thread) (noted_by t told o obj n) []
 
+-- the same, with the way that the operation itself asks for
 abbrev pub after_operation : Code → SetupView → ℕ → Told → Op → ObjId → ℤ → ℕ → Told
 after_operation code s t told o obj answer n = after_by (way_of o obj) code s t told o obj answer n
 

@@ -10,9 +10,11 @@ use Rattle.shared_cells.specs.Views.{Note, never}
 abbrev pub objects_end : Code → SetupView → ℕ
 objects_end code s = length (start_words code s)
 
+-- after the want words: each weak lock has 8 of them
 abbrev pub departure_place : Code → SetupView → ℕ
 departure_place code s = objects_end code s + 8 * length code.locks
 
+-- of the table's last word, which is 0 while there is memory
 abbrev pub memory_place : Code → SetupView → ℕ
 memory_place code s = departure_place code s + 1
 

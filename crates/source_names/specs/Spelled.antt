@@ -29,6 +29,7 @@ abbrev pub IsSpelled : Kind → Type 0
 IsSpelled (kind.Name name) = IsUtf8 name
 IsSpelled _ = Unit {0}
 
+-- a text without tokens has no names
 abbrev pub AreSpelled : Found → Type 0
 AreSpelled (Ok ts) = AllByRecursion (λ (t : Token). IsSpelled t.kind) ts
 AreSpelled (Err f) = Unit {0}

@@ -22,6 +22,7 @@ use Rattle.runs.specs.Labels.{Label, Go, Revoke, Stop, Close, label_thread}
 use Rattle.runs.specs.Steps.{State, stepped}
 use Rattle.c_core.specs.SourceRuns.{Transition, own, stops, closes, ThreadTransition}
 
+-- an operation that isn't allowed counts as answered by 0
 abbrev pub answer_in : Advance → ℤ
 answer_in NotAllowed = pos 0
 answer_in (Advances new answer) = answer
@@ -71,10 +72,12 @@ abbrev pub is_stripe : Action → Bool
 is_stripe (action.Operate o (object.Weak lock stripe)) = true
 is_stripe _ = false
 
+-- an event that weak locks alone cause
 abbrev pub is_of_stripe : Transition → Bool
 is_of_stripe (own (done a out answer)) = is_stripe a
 is_of_stripe _ = false
 
+-- the events that the source itself causes
 abbrev pub without_stripes : List ThreadTransition → List ThreadTransition
 without_stripes [] = []
 without_stripes (d ∷ ds) = if is_of_stripe d.transition then without_stripes ds else d ∷ without_stripes ds

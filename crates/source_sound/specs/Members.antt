@@ -3,6 +3,7 @@
 use Rattle.std.specs.Prelude.{List, [], ◌∷◌}
 use Rattle.c_tree.specs.Tree.{Fields, fields, Outer, structure, function, objects}
 
+-- the first line of members declares one, at least
 abbrev pub HaveMembers : List Fields → Type 0
 HaveMembers [] = ⊥
 HaveMembers (fields s [] at ∷ fs) = ⊥

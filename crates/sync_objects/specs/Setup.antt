@@ -1,6 +1,7 @@
 -- What a run is set up with, and the limits of it.
 use Rattle.std.specs.Prelude.{ℕ, ◌≤◌, List, length}
 
+-- the thread slots, each thread's arena cells, each thread's limit of events, the input bytes
 pub record SetupView : Type 0 where
   pub slots : ℕ
   pub cells : ℕ

@@ -8,10 +8,12 @@ use Rattle.sync_objects.specs.States.{LockState, Free, HeldBy, BarrierState, Wai
 use Rattle.sync_objects.specs.Packing.{packed, shown}
 use Rattle.sync_objects.specs.Words.{number_of, state_of}
 
+-- who holds it is one of the 16 threads
 abbrev pub IsSoundLock : LockState → Type 0
 IsSoundLock Free = Unit {0}
 IsSoundLock (HeldBy thread) = thread < 16
 
+-- each signal was an operation, so an epoch is at most their number
 abbrev pub IsSoundCond : ℕ → CondState → Type 0
 IsSoundCond number (Epoch epoch) = epoch ≤ number
 
@@ -20,13 +22,16 @@ abbrev pub IsSoundBarrier : ℕ → BarrierState → Type 0
 IsSoundBarrier number (Waits count arrived generation) =
     (count ≤ 16) × (arrived < max count 1) × (generation < 2 ^ 22) × (generation ≤ number)
 
+-- a started function has a number below 2^20
 abbrev pub IsSoundSlot : SlotState → Type 0
 IsSoundSlot (Started function) = function < 2 ^ 20
 IsSoundSlot _ = Unit {0}
 
+-- thread 0 is always drawn, 16 are the most, and only drawn ones live
 abbrev pub IsSoundThreads : ThreadsState → Type 0
 IsSoundThreads (Counts drawn live) = (1 ≤ drawn) × (drawn ≤ 16) × (live ≤ drawn)
 
+-- each byte that was read took an operation
 abbrev pub IsSoundInput : ℕ → InputState → Type 0
 IsSoundInput number (Position position) = position ≤ number
 

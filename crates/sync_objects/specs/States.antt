@@ -8,10 +8,12 @@ pub data LockState : Type 0 where
   Free : LockState
   HeldBy : (thread : ℕ) → LockState
 
+-- nobody holds it, so it can be taken
 abbrev pub is_free : LockState → Bool
 is_free Free = true
 is_free (HeldBy thread) = false
 
+-- thread t is the owner, in the words of POSIX
 abbrev pub is_held_by : ℕ → LockState → Bool
 is_held_by t Free = false
 is_held_by t (HeldBy thread) = thread == t
@@ -20,12 +22,15 @@ is_held_by t (HeldBy thread) = thread == t
 pub data CondState : Type 0 where
   Epoch : (epoch : ℕ) → CondState
 
+-- a signal came since the waiter entered in epoch e, so it may wake
 abbrev pub epoch_differs : ℕ → CondState → Bool
 epoch_differs e (Epoch epoch) = not (epoch == e)
 
+-- a signal and a broadcast alike: whoever waits may wake
 abbrev pub signalled : CondState → CondState
 signalled (Epoch epoch) = Epoch (epoch + 1)
 
+-- what a waiter is told when it enters
 abbrev pub the_epoch : CondState → ℤ
 the_epoch (Epoch epoch) = pos epoch
 
@@ -37,12 +42,15 @@ pub data BarrierState : Type 0 where
 abbrev pub may_count : ℕ → BarrierState → Bool
 may_count n (Waits count arrived generation) = nat_le 1 n && nat_le n 16 && (arrived == 0)
 
+-- `pthread_barrier_init` sets how many threads the barrier waits for
 abbrev pub counting : ℕ → BarrierState → BarrierState
 counting n (Waits count arrived generation) = Waits n arrived generation
 
+-- `pthread_barrier_init` was not yet called for it
 abbrev pub counts_none : BarrierState → Bool
 counts_none (Waits count arrived generation) = count == 0
 
+-- whoever comes now completes the barrier
 abbrev pub is_last_to_come : BarrierState → Bool
 is_last_to_come (Waits count arrived generation) = arrived + 1 == count
 
@@ -50,15 +58,19 @@ is_last_to_come (Waits count arrived generation) = arrived + 1 == count
 abbrev pub is_worn_out : BarrierState → Bool
 is_worn_out (Waits count arrived generation) = generation == 2 ^ 22 - 1
 
+-- the last thread opens the next generation, where none has come yet
 abbrev pub all_came : BarrierState → BarrierState
 all_came (Waits count arrived generation) = Waits count 0 (generation + 1)
 
+-- a thread has come that isn't the last, and has to wait
 abbrev pub one_more_came : BarrierState → BarrierState
 one_more_came (Waits count arrived generation) = Waits count (arrived + 1) generation
 
+-- all came since the waiter's generation g, so it may pass
 abbrev pub generation_differs : ℕ → BarrierState → Bool
 generation_differs g (Waits count arrived generation) = not (generation == g)
 
+-- what a thread that waits is told when it comes
 abbrev pub the_generation : BarrierState → ℤ
 the_generation (Waits count arrived generation) = pos generation
 
@@ -73,26 +85,32 @@ pub data SlotState : Type 0 where
   Shut : SlotState
   Started : (function : ℕ) → SlotState
 
+-- no function was started in the slot, and it isn't closed
 abbrev pub is_idle : SlotState → Bool
 is_idle Idle = true
 is_idle _ = false
 
+-- closed before a function was started, so no thread can begin there
 abbrev pub is_closed : SlotState → Bool
 is_closed Closed = true
 is_closed _ = false
 
+-- its thread runs
 abbrev pub is_begun : SlotState → Bool
 is_begun Begun = true
 is_begun _ = false
 
+-- its thread is done, and can be joined once
 abbrev pub is_ended : SlotState → Bool
 is_ended Ended = true
 is_ended _ = false
 
+-- a second join of this thread is a misuse
 abbrev pub is_joined : SlotState → Bool
 is_joined Joined = true
 is_joined _ = false
 
+-- its thread has a function, and may begin
 abbrev pub is_started : SlotState → Bool
 is_started (Started function) = true
 is_started _ = false
@@ -106,21 +124,27 @@ the_function _ = pos 0
 pub data ThreadsState : Type 0 where
   Counts : (drawn : ℕ) → (live : ℕ) → ThreadsState
 
+-- a thread slot is left of the n that there are
 abbrev pub has_drawn_below : ℕ → ThreadsState → Bool
 has_drawn_below n (Counts drawn live) = nat_lt drawn n
 
+-- all n thread slots are used, so `pthread_create` gets none
 abbrev pub has_drawn : ℕ → ThreadsState → Bool
 has_drawn n (Counts drawn live) = drawn == n
 
+-- some thread has not left yet
 abbrev pub has_live : ThreadsState → Bool
 has_live (Counts drawn live) = nat_lt 0 live
 
+-- a new thread counts as live before it begins
 abbrev pub one_drawn : ThreadsState → ThreadsState
 one_drawn (Counts drawn live) = Counts (drawn + 1) (live + 1)
 
+-- a thread's slot stays drawn after its end
 abbrev pub one_left : ThreadsState → ThreadsState
 one_left (Counts drawn live) = Counts drawn (live - 1)
 
+-- the number of the new thread, which is how many were drawn before it
 abbrev pub the_drawn : ThreadsState → ℤ
 the_drawn (Counts drawn live) = pos drawn
 
@@ -130,14 +154,17 @@ pub data HaltState : Type 0 where
   Halted : HaltState
   Trapped : HaltState
 
+-- no thread has ended the whole program
 abbrev pub is_running : HaltState → Bool
 is_running Running = true
 is_running _ = false
 
+-- ended without a trap, as it is when `main` returns
 abbrev pub is_halted : HaltState → Bool
 is_halted Halted = true
 is_halted _ = false
 
+-- ended by a trap in some thread
 abbrev pub is_trapped : HaltState → Bool
 is_trapped Trapped = true
 is_trapped _ = false
@@ -146,12 +173,15 @@ is_trapped _ = false
 pub data InputState : Type 0 where
   Position : (position : ℕ) → InputState
 
+-- not yet at the end of an input of so many bytes
 abbrev pub has_left : ℕ → InputState → Bool
 has_left len (Position position) = nat_lt position len
 
+-- at the next byte of the input
 abbrev pub one_read : InputState → InputState
 one_read (Position position) = Position (position + 1)
 
+-- the index of the byte that is read; at the end, the input's length
 abbrev pub the_position : InputState → ℤ
 the_position (Position position) = pos position
 

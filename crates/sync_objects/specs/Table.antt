@@ -23,29 +23,37 @@ first_row (row fits after answer ∷ rows) s = if fits s then Moves (after s) (a
 
 -- words for rows of any kind
 
+-- in the last row of an operation: whatever the state, if none above fits
 abbrev pub any : {S : Type 0} → S → Bool
 any s = true
 
+-- the operation leaves the state as it is, such as after a misuse
 abbrev pub same : {S : Type 0} → S → S
 same s = s
 
+-- the state after it, whatever it was before
 abbrev pub to : {S : Type 0} → S → S → S
 to after s = after
 
+-- an answer that doesn't depend on the state
 abbrev pub says : {S : Type 0} → ℤ → S → ℤ
 says answer s = answer
 
 -- the answers: done, a misuse, EBUSY, and PTHREAD_BARRIER_SERIAL_THREAD
 
+-- 0, which POSIX gives for success
 abbrev pub done : ℤ
 done = pos 0
 
+-- -2: the program does what POSIX leaves undefined
 abbrev pub misuse : ℤ
 misuse = negsuc 1
 
+-- 16, for a mutex that `pthread_mutex_trylock` finds held
 abbrev pub busy : ℤ
 busy = pos 16
 
+-- -1, for the one thread that completes a barrier
 abbrev pub serial : ℤ
 serial = negsuc 0
 

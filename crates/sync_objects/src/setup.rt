@@ -26,6 +26,7 @@ impl Model for Setup {
 }
 
 impl Setup {
+    /// A setup of these numbers and bytes.
     pub fn new(slots: u8, cells: u32, limit: u32, input: Bytes) -> Setup
         requires { IsWithinLimits (record { slots = slots; cells = cells; limit = limit; input = input }) }
         ensures { result ≡ record { slots = slots; cells = cells; limit = limit; input = input } }
@@ -46,6 +47,7 @@ impl Setup {
         self.slots
     }
 
+    /// How many global cells there are.
     pub fn cells(&self) -> u32
         ensures value { result ≡ self.now.cells }
         ensures within { IsWithinLimits self.now }
@@ -53,6 +55,7 @@ impl Setup {
         self.cells
     }
 
+    /// How many entries a thread's list may have.
     pub fn limit(&self) -> u32
         ensures value { result ≡ self.now.limit }
         ensures within { IsWithinLimits self.now }

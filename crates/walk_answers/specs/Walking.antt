@@ -31,6 +31,7 @@ formula_of (Some name) = all_loads
 
 -- ---- what is told
 
+-- the program's answer to a walk, without the accesses it kept
 abbrev pub answer_of : Walk → Answer
 answer_of (walk.Done out reads ends) = answer.Done out
 answer_of (walk.Trapped kind thread line out reads ends) = answer.Trapped out kind thread line
@@ -47,6 +48,7 @@ abbrev pub put_of : Option (List ℕ) → Option (List Access) → List Put
 put_of (Some name) (Some reads) = record { name = name; content = reads_text_of reads } ∷ []
 put_of _ _ = []
 
+-- no file where none is named, or where the walk is wrong
 abbrev pub reads_put : Option (List ℕ) → Walk → List Put
 reads_put name w = put_of name (kept w)
 

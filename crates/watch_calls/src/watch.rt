@@ -32,6 +32,7 @@ impl<T: AccessTest + Sync> Watch<T> {
         Watch { formula, test }
     }
 
+    /// Which accesses it watches.
     pub fn formula(&self) -> Formula
         ensures { result ≡ self.now }
     {

@@ -14,6 +14,7 @@ abbrev pub numbers_from : {X : Type 0} → (n : ℕ) → (X → Bool) → List X
 numbers_from n test [] = []
 numbers_from n test (x ∷ xs) = if test x then n ∷ numbers_from (n + 1) test xs else numbers_from (n + 1) test xs
 
+-- the instruction is the first of the region
 abbrev pub begins_at : ℕ → Stretch → Bool
 begins_at k s = s.first == k
 
@@ -21,23 +22,29 @@ begins_at k s = s.first == k
 abbrev pub ends_before : ℕ → Stretch → Bool
 ends_before k s = s.last + 1 == k
 
+-- the instruction is one of those during which the region is open
 abbrev pub covers : ℕ → Stretch → Bool
 covers k s = nat_le s.first k && nat_le k s.last
 
+-- the numbers of the regions that begin there, the outermost first
 abbrev pub beginning : List Stretch → ℕ → List ℕ
 beginning ss k = numbers_from 0 (begins_at k) ss
 
+-- the numbers of the regions that end just before it, the outermost first
 abbrev pub ending : List Stretch → ℕ → List ℕ
 ending ss k = numbers_from 0 (ends_before k) ss
 
+-- the numbers of the regions that are open during it, the outermost first
 abbrev pub covering : List Stretch → ℕ → List ℕ
 covering ss k = numbers_from 0 (covers k) ss
 
 -- ---- what stands before an instruction
 
+-- the innermost region is given first: it has the greatest number
 abbrev pub gives : List ℕ → List Act
 gives rs = map (λ r. act.Give r) (reverse rs)
 
+-- the outermost region is taken first: it has the least number
 abbrev pub takes : List ℕ → List Act
 takes rs = map (λ r. act.Take r) rs
 
@@ -50,6 +57,7 @@ left ss k _ = []
 abbrev pub turned : List Stretch → ℕ → List Act
 turned ss k = gives (ending ss k) ++ takes (beginning ss k)
 
+-- all that is put before the instruction, in its order
 abbrev pub before : List Stretch → ℕ → Act → List Act
 before ss k a = turned ss k ++ gives (left ss k a)
 
@@ -61,9 +69,11 @@ place_from ss n [] k = 0
 place_from ss n (i ∷ is) zero = 0
 place_from ss n (i ∷ is) (suc k) = length (before ss n i.act) + 1 + place_from ss (n + 1) is k
 
+-- where what stands before the k-th instruction begins in the weakened code
 abbrev pub place_of : List Stretch → List Instr → (k : ℕ) → ℕ
 place_of ss is k = place_from ss 0 is k
 
+-- past the end a Mark stands in, before which no region is left
 abbrev pub act_or_mark : Option Instr → Act
 act_or_mark None = act.Mark
 act_or_mark (Some i) = i.act

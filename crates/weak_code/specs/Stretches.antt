@@ -33,6 +33,7 @@ use Rattle.weak_code.specs.WeakLocks.{with_number, locks_of}
 
 -- ---- the accesses of a function that may race
 
+-- the range is known of just this access
 abbrev pub is_range_of : AccessAt → Range → Bool
 is_range_of a r = (r.function == a.function) && (r.instr == a.instr)
 
@@ -40,6 +41,7 @@ is_range_of a r = (r.function == a.function) && (r.instr == a.instr)
 abbrev pub shift_of : List Range → AccessAt → Option ℤ
 shift_of rs a = option_map (λ r. r.shift) (find (is_range_of a) rs)
 
+-- an access with the weak locks of all places that it may touch
 abbrev pub racy_through : Code → Tables → (locked : List Place) → List Range → Grained → Access → RacyAccess
 racy_through code t locked rs g a = record {
   instr = g.access.instr;
@@ -49,6 +51,7 @@ racy_through code t locked rs g a = record {
   locks = locks_of locked (places_of code t g.access);
 }
 
+-- none where the row names an instruction that makes no access
 abbrev pub racy_access : Code → Tables → (locked : List Place) → List Range → Grained → Option RacyAccess
 racy_access code t locked rs g = option_map (racy_through code t locked rs g) (access_in (act_of code g.access))
 
@@ -58,6 +61,7 @@ racy_accesses code t locked rs rows f = filter_map (racy_access code t locked rs
 
 -- ---- some of them
 
+-- the same width, and for a loop or a block the same one
 abbrev pub same_grain : Grain → Grain → Bool
 same_grain grain.Function grain.Function = true
 same_grain (grain.Loop m) (grain.Loop n) = m == n
@@ -65,13 +69,16 @@ same_grain (grain.Block m) (grain.Block n) = m == n
 same_grain grain.Instruction grain.Instruction = true
 same_grain _ _ = false
 
+-- those that are guarded at just this grain
 abbrev pub with_grain : Grain → List RacyAccess → List RacyAccess
 with_grain x accesses = filter (λ a. same_grain x a.grain) accesses
 
+-- numbers in ascending order, with several more, and none of them twice
 abbrev pub with_all : (found more : List ℕ) → List ℕ
 with_all found [] = found
 with_all found (n ∷ ns) = with_all (with_number n found) ns
 
+-- the locks that were found, and those of these accesses
 abbrev pub with_their_locks : (found : List ℕ) → List RacyAccess → List ℕ
 with_their_locks found [] = found
 with_their_locks found (a ∷ more) = with_their_locks (with_all found a.locks) more
@@ -87,6 +94,7 @@ last_of at (a ∷ more) = last_of a.instr more
 
 -- ---- the region of the function: from after the making of its objects on to its end
 
+-- no region where no access is guarded with the function
 abbrev pub function_stretch : Function → List RacyAccess → List Stretch
 function_stretch fn [] = []
 function_stretch fn (a ∷ more) = record { first = length (objects_of fn.instrs); last = length fn.instrs - 1; region = region.Whole (all_locks (a ∷ more)) } ∷ []
@@ -108,6 +116,7 @@ abbrev pub origin_after : List Instr → (q through : ℕ) → Option ℕ → Ba
 origin_after is q through None = base.Register through
 origin_after is q through (Some pointer) = origin_of pointer (made_at is q pointer)
 
+-- the base by the instruction that last assigned the register, if any did
 abbrev pub base_after : List Instr → (through : ℕ) → Option ℕ → Base
 base_after is through None = base.Register through
 base_after is through (Some q) = origin_after is q through (moved_from (act_in (slice_get is q)))
@@ -117,9 +126,11 @@ base_after is through (Some q) = origin_after is q through (moved_from (act_in (
 abbrev pub element_base : List Instr → (k through : ℕ) → Base
 element_base is k through = base_after is through (last_maker is k through)
 
+-- the elements that the access touches in all turns of its loop
 abbrev pub span_with : List Instr → RacyAccess → ℤ → Span
 span_with is a shift = record { base = element_base is a.instr a.through; shift = shift; locks = a.locks }
 
+-- none where the distance from the counter isn't known
 abbrev pub span_of : List Instr → RacyAccess → Option Span
 span_of is a = option_map (span_with is a) a.shift
 
@@ -127,15 +138,18 @@ span_of is a = option_map (span_with is a) a.shift
 abbrev pub spans_of : List Instr → (mark : ℕ) → List RacyAccess → List Span
 spans_of is mark accesses = filter_map (span_of is) (with_grain (grain.Loop mark) accesses)
 
+-- no region where no access is guarded with the loop
 abbrev pub loop_stretch : LoopInfo → List Span → Option Stretch
 loop_stretch l [] = None
 loop_stretch l (s ∷ spans) = Some (record { first = l.at; last = l.last + 1; region = region.Ranged l.counter l.bound (s ∷ spans) })
 
+-- those of all loops, in the order in which the function lists them
 abbrev pub loop_stretches : Function → List RacyAccess → List Stretch
 loop_stretches fn accesses = filter_map (λ l. loop_stretch l (spans_of fn.instrs l.at accesses)) fn.loops
 
 -- ---- the region of a block: from the first to the last of its accesses that are guarded with it
 
+-- a block takes the locks of all its accesses at once
 abbrev pub block_stretch : ℕ → List RacyAccess → Stretch
 block_stretch first accesses = record { first = first; last = last_of first accesses; region = region.Whole (all_locks accesses) }
 
@@ -143,18 +157,22 @@ block_stretch first accesses = record { first = first; last = last_of first acce
 abbrev pub block_from : List RacyAccess → RacyAccess → Option Stretch
 block_from accesses a = if same_grain (grain.Block a.instr) a.grain then Some (block_stretch a.instr (with_grain (grain.Block a.instr) accesses)) else None
 
+-- one for each block that guards an access
 abbrev pub block_stretches : List RacyAccess → List Stretch
 block_stretches accesses = filter_map (block_from accesses) accesses
 
 -- ---- the region of an access alone
 
+-- open for one instruction, on the one cell that it touches
 abbrev pub access_stretch : RacyAccess → Stretch
 access_stretch a = record { first = a.instr; last = a.instr; region = region.Cell (base.Register a.through) a.locks }
 
+-- one for each access that no wider region guards
 abbrev pub access_stretches : List RacyAccess → List Stretch
 access_stretches accesses = map access_stretch (with_grain grain.Instruction accesses)
 
 -- ---- all of them
 
+-- regions in the order of their numbers: function, loops, blocks, accesses alone
 abbrev pub stretches_of : Function → List RacyAccess → List Stretch
 stretches_of fn accesses = function_stretch fn (with_grain grain.Function accesses) ++ (loop_stretches fn accesses ++ (block_stretches accesses ++ access_stretches accesses))

@@ -9,6 +9,7 @@ use Rattle.flow_code.specs.declared.code.Function.{Function}
 use Rattle.flow_code.specs.declared.code.LoopInfo.{LoopInfo}
 use Rattle.weak_code.specs.Weakened.{retarget, at_instr}
 
+-- an action that no source has: weak locks alone make it
 abbrev pub is_weak : Act → Bool
 is_weak (act.Take r) = true
 is_weak (act.Give r) = true
@@ -25,9 +26,11 @@ abbrev pub stripped : (ℕ → ℕ) → List Instr → List Instr
 stripped to [] = []
 stripped to (i ∷ is) = if is_weak i.act then stripped to is else at_instr i (retarget to i.act) ∷ stripped to is
 
+-- the loop with its places as they are without Takes and Gives
 abbrev pub stripped_loop : (ℕ → ℕ) → LoopInfo → LoopInfo
 stripped_loop to l = record { at = to l.at; first = to l.first; last = to l.last; counter = l.counter; bound = l.bound; step = l.step }
 
+-- the function as it was before its regions were put in
 abbrev pub strip_function : Function → Function
 strip_function fn = record {
   name = fn.name;
@@ -41,6 +44,7 @@ strip_function fn = record {
   regions = [];
 }
 
+-- undoes `weakened`: what is left is the plain code
 abbrev pub strip : Code → Code
 strip code = record {
   functions = map strip_function code.functions;

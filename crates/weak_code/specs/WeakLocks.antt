@@ -32,6 +32,7 @@ abbrev pub with_number : ℕ → List ℕ → List ℕ
 with_number n [] = n ∷ []
 with_number n (x ∷ xs) = if nat_lt x n then x ∷ with_number n xs else (if x == n then x ∷ xs else n ∷ x ∷ xs)
 
+-- the numbers stay where the place has no lock
 abbrev pub with_some : Option ℕ → List ℕ → List ℕ
 with_some None found = found
 with_some (Some n) found = with_number n found
@@ -47,10 +48,12 @@ locks_of locked ps = with_locks locked [] ps
 
 -- ---- stripes
 
+-- the access is guarded with a counted loop
 abbrev pub is_loop : Grain → Bool
 is_loop (grain.Loop at) = true
 is_loop _ = false
 
+-- one of the places is of the same site and class
 abbrev pub has_place : Place → List Place → Bool
 has_place p ps = list_any (λ q. place_same p q) ps
 
@@ -62,5 +65,6 @@ is_striped code t rows p = list_any (λ g. is_loop g.grain && has_place p (place
 abbrev pub lock_for : Code → Tables → List Grained → Place → LockInfo
 lock_for code t rows p = record { site = p.site; class = p.class; stripes = if is_striped code t rows p then 8 else 1 }
 
+-- the code's weak locks, in the order of their numbers
 abbrev pub locks_for : Code → Tables → List Grained → List Place → List LockInfo
 locks_for code t rows locked = map (lock_for code t rows) locked

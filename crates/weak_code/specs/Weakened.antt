@@ -37,6 +37,7 @@ abbrev pub blocks : List Stretch → (all : List Instr) → (k : ℕ) → List I
 blocks ss all k [] = []
 blocks ss all k (i ∷ is) = block ss all k i ++ blocks ss all (k + 1) is
 
+-- all of a function's instructions, with the Takes and Gives of its regions
 abbrev pub weakened_instrs : List Stretch → List Instr → List Instr
 weakened_instrs ss is = blocks ss is 0 is
 
@@ -48,6 +49,7 @@ moved_loop ss is l = record { at = seat_of ss is l.at; first = place_of ss is l.
 
 -- ---- functions
 
+-- only instructions, loops and regions become others
 abbrev pub with_stretches : Function → List Stretch → Function
 with_stretches fn ss = record {
   name = fn.name;

@@ -23,6 +23,7 @@ use Rattle.weak_facts.specs.declared.range.Range.{Range}
 
 -- ---- racy accesses
 
+-- the access is one of the two that may race
 abbrev pub stands_in : AccessAt → Pair → Bool
 stands_in a p = access_same p.first a || access_same p.second a
 
@@ -32,13 +33,16 @@ is_racy ps a = list_any (λ p. stands_in a p) ps
 
 -- ---- functions at work at once
 
+-- a function that isn't there has the empty name
 abbrev pub named : Option Function → Text
 named None = []
 named (Some fn) = fn.name
 
+-- the name in the source, by which a profile names the function
 abbrev pub name_of : Code → ℕ → Text
 name_of code f = named (slice_get code.functions f)
 
+-- a profile of all counts any two functions as at work at once
 abbrev pub has_names : Profile → Text × Text → Bool
 has_names profile.All q = true
 has_names (profile.Pairs qs) q = list_any (λ r. is_eq (pair_order r q)) qs
@@ -53,6 +57,7 @@ is_met code ps profile a = is_racy (filter (λ p. is_seen code profile p) ps) a
 
 -- ---- loops
 
+-- the range is known of just this access
 abbrev pub is_range_of : AccessAt → Range → Bool
 is_range_of a r = (r.function == a.function) && (r.instr == a.instr)
 
@@ -68,6 +73,7 @@ abbrev pub block_at : List Instr → ℕ → ℕ
 block_at is zero = zero
 block_at is (suc k) = if begins_block is (suc k) then suc k else block_at is k
 
+-- only these can share a block; a library call stands alone
 abbrev pub is_load_or_store : Option Act → Bool
 is_load_or_store (Some (act.LoadCell into through)) = true
 is_load_or_store (Some (act.StoreCell through from)) = true
@@ -82,6 +88,7 @@ abbrev pub those_below : (ℕ → Bool) → ℕ → List ℕ
 those_below test zero = []
 those_below test (suc n) = if test n then those_below test n ++ n ∷ [] else those_below test n
 
+-- those of function f; none where the code has no such function
 abbrev pub instrs_of : Code → ℕ → List Instr
 instrs_of code f = instrs_in (slice_get code.functions f)
 
@@ -100,10 +107,12 @@ together _ = grain.Instruction
 
 -- ---- grains
 
+-- the loop where there is one, else what is narrower
 abbrev pub loop_grain : Option ℕ → Grain → Grain
 loop_grain None narrow = narrow
 loop_grain (Some at) narrow = grain.Loop at
 
+-- the grain where neither the function nor a loop guards the access
 abbrev pub narrow_grain : Code → List Pair → List Range → Profile → AccessAt → Grain
 narrow_grain code ps rs profile a = if is_load_or_store (act_of code a) then together (all_beside code ps rs profile a) else grain.Instruction
 

@@ -27,9 +27,11 @@ use Rattle.facts.specs.Paths.{is_never_assigned}
 use Rattle.weak_facts.specs.declared.loop_at.LoopAt.{LoopAt}
 
 infixl 10 ◌>>=◌
+-- for `do`: the first that isn't found ends the search
 abbrev pub ◌>>=◌ : {A B : Type 0} → Option A → (A → Option B) → Option B
 o >>= f = option_and_then f o
 
+-- what the k-th instruction does; none past the end
 abbrev pub nth : List Instr → ℕ → Option Act
 nth is k = act_in (slice_get is k)
 
@@ -54,10 +56,12 @@ abbrev pub bound_into : Bound → Option Act → Option ℕ
 bound_into (bound.Number z) a = number_into z a
 bound_into (bound.Register r) a = Some r
 
+-- how many instructions put the bound into a register
 abbrev pub bound_size : Bound → ℕ
 bound_size (bound.Number z) = 1
 bound_size (bound.Register r) = 0
 
+-- the operands are these two registers, and not one register twice
 abbrev pub are_apart : (x y left right : ℕ) → Bool
 are_apart x y left right = (left == x) && (right == y) && not (x == y)
 
@@ -91,12 +95,14 @@ abbrev pub is_any_copy : Option Act → Bool
 is_any_copy (Some (act.Compute into (work.Copy from))) = true
 is_any_copy _ = false
 
+-- a jump without a condition, to just this place
 abbrev pub is_jump : (to : ℕ) → Option Act → Bool
 is_jump k (Some (act.Jump to)) = to == k
 is_jump k _ = false
 
 -- ---- ways in
 
+-- after the a-th and not after the b-th instruction
 abbrev pub is_within : (a b k : ℕ) → Bool
 is_within a b k = nat_lt a k && nat_le k b
 
@@ -106,6 +112,7 @@ goes_into a b (act.Jump to) = is_within a b to
 goes_into a b (act.Branch on then_at else_at) = is_within a b then_at || is_within a b else_at
 goes_into a b _ = false
 
+-- none of these leads past the a-th instruction into those up to b
 abbrev pub none_goes_into : (a b : ℕ) → List Instr → Bool
 none_goes_into a b is = list_all (λ i. not (goes_into a b i.act)) is
 
@@ -168,6 +175,7 @@ keeps_counter is l = is_never_assigned (slice_range is l.at (l.last - 1)) l.coun
 abbrev pub keeps : List Instr → LoopInfo → ℕ → Bool
 keeps is l r = is_never_assigned (loop_code is l) r
 
+-- a number never changes; a register mustn't be assigned in the loop
 abbrev pub keeps_bound : List Instr → LoopInfo → Bound → Bool
 keeps_bound is l (bound.Number z) = true
 keeps_bound is l (bound.Register r) = keeps is l r
@@ -176,12 +184,15 @@ keeps_bound is l (bound.Register r) = keeps is l r
 abbrev pub is_entered_so : List Instr → LoopInfo → Bool
 is_entered_so is l = is_entered_at is l.at (l.last + 1) && is_entered_at is l.at (condition_end l) && is_entered_at is (last_part_at is l) (l.last + 1)
 
+-- its instructions stand as those of such a `for` (C99 6.8.5.3)
 abbrev pub has_form : List Instr → LoopInfo → Bool
 has_form is l = has_places is l && begins_so is l && ends_so is l
 
+-- the body changes neither the counter nor the bound
 abbrev pub keeps_numbers : List Instr → LoopInfo → Bool
 keeps_numbers is l = keeps_counter is l && keeps_bound is l l.bound
 
+-- its counter goes from the entry to the bound in equal steps
 abbrev pub is_counted : Function → LoopInfo → Bool
 is_counted fn l = are_numbers fn l && has_form fn.instrs l && keeps_numbers fn.instrs l && is_entered_so fn.instrs l
 
@@ -191,6 +202,7 @@ is_counted fn l = are_numbers fn l && has_form fn.instrs l && keeps_numbers fn.i
 abbrev pub counted_of : Function → List LoopInfo
 counted_of fn = filter (is_counted fn) fn.loops
 
+-- the loop with the number of its function
 abbrev pub loop_in : (f : ℕ) → LoopInfo → LoopAt
 loop_in f l = record { function = f; counted = l }
 
@@ -199,5 +211,6 @@ abbrev pub counted_from : (f : ℕ) → List Function → List LoopAt
 counted_from f [] = []
 counted_from f (fn ∷ fns) = map (loop_in f) (counted_of fn) ++ counted_from (f + 1) fns
 
+-- those of all functions, in the order of their numbers
 abbrev pub counted_loops_of : Code → List LoopAt
 counted_loops_of code = counted_from 0 code.functions

@@ -31,6 +31,7 @@ abbrev pub mark_before : List Instr → (k m : ℕ) → Option ℕ
 mark_before is k zero = None
 mark_before is k (suc m) = if begins_round is k m then Some m else mark_before is k m
 
+-- there is a number, and it is n
 abbrev pub is_number : ℕ → Option ℕ → Bool
 is_number n None = false
 is_number n (Some m) = m == n
@@ -39,6 +40,7 @@ is_number n (Some m) = m == n
 abbrev pub is_innermost : List Instr → ℕ → LoopInfo → Bool
 is_innermost is k l = nat_le k l.last && is_number l.at (mark_before is k k)
 
+-- of a function of the code, or of the library (C99 6.5.2.2)
 abbrev pub is_call : Act → Bool
 is_call (act.Call g arguments into) = true
 is_call (act.Library c arguments into) = true
@@ -110,6 +112,7 @@ abbrev pub negative : ℤ → Option ℤ
 negative (pos n) = Some (neg_ℤ (pos n))
 negative (negsuc n) = if n == 2 ^ 63 - 1 then None else Some (neg_ℤ (negsuc n))
 
+-- the distance where a constant is subtracted from the counter
 abbrev pub negative_of : Option ℤ → Option ℤ
 negative_of None = None
 negative_of (Some d) = negative d
@@ -144,9 +147,11 @@ moved_shift is l k = do
 abbrev pub has_single_cells : Code → Place → Bool
 has_single_cells code p = element_of code.sites p.site == 1
 
+-- wherever the pointer points, elements are single cells
 abbrev pub have_single_cells : Code → List Place → Bool
 have_single_cells code ps = list_all (has_single_cells code) ps
 
+-- an access whose element is d after the loop's counter
 abbrev pub range : (f k : ℕ) → LoopInfo → ℤ → Range
 range f k l d = record { function = f; instr = k; loop_at = l.at; shift = d }
 

@@ -26,6 +26,7 @@ pub record IsSound (c : Carrying) : Type 0 where
   pub stripes : length c.since ≡ 8 * length c.cells.code.locks
   pub listed : length c.run.entries ≤ c.turns
 
+-- its thread goes on no more; a trap is an end, too
 abbrev pub run_has_ended : Stepping → Bool
 run_has_ended r = has_ended r.flow.kept.thread.phase
 

@@ -75,6 +75,7 @@ abbrev pub Advances : Board → (old new : Seat) → (since later : List ℕ) �
 Advances cells old new since later budget turn None = (fresh : List Note) × Meets old new fresh × (later ≡ since)
 Advances cells old new since later budget turn (Some p) = (mid : Seat) × (fresh : List Note) × Meets old mid fresh × Saw fresh (memory_place cells.code cells.setup) 0 × StepIs cells mid new since later budget turn fresh p
 
+-- a stop ends a thread that has begun; a close, one never started
 abbrev pub is_stop : End → Bool
 is_stop end.Stop = true
 is_stop end.Close = false

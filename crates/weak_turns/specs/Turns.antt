@@ -33,6 +33,7 @@ use Rattle.weak_turns.specs.declared.revokes.LockStripe.{LockStripe}
 abbrev pub thread_of : Seat → Thread
 thread_of seat = (pending (view_of seat) seat.marks).thread
 
+-- that of the seat's thread, which is its slot
 abbrev pub number_of : Seat → ℕ
 number_of seat = (view_of seat).from
 
@@ -51,6 +52,7 @@ Saw fresh word value = Contains fresh (record { failed = false; word = word; val
 abbrev pub object_place : Board → ObjId → ℕ
 object_place cells obj = place_of (cells_of cells.code cells.setup) obj
 
+-- where the board says whether a thread wants the stripe
 abbrev pub want_place : Board → (lock stripe : ℕ) → ℕ
 want_place cells lock stripe = objects_end cells.code cells.setup + 8 * lock + stripe
 
@@ -89,6 +91,7 @@ pub data NoEndIsDue (cells : Board) (t : ℕ) (fresh : List Note) (th : Thread) 
   started : has_begun th.phase ≡ false → SawIdle cells t fresh false → NoEndIsDue cells t fresh th
   may_start : has_begun th.phase ≡ false → SawRunning cells fresh true → SawLive cells fresh true → NoEndIsDue cells t fresh th
 
+-- which end is due, or that none is
 abbrev pub EndIs : Board → (t : ℕ) → List Note → Thread → Option End → Type 0
 EndIs cells t fresh th None = NoEndIsDue cells t fresh th
 EndIs cells t fresh th (Some end.Stop) = IsStopDue cells fresh th
@@ -124,6 +127,7 @@ pub record IsRevokeDue (cells : Board) (th : Thread) (since : List ℕ) (budget 
 abbrev pub NoRevokeIsDue : Board → Thread → List ℕ → (budget turn : ℕ) → List Note → Type 0
 NoRevokeIsDue cells th since budget turn fresh = IsFull th ⊎ AreUnwanted cells th since budget turn fresh (8 * length cells.code.locks)
 
+-- which stripe is to be revoked, or that none is
 abbrev pub RevokeIs : Board → Thread → List ℕ → (budget turn : ℕ) → List Note → Option LockStripe → Type 0
 RevokeIs cells th since budget turn fresh None = NoRevokeIsDue cells th since budget turn fresh
 RevokeIs cells th since budget turn fresh (Some p) = IsRevokeDue cells th since budget turn fresh p.lock p.stripe

@@ -7,6 +7,7 @@ use Rattle.flow_code.specs.declared.act.Instr.{Instr}
 use Rattle.flow_code.specs.declared.code.Code.{Code}
 use Rattle.flow_code.specs.declared.code.LoopInfo.{LoopInfo}
 
+-- one of the instructions from the a-th to the b-th
 abbrev pub is_inside : (a b k : ℕ) → Bool
 is_inside a b k = nat_le a k && nat_le k b
 
@@ -15,6 +16,7 @@ is_inside a b k = nat_le a k && nat_le k b
 abbrev pub jump_keeps : (a b k to : ℕ) → Bool
 jump_keeps a b k to = if is_inside a b k then is_inside a b to || (to == b + 1) else (nat_lt k a || not (to == a))
 
+-- all its jumps keep to that; an action without jumps does anyway
 abbrev pub act_keeps : (a b k : ℕ) → Act → Bool
 act_keeps a b k (act.Jump to) = jump_keeps a b k to
 act_keeps a b k (act.Branch on then_at else_at) = jump_keeps a b k then_at && jump_keeps a b k else_at

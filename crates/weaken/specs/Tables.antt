@@ -34,11 +34,13 @@ with_span is mark a spans = if same_grain (grain.Loop mark) a.grain then spans +
 abbrev pub grown : (first : ℕ) → RacyAccess → Part → Part
 grown first a p = if same_grain (grain.Block first) a.grain then record { last = a.instr; locks = with_all p.locks a.locks } else p
 
+-- the end and the locks of the block's region
 abbrev pub part_of : (first : ℕ) → List RacyAccess → Part
 part_of first accesses = record { last = last_of first (with_grain (grain.Block first) accesses); locks = all_locks (with_grain (grain.Block first) accesses) }
 
 -- ---- what stands before each instruction
 
+-- the action ends its function's frame (C99 6.8.6.4)
 abbrev pub returns : Act → Bool
 returns (act.Return value) = true
 returns _ = false

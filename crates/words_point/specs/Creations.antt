@@ -24,11 +24,13 @@ pub record Creation : Type 0 where
   pub function : ℕ
   pub handed : Bool
 
+-- `pthread_create` after its draw; from its second event on handed over
 abbrev pub creation_at : Option Act → ℕ → ℤ → Option Creation
 creation_at (Some (act.Library (call.Create f) arguments into)) (suc zero) kept = Some (record { slot = slot_in kept; function = f; handed = false })
 creation_at (Some (act.Library (call.Create f) arguments into)) (suc (suc n)) kept = Some (record { slot = slot_in kept; function = f; handed = true })
 creation_at _ made kept = None
 
+-- only a running thread can be at such a call
 abbrev pub creation_in : Code → Frame → Phase → Option Creation
 creation_in code f phase.Running = creation_at (act_at code f) f.made f.kept
 creation_in code f _ = None
@@ -47,9 +49,11 @@ was_started _ = true
 abbrev pub slot_state : Code → SetupView → State Told → ℕ → SlotState
 slot_state code s st k = slot_of (state_of (word_of_object code s (object.Slot k) st))
 
+-- how many threads were ever drawn, whether or not they live
 abbrev pub drawn_in : ThreadsState → ℕ
 drawn_in (Counts drawn live) = drawn
 
+-- how many threads were drawn up to this state
 abbrev pub drawn : Code → SetupView → State Told → ℕ
 drawn code s st = drawn_in (threads_of (state_of (word_of_object code s object.Threads st)))
 

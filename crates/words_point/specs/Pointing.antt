@@ -119,6 +119,7 @@ GoodPhase code s made th (phase.Loaded f w) = GoodLoaded code s made f w
 GoodPhase code s made th phase.Running = GoodRunning code s made th
 GoodPhase code s made th _ = Unit {0}
 
+-- no word that the thread holds points where the analysis says it may not
 abbrev pub GoodThread : Code → SetupView → List Object → Thread → Type 0
 GoodThread code s made th = GoodPhase code s made th th.phase
 

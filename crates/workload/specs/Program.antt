@@ -2,6 +2,7 @@
 use Rattle.std.specs.Prelude.{ℕ, zero, suc, List, [], ◌∷◌, ◌++◌, map, codes, decimal}
 use Rattle.std.specs.List.{flat_map}
 
+-- one byte of ASCII for each character
 abbrev pub Text : Type 0
 Text = List ℕ
 
@@ -18,6 +19,7 @@ function_line i = codes "int f" ++ decimal i ++ codes "(int a) { int s = 0; for 
 abbrev pub call_line : ℕ → Text
 call_line i = codes "s = s + f" ++ decimal i ++ codes "(" ++ decimal i ++ codes ");"
 
+-- headers and globals; `hits` is the one that its threads race on
 abbrev pub first_lines : List Text
 first_lines =
     codes "#include <pthread.h>" ∷
@@ -65,5 +67,6 @@ program_lines n =
 abbrev pub text_of : List Text → Text
 text_of lines = flat_map (λ line. line ++ 10 ∷ []) lines
 
+-- the whole source with n functions, as bytes
 abbrev pub program_text : ℕ → Text
 program_text n = text_of (program_lines n)

@@ -6,6 +6,7 @@ ghost use Rattle.sync_objects.specs.Moved.{moved, Gives};
 
 use crate::rows::moved::{DONE, Moved};
 
+/// No thread has ended the run.
 pub const RUNNING: u32 = 0;
 
 const HALTED: u32 = 1;

@@ -7,6 +7,7 @@ ghost use Rattle.sync_objects.specs.Table.{Moves};
 
 use crate::rows::moved::{DONE, EBUSY, MISUSE, Moved};
 
+/// Nobody holds it.
 pub const FREE: u32 = 0;
 
 fn held_by(thread: u8) -> u32

@@ -20,6 +20,7 @@ pub struct Moved {
 }
 
 impl Moved {
+    /// The object's word after an operation, and what the operation answers.
     pub fn new(state: u32, answer: i64) -> Moved
         ensures state { result.state ≡ state }
         ensures answer { result.answer ≡ answer }

@@ -6,10 +6,12 @@ ghost use Rattle.sync_objects.specs.Moved.{moved, Gives};
 
 use crate::rows::moved::{DONE, MISUSE, Moved};
 
+/// Nothing is started in the slot.
 pub const IDLE: u32 = 0;
 
 const CLOSED: u32 = 1;
 
+/// The slot's thread has begun.
 pub const BEGUN: u32 = 2;
 
 const ENDED: u32 = 3;
