@@ -1,4 +1,3 @@
 pub mod Locals
 pub mod Made
-pub mod Nested
 pub mod Rows

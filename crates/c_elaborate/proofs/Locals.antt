@@ -9,10 +9,11 @@ use Rattle.c_locals.specs.Addresses.{count_of_declares, count_of_start, count_of
 use Rattle.c_programs.specs.Declarators.{after_params}
 use Rattle.c_types.specs.Scopes.{Known}
 use Rattle.c_core.specs.Core as core
-use Rattle.c_elaborate.specs.declared.local.Local.{Local}
-use Rattle.c_values.specs.Context.{Source, Frame, context_in}
-use Rattle.c_elaborate.specs.Statements.{block_of, all_elaborated}
-use Rattle.c_elaborate.specs.Functions.{formal_of, local_of, declares_locals, start_locals, statement_locals, parts_locals, marked, frame_of, function_by, definition_by, definition}
+use Rattle.c_statements.specs.declared.local.Local.{Local}
+use Rattle.c_operators.specs.Context.{Source, Frame, context_in}
+use Rattle.c_statements.specs.Statements.{block_of, all_elaborated}
+use Rattle.c_statements.specs.Locals.{local_of, declares_locals, start_locals, statement_locals, parts_locals}
+use Rattle.c_elaborate.specs.Functions.{formal_of, marked, frame_of, function_by, definition_by, definition}
 
 marked_length : (ns : List ℕ) (n : ℕ) (ls : List Local) → length (marked ns n ls) ≡ length ls
 marked_length ns n [] = refl

@@ -11,9 +11,9 @@ use Rattle.c_core.specs.declared.program.CoreFunction.{CoreFunction}
 use Rattle.c_core.specs.declared.statement.Statement.{Statement as RustStatement}
 use Rattle.c_core.specs.Core as core
 use Rattle.c_core.specs.View.{function_of, stmt_of}
-use Rattle.c_elaborate.specs.declared.local.Local.{Local}
-use Rattle.c_values.specs.Context.{Source, Frame, context_in, site_at}
-use Rattle.c_elaborate.specs.Statements.{block_of, all_elaborated}
+use Rattle.c_statements.specs.declared.local.Local.{Local}
+use Rattle.c_operators.specs.Context.{Source, Frame, context_in, site_at}
+use Rattle.c_statements.specs.Statements.{block_of, all_elaborated}
 use Rattle.c_elaborate.specs.Functions.{sites_of}
 
 -- ---- sites

@@ -2,30 +2,24 @@
 use Rattle.std.specs.Prelude.{ℕ, ◌+◌, nat_lt, Bool, false, not, ◌||◌, if◌then◌else◌, List, [], ◌∷◌, ◌++◌, length, map, Option, Some, None}
 use Rattle.rr_base.specs.declared.layout.Site.{Site}
 use Rattle.c_tree.specs.declared.name.Name.{Name}
-use Rattle.c_tree.specs.declared.ctype.Specifier.{Specifier}
 use Rattle.c_tree.specs.declared.program.Param.{Param}
-use Rattle.c_tree.specs.Tree.{Declared, declared, Object, Declares, declares, Start, start_declares, start_computes, Statement, block, compute, break_at, continue_at, gives, branch, branch_else, while_loop, do_loop, for_loop, Parts, no_part, and_declares, and_does}
-use Rattle.rr_base.specs.declared.position.Position.{Position}
+use Rattle.c_tree.specs.Tree.{Parts}
 use Rattle.c_types.specs.declared.library.StarredType.{StarredType}
 use Rattle.c_types.specs.Scopes.{Known}
 use Rattle.c_rules.specs.Faults.{name_place}
 use Rattle.c_programs.specs.Declarators.{after_params}
-use Rattle.c_programs.specs.Statements.{declared_by}
 use Rattle.c_sites.specs.Spots.{is_kept}
 use Rattle.c_locals.specs.Addresses.{is_among, numbered_from}
 use Rattle.c_core.specs.Core as core
-use Rattle.c_values.specs.declared.home.Home.{Home}
-use Rattle.c_values.specs.declared.home.Home.TheVariants as home
-use Rattle.c_elaborate.specs.declared.local.Local.{Local}
-use Rattle.c_values.specs.Context.{Source, Frame, context_in, site_at}
+use Rattle.c_operators.specs.declared.home.Home.{Home}
+use Rattle.c_operators.specs.declared.home.Home.TheVariants as home
+use Rattle.c_statements.specs.declared.local.Local.{Local}
+use Rattle.c_operators.specs.Context.{Source, Frame, context_in, site_at}
 use Rattle.c_values.specs.Calls.{gives_pointer}
-use Rattle.c_elaborate.specs.Statements.{block_of, all_elaborated}
+use Rattle.c_statements.specs.Locals.{local_at, parts_locals}
+use Rattle.c_statements.specs.Statements.{block_of, all_elaborated}
 
 -- ---- the formals and locals of a function, in the order of the text
-
--- whether its type keeps it in cells, whether it is a pointer, and the place of its name
-abbrev pub local_at : Bool → Bool → Position → Local
-local_at kept pointer at = record { is_kept = kept; is_pointer = pointer; at = at }
 
 -- a formal without a name is never kept in cells
 abbrev pub formal_at : Param → Option Name → Local
@@ -35,41 +29,6 @@ formal_at p (Some name) = local_at (is_kept p.specifier p.stars []) (nat_lt 0 p.
 -- a formal of C99 6.7.5.3, by the specifier, stars and name that it has
 abbrev pub formal_of : Param → Local
 formal_of p = formal_at p p.name
-
--- by its own stars and lengths behind the shared specifier
-abbrev pub local_declared : Specifier → Declared → Local
-local_declared s (declared stars name lengths) = local_at (is_kept s stars lengths) (nat_lt 0 stars) (name_place name)
-
--- whether it has a first value changes nothing here
-abbrev pub local_of : Specifier → Object → Local
-local_of s o = local_declared s (declared_by o)
-
--- one declaration may give several locals
-abbrev pub declares_locals : Declares → List Local
-declares_locals (declares s os at) = map (local_of s) os
-
--- those that a `for` declares in its head
-abbrev pub start_locals : Start → List Local
-start_locals (start_declares d) = declares_locals d
-start_locals (start_computes e) = []
-
-abbrev mutual
-  pub statement_locals : Statement → List Local
-  statement_locals (block ps at) = parts_locals ps
-  statement_locals (compute e at) = []
-  statement_locals (break_at at) = []
-  statement_locals (continue_at at) = []
-  statement_locals (gives e at) = []
-  statement_locals (branch e a at) = statement_locals a
-  statement_locals (branch_else e a b at) = statement_locals a ++ statement_locals b
-  statement_locals (while_loop e a at) = statement_locals a
-  statement_locals (do_loop a e at) = statement_locals a
-  statement_locals (for_loop start test next a at) = start_locals start ++ statement_locals a
-
-  pub parts_locals : Parts → List Local
-  parts_locals no_part = []
-  parts_locals (and_declares d ps) = declares_locals d ++ parts_locals ps
-  parts_locals (and_does s ps) = statement_locals s ++ parts_locals ps
 
 -- those to which `&` is applied, by their numbers from n on, are kept in cells too
 abbrev pub marked : List ℕ → ℕ → List Local → List Local

@@ -10,7 +10,7 @@ use Rattle.c_programs.specs.Programs.{known_at_start, signature_of, after_functi
 use Rattle.c_locals.specs.Addresses.{count_of_outer, program_addressed}
 use Rattle.c_sites.specs.Spots.{known_after, kinds_of_structs, program_spots, program_sites}
 use Rattle.c_core.specs.Core as core
-use Rattle.c_values.specs.Context.{Source}
+use Rattle.c_operators.specs.Context.{Source}
 use Rattle.c_elaborate.specs.Functions.{definition}
 use Rattle.c_initials.specs.Globals.{globals_after, global_kinds, global_bases, objects_words}
 

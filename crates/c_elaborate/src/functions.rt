@@ -9,22 +9,22 @@ ghost use Rattle.c_locals.specs.NumberTables.{numbered_of};
 ghost use Rattle.c_programs.specs.Statements.{after_parts};
 ghost use Rattle.c_programs.specs.Table.{known_of};
 ghost use Rattle.c_core.specs.View.{arrival_of, function_of, stmt_of};
-ghost use Rattle.c_values.specs.Context.{context_in};
-ghost use Rattle.c_elaborate.specs.Statements as spec_statements;
+ghost use Rattle.c_operators.specs.Context.{context_in};
+ghost use Rattle.c_statements.specs.Locals.{parts_locals};
+ghost use Rattle.c_statements.specs.Statements as spec_statements;
 ghost use Rattle.c_elaborate.specs.Functions as spec;
-ghost use Rattle.c_values.specs.Views.{frame_in, source_in};
+ghost use Rattle.c_operators.specs.Views.{frame_in, source_in};
 
-use crate::local::Local;
-use crate::make;
-use crate::statement::push_parts;
 use c_core::{Arrival, CoreFunction, Statement};
 use c_locals::{Marks, NumberTable};
+use c_operators::{Frame, Home, Source, site_at};
 use c_programs::{Table, declare_param};
 use c_rules::name_place;
 use c_sites::is_kept;
-use c_tree::{Declaration, Declarator, ForStart, Item, Name, Param, Part, Specifier, Stmt};
+use c_statements::{Local, block, push_parts, push_parts_locals};
+use c_tree::{Name, Param, Part};
 use c_types::StarredType;
-use c_values::{Frame, Home, Source, gives_pointer, site_at};
+use c_values::gives_pointer;
 use rr_base::{Bytes, List, Site, length_sum, sum};
 use std::alloc::{AllocError, Global};
 
@@ -44,83 +44,6 @@ fn formal_of(param: &Param) -> Local
             at: name_place(name),
         },
     }
-}
-
-fn local_declared(specifier: &Specifier, declarator: &Declarator) -> Local
-    ensures { result ≡ spec.local_declared specifier.now (tree.declared_of declarator.now) }
-{
-    Local {
-        is_kept: is_kept(specifier, declarator.stars, declarator.lengths.as_slice()),
-        is_pointer: declarator.stars > 0,
-        at: name_place(&declarator.name),
-    }
-}
-
-fn local_of(specifier: &Specifier, item: &Item) -> Local
-    ensures { result ≡ spec.local_of specifier.now (tree.object_of item.now) }
-{
-    match item {
-        Item::Plain(declarator) => local_declared(specifier, declarator),
-        Item::Initialised { declarator, .. } => local_declared(specifier, declarator),
-    }
-}
-
-fn push_declares_locals(declaration: &Declaration, out: &mut List<Local>) -> Result<(), AllocError>
-    ensures { OnOk result (out.new ≡ out.old ++ spec.declares_locals (tree.declares_of declaration.now)) }
-{
-    for item in declaration.items.as_slice() {
-        out.push(local_of(&declaration.specifier, item))?;
-    }
-    Ok(())
-}
-
-fn push_start_locals(start: &ForStart, out: &mut List<Local>) -> Result<(), AllocError>
-    ensures { OnOk result (out.new ≡ out.old ++ spec.start_locals (tree.start_of start.now)) }
-{
-    match start {
-        ForStart::Declares(declaration) => push_declares_locals(declaration, out),
-        ForStart::Computes(_) => Ok(()),
-    }
-}
-
-/// The locals of a statement, in the order of the text.
-#[cycle(statement_locals)]
-fn push_statement_locals(stmt: &Stmt, out: &mut List<Local>) -> Result<(), AllocError>
-    ensures { OnOk result (out.new ≡ out.old ++ spec.statement_locals (tree.stmt_of stmt.now)) }
-{
-    match stmt {
-        Stmt::Block { parts, .. } => push_parts_locals(parts.as_slice(), out),
-        Stmt::Expression { .. }
-        | Stmt::Break { .. }
-        | Stmt::Continue { .. }
-        | Stmt::Return { .. } => Ok(()),
-        Stmt::If { yes, no, .. } => {
-            push_statement_locals(yes, out)?;
-            match no {
-                None => Ok(()),
-                Some(no) => push_statement_locals(no, out),
-            }
-        }
-        Stmt::While { body, .. } => push_statement_locals(body, out),
-        Stmt::Do { body, .. } => push_statement_locals(body, out),
-        Stmt::For { start, body, .. } => {
-            push_start_locals(start, out)?;
-            push_statement_locals(body, out)
-        }
-    }
-}
-
-#[cycle(statement_locals)]
-fn push_parts_locals(parts: &[Part], out: &mut List<Local>) -> Result<(), AllocError>
-    ensures { OnOk result (out.new ≡ out.old ++ spec.parts_locals (listed_parts (map tree.part_of parts.now))) }
-{
-    for part in parts {
-        match part {
-            Part::Declares(declaration) => push_declares_locals(declaration, out)?,
-            Part::Does(stmt) => push_statement_locals(stmt, out)?,
-        }
-    }
-    Ok(())
 }
 
 /// Those to which `&` is applied, by their numbers from `first` on, are kept in cells too.
@@ -168,7 +91,7 @@ fn locals_of(
     first: usize,
     parts: &[Part],
 ) -> Result<List<Local>, AllocError>
-    ensures { IfOk result (λ ls. ls ≡ spec.marked marks.now.numbers first (spec.parts_locals (listed_parts (map tree.part_of parts.now)))) }
+    ensures { IfOk result (λ ls. ls ≡ spec.marked marks.now.numbers first (parts_locals (listed_parts (map tree.part_of parts.now)))) }
 {
     let mut locals = List::new(alloc);
     push_parts_locals(parts, &mut locals)?;
@@ -341,7 +264,7 @@ fn body_of<'a>(
     pass_formals(alloc, table, &mut numbers, params)?;
     let mut body = List::new(alloc);
     push_parts(alloc, source, frame, table, &mut numbers, parts, &mut body)?;
-    let made = make::block(alloc, body)?;
+    let made = block(alloc, body)?;
     Ok(made)
 }
 
@@ -402,7 +325,7 @@ fn kept_in(
     parts: &[Part],
 ) -> Result<Kept, AllocError>
     ensures formals { IfOk result (λ k. k.formals ≡ spec.marked marks.now.numbers first (map spec.formal_of params.now)) }
-    ensures locals { IfOk result (λ k. k.locals ≡ spec.marked marks.now.numbers (first + length params.now) (spec.parts_locals (listed_parts (map tree.part_of parts.now)))) }
+    ensures locals { IfOk result (λ k. k.locals ≡ spec.marked marks.now.numbers (first + length params.now) (parts_locals (listed_parts (map tree.part_of parts.now)))) }
     ensures last { IfOk result (λ k. k.last ≡ first + (length params.now + count_of_parts (listed_parts (map tree.part_of parts.now)))) }
 {
     let middle = length_sum(first, params.len())?;

@@ -1,11 +1,8 @@
 //! What a C source does, as a core tree: from a source whose types and names break no rule to the tree in which they are
-//! settled. It stands on `c_sites`, `c_core`, `c_values` and `c_initials`.
+//! settled. It stands on `c_sites`, `c_core`, `c_operators`, `c_values`, `c_initials` and `c_statements`.
 #![tactic(auto)]
 
 mod functions;
-mod local;
-mod make;
-mod statement;
 mod whole;
 
 pub use whole::elaborate;

@@ -9,7 +9,7 @@ use Rattle.rr_base.specs.declared.position.Position.{Position}
 use Rattle.std.specs.Global.{Box}
 use Rattle.c_core.specs.declared.value.Value.{Value}
 use Rattle.c_core.specs.View.{exp_of}
-use Rattle.c_values.specs.Context.{Context}
+use Rattle.c_operators.specs.Context.{Context}
 use Rattle.c_initials.specs.Initials.{zero_word, first_word, first_of_braces}
 
 -- empty braces give 0

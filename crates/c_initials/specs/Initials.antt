@@ -11,9 +11,9 @@ use Rattle.c_types.specs.Standing.{Target, no_target}
 use Rattle.c_programs.specs.Initials.{part_at, part_type, value_target}
 use Rattle.rr_base.specs.declared.position.Position.{Position}
 use Rattle.c_core.specs.Core as core
-use Rattle.c_values.specs.declared.home.Home.{Home}
-use Rattle.c_values.specs.declared.home.Home.TheVariants as home
-use Rattle.c_values.specs.Context.{Source, Context}
+use Rattle.c_operators.specs.declared.home.Home.{Home}
+use Rattle.c_operators.specs.declared.home.Home.TheVariants as home
+use Rattle.c_operators.specs.Context.{Source, Context}
 use Rattle.c_values.specs.Expressions.{is_pointer_type, wanted_of}
 
 -- no cells where the type has a fault

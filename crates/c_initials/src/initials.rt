@@ -8,13 +8,14 @@ ghost use Rattle.c_core.specs.Core as core;
 ghost use Rattle.c_core.specs.View.{exp_of, stmt_of};
 ghost use Rattle.c_values.specs.Expressions.{is_pointer_type};
 ghost use Rattle.c_initials.specs.Initials as spec;
-ghost use Rattle.c_values.specs.Views.{context_of, source_in};
+ghost use Rattle.c_operators.specs.Views.{context_of, source_in};
 
 use c_core::{Statement, Value};
+use c_operators::{Context, Home, Source, make};
 use c_programs::{part_at, ref_of, value_target};
 use c_tree::Initial;
 use c_types::{ObjectType, Target, TypeRef, put_layered};
-use c_values::{Context, Home, Source, is_pointer_type, make, wanted};
+use c_values::{is_pointer_type, wanted};
 use rr_base::{CellKind, List, Position, sum};
 use std::alloc::{AllocError, Global};
 

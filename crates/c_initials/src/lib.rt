@@ -1,5 +1,5 @@
 //! The first values of a C source's objects: the words of its globals, and how a local that is declared with them begins. It
-//! stands on `c_sites`, `c_core` and `c_values`.
+//! stands on `c_sites`, `c_core`, `c_operators` and `c_values`.
 #![tactic(auto)]
 
 mod globals;

@@ -14,10 +14,10 @@ use Rattle.c_types.specs.Standing.{Target, no_target, standing, let_go, followin
 use Rattle.c_rules.specs.Faults.{own_place, wants_of}
 use Rattle.c_rules.proofs.Judged as judged
 use Rattle.c_core.specs.Core as core
-use Rattle.c_values.specs.Denoted.{Denoted, denoted_value, Part, part_by, value_in, position_of}
-use Rattle.c_values.specs.Context.{Context, site_at}
+use Rattle.c_operators.specs.Denoted.{Denoted, denoted_value, Part, part_by, value_in, position_of}
+use Rattle.c_operators.specs.Context.{Context, site_at}
+use Rattle.c_operators.specs.Commas.{with_last}
 use Rattle.c_values.specs.Calls.{called, operand_for}
-use Rattle.c_values.specs.Commas.{with_last}
 use Rattle.c_values.specs.Tails.{one_more, all_past, past_first}
 use Rattle.c_values.specs.Expressions.{denoted, tail_of, arguments, with_tail, part}
 

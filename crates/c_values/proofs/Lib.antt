@@ -1,4 +1,3 @@
 pub mod ExpressionLists
-pub mod Offsets
 pub mod Pieces
 pub mod Turns

@@ -7,9 +7,9 @@ use Rattle.c_core.specs.Core as core
 use Rattle.c_core.specs.Core.{Program}
 use Rattle.c_core.specs.Runs.{M, ◌>>◌}
 use Rattle.c_core.specs.Meaning.{Calls, value}
-use Rattle.c_values.specs.Commas.{following, with_last, joined}
-use Rattle.c_values.specs.Denoted.{position_of}
-use Rattle.c_values.specs.Context.{Context}
+use Rattle.c_operators.specs.Commas.{following, with_last, joined}
+use Rattle.c_operators.specs.Denoted.{position_of}
+use Rattle.c_operators.specs.Context.{Context}
 use Rattle.c_values.specs.Expressions.{with_tail, tail_of, value_of}
 use Rattle.c_values.specs.Turns.{one_by_one, CommasGoInTurn}
 

@@ -18,8 +18,8 @@ use Rattle.c_types.specs.Scopes.{Known, Meaning, variable, function_of, function
 use Rattle.c_locals.specs.Roots.{third_name}
 use Rattle.rr_base.specs.declared.position.Position.{Position}
 use Rattle.c_core.specs.Core as core
-use Rattle.c_values.specs.Denoted.{Part, value_in, wanted_in}
-use Rattle.c_values.specs.Context.{function_counted}
+use Rattle.c_operators.specs.Denoted.{Part, value_in, wanted_in}
+use Rattle.c_operators.specs.Context.{function_counted}
 
 -- ---- formats
 

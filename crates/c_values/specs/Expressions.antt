@@ -15,13 +15,13 @@ use Rattle.c_types.specs.Library.{library_named}
 use Rattle.c_types.specs.Standing.{Target, no_target, assigned_target, cast_target, struct_of, pointed_struct, standing, format_of}
 use Rattle.c_rules.specs.Faults.{wants_of}
 use Rattle.c_core.specs.Core as core
-use Rattle.c_values.specs.declared.home.Home.{Home}
-use Rattle.c_values.specs.declared.home.Home.TheVariants as home
-use Rattle.c_values.specs.Denoted.{position_of, Denoted, denoted_register, denoted_cells, denoted_zero, denoted_value, Part, part_by, is_pointing, value_by, value_in, wanted_in}
-use Rattle.c_values.specs.Context.{Context, site_at, home_of, global_named, offset_in}
-use Rattle.c_values.specs.Operators.{binary_in, conditional_in, index_in, stepped_in, assigned_in, prefix_in, cast_in, member_in, arrow_in}
+use Rattle.c_operators.specs.declared.home.Home.{Home}
+use Rattle.c_operators.specs.declared.home.Home.TheVariants as home
+use Rattle.c_operators.specs.Denoted.{position_of, Denoted, denoted_register, denoted_cells, denoted_zero, denoted_value, Part, part_by, is_pointing, value_by, value_in, wanted_in}
+use Rattle.c_operators.specs.Context.{Context, site_at, home_of, global_named, offset_in}
+use Rattle.c_operators.specs.Operators.{binary_in, conditional_in, index_in, stepped_in, assigned_in, prefix_in, cast_in, member_in, arrow_in}
+use Rattle.c_operators.specs.Commas.{with_last, joined}
 use Rattle.c_values.specs.Calls.{operand_for, called}
-use Rattle.c_values.specs.Commas.{with_last, joined}
 
 -- ---- constants
 

@@ -1,10 +1,4 @@
-pub mod Constants
-pub mod Denoted
-pub mod Context
-pub mod Operators
 pub mod Calls
-pub mod Commas
 pub mod Expressions
 pub mod Tails
 pub mod Turns
-pub mod Views

@@ -7,7 +7,7 @@ use Rattle.c_tree.specs.Tree.{Exp, comma, Exps, no_exp, and_exp}
 use Rattle.c_core.specs.Core.{Program}
 use Rattle.c_core.specs.Runs.{M, ◌>>◌}
 use Rattle.c_core.specs.Meaning.{Calls, value}
-use Rattle.c_values.specs.Context.{Context}
+use Rattle.c_operators.specs.Context.{Context}
 use Rattle.c_values.specs.Expressions.{value_of}
 
 module _ (p : Program) (s : SetupView) (t : ℕ) (calls : Calls) (h : Context) where

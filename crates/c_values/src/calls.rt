@@ -7,15 +7,13 @@ ghost use Rattle.c_types.specs.Shown.{shown_meaning};
 ghost use Rattle.c_programs.specs.Table.{known_of};
 ghost use Rattle.c_types.specs.declared.format.Inside.TheVariants as met;
 ghost use Rattle.c_core.specs.View.{exp_of};
+ghost use Rattle.c_operators.specs.Views.{part_of};
 ghost use Rattle.c_values.specs.Calls as spec;
-ghost use Rattle.c_values.specs.Views.{part_of};
 
-use crate::context::function_counted;
-use crate::denoted::Part;
-use crate::make;
 use abstract_machine::{LibraryCall, Piece};
 use c_core::Value;
 use c_locals::third_name;
+use c_operators::{Part, function_counted, make};
 use c_programs::Table;
 use c_tree::Expr;
 use c_types::{Inside, LibraryName, Meaning, StarredType, Wanted};

@@ -11,18 +11,15 @@ ghost use Rattle.c_types.specs.Operands.{as_value, binary_standing};
 ghost use Rattle.c_types.specs.Standing.{no_target};
 ghost use Rattle.c_rules.specs.Faults as faults;
 ghost use Rattle.c_core.specs.View.{exp_of};
-ghost use Rattle.c_values.specs.Denoted.{denoted_value, operand_in, part_by, position_of, value_in};
-ghost use Rattle.c_values.specs.Constants.{constant_of, no_constant, choice_constant, operation_constant, prefix_constant, cast_constant};
-ghost use Rattle.c_values.specs.Context.{offset_in};
-ghost use Rattle.c_values.specs.Operators.{arrow_in, assigned_in, binary_in, cast_in, conditional_in, index_in, member_in, prefix_in, stepped_in};
+ghost use Rattle.c_operators.specs.Denoted.{denoted_value, operand_in, part_by, position_of, value_in};
+ghost use Rattle.c_operators.specs.Constants.{constant_of, no_constant, choice_constant, operation_constant, prefix_constant, cast_constant};
+ghost use Rattle.c_operators.specs.Context.{offset_in};
+ghost use Rattle.c_operators.specs.Operators.{arrow_in, assigned_in, binary_in, cast_in, conditional_in, index_in, member_in, prefix_in, stepped_in};
+ghost use Rattle.c_operators.specs.Views.{context_of, maybe_word, part_of};
 ghost use Rattle.c_values.specs.Expressions as spec;
 ghost use Rattle.c_values.specs.Tails as tails;
-ghost use Rattle.c_values.specs.Views.{context_of, maybe_word, part_of};
 
 use crate::calls::push_argument;
-use crate::commas::{joined, push_last};
-use crate::context::Context;
-use crate::denoted::Part;
 use crate::leaves::{letter_part, name_part, null_part, number_part, size_part, text_part};
 use crate::parts::{
     assignment, call_denoted, casting, changing, choice, element, member_in_part, member_through,
@@ -30,6 +27,7 @@ use crate::parts::{
 };
 use abstract_machine::BinaryOp as FlowOp;
 use c_core::Value;
+use c_operators::{Context, Part, joined, push_last};
 use c_rules::{call_standing, fits_wanted, format_of, given_by_call, let_go, own_place, wants_of};
 use c_tree::{AssignOp, BinaryOp, CType, Expr, Name, PrefixOp};
 use c_types::{Names, Standing, Target, Wants, assigned_target, cast_target, type_named};

@@ -10,26 +10,23 @@ ghost use Rattle.c_types.specs.Scopes as scopes;
 ghost use Rattle.c_types.specs.Standing as standings;
 ghost use Rattle.c_types.specs.Operands.{as_value, binary_standing};
 ghost use Rattle.c_core.specs.View.{exp_of};
-ghost use Rattle.c_values.specs.Denoted.{denoted_value, operand_in, part_by, position_of, value_in};
+ghost use Rattle.c_operators.specs.Denoted.{denoted_value, operand_in, part_by, position_of, value_in};
+ghost use Rattle.c_operators.specs.Constants.{no_constant, choice_constant, operation_constant, prefix_constant, cast_constant};
+ghost use Rattle.c_operators.specs.Context as heres;
+ghost use Rattle.c_operators.specs.Context.{offset_in};
+ghost use Rattle.c_operators.specs.Operators.{arrow_in, assigned_in, binary_in, cast_in, conditional_in, index_in, member_in, prefix_in, stepped_in};
+ghost use Rattle.c_operators.specs.Views.{denoted_of, context_of, maybe_word, part_of};
 ghost use Rattle.c_values.specs.Calls as calls;
-ghost use Rattle.c_values.specs.Constants.{no_constant, choice_constant, operation_constant, prefix_constant, cast_constant};
-ghost use Rattle.c_values.specs.Context as heres;
-ghost use Rattle.c_values.specs.Context.{offset_in};
-ghost use Rattle.c_values.specs.Operators.{arrow_in, assigned_in, binary_in, cast_in, conditional_in, index_in, member_in, prefix_in, stepped_in};
 ghost use Rattle.c_values.specs.Expressions as spec;
 ghost use Rattle.c_values.specs.Tails as tails;
-ghost use Rattle.c_values.specs.Views.{denoted_of, context_of, maybe_word, part_of};
 
 use crate::calls::called;
-use crate::constant::Constant;
-use crate::context::{Context, site_at};
-use crate::denoted::{Denoted, Part, is_pointing};
-use crate::make;
-use crate::operators::{
-    arrow, assigned, binary, cast, conditional, index, member, prefix, stepped,
-};
 use abstract_machine::BinaryOp as FlowOp;
 use c_core::Value;
+use c_operators::{
+    Constant, Context, Denoted, Part, arrow, assigned, binary, cast, conditional, index,
+    is_pointing, make, member, prefix, site_at, stepped,
+};
 use c_rules::{following, let_go};
 use c_tree::{AssignOp, BinaryOp, CType, Expr, Name, PrefixOp};
 use c_types::{

@@ -20,7 +20,7 @@ use Rattle.abstract_machine.specs.Values as running
 use Rattle.abstract_machine.specs.Values.{number, word, fits, is_zero, binary_of}
 use Rattle.c_core.specs.Meaning.{unary_of}
 use Rattle.c_core.specs.declared.value.UnaryOp.TheVariants as unary_op
-use Rattle.c_values.specs.Operators.{flow_operator}
+use Rattle.c_operators.specs.Operators.{flow_operator}
 use Rattle.constant_sound.specs.Running.{worded, is_logical}
 
 fits_signed : (z : ℤ) → fits z ≡ true → FitsSigned w64 z

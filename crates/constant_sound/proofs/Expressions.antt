@@ -22,9 +22,9 @@ use Rattle.c_rules.specs.Sizes.{cells_of_standing, size_here, value_here}
 use Rattle.c_core.specs.Core as core
 use Rattle.c_core.specs.Core.{Program}
 use Rattle.c_core.specs.Meaning.{Calls}
-use Rattle.c_values.specs.Denoted.{position_of, Denoted, denoted_zero, denoted_value, Part, part_by, value_by}
-use Rattle.c_values.specs.Context.{Context}
-use Rattle.c_values.specs.Operators.{binary_in, conditional_in, prefix_in, cast_in}
+use Rattle.c_operators.specs.Denoted.{position_of, Denoted, denoted_zero, denoted_value, Part, part_by, value_by}
+use Rattle.c_operators.specs.Context.{Context}
+use Rattle.c_operators.specs.Operators.{binary_in, conditional_in, prefix_in, cast_in}
 use Rattle.c_values.specs.Expressions.{constant_by, folded, named_denoted, is_pointer_type, denoted}
 use Rattle.constant_sound.specs.Running.{fit}
 use Rattle.constant_sound.specs.Written.{HidesNoConstant, literals_fit, written}

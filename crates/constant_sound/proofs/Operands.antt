@@ -17,8 +17,8 @@ use Rattle.c_types.specs.Constants.{constant_named, is_int_specifier, is_int, is
 use Rattle.c_types.specs.Scopes.{Known, Meaning, seen, base_of, starred, type_named, is_complete}
 use Rattle.c_types.specs.Operands.{Standing, no_type, zero_literal, Operand, any_operand, whole, zero_operand, null_operand, pointing, no_operand, operand_of, a_value, is_typed, is_scalar, is_whole, chosen_target, takes, settled, int_value, result_of, binary_standing, can_choose, chosen}
 use Rattle.c_types.specs.Standing.{Target, no_target, cast_target, made_int, prefix_standing, conditional_standing, is_sized, sizeof_type_standing, casts_to, cast_standing, named_standing, number_standing, standing}
-use Rattle.c_values.specs.Denoted.{is_pointing}
-use Rattle.c_values.specs.Operators.{is_some_address}
+use Rattle.c_operators.specs.Denoted.{is_pointing}
+use Rattle.c_operators.specs.Operators.{is_some_address}
 use Rattle.constant_sound.specs.Written.{HidesNoConstant}
 
 abbrev pub IsWhole : Standing → Type 0

@@ -14,7 +14,7 @@ use Rattle.c_rules.specs.Sizes.{value_here, is_trap, is_sound, constant_faults}
 use Rattle.c_core.specs.Core.{Program}
 use Rattle.c_core.specs.Meaning.{Calls, value}
 use Rattle.c_core.specs.Runs.{M, pure, result_at}
-use Rattle.c_values.specs.Context.{Context}
+use Rattle.c_operators.specs.Context.{Context}
 use Rattle.constant_sound.specs.Running.{worded}
 use Rattle.constant_sound.specs.Written.{HidesNoConstant, literals_fit, written_of}
 use Rattle.constant_sound.proofs.Expressions.{written_is}

@@ -11,7 +11,7 @@ use Rattle.c_rules.specs.Sizes.{value_here}
 use Rattle.c_core.specs.Core.{Program}
 use Rattle.c_core.specs.Meaning.{Calls, value}
 use Rattle.c_core.specs.Runs.{result_at}
-use Rattle.c_values.specs.Context.{Context}
+use Rattle.c_operators.specs.Context.{Context}
 use Rattle.constant_sound.specs.Written.{written_of}
 
 -- operators at their column of line 1

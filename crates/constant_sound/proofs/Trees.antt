@@ -22,9 +22,9 @@ use Rattle.c_core.specs.Core as core
 use Rattle.c_core.specs.Core.{Program}
 use Rattle.c_core.specs.Meaning.{Calls, value, is_pointer, unary_of}
 use Rattle.c_core.specs.Runs.{M, ◌>>=◌, pure, result_at, choose}
-use Rattle.c_values.specs.Denoted.{Denoted, Part, operand_in, is_pointing, value_in, value_by, wanted_in}
-use Rattle.c_values.specs.Context.{Source, element_of}
-use Rattle.c_values.specs.Operators.{flow_operator, binary_in, sum_in, difference_in, operated_in, conditional_in, prefix_in, cast_in}
+use Rattle.c_operators.specs.Denoted.{Denoted, Part, operand_in, is_pointing, value_in, value_by, wanted_in}
+use Rattle.c_operators.specs.Context.{Source, element_of}
+use Rattle.c_operators.specs.Operators.{flow_operator, binary_in, sum_in, difference_in, operated_in, conditional_in, prefix_in, cast_in}
 use Rattle.c_values.specs.Expressions.{constant_by}
 use Rattle.constant_sound.specs.Running.{worded, is_logical, Computes}
 use Rattle.constant_sound.proofs.Arithmetic.{Fits, number_fits, operator_same, minus_same, complement_same, not_same, truth_same, word_is_zero}

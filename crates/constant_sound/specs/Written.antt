@@ -7,9 +7,9 @@ use Rattle.c_types.specs.Constants.{constant_named}
 use Rattle.c_types.specs.Scopes.{Known, Meaning, seen, type_named}
 use Rattle.c_types.specs.Standing.{Target, no_target, cast_target, standing}
 use Rattle.c_core.specs.Core as core
-use Rattle.c_values.specs.Denoted.{position_of, Denoted, denoted_value, part_by, value_by}
-use Rattle.c_values.specs.Context.{Context}
-use Rattle.c_values.specs.Operators.{binary_in, conditional_in, prefix_in, cast_in}
+use Rattle.c_operators.specs.Denoted.{position_of, Denoted, denoted_value, part_by, value_by}
+use Rattle.c_operators.specs.Context.{Context}
+use Rattle.c_operators.specs.Operators.{binary_in, conditional_in, prefix_in, cast_in}
 use Rattle.c_values.specs.Expressions.{is_pointer_type, denoted}
 
 -- each operator stays; what has none is a number

@@ -1,4 +1,1 @@
-pub mod Kept
-pub mod Loops
 pub mod Lowered
-pub mod Sizes

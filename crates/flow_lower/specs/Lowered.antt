@@ -1,113 +1,20 @@
 -- The code of a core tree.
 use Rattle.std.specs.Prelude.{ℕ, ◌+◌, Bool, true, false, if◌then◌else◌, pos, List, [], ◌∷◌, ◌++◌, length, map, replicate, Option, Some, None}
-use Rattle.flow_code.specs.declared.act.Act.{Act}
 use Rattle.flow_code.specs.declared.act.Act.TheVariants as act
 use Rattle.flow_code.specs.declared.act.Instr.{Instr}
-use Rattle.abstract_machine.specs.declared.library_call.LibraryCall.{LibraryCall}
-use Rattle.flow_code.specs.declared.work.Work.{Work}
 use Rattle.flow_code.specs.declared.work.Work.TheVariants as work
 use Rattle.flow_code.specs.declared.code.Code.{Code}
 use Rattle.flow_code.specs.declared.code.Function.{Function as FlowFunction}
 use Rattle.rr_base.specs.declared.position.Position.{Position}
-use Rattle.c_core.specs.declared.value.UnaryOp.{UnaryOp}
-use Rattle.c_core.specs.declared.value.UnaryOp.TheVariants as unary_op
-use Rattle.c_core.specs.declared.value.Change.{Change}
-use Rattle.c_core.specs.declared.value.Change.TheVariants as change
 use Rattle.c_core.specs.Core as core
 use Rattle.c_core.specs.Core.{Exp, null, register, object, global, load, unary, binary, move, advance, member, between, to_pointer, to_number, copy, both, either, conditional, comma, set_register, store, change_register, change_cell, call, library, allocate, Exps, no_exp, and_exp, Statement, block, compute, branch, branch_else, while_loop, do_loop, for_loop, break_at, continue_at, gives, Statements, no_statement, and_statement, Arrival, arrives, Function, Program}
-use Rattle.c_core.specs.Meaning.{is_pointer, is_pointer_change}
-use Rattle.flow_lower.specs.Kept.{statement_kept}
-use Rattle.flow_lower.specs.Loops.{statement_loops}
-pub use Rattle.flow_lower.specs.Sizes.{gives_nothing, library_size, exp_size, exps_size, maybe_size, test_size, statement_size, statements_size}
-
--- the instruction's place in the source is that of its tree
-abbrev pub instr : Position → Act → Instr
-instr at a = record { at = at; act = a }
-
--- for a part of a tree that needs a single instruction
-abbrev pub one : Position → Act → List Instr
-one at a = instr at a ∷ []
-
--- one instruction, whose result goes to the register `into`
-abbrev pub computes : Position → ℕ → Work → List Instr
-computes at into w = one at (act.Compute into w)
-
--- ---- how many registers the values of an expression and its parts need, and which of these are pointers
-
--- The value of an expression comes first, then those of its parts. That of a named register is this register, and that of an
--- object the register which has its address.
-abbrev mutual
-  pub exp_kinds : Exp → List Bool
-  exp_kinds (core.number z at) = false ∷ []
-  exp_kinds (null at) = true ∷ []
-  exp_kinds (register n pointer at) = []
-  exp_kinds (object n at) = []
-  exp_kinds (global address at) = true ∷ []
-  exp_kinds (load e pointer at) = pointer ∷ exp_kinds e
-  exp_kinds (unary o e at) = false ∷ exp_kinds e
-  exp_kinds (binary o a b at) = false ∷ (exp_kinds a ++ exp_kinds b)
-  exp_kinds (move a b element back at) = true ∷ (exp_kinds a ++ exp_kinds b)
-  exp_kinds (advance a b element at) = true ∷ (exp_kinds a ++ exp_kinds b)
-  exp_kinds (member a by at) = true ∷ exp_kinds a
-  exp_kinds (between a b element at) = false ∷ (exp_kinds a ++ exp_kinds b)
-  exp_kinds (to_pointer a at) = true ∷ exp_kinds a
-  exp_kinds (to_number a at) = false ∷ exp_kinds a
-  exp_kinds (copy a at) = is_pointer a ∷ exp_kinds a
-  exp_kinds (both a b at) = false ∷ (exp_kinds a ++ exp_kinds b)
-  exp_kinds (either a b at) = false ∷ (exp_kinds a ++ exp_kinds b)
-  exp_kinds (conditional a b c at) = is_pointer b ∷ (exp_kinds a ++ (exp_kinds b ++ exp_kinds c))
-  exp_kinds (comma a b at) = is_pointer b ∷ (exp_kinds a ++ exp_kinds b)
-  exp_kinds (set_register n a at) = is_pointer a ∷ exp_kinds a
-  exp_kinds (store a b at) = is_pointer b ∷ (exp_kinds a ++ exp_kinds b)
-  -- the word before and the word after have registers too
-  exp_kinds (change_register n c b old at) = is_pointer_change c ∷ is_pointer_change c ∷ is_pointer_change c ∷ exp_kinds b
-  exp_kinds (change_cell a loaded c b old at) = is_pointer_change c ∷ is_pointer_change c ∷ is_pointer_change c ∷ (exp_kinds a ++ exp_kinds b)
-  exp_kinds (call f es pointer at) = pointer ∷ exps_kinds es
-  exp_kinds (library c es at) = false ∷ exps_kinds es
-  exp_kinds (allocate site a at) = true ∷ exp_kinds a
-
-  pub exps_kinds : Exps → List Bool
-  exps_kinds no_exp = []
-  exps_kinds (and_exp e es) = exp_kinds e ++ exps_kinds es
-
--- how many registers of its own an expression takes
-abbrev pub width : Exp → ℕ
-width e = length (exp_kinds e)
-
--- a part that isn't there needs no register
-abbrev pub maybe_kinds : Option Exp → List Bool
-maybe_kinds None = []
-maybe_kinds (Some e) = exp_kinds e
-
-abbrev mutual
-  pub statement_kinds : Statement → List Bool
-  statement_kinds (block ss) = statements_kinds ss
-  statement_kinds (compute e) = exp_kinds e
-  statement_kinds (branch e a at) = exp_kinds e ++ statement_kinds a
-  statement_kinds (branch_else e a b at) = exp_kinds e ++ (statement_kinds a ++ statement_kinds b)
-  statement_kinds (while_loop e a at) = exp_kinds e ++ statement_kinds a
-  statement_kinds (do_loop a e at) = statement_kinds a ++ exp_kinds e
-  statement_kinds (for_loop start test step a at) = statement_kinds start ++ (maybe_kinds test ++ (statement_kinds a ++ maybe_kinds step))
-  statement_kinds (break_at at) = []
-  statement_kinds (continue_at at) = []
-  statement_kinds (gives e at) = maybe_kinds e
-
-  pub statements_kinds : Statements → List Bool
-  statements_kinds no_statement = []
-  statements_kinds (and_statement s ss) = statement_kinds s ++ statements_kinds ss
+use Rattle.lower_parts.specs.Kept.{statement_kept}
+use Rattle.lower_parts.specs.Loops.{statement_loops}
+pub use Rattle.lower_parts.specs.Kinds.{exp_kinds, exps_kinds, width, maybe_kinds, statement_kinds, statements_kinds}
+pub use Rattle.lower_parts.specs.Pieces.{instr, one, computes, unary_work, change_work, truth_code, library_code}
+pub use Rattle.lower_parts.specs.Sizes.{gives_nothing, library_size, exp_size, exps_size, maybe_size, test_size, statement_size, statements_size}
 
 -- ---- expressions
-
--- of the word in register r
-abbrev pub unary_work : UnaryOp → ℕ → Work
-unary_work unary_op.Minus r = work.Minus r
-unary_work unary_op.Complement r = work.Complement r
-unary_work unary_op.Not r = work.Not r
-
--- of the word in register r, by the one in register `by`
-abbrev pub change_work : Change → ℕ → ℕ → Work
-change_work (change.Compute o) r by = work.Binary o r by
-change_work (change.Move element back) r by = work.Move r by element back
 
 -- The register that has the value of an expression, where those from r on are free. The addresses of the function's objects
 -- are in the registers from `first` on.
@@ -120,14 +27,6 @@ held first _ r = r
 abbrev pub value_registers : (first : ℕ) → ℕ → Exps → List ℕ
 value_registers first r no_exp = []
 value_registers first r (and_exp e es) = held first e r ∷ value_registers first (r + width e) es
-
--- 1 or 0 for the register r, from the place pc on, where the word in the register x is tested
-abbrev pub truth_code : Position → ℕ → ℕ → ℕ → List Instr
-truth_code at r x pc = instr at (act.Branch x (pc + 1) (pc + 3)) ∷ instr at (act.Compute r (work.Constant (pos 1))) ∷ instr at (act.Jump (pc + 4)) ∷ instr at (act.Compute r (work.Constant (pos 0))) ∷ []
-
--- a call of the library; where it gives nothing, the register r gets 0 after it
-abbrev pub library_code : Position → ℕ → LibraryCall → List ℕ → List Instr
-library_code at r c arguments = if gives_nothing c then instr at (act.Library c arguments None) ∷ computes at r (work.Constant (pos 0)) else one at (act.Library c arguments (Some r))
 
 abbrev mutual
   -- The code from the place pc on. The registers from r on are free.

@@ -3,23 +3,49 @@ ghost use Rattle.std.specs.Prelude.{◌≡◌, ◌+◌, ◌++◌, map, length, f
 ghost use Rattle.flow_code.specs.declared.act.Act.TheVariants as act;
 ghost use Rattle.flow_code.specs.declared.work.Work.TheVariants as work;
 ghost use Rattle.c_core.specs.Core.{listed};
-ghost use Rattle.c_core.specs.View.{exp_of, operation_of, choice_of, assignment_of, call_of};
+ghost use Rattle.c_core.specs.View.{exp_of, simple_of, operation_of, choice_of, assignment_of, call_of};
 ghost use Rattle.c_core.specs.Core as core;
-ghost use Rattle.flow_lower.specs.Kept.{kept, all_kept, before, before_all};
+ghost use Rattle.lower_parts.specs.Kept.{kept, all_kept, before, before_all};
 ghost use Rattle.flow_lower.specs.Lowered as spec;
 
-use crate::copies::{loses, loses_to};
-use crate::emit::{Next, unary_work};
-use crate::library::copy_of;
-use crate::pieces::{
-    Operand, moved, places_of, push_and, push_between, push_binary, push_cell_changed, push_chosen,
-    push_computed, push_given, push_left, push_library, push_loaded, push_old, push_or,
-    push_register_changed, push_set, push_simple, push_stored, push_tested,
-};
-use c_core::{Assignment, Call, Change, Choice, Operation, UnaryOp, Value};
+use c_core::{Assignment, Call, Change, Choice, Operation, Simple, UnaryOp, Value};
 use flow_code::{Act, Instr, Work};
-use rr_base::{List, Position};
+use lower_parts::{
+    Next, Operand, copy_of, loses, loses_to, moved, places_of, push_alone, push_and, push_between,
+    push_binary, push_cell_changed, push_chosen, push_computed, push_given, push_left,
+    push_library, push_loaded, push_old, push_or, push_register_changed, push_set, push_stored,
+    push_tested, unary_work,
+};
+use rr_base::{List, Position, sum};
 use std::alloc::{AllocError, Global};
+
+/// An expression without parts. A formal or local is its register.
+pub fn push_simple(
+    first: u32,
+    simple: Simple,
+    at: Position,
+    from: Next,
+    out: &mut List<Instr>,
+) -> Result<Operand, AllocError>
+    ensures value { IfOk result (λ o. o.register ≡ spec.held first (kept (simple_of simple at)) from.register) }
+    ensures register { IfOk result (λ o. o.following.register ≡ from.register + spec.width (kept (simple_of simple at))) }
+    ensures place { IfOk result (λ o. o.following.place ≡ from.place + spec.exp_size (kept (simple_of simple at))) }
+    ensures out { OnOk result (out.new ≡ out.old ++ spec.exp_code first (kept (simple_of simple at)) from.register from.place) }
+{
+    match simple {
+        Simple::Number(value) => push_alone(out, at, from, Work::Constant(value)),
+        Simple::Null => push_alone(out, at, from, Work::Constant(0)),
+        Simple::Register { number, .. } => Ok(Operand {
+            register: number,
+            following: from,
+        }),
+        Simple::Object(number) => Ok(Operand {
+            register: sum(first, number)?,
+            following: from,
+        }),
+        Simple::Global(address) => push_alone(out, at, from, Work::Address(address)),
+    }
+}
 
 /// The code of an expression, and the register that has its value.
 #[cycle(exp_code)]

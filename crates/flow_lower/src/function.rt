@@ -2,17 +2,14 @@
 ghost use Rattle.std.specs.Prelude.{◌≡◌, ◌+◌, ◌++◌, ◌∷◌, true, map, length, replicate, None, IfOk, OnOk};
 ghost use Rattle.flow_code.specs.declared.act.Act.TheVariants as act;
 ghost use Rattle.c_core.specs.View.{stmt_of, arrival_of, function_of, core_of};
-ghost use Rattle.flow_lower.specs.Kept.{statement_kept};
-ghost use Rattle.flow_lower.specs.Loops.{statement_loops};
+ghost use Rattle.lower_parts.specs.Kept.{statement_kept};
+ghost use Rattle.lower_parts.specs.Loops.{statement_loops};
 ghost use Rattle.flow_lower.specs.Lowered as spec;
 
-use crate::counted_loops::push_statement_loops;
-use crate::emit::{Next, push};
-use crate::kinds::push_statement_kinds;
-use crate::sizes::statement_size;
 use crate::statement::{Around, push_statement};
 use c_core::{Arrival, Core, CoreFunction};
 use flow_code::{Act, Code, Function, Instr, LoopInfo};
+use lower_parts::{Next, push, push_statement_kinds, push_statement_loops, statement_size};
 use rr_base::{Bytes, List, Position, sum};
 use std::alloc::{AllocError, Global};
 

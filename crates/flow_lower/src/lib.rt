@@ -1,15 +1,8 @@
-//! The code of a core tree. It stands on `c_core` and `flow_code`.
+//! The code of a core tree. It stands on `c_core`, `flow_code` and `lower_parts`.
 #![tactic(auto)]
 
-mod copies;
-mod counted_loops;
-mod emit;
 mod expression;
 mod function;
-mod kinds;
-mod library;
-mod pieces;
-mod sizes;
 mod statement;
 
 pub use function::lower;

@@ -3,15 +3,13 @@ ghost use Rattle.std.specs.Prelude.{◌≡◌, ◌+◌, ◌++◌, ◌∷◌, map
 ghost use Rattle.flow_code.specs.declared.act.Act.TheVariants as act;
 ghost use Rattle.c_core.specs.Core.{listed_statements};
 ghost use Rattle.c_core.specs.View.{exp_of, maybe_of, stmt_of};
-ghost use Rattle.flow_lower.specs.Kept.{kept, maybe_kept, statement_kept, statements_kept};
+ghost use Rattle.lower_parts.specs.Kept.{kept, maybe_kept, statement_kept, statements_kept};
 ghost use Rattle.flow_lower.specs.Lowered as spec;
 
-use crate::emit::Next;
 use crate::expression::push_value;
-use crate::pieces::push_last;
-use crate::sizes::{maybe_size, statement_size, test_size, value_size};
 use c_core::{Statement, Value};
 use flow_code::{Act, Instr};
+use lower_parts::{Next, maybe_size, push_last, statement_size, test_size, value_size};
 use rr_base::{List, Position, sum};
 use std::alloc::{AllocError, Global};
 

@@ -24,7 +24,7 @@ use Rattle.c_types.specs.declared.fault.Found.{Found as Refused}
 use Rattle.c_sites.specs.Whole.{first_fault}
 use Rattle.c_programs.specs.Programs.{after_outer, known_at_start, signature_of}
 use Rattle.c_locals.specs.Addresses.{count_of_outer, program_addressed}
-use Rattle.c_values.specs.Context.{Source}
+use Rattle.c_operators.specs.Context.{Source}
 use Rattle.c_elaborate.specs.Whole.{code_functions, outer_functions, outers_functions, source_of, core_of_source}
 use Rattle.front.specs.Readings.{Reading as Read, sound, by_first_fault, refusal_of, IsByTree, IsByTokens, IsReading}
 use Rattle.front.proofs.Sources.{same_tree, by_refusal}

@@ -22,7 +22,7 @@ use Rattle.c_core.specs.Core.{Exp, null, object, global, load, unary, binary, mo
 use Rattle.c_core.specs.Runs.{Run, State}
 use Rattle.c_core.specs.Meaning as meaning
 use Rattle.c_core.specs.Meaning.{Calls, value, values}
-use Rattle.flow_lower.specs.Kept.{assigns, any_assigns, loses, copied_if, kept, all_kept}
+use Rattle.lower_parts.specs.Kept.{assigns, any_assigns, loses, copied_if, kept, all_kept}
 use Rattle.flow_lower.specs.Lowered.{held, instr, lowered, function_kinds, body_code, exp_kinds, exps_kinds, width, exp_size, exps_size, exp_code, exps_code, value_registers, library_code}
 use Rattle.c_core.specs.Within.{IsWithinExp, AreWithin}
 use Rattle.lower_sound.specs.Follows.{Follows}

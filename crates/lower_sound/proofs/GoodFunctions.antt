@@ -16,7 +16,7 @@ use Rattle.flow_code.specs.Valid.{registers_fit, acts_fit, loops_fit, function_f
 use Rattle.rr_base.specs.declared.position.Position.{Position}
 use Rattle.c_core.specs.Core.{Arrival, arrives, Function, Program}
 use Rattle.flow_lower.specs.Lowered.{body_kept, instr, one, lowered, function_code, function_kinds, body_code, statement_kinds, statement_size, objects_code, arrivals_code}
-use Rattle.flow_lower.specs.Loops.{statement_loops}
+use Rattle.lower_parts.specs.Loops.{statement_loops}
 use Rattle.c_core.specs.Sound.{HasSite, IsCallable, IsAddress, IsSoundArrival, IsSoundFunction}
 use Rattle.lower_sound.proofs.Lengths.{statement_length, arrivals_length}
 use Rattle.lower_sound.proofs.Places.{HasAt, has_front, start_of, body_at, end_at, statement_part, from_arrivals, has_body, has_end, has_kinds}

@@ -11,7 +11,7 @@ use Rattle.c_core.specs.Core.{Exp, null, load, unary, binary, move, advance, mem
 use Rattle.c_core.specs.Runs.{M, ◌>>=◌, ◌>>◌, pure, result_at, read_register, write_register, choose}
 use Rattle.c_core.specs.Meaning as meaning
 use Rattle.c_core.specs.Meaning.{Calls, Completion, goes, returns, if_goes, is_pointer, is_pointer_change, unary_of, changed, load_at, store_at, library_call, allocated, value, values, test_value, step_value}
-use Rattle.flow_lower.specs.Kept.{assigns, any_assigns, loses, copied_if, kept, all_kept, maybe_kept, statement_kept, statements_kept}
+use Rattle.lower_parts.specs.Kept.{assigns, any_assigns, loses, copied_if, kept, all_kept, maybe_kept, statement_kept, statements_kept}
 
 pub pointer_kept : (e : Exp) → is_pointer (kept e) ≡ is_pointer e
 pointer_kept (core.number z at) = refl

@@ -9,7 +9,7 @@ use Rattle.c_core.specs.declared.value.Change.TheVariants as change
 use Rattle.c_core.specs.Core as core
 use Rattle.c_core.specs.Core.{Exp, null, load, unary, binary, move, advance, member, between, to_pointer, to_number, copy, both, either, conditional, comma, set_register, store, change_register, change_cell, call, library, allocate, Exps, no_exp, and_exp, Statement, block, compute, branch, branch_else, while_loop, do_loop, for_loop, break_at, continue_at, gives, Statements, no_statement, and_statement, Function, Program}
 use Rattle.c_core.specs.Meaning.{is_pointer}
-use Rattle.flow_lower.specs.Kept.{assigns, any_assigns, loses, copied_if, kept, all_kept, maybe_kept, statement_kept, statements_kept}
+use Rattle.lower_parts.specs.Kept.{assigns, any_assigns, loses, copied_if, kept, all_kept, maybe_kept, statement_kept, statements_kept}
 use Rattle.c_core.specs.Sound.{IsCallable, HasRegister, SuitsUnary, SuitBinary, SuitsChange, value_kinds, IsSoundExp, AreSound, IsSoundMaybe, IsSoundResult, IsSoundStatement, AreSoundStatements}
 use Rattle.lower_sound.proofs.Keeping.{pointer_kept, pointer_copied}
 

@@ -13,9 +13,9 @@ use Rattle.flow_code.specs.Regions.{bound_is_register, loop_fits}
 use Rattle.flow_code.specs.Valid.{loops_fit}
 use Rattle.c_core.specs.Core as core
 use Rattle.c_core.specs.Core.{Exp, register, binary, Statement, block, compute, branch, branch_else, while_loop, do_loop, for_loop, break_at, continue_at, gives, Statements, no_statement, and_statement}
-use Rattle.flow_lower.specs.Kept.{kept, maybe_kept, statements_kept}
-use Rattle.flow_lower.specs.Sizes.{exp_size, maybe_size, test_size, statements_size}
-use Rattle.flow_lower.specs.Loops.{lowered_size, register_of, bound_of, limit_of, step_of, loop_of, statement_loops, statements_loops}
+use Rattle.lower_parts.specs.Kept.{kept, maybe_kept, statements_kept}
+use Rattle.lower_parts.specs.Sizes.{exp_size, maybe_size, test_size, statements_size}
+use Rattle.lower_parts.specs.Loops.{lowered_size, register_of, bound_of, limit_of, step_of, loop_of, statement_loops, statements_loops}
 use Rattle.c_core.specs.Within.{IsWithinExp, IsWithinMaybe, IsWithinStatement, AreWithinStatements}
 
 module _ (g : FlowFunction) (rs : List Bool) (os fs : ℕ) (few : length rs ≤ g.registers) where

@@ -9,7 +9,7 @@ use Rattle.c_core.specs.Core.{Exp, Statement, block, compute, branch, branch_els
 use Rattle.c_core.specs.Runs.{Run, State, M, pure}
 use Rattle.c_core.specs.Meaning as meaning
 use Rattle.c_core.specs.Meaning.{Calls, Completion, goes, breaks, continues, returns, if_goes, value, test_value, step_value}
-use Rattle.flow_lower.specs.Kept.{kept, maybe_kept, statement_kept, statements_kept}
+use Rattle.lower_parts.specs.Kept.{kept, maybe_kept, statement_kept, statements_kept}
 use Rattle.flow_lower.specs.Lowered.{held, instr, one, lowered, function_kinds, body_code, exp_kinds, maybe_kinds, width, exp_size, maybe_size, test_size, exp_code, maybe_code, test_code, statement_kinds, statements_kinds, statement_size, statements_size, statement_code, statements_code}
 use Rattle.c_core.specs.Within.{IsWithinExp, IsWithinMaybe, IsWithinStatement, AreWithinStatements}
 use Rattle.lower_sound.specs.Follows.{Follows}

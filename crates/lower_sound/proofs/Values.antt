@@ -29,7 +29,7 @@ use Rattle.c_core.specs.Core.{Exp, null, object, global, load, unary, binary, mo
 use Rattle.c_core.specs.Runs.{Run, State, ◌>>=◌, result_at, counted, with_value}
 use Rattle.c_core.specs.Meaning as meaning
 use Rattle.c_core.specs.Meaning.{Calls, value, unary_of, changed}
-use Rattle.flow_lower.specs.Kept.{assigns, loses, copied_if}
+use Rattle.lower_parts.specs.Kept.{assigns, loses, copied_if}
 use Rattle.flow_lower.specs.Lowered.{held, body_kept, statement_kinds, instr, lowered, function_kinds, body_code, exp_kinds, width, exp_size, exp_code, unary_work, change_work, computes, truth_code}
 use Rattle.lower_sound.specs.Follows.{Follows}
 use Rattle.lower_sound.proofs.Machine.{same_register, other_register, by_quiet, Shows}

@@ -7,9 +7,9 @@ use Rattle.flow_code.specs.declared.code.Function.{Function as FlowFunction}
 use Rattle.flow_code.specs.declared.code.LoopInfo.{LoopInfo}
 use Rattle.flow_code.specs.declared.region.Bound.{Bound}
 use Rattle.c_core.specs.Core.{Exp, Function, Program, Statement, block, compute, branch, branch_else, while_loop, do_loop, for_loop, break_at, continue_at, gives, Statements, no_statement, and_statement}
-use Rattle.flow_lower.specs.Kept.{kept, maybe_kept, statements_kept}
-use Rattle.flow_lower.specs.Sizes.{exp_size, maybe_size, test_size, statements_size}
-use Rattle.flow_lower.specs.Loops.{lowered_size, limit_of, step_of, loop_of, statement_loops, statements_loops}
+use Rattle.lower_parts.specs.Kept.{kept, maybe_kept, statements_kept}
+use Rattle.lower_parts.specs.Sizes.{exp_size, maybe_size, test_size, statements_size}
+use Rattle.lower_parts.specs.Loops.{lowered_size, limit_of, step_of, loop_of, statement_loops, statements_loops}
 use Rattle.flow_lower.specs.Lowered.{function_code, lowered}
 use Rattle.weak_sound.specs.Apart.{loops_ascend, loops_are_apart}
 

@@ -19,7 +19,7 @@ use Rattle.c_programs.specs.Programs.{known_at_start, signature_of, after_outer}
 use Rattle.c_locals.specs.Addresses.{count_of_outer, program_addressed}
 use Rattle.c_sites.specs.Whole.{first_fault}
 use Rattle.c_core.specs.Core as core
-use Rattle.c_values.specs.Context.{Source}
+use Rattle.c_operators.specs.Context.{Source}
 use Rattle.c_elaborate.specs.Whole.{code_functions, outer_functions, outers_functions, source_of, core_of_source}
 use Rattle.c_grammar.proofs.Exactly.{parsed_exactly}
 use Rattle.c_grammar.proofs.Prints.{prints}

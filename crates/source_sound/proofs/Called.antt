@@ -29,9 +29,9 @@ use Rattle.rr_base.specs.declared.position.Position.{Position}
 use Rattle.c_core.specs.Core as core
 use Rattle.c_core.specs.Core.{Function, Program}
 use Rattle.c_core.specs.Meaning.{is_pointer}
-use Rattle.c_values.specs.Denoted.{Denoted, denoted_value, value_by, pointer_by}
-use Rattle.c_values.specs.Context.{Context, function_counted}
-use Rattle.c_values.specs.Operators.{is_some_address}
+use Rattle.c_operators.specs.Denoted.{Denoted, denoted_value, value_by, pointer_by}
+use Rattle.c_operators.specs.Context.{Context, function_counted}
+use Rattle.c_operators.specs.Operators.{is_some_address}
 use Rattle.c_values.specs.Calls.{is_pointer_wanted, library_of, first_of, library_called, gives_pointer, called}
 use Rattle.c_values.specs.Expressions.{denoted, arguments}
 use Rattle.c_core.specs.Sound.{HasSite, IsCallable, IsSoundExp, AreSound, value_kinds}

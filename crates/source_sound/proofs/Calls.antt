@@ -25,8 +25,8 @@ use Rattle.rr_base.specs.declared.position.Position.{Position}
 use Rattle.c_core.specs.Core as core
 use Rattle.c_core.specs.Core.{Function, Program}
 use Rattle.c_core.specs.Meaning.{is_pointer}
-use Rattle.c_values.specs.Context.{Context, function_counted}
-use Rattle.c_values.specs.Denoted.{is_pointing}
+use Rattle.c_operators.specs.Context.{Context, function_counted}
+use Rattle.c_operators.specs.Denoted.{is_pointing}
 use Rattle.c_values.specs.Calls.{is_pointer_wanted, gives_pointer, started_function, library_of, first_of}
 use Rattle.c_core.specs.Sound.{IsWhole, IsCallable, Starts, IsSoundExp, AreSound, value_kinds}
 use Rattle.source_sound.proofs.Environment.{wanted_kinds, CallSuits, Suits}

@@ -18,9 +18,9 @@ use Rattle.c_core.specs.declared.value.Change.TheVariants as change
 use Rattle.c_core.specs.Core as core
 use Rattle.c_core.specs.Core.{Function, Program}
 use Rattle.c_core.specs.Meaning.{is_pointer}
-use Rattle.c_values.specs.Denoted.{Denoted, denoted_register, denoted_cells, denoted_zero, denoted_value, Part, part_by, operand_in, is_pointing, value_in, wanted_in}
-use Rattle.c_values.specs.Context.{Source}
-use Rattle.c_values.specs.Operators.{changing_operator, change_of, changed_by, stored_in, assigned_in, stepped_in}
+use Rattle.c_operators.specs.Denoted.{Denoted, denoted_register, denoted_cells, denoted_zero, denoted_value, Part, part_by, operand_in, is_pointing, value_in, wanted_in}
+use Rattle.c_operators.specs.Context.{Source}
+use Rattle.c_operators.specs.Operators.{changing_operator, change_of, changed_by, stored_in, assigned_in, stepped_in}
 use Rattle.c_core.specs.Sound.{IsSoundExp}
 use Rattle.source_sound.proofs.Environment.{IsFormed}
 use Rattle.source_sound.proofs.Apart.{never, both, not_true}

@@ -10,8 +10,8 @@ use Rattle.c_types.specs.Standing.{layered_struct, made_int, can_go}
 use Rattle.c_core.specs.Core as core
 use Rattle.c_core.specs.Core.{Function, Program}
 use Rattle.c_core.specs.Meaning.{is_pointer}
-use Rattle.c_values.specs.Denoted.{Denoted, denoted_register, denoted_cells, denoted_zero, denoted_value}
-use Rattle.c_values.specs.Operators.{is_some_address}
+use Rattle.c_operators.specs.Denoted.{Denoted, denoted_register, denoted_cells, denoted_zero, denoted_value}
+use Rattle.c_operators.specs.Operators.{is_some_address}
 use Rattle.c_core.specs.Sound.{IsWhole, IsSoundExp}
 use Rattle.source_sound.proofs.Environment.{IsFormedLayered}
 use Rattle.source_sound.proofs.Apart.{never, never', some_not_none}

@@ -5,9 +5,9 @@ use Rattle.c_types.specs.Operands.{Standing, as_value}
 use Rattle.c_types.specs.Standing.{following}
 use Rattle.c_core.specs.Core as core
 use Rattle.c_core.specs.Core.{Function, Program}
-use Rattle.c_values.specs.Denoted.{Denoted, denoted_value}
-use Rattle.c_values.specs.Context.{Context}
-use Rattle.c_values.specs.Commas.{with_last, joined}
+use Rattle.c_operators.specs.Denoted.{Denoted, denoted_value}
+use Rattle.c_operators.specs.Context.{Context}
+use Rattle.c_operators.specs.Commas.{with_last, joined}
 use Rattle.c_core.specs.Sound.{IsSoundExp}
 use Rattle.source_sound.proofs.Environment.{Suits}
 use Rattle.source_sound.proofs.Standings.{Stands}

@@ -21,14 +21,15 @@ use Rattle.c_locals.specs.Addresses.{Numbered, number_seen, numbered_in, followi
 use Rattle.c_sites.specs.Spots.{is_kept}
 use Rattle.rr_base.specs.declared.position.Position.{Position}
 use Rattle.c_core.specs.Core.{Function, Program}
-use Rattle.c_values.specs.declared.home.Home.{Home}
-use Rattle.c_values.specs.declared.home.Home.TheVariants as kept_in
-use Rattle.c_elaborate.specs.declared.local.Local.{Local}
-use Rattle.c_values.specs.Denoted.{is_pointing}
-use Rattle.c_values.specs.Context.{Source, Frame, Context, home_numbered, home_of}
+use Rattle.c_operators.specs.declared.home.Home.{Home}
+use Rattle.c_operators.specs.declared.home.Home.TheVariants as kept_in
+use Rattle.c_statements.specs.declared.local.Local.{Local}
+use Rattle.c_operators.specs.Denoted.{is_pointing}
+use Rattle.c_operators.specs.Context.{Source, Frame, Context, home_numbered, home_of}
 use Rattle.c_values.specs.Expressions.{denoted_in}
-use Rattle.c_elaborate.specs.Functions.{formal_of, local_declared, local_of, declares_locals, start_locals}
-use Rattle.c_elaborate.specs.Statements.{context_inside, here_after_object, here_after_declares, here_after_start, context_after}
+use Rattle.c_statements.specs.Locals.{local_declared, local_of, declares_locals, start_locals}
+use Rattle.c_elaborate.specs.Functions.{formal_of}
+use Rattle.c_statements.specs.Statements.{context_inside, here_after_object, here_after_declares, here_after_start, context_after}
 use Rattle.c_core.specs.Sound.{HasRegister}
 use Rattle.source_sound.proofs.Environment.{IsFormed, DenotedFits}
 use Rattle.source_sound.proofs.NoFaults.{append_nil, four_nil, never, matches, neither}

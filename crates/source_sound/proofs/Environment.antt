@@ -21,11 +21,11 @@ use Rattle.c_sites.specs.Spots.{Spot}
 use Rattle.rr_base.specs.declared.position.Position.{Position}
 use Rattle.c_core.specs.Core.{Function, Program}
 use Rattle.c_core.specs.Meaning.{is_pointer}
-use Rattle.c_values.specs.Denoted.{Denoted, denoted_register, denoted_cells, denoted_zero, denoted_value, is_pointing}
-use Rattle.c_values.specs.declared.home.Home.{Home}
-use Rattle.c_values.specs.declared.home.Home.TheVariants as kept
-use Rattle.c_values.specs.Context.{Context, home_of, home_numbered, site_at, function_counted}
-use Rattle.c_values.specs.Operators.{is_some_address}
+use Rattle.c_operators.specs.Denoted.{Denoted, denoted_register, denoted_cells, denoted_zero, denoted_value, is_pointing}
+use Rattle.c_operators.specs.declared.home.Home.{Home}
+use Rattle.c_operators.specs.declared.home.Home.TheVariants as kept
+use Rattle.c_operators.specs.Context.{Context, home_of, home_numbered, site_at, function_counted}
+use Rattle.c_operators.specs.Operators.{is_some_address}
 use Rattle.c_values.specs.Calls.{is_pointer_wanted, gives_pointer}
 use Rattle.c_values.specs.Expressions.{variable_denoted}
 use Rattle.c_core.specs.Sound.{IsPointer, IsCallable, HasSite, HasRegister, IsSoundExp}

@@ -18,10 +18,10 @@ use Rattle.c_sites.specs.Spots.{is_malloc, where_malloc, allocations, all_alloca
 use Rattle.rr_base.specs.declared.position.Position.{Position}
 use Rattle.c_core.specs.Core as core
 use Rattle.c_core.specs.Core.{Function, Program}
-use Rattle.c_values.specs.Denoted.{Denoted, denoted_value, denoted_zero, value_by, position_of}
-use Rattle.c_values.specs.Context.{Context, site_at, offset_in}
-use Rattle.c_values.specs.Operators.{conditional_in, binary_in, prefix_in, cast_in}
-use Rattle.c_values.specs.Commas.{with_last}
+use Rattle.c_operators.specs.Denoted.{Denoted, denoted_value, denoted_zero, value_by, position_of}
+use Rattle.c_operators.specs.Context.{Context, site_at, offset_in}
+use Rattle.c_operators.specs.Operators.{conditional_in, binary_in, prefix_in, cast_in}
+use Rattle.c_operators.specs.Commas.{with_last}
 use Rattle.c_values.specs.Expressions.{with_tail, is_pointer_type, denoted, tail_of, part}
 use Rattle.c_core.specs.Sound.{IsSoundExp}
 use Rattle.source_sound.proofs.Environment.{IsFormedTarget, AreKept, places_of, Suits, HaveSites}

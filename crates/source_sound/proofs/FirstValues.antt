@@ -24,14 +24,14 @@ use Rattle.rr_base.specs.declared.position.Position.{Position}
 use Rattle.c_core.specs.Core as core
 use Rattle.c_core.specs.Core.{Function, Program}
 use Rattle.c_core.specs.Meaning.{is_pointer}
-use Rattle.c_values.specs.declared.home.Home.{Home}
-use Rattle.c_values.specs.declared.home.Home.TheVariants as kept_in
-use Rattle.c_values.specs.Denoted.{position_of, is_pointing}
-use Rattle.c_values.specs.Context.{Context, home_numbered, home_of}
+use Rattle.c_operators.specs.declared.home.Home.{Home}
+use Rattle.c_operators.specs.declared.home.Home.TheVariants as kept_in
+use Rattle.c_operators.specs.Denoted.{position_of, is_pointing}
+use Rattle.c_operators.specs.Context.{Context, home_numbered, home_of}
 use Rattle.c_values.specs.Expressions.{is_pointer_type, wanted_of}
 use Rattle.c_initials.specs.Initials.{kinds_of_some, cell_stored, cell_cleared, cleared, type_of_part, started, parts_started, zero_word, first_word, first_of_braces, object_begun, begun}
-use Rattle.c_elaborate.specs.Functions.{local_of, declares_locals}
-use Rattle.c_elaborate.specs.Statements.{here_after_object, object_elaborated, objects_elaborated, declares_elaborated}
+use Rattle.c_statements.specs.Locals.{local_of, declares_locals}
+use Rattle.c_statements.specs.Statements.{here_after_object, object_elaborated, objects_elaborated, declares_elaborated}
 use Rattle.c_core.specs.Sound.{IsSoundExp, IsSoundStatement, AreSoundStatements}
 use Rattle.source_sound.proofs.Environment.{IsFormed, IsFormedTarget, Suits}
 use Rattle.source_sound.proofs.NoFaults.{append_nil, three_nil, fits}

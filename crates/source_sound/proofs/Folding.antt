@@ -21,7 +21,7 @@ use Rattle.c_types.specs.Standing.{Target, no_target, cast_target, made_int, pre
 use Rattle.rr_base.specs.declared.position.Position.{Position}
 use Rattle.c_core.specs.Core as core
 use Rattle.c_core.specs.Core.{Function, Program}
-use Rattle.c_values.specs.Denoted.{Denoted, denoted_value}
+use Rattle.c_operators.specs.Denoted.{Denoted, denoted_value}
 use Rattle.c_values.specs.Expressions.{constant_by}
 use Rattle.source_sound.proofs.Apart.{never, both}
 use Rattle.source_sound.proofs.Standings.{Stands}

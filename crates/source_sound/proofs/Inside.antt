@@ -12,9 +12,9 @@ use Rattle.c_types.specs.Standing.{type_struct, is_main}
 use Rattle.c_locals.specs.Addresses.{Numbered, number_seen}
 use Rattle.rr_base.specs.declared.position.Position.{Position}
 use Rattle.c_core.specs.Core.{Function, Program}
-use Rattle.c_values.specs.declared.home.Home.{Home}
-use Rattle.c_values.specs.declared.home.Home.TheVariants as kept_in
-use Rattle.c_values.specs.Context.{Source, Frame, Context, home_numbered, global_named, function_counted}
+use Rattle.c_operators.specs.declared.home.Home.{Home}
+use Rattle.c_operators.specs.declared.home.Home.TheVariants as kept_in
+use Rattle.c_operators.specs.Context.{Source, Frame, Context, home_numbered, global_named, function_counted}
 use Rattle.c_values.specs.Calls.{gives_pointer}
 use Rattle.c_values.specs.Expressions.{denoted_in, variable_denoted}
 use Rattle.c_core.specs.Sound.{IsCallable, IsAddress}

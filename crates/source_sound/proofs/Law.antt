@@ -9,7 +9,7 @@ use Rattle.c_programs.specs.Declarators.{after_params}
 use Rattle.c_programs.specs.Statements.{parts_faults}
 use Rattle.c_sites.specs.Whole.{first_fault}
 use Rattle.c_core.specs.Core.{Function, Program}
-use Rattle.c_values.specs.Context.{Source, function_counted}
+use Rattle.c_operators.specs.Context.{Source, function_counted}
 use Rattle.c_values.specs.Calls.{gives_pointer}
 use Rattle.c_elaborate.specs.Functions.{definition}
 use Rattle.c_elaborate.specs.Whole.{core_of_source}

@@ -5,11 +5,12 @@ use Rattle.rr_base.proofs.Lists.{slice_get-append_at}
 use Rattle.rr_base.specs.declared.layout.Site.{Site}
 use Rattle.c_tree.specs.Tree.{Declares, declares, Start, start_declares, start_computes, Statement, block, compute, break_at, continue_at, gives, branch, branch_else, while_loop, do_loop, for_loop, Parts, no_part, and_declares, and_does}
 use Rattle.c_locals.specs.Addresses.{is_among, count_of_declares, count_of_start, count_of_locals, count_of_parts}
-use Rattle.c_values.specs.declared.home.Home.{Home}
-use Rattle.c_values.specs.declared.home.Home.TheVariants as kept_in
-use Rattle.c_elaborate.specs.declared.local.Local.{Local}
-use Rattle.c_values.specs.Context.{Frame, home_numbered, site_at}
-use Rattle.c_elaborate.specs.Functions.{local_of, declares_locals, start_locals, statement_locals, parts_locals, marked, one_if, kept_count, formal_homes, local_homes, homes_of, local_pointers, pointers_of, sites_of}
+use Rattle.c_operators.specs.declared.home.Home.{Home}
+use Rattle.c_operators.specs.declared.home.Home.TheVariants as kept_in
+use Rattle.c_statements.specs.declared.local.Local.{Local}
+use Rattle.c_operators.specs.Context.{Frame, home_numbered, site_at}
+use Rattle.c_statements.specs.Locals.{local_of, declares_locals, start_locals, statement_locals, parts_locals}
+use Rattle.c_elaborate.specs.Functions.{marked, one_if, kept_count, formal_homes, local_homes, homes_of, local_pointers, pointers_of, sites_of}
 use Rattle.source_sound.proofs.Environment.{IsKept}
 use Rattle.source_sound.proofs.NoFaults.{neither}
 

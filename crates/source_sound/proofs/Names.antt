@@ -23,11 +23,11 @@ use Rattle.c_locals.specs.Addresses.{number_seen, maybe_listed, number_of_operan
 use Rattle.rr_base.specs.declared.position.Position.{Position}
 use Rattle.c_core.specs.Core as core
 use Rattle.c_core.specs.Core.{Function, Program}
-use Rattle.c_values.specs.declared.home.Home.{Home}
-use Rattle.c_values.specs.declared.home.Home.TheVariants as kept
-use Rattle.c_values.specs.Denoted.{Denoted, denoted_register, denoted_cells, denoted_zero, denoted_value, position_of}
-use Rattle.c_values.specs.Context.{Context, home_of, home_numbered}
-use Rattle.c_values.specs.Operators.{member_in}
+use Rattle.c_operators.specs.declared.home.Home.{Home}
+use Rattle.c_operators.specs.declared.home.Home.TheVariants as kept
+use Rattle.c_operators.specs.Denoted.{Denoted, denoted_register, denoted_cells, denoted_zero, denoted_value, position_of}
+use Rattle.c_operators.specs.Context.{Context, home_of, home_numbered}
+use Rattle.c_operators.specs.Operators.{member_in}
 use Rattle.c_values.specs.Expressions.{constant_by, variable_denoted, named_denoted, denoted}
 use Rattle.source_sound.proofs.Environment.{IsFormedPointee, IsFormedLayered, IsFormedOrVoid, IsKept, AreKept}
 use Rattle.source_sound.proofs.Apart.{append_nil, comes_not, never, never', both, not_true, not_false}

@@ -25,11 +25,11 @@ use Rattle.rr_base.specs.declared.position.Position.{Position}
 use Rattle.c_core.specs.Core as core
 use Rattle.c_core.specs.Core.{Function, Program}
 use Rattle.c_core.specs.Meaning.{is_pointer}
-use Rattle.c_values.specs.declared.home.Home.{Home}
-use Rattle.c_values.specs.declared.home.Home.TheVariants as kept
-use Rattle.c_values.specs.Denoted.{Denoted, denoted_zero, denoted_value, Part, part_by, operand_in, position_of}
-use Rattle.c_values.specs.Context.{Context, home_of}
-use Rattle.c_values.specs.Operators.{assigned_in, stepped_in, prefix_in, cast_in, is_some_address}
+use Rattle.c_operators.specs.declared.home.Home.{Home}
+use Rattle.c_operators.specs.declared.home.Home.TheVariants as kept
+use Rattle.c_operators.specs.Denoted.{Denoted, denoted_zero, denoted_value, Part, part_by, operand_in, position_of}
+use Rattle.c_operators.specs.Context.{Context, home_of}
+use Rattle.c_operators.specs.Operators.{assigned_in, stepped_in, prefix_in, cast_in, is_some_address}
 use Rattle.c_values.specs.Expressions.{constant_by, folded, variable_denoted, named_denoted, is_pointer_type, denoted}
 use Rattle.c_core.specs.Sound.{IsSoundExp}
 use Rattle.source_sound.proofs.Environment.{IsFormed, AreKept, DenotedFits, Suits}

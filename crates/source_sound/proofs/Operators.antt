@@ -14,9 +14,9 @@ use Rattle.c_types.specs.Standing.{can_index, element_place, index_standing, con
 use Rattle.rr_base.specs.declared.position.Position.{Position}
 use Rattle.c_core.specs.Core as core
 use Rattle.c_core.specs.Core.{Function, Program}
-use Rattle.c_values.specs.Denoted.{denoted_cells, denoted_value, Part, operand_in, is_pointing}
-use Rattle.c_values.specs.Context.{Source, element_of}
-use Rattle.c_values.specs.Operators.{element_of_either, operated_in, binary_in, conditional_in, index_in}
+use Rattle.c_operators.specs.Denoted.{denoted_cells, denoted_value, Part, operand_in, is_pointing}
+use Rattle.c_operators.specs.Context.{Source, element_of}
+use Rattle.c_operators.specs.Operators.{element_of_either, operated_in, binary_in, conditional_in, index_in}
 use Rattle.c_core.specs.Sound.{IsSoundExp}
 use Rattle.source_sound.proofs.Environment.{IsFormed, IsFormedOrVoid}
 use Rattle.source_sound.proofs.Apart.{never, both, either_holds, not_true}

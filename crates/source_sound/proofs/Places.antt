@@ -21,9 +21,9 @@ use Rattle.rr_base.specs.declared.position.Position.{Position}
 use Rattle.c_core.specs.Core as core
 use Rattle.c_core.specs.Core.{Function, Program}
 use Rattle.c_core.specs.Meaning.{is_pointer}
-use Rattle.c_values.specs.Denoted.{Denoted, denoted_register, denoted_cells, denoted_zero, denoted_value, Part, part_by, operand_in, is_pointing, value_by, value_in}
-use Rattle.c_values.specs.Context.{Source}
-use Rattle.c_values.specs.Operators.{address_in, prefix_in, is_some_address, cast_in, member_in, arrow_in}
+use Rattle.c_operators.specs.Denoted.{Denoted, denoted_register, denoted_cells, denoted_zero, denoted_value, Part, part_by, operand_in, is_pointing, value_by, value_in}
+use Rattle.c_operators.specs.Context.{Source}
+use Rattle.c_operators.specs.Operators.{address_in, prefix_in, is_some_address, cast_in, member_in, arrow_in}
 use Rattle.c_core.specs.Sound.{IsSoundExp}
 use Rattle.source_sound.proofs.Environment.{IsFormed, IsFormedGiven, IsFormedOrVoid}
 use Rattle.source_sound.proofs.Apart.{append_nil, comes_not, never, not_true, there_is, some_not_none}

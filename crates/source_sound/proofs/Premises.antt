@@ -10,8 +10,8 @@ use Rattle.c_sites.specs.Spots.{Spot, allocations}
 use Rattle.c_locals.specs.Addresses.{addressed}
 use Rattle.c_core.specs.Core.{Function, Program}
 use Rattle.c_core.specs.Meaning.{is_pointer}
-use Rattle.c_values.specs.Denoted.{is_pointing}
-use Rattle.c_values.specs.Context.{Frame, Context, home_numbered, site_at}
+use Rattle.c_operators.specs.Denoted.{is_pointing}
+use Rattle.c_operators.specs.Context.{Frame, Context, home_numbered, site_at}
 use Rattle.c_values.specs.Expressions.{value_of, wanted_of}
 use Rattle.c_core.specs.Sound.{HasSite, IsSoundExp}
 use Rattle.source_sound.proofs.Environment.{IsFormedTarget, IsKept, AreKept, places_of, Suits, HaveSites}

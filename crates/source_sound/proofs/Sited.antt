@@ -6,7 +6,7 @@ use Rattle.rr_base.specs.declared.layout.CellKind.{CellKind}
 use Rattle.rr_base.specs.declared.layout.Site.{Site}
 use Rattle.rr_base.specs.declared.position.Position.{Position}
 use Rattle.c_sites.specs.Spots.{Spot, site_of}
-use Rattle.c_values.specs.Context.{stands_at, site_counted, site_at}
+use Rattle.c_operators.specs.Context.{stands_at, site_counted, site_at}
 
 -- a site stands at the place
 abbrev pub StandsIn : List Site → Position → Type 0

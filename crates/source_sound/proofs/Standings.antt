@@ -12,8 +12,8 @@ use Rattle.rr_base.specs.declared.position.Position.{Position}
 use Rattle.c_core.specs.Core as core
 use Rattle.c_core.specs.Core.{Function, Program}
 use Rattle.c_core.specs.Meaning.{is_pointer}
-use Rattle.c_values.specs.Denoted.{Denoted, denoted_register, denoted_cells, denoted_zero, denoted_value, Part, operand_in, is_pointing, value_by, pointer_by, value_in, wanted_in}
-use Rattle.c_values.specs.Operators.{is_some_address}
+use Rattle.c_operators.specs.Denoted.{Denoted, denoted_register, denoted_cells, denoted_zero, denoted_value, Part, operand_in, is_pointing, value_by, pointer_by, value_in, wanted_in}
+use Rattle.c_operators.specs.Operators.{is_some_address}
 use Rattle.c_core.specs.Sound.{IsPointer, HasRegister, IsSoundExp}
 use Rattle.source_sound.proofs.Environment.{IsFormedBase, IsFormedPointee, IsFormedLayered, IsFormed, IsFormedOrVoid, IsFormedGiven, IsFormedValue, DenotedFits}
 use Rattle.source_sound.proofs.Apart.{never'}

@@ -14,13 +14,13 @@ use Rattle.c_sites.specs.Spots.{in_function, allocations, maybe_allocations, dec
 use Rattle.c_locals.specs.Addresses.{Numbered, addressed, maybe_addressed, start_addressed, for_addressed, declares_addressed, statement_addressed, parts_addressed, after_names, after_name, after_declaration, after_for_start, past_statement, inside, count_of_declares, count_of_start, count_of_locals}
 use Rattle.c_core.specs.Core.{Function, Program}
 use Rattle.c_core.specs.Meaning.{is_pointer}
-use Rattle.c_elaborate.specs.declared.local.Local.{Local}
-use Rattle.c_values.specs.Denoted.{is_pointing}
-use Rattle.c_values.specs.Context.{Context}
+use Rattle.c_statements.specs.declared.local.Local.{Local}
+use Rattle.c_operators.specs.Denoted.{is_pointing}
+use Rattle.c_operators.specs.Context.{Context}
 use Rattle.c_values.specs.Calls.{gives_pointer}
 use Rattle.c_values.specs.Expressions.{value_of, wanted_of}
-use Rattle.c_elaborate.specs.Functions.{declares_locals, start_locals, statement_locals, parts_locals}
-use Rattle.c_elaborate.specs.Statements.{context_inside, here_after_declares, here_after_start, context_after, declares_elaborated, computed, maybe_value, given, start_elaborated, elaborated, all_elaborated}
+use Rattle.c_statements.specs.Locals.{declares_locals, start_locals, statement_locals, parts_locals}
+use Rattle.c_statements.specs.Statements.{context_inside, here_after_declares, here_after_start, context_after, declares_elaborated, computed, maybe_value, given, start_elaborated, elaborated, all_elaborated}
 use Rattle.c_core.specs.Sound.{IsSoundExp, IsSoundMaybe, IsSoundResult, IsSoundStatement}
 use Rattle.source_sound.proofs.NoFaults.{append_nil, three_nil, four_nil, fits}
 use Rattle.source_sound.proofs.Premises.{Have, have_parts, AreValuesSound, AreWantedSound, value_by_parts, wanted_by_parts}

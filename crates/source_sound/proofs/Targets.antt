@@ -17,8 +17,8 @@ use Rattle.c_types.specs.Standing.{Target, no_target, target_of, layered_target,
 use Rattle.c_programs.specs.Initials.{value_target}
 use Rattle.c_sites.specs.Spots.{Spot, is_malloc_call, is_malloc, where_malloc}
 use Rattle.c_core.specs.Core.{Function, Program}
-use Rattle.c_values.specs.Denoted.{Denoted, denoted_register, denoted_cells, denoted_zero, denoted_value}
-use Rattle.c_values.specs.Context.{Context, site_at}
+use Rattle.c_operators.specs.Denoted.{Denoted, denoted_register, denoted_cells, denoted_zero, denoted_value}
+use Rattle.c_operators.specs.Context.{Context, site_at}
 use Rattle.c_core.specs.Sound.{HasSite}
 use Rattle.source_sound.proofs.Environment.{IsFormed, IsFormedLayered, IsFormedOrVoid, IsFormedTarget, AreKept, places_of, HaveSites}
 use Rattle.source_sound.proofs.Apart.{never}

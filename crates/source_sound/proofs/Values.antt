@@ -17,9 +17,9 @@ use Rattle.rr_base.specs.declared.position.Position.{Position}
 use Rattle.c_core.specs.Core as core
 use Rattle.c_core.specs.Core.{Function, Program}
 use Rattle.c_core.specs.Meaning.{is_pointer}
-use Rattle.c_values.specs.Denoted.{Denoted, denoted_register, denoted_cells, denoted_zero, denoted_value, is_pointing, value_by}
-use Rattle.c_values.specs.Context.{Context}
-use Rattle.c_values.specs.Operators.{is_some_address}
+use Rattle.c_operators.specs.Denoted.{Denoted, denoted_register, denoted_cells, denoted_zero, denoted_value, is_pointing, value_by}
+use Rattle.c_operators.specs.Context.{Context}
+use Rattle.c_operators.specs.Operators.{is_some_address}
 use Rattle.c_values.specs.Calls.{is_pointer_wanted}
 use Rattle.c_values.specs.Expressions.{denoted, part, value_of, wanted_of}
 use Rattle.c_core.specs.Sound.{IsPointer, IsWhole, IsSoundExp}

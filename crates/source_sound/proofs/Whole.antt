@@ -17,7 +17,7 @@ use Rattle.c_locals.specs.Addresses.{program_addressed}
 use Rattle.c_sites.specs.Spots.{Spot, site_of, known_after, kinds_of_structs, program_spots, program_sites}
 use Rattle.c_sites.specs.Whole.{first_fault}
 use Rattle.c_core.specs.Core.{Program}
-use Rattle.c_values.specs.Context.{Source, global_named}
+use Rattle.c_operators.specs.Context.{Source, global_named}
 use Rattle.c_initials.specs.Globals.{global_kinds, global_bases}
 use Rattle.c_elaborate.specs.Whole.{outers_functions, outers_words, source_of, core_of_source}
 use Rattle.c_core.specs.Sound.{IsAddress, IsSoundFunction, LiesAt, AreAtHome, IsSound}

@@ -10,8 +10,8 @@ use Rattle.c_types.specs.Standing.{no_target, standing}
 use Rattle.c_core.specs.Core as core
 use Rattle.c_core.specs.Core.{Function, Program}
 use Rattle.c_core.specs.Meaning.{is_pointer}
-use Rattle.c_values.specs.Denoted.{is_pointing, value_by, pointer_by}
-use Rattle.c_values.specs.Operators.{is_some_address}
+use Rattle.c_operators.specs.Denoted.{is_pointing, value_by, pointer_by}
+use Rattle.c_operators.specs.Operators.{is_some_address}
 use Rattle.c_values.specs.Expressions.{denoted}
 use Rattle.c_core.specs.Sound.{IsSoundExp}
 use Rattle.source_sound.proofs.Standings.{Gives, stands_gives}

@@ -5,7 +5,7 @@ use Rattle.c_programs.specs.Declarators.{after_params}
 use Rattle.c_programs.specs.Table.{known_of}
 use Rattle.c_core.specs.Core as core
 use Rattle.c_core.specs.View.{function_of, stmt_of}
-use Rattle.c_values.specs.Views.{frame_in, source_in}
+use Rattle.c_operators.specs.Views.{frame_in, source_in}
 use Rattle.c_elaborate.proofs.Locals.{defined_made}
 use Rattle.c_elaborate.proofs.functions.defined.Goals as goal
 

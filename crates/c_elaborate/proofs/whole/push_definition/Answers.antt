@@ -8,7 +8,7 @@ use Rattle.c_programs.specs.Statements.{after_parts}
 use Rattle.c_programs.specs.Table.{known_of}
 use Rattle.c_programs.proofs.Within.{closed_body}
 use Rattle.c_elaborate.specs.Functions.{definition}
-use Rattle.c_values.specs.Views.{source_in}
+use Rattle.c_operators.specs.Views.{source_in}
 use Rattle.c_elaborate.proofs.Made.{definition_pushed}
 use Rattle.c_elaborate.proofs.whole.push_definition.Goals as goal
 

@@ -4,7 +4,7 @@ use Rattle.c_programs.specs.Programs.{known_at_start}
 use Rattle.c_programs.specs.Table.{known_of}
 use Rattle.c_core.specs.View.{function_of}
 use Rattle.c_elaborate.specs.Whole.{outers_functions, outers_words}
-use Rattle.c_values.specs.Views.{source_in}
+use Rattle.c_operators.specs.Views.{source_in}
 use Rattle.c_elaborate.proofs.whole.walked.Given as goal
 
 -- what is done and the rest make the whole

@@ -4,7 +4,7 @@ use Rattle.c_tree.specs.View.{init_of}
 use Rattle.c_types.specs.Shown.{shown_maybe}
 use Rattle.c_core.specs.View.{stmt_of}
 use Rattle.c_initials.specs.Initials.{parts_started}
-use Rattle.c_values.specs.Views.{context_of}
+use Rattle.c_operators.specs.Views.{context_of}
 use Rattle.c_initials.proofs.initials.+initials.Given as goal
 
 -- what is pushed and the rest make the whole

@@ -7,10 +7,10 @@ use Rattle.c_types.specs.Shown.{shown_standing, shown_target, shown_wants}
 use Rattle.c_types.specs.Standing.{no_target}
 use Rattle.c_types.specs.Standing as standings
 use Rattle.c_core.specs.View.{exp_of}
-use Rattle.c_values.specs.Denoted.{Part, denoted_value, part_by}
-use Rattle.c_values.specs.Operators.{stepped_in}
+use Rattle.c_operators.specs.Denoted.{Part, denoted_value, part_by}
+use Rattle.c_operators.specs.Operators.{stepped_in}
+use Rattle.c_operators.specs.Views.{denoted_of, context_of, maybe_word, part_of, places_of, source_in}
 use Rattle.c_values.specs.Expressions as spec
-use Rattle.c_values.specs.Views.{denoted_of, context_of, maybe_word, part_of, places_of, source_in}
 use Rattle.c_values.proofs.ExpressionLists.{comma_is, followed_is, call_is, call_made, tail_step, tail_standing_step, argument_step, fit_step}
 use Rattle.c_values.proofs.expression.+expression.Goals as goal
 

@@ -4,7 +4,7 @@ use Rattle.std.proofs.lemmas.Grind.{common_steps}
 use Rattle.c_core.specs.View.{exp_of}
 use Rattle.c_core.proofs.Views.{exps_of_row-list}
 use Rattle.c_core.specs.Meaning.{is_pointer}
-use Rattle.flow_lower.specs.Kept.{kept}
+use Rattle.lower_parts.specs.Kept.{kept}
 use Rattle.flow_lower.specs.Lowered.{exp_kinds}
 use Rattle.flow_lower.proofs.Joins.{six, choice_code, choice_registers}
 use Rattle.flow_lower.proofs.expression.+exp_code.Goals as goal

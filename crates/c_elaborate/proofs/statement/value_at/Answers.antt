@@ -1,9 +1,0 @@
-use Rattle.std.proofs.Common.{◌≡◌, IfOk, subst}
-use Rattle.c_tree.specs.View as tree
-use Rattle.c_core.specs.View.{exp_of}
-use Rattle.c_values.specs.Context.{Context}
-use Rattle.c_values.specs.Expressions.{value_of}
-use Rattle.c_elaborate.proofs.statement.value_at.Goals as goal
-
-pub returns : goal.returns
-returns c = subst (λ (x : Context). IfOk c.value.result (λ v. exp_of v.value ≡ value_of x (tree.exp_of c.args.e.now))) c.context.ensures c.value.ensures

@@ -1,0 +1,11 @@
+use Rattle.std.proofs.Common.{◌≡◌, IfOk, ap, subst}
+use Rattle.c_core.specs.Core as core
+use Rattle.c_core.specs.View.{exp_of}
+use Rattle.c_core.proofs.Views.{exps_of_row-list}
+use Rattle.c_operators.proofs.make.library.Goals as goal
+
+pub returns : goal.returns
+returns c =
+    subst (λ (x : core.Exp). IfOk c.boxed.result (λ v. exp_of v.value ≡ x))
+    (ap (λ es. core.library c.args.call es c.args.at) (exps_of_row-list c.args.arguments))
+    c.boxed.ensures

@@ -1,0 +1,18 @@
+//! What the operators of a C source make of their operands, as core trees, and what is known where an expression stands. It
+//! stands on `c_rules`, `c_locals` and `c_core`.
+#![tactic(auto)]
+
+mod commas;
+mod constant;
+mod context;
+mod denoted;
+mod home;
+pub mod make;
+mod operators;
+
+pub use commas::{joined, push_last};
+pub use constant::Constant;
+pub use context::{Context, Frame, Source, function_counted, site_at};
+pub use denoted::{Denoted, Part, is_pointing};
+pub use home::Home;
+pub use operators::{arrow, assigned, binary, cast, conditional, index, member, prefix, stepped};

@@ -1,0 +1,11 @@
+use Rattle.std.proofs.Common.{◌≡◌, IfOk, ap, subst}
+use Rattle.c_core.specs.Core as core
+use Rattle.c_core.specs.View.{stmt_of}
+use Rattle.c_core.proofs.Views.{stmts_of_row-list}
+use Rattle.c_statements.proofs.make.block.Goals as goal
+
+pub returns : goal.returns
+returns c =
+    subst (λ (x : core.Statement). IfOk c.placed.result (λ s. stmt_of s.value ≡ x))
+    (ap core.block (stmts_of_row-list c.args.inner))
+    c.placed.ensures

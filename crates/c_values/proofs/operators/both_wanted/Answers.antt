@@ -1,4 +1,0 @@
-use Rattle.c_values.proofs.operators.both_wanted.Goals as goal
-
-pub returns : goal.returns
-returns c = record { left = c.in_ok-left.ensures; right = c.in_ok-right.ensures }

@@ -1,0 +1,5 @@
+pub mod Kept
+pub mod Kinds
+pub mod Loops
+pub mod Pieces
+pub mod Sizes
