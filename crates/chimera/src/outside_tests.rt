@@ -5,7 +5,10 @@ use crate::tests::{
 };
 use rr_base::{Bytes, List, MemShelf};
 use std::alloc::{AllocError, Global};
+use std::process::Abort;
+use std::sync::Wait;
 use std::test::Fail;
+use std::thread::Threads;
 
 /// What fails of the outside: nothing, the call of this number of one of its objects, or the crew after this number of turns.
 #[derive(Clone, Copy)]
@@ -94,22 +97,33 @@ fn outside_of<'a>(failing: Failing, number: &'a [u64]) -> Outside<'a> {
     }
 }
 
+fn check_failing(
+    rt: &(impl Abort + Threads + Wait + Sync),
+    alloc: Global,
+    words: &[&str],
+    failing: Failing,
+    want: (&str, u8),
+    puts: (bool, bool),
+) -> Result<(), Fail> {
+    let number = [number_of(failing)];
+    let shelf_fails: &[u64] = if matches!(failing, Shelf(_)) {
+        &number
+    } else {
+        &[]
+    };
+    let mut shelf = shelf_with(alloc, shelf_fails)?;
+    let outside = outside_of(failing, &number);
+    check_in(rt, alloc, words, &outside, &mut shelf, want)?;
+    let held = (shelf.content("l").is_some(), shelf.content("r").is_some());
+    assert_eq!(rt; held, puts);
+    Ok(())
+}
+
 // Each call that a job makes outside fails in turn: what was put before stays, and nothing is put after it.
 #[test]
 fn tells_each_fault_of_the_outside(rt: HostRuntime) -> Result<(), Fail> {
-    let alloc = rt.alloc();
-    for (words, failing, text, wanted, puts) in ROWS {
-        let number = [number_of(failing)];
-        let shelf_fails: &[u64] = if matches!(failing, Shelf(_)) {
-            &number
-        } else {
-            &[]
-        };
-        let mut shelf = shelf_with(alloc, shelf_fails)?;
-        let outside = outside_of(failing, &number);
-        check_in(&rt, alloc, words, &outside, &mut shelf, (text, wanted))?;
-        let held = (shelf.content("l").is_some(), shelf.content("r").is_some());
-        assert_eq!(rt; held, puts, "{text}");
+    for &(words, failing, text, status, puts) in &ROWS {
+        check_failing(&rt, rt.alloc(), words, failing, (text, status), puts)?;
     }
     Ok(())
 }

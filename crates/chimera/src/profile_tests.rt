@@ -1,6 +1,6 @@
 use crate::race_tests::{COUNTER, HELD_BY_CALLER};
 use crate::tests::{
-    BANK, FIRST, HELD, IDLE, MISUSE, Outside, SLOTS_1, SLOTS_2, SLOTS_3, SLOTS_8, SOUND, call,
+    BANK, FIRST, HELD, IDLE, MISUSE, Outside, SLOTS_1, SLOTS_2, SLOTS_3, SLOTS_8, SOUND, check_in,
     files_of, joined, push_file,
 };
 use crate::{tests, weak_tests};
@@ -157,19 +157,38 @@ fn holds(rt: &impl Abort, shelf: &MemShelf, name: &str, want: Option<&str>) {
     assert_eq!(rt; found, want.map(|text| text.as_bytes()), "{name}");
 }
 
+// File `b` is still this log.
+fn keeps_log(
+    rt: &impl Abort,
+    alloc: Global,
+    shelf: &MemShelf,
+    log: &[&str],
+) -> Result<(), AllocError> {
+    let whole = joined(alloc, log)?;
+    let kept = shelf.content("b").map(|held| held.as_slice());
+    assert_eq!(rt; kept, Some(whole.as_slice()));
+    Ok(())
+}
+
+fn check_profile(
+    rt: &(impl Abort + Threads + Wait + Sync),
+    alloc: Global,
+    source: &str,
+    log: &[&str],
+    want: (&str, u8),
+    profile: Option<&str>,
+) -> Result<(), Fail> {
+    let mut shelf = files_of(alloc, &[source], log)?;
+    check_in(rt, alloc, &PROFILE, &SOUND, &mut shelf, want)?;
+    holds(rt, &shelf, "p", profile);
+    holds(rt, &shelf, "a", Some(source));
+    Ok(keeps_log(rt, alloc, &shelf, log)?)
+}
+
 #[test]
 fn writes_profiles(rt: HostRuntime) -> Result<(), Fail> {
-    let alloc = rt.alloc();
-    for (source, log, text, status, profile) in PROFILES {
-        let mut shelf = files_of(alloc, &[source], log)?;
-        let (told, found) = call(&rt, alloc, &PROFILE, &SOUND, &mut shelf)?;
-        assert_eq!(rt; told.as_slice(), text.as_bytes());
-        assert_eq!(rt; found, status, "{text}");
-        holds(&rt, &shelf, "p", profile);
-        holds(&rt, &shelf, "a", Some(source));
-        let whole = joined(alloc, log)?;
-        let kept = shelf.content("b").map(|held| held.as_slice());
-        assert_eq!(rt; kept, Some(whole.as_slice()));
+    for &(source, log, text, status, profile) in &PROFILES {
+        check_profile(&rt, rt.alloc(), source, log, (text, status), profile)?;
     }
     Ok(())
 }
@@ -200,9 +219,7 @@ fn tells_faults_of_a_profile(rt: HostRuntime) -> Result<(), Fail> {
             write_fails,
             ..SOUND
         };
-        let (told, found) = call(&rt, alloc, &PROFILE, &outside, &mut shelf)?;
-        assert_eq!(rt; told.as_slice(), text.as_bytes());
-        assert_eq!(rt; found, status, "{text}");
+        check_in(&rt, alloc, &PROFILE, &outside, &mut shelf, (text, status))?;
         holds(&rt, &shelf, "p", profile);
     }
     Ok(())

@@ -177,9 +177,7 @@ fn takes_a_profile(rt: HostRuntime) -> Result<(), Fail> {
     let alloc = rt.alloc();
     for (words, profile, text, status) in PROFILES {
         let mut shelf = files_of(alloc, &[HELD_BY_CALLER], &[profile])?;
-        let (told, found) = call(&rt, alloc, words, &SOUND, &mut shelf)?;
-        assert_eq!(rt; told.as_slice(), text.as_bytes());
-        assert_eq!(rt; found, status, "{text}");
+        check_in(&rt, alloc, words, &SOUND, &mut shelf, (text, status))?;
     }
     Ok(())
 }
@@ -195,9 +193,7 @@ fn writes_the_loads(rt: HostRuntime) -> Result<(), Fail> {
     let alloc = rt.alloc();
     let mut shelf = files_of(alloc, &[COUNTER], &[FIRST, SLOTS_3, LOST_UPDATE])?;
     let words = ["replay", "a", "--reads", "r", "b"];
-    let (told, found) = call(&rt, alloc, &words, &SOUND, &mut shelf)?;
-    assert_eq!(rt; told.as_slice(), "1\n".as_bytes());
-    assert_eq!(rt; found, 0);
+    check_in(&rt, alloc, &words, &SOUND, &mut shelf, ("1\n", 0))?;
     let reads = shelf.content("r").map(|held| held.as_slice());
     assert_eq!(rt; reads, Some(LOADS.as_bytes()));
     Ok(())

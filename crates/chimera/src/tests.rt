@@ -222,14 +222,12 @@ const BRACES: &str =
 const LEAVES: &str =
     "int main(void) { int i = 0; int n = 0; do { i++; if (i == 2) continue; if (i == 5) break; n += i; } while (i < 10); printf(\"%d\\n\", n); return 0; }\n";
 
+// A log of the bank, in parts.
+const BANK_LOG: &[&str] = &[FIRST, SLOTS_8, STARTS, BEGIN, LOCK, UNLOCK, GOES_ON, LAST];
+
 // A source, the parts of a log, and what is told of them: the text and the status.
-pub static RUNS: [(&str, &[&str], &str, u8); 28] = [
-    (
-        BANK,
-        &[FIRST, SLOTS_8, STARTS, BEGIN, LOCK, UNLOCK, GOES_ON, LAST],
-        "20\n",
-        0,
-    ),
+pub static RUNS: [(&str, &[&str], &str, u8); 14] = [
+    (BANK, BANK_LOG, "20\n", 0),
     (
         BANK,
         &[FIRST, SLOTS_8, STARTS, BEGIN, UNLOCK, LOCK, GOES_ON, LAST],
@@ -315,6 +313,10 @@ pub static RUNS: [(&str, &[&str], &str, u8); 28] = [
         "trap 13 thread 0 line 2\n",
         3,
     ),
+];
+
+// The same, in a table of its own, since a function that names one pays for its rows.
+pub static MORE_RUNS: [(&str, &[&str], &str, u8); 14] = [
     (
         DIVIDES,
         &[
@@ -531,19 +533,35 @@ pub const SOUND: Outside<'static> = Outside {
     turns: u64::MAX,
 };
 
+// So many turns of one job, after those before them.
+fn push_turns(
+    alloc: Global,
+    order: &mut List<u8>,
+    job: u8,
+    turns: usize,
+) -> Result<(), AllocError> {
+    let jobs = vec![in alloc; job; turns]?;
+    order.extend_from_slice(jobs.as_slice())
+}
+
 // The jobs to which the crew's first turns go, one after another.
 fn order_of(alloc: Global, runs: &[(u8, usize)]) -> Result<List<u8>, AllocError> {
     let mut order = List::new(alloc);
     for &(job, turns) in runs {
-        order.extend_from_slice(vec![in alloc; job; turns]?.as_slice())?;
+        push_turns(alloc, &mut order, job, turns)?;
     }
     Ok(order)
+}
+
+fn push_word(alloc: Global, words: &mut Vec<String>, word: &str) -> Result<(), AllocError> {
+    words.push(String::from_str(alloc, word)?)?;
+    Ok(())
 }
 
 fn owned(alloc: Global, words: &[&str]) -> Result<Vec<String>, AllocError> {
     let mut owned = Vec::new(alloc);
     for word in words {
-        owned.push(String::from_str(alloc, word)?)?;
+        push_word(alloc, &mut owned, word)?;
     }
     Ok(owned)
 }
@@ -650,7 +668,7 @@ pub fn check_large(
 static REPLAY: [&str; 3] = ["replay", "a", "b"];
 
 fn check_no_jobs(rt: &(impl Abort + Threads + Wait + Sync), alloc: Global) -> Result<(), Fail> {
-    for words in NO_JOBS {
+    for words in &NO_JOBS {
         check_files(rt, alloc, words, &[], &[], ("usage\n", 1))?;
     }
     Ok(())
@@ -658,16 +676,25 @@ fn check_no_jobs(rt: &(impl Abort + Threads + Wait + Sync), alloc: Global) -> Re
 
 // A sink that fails at once and after one byte.
 fn check_outside(rt: &(impl Abort + Threads + Wait + Sync), alloc: Global) -> Result<(), Fail> {
-    let mut shelf = files_of(alloc, &[BANK], RUNS[0].1)?;
+    let mut shelf = files_of(alloc, &[BANK], BANK_LOG)?;
     check(rt, alloc, &REPLAY, &[0], &mut shelf, ("", 8))?;
     check(rt, alloc, &REPLAY, &[1], &mut shelf, ("2", 8))
 }
 
-fn check_runs(rt: &(impl Abort + Threads + Wait + Sync), alloc: Global) -> Result<(), Fail> {
-    for (source, log, text, status) in RUNS {
-        check_files(rt, alloc, &REPLAY, &[source], log, (text, status))?;
+fn check_rows(
+    rt: &(impl Abort + Threads + Wait + Sync),
+    alloc: Global,
+    rows: &[(&str, &[&str], &str, u8)],
+) -> Result<(), Fail> {
+    for (source, log, text, status) in rows {
+        check_files(rt, alloc, &REPLAY, &[source], log, (text, *status))?;
     }
     Ok(())
+}
+
+fn check_runs(rt: &(impl Abort + Threads + Wait + Sync), alloc: Global) -> Result<(), Fail> {
+    check_rows(rt, alloc, &RUNS)?;
+    check_rows(rt, alloc, &MORE_RUNS)
 }
 
 // What is told of a log's front part that is no log yet, or one that stops too early: its head has seven lines.
@@ -693,7 +720,7 @@ fn check_front_part(
 
 // Each front part of the bank's log, byte by byte: none but the whole runs to the end.
 fn check_front_parts(rt: &(impl Abort + Threads + Wait + Sync), alloc: Global) -> Result<(), Fail> {
-    let whole = joined(alloc, RUNS[0].1)?;
+    let whole = joined(alloc, BANK_LOG)?;
     for end in 0..whole.len() {
         check_front_part(rt, alloc, &whole.as_slice()[..end])?;
     }
@@ -701,7 +728,7 @@ fn check_front_parts(rt: &(impl Abort + Threads + Wait + Sync), alloc: Global) -
 }
 
 fn check_sources(rt: &(impl Abort + Threads + Wait + Sync), alloc: Global) -> Result<(), Fail> {
-    for (source, text, status) in SOURCES {
+    for &(source, text, status) in &SOURCES {
         let log = [FIRST, SLOTS_8, IDLE];
         check_files(rt, alloc, &REPLAY, &[source], &log, (text, status))?;
     }

@@ -1,7 +1,8 @@
 use crate::order_tests::CHANGES;
 use crate::record_tests::with_source;
 use crate::tests::{
-    BANK, FIRST, NONE_LEFT, PASSES, RUNS, SLOTS_8, SOUND, WAITS, call_on, files_of, log_files,
+    BANK, FIRST, MORE_RUNS, NONE_LEFT, PASSES, RUNS, SLOTS_8, SOUND, WAITS, call_on, files_of,
+    log_files,
 };
 use crate::weak_tests::RUNS as WEAK_RUNS;
 use crew::ScopeCrew;
@@ -63,7 +64,7 @@ fn check_changes(rt: &(impl Abort + Threads + Wait + Sync), alloc: Global) -> Re
 fn replays_on_threads(rt: HostRuntime) -> Result<(), Fail> {
     let alloc = rt.alloc();
     let words = ["replay", "a", "b"];
-    for runs in [&RUNS[..], &WEAK_RUNS] {
+    for runs in [&RUNS[..], &MORE_RUNS, &WEAK_RUNS] {
         for (source, log, text, status) in runs {
             let mut shelf = files_of(alloc, &[source], log)?;
             check_on_threads(&rt, alloc, &words, &mut shelf, (text, *status))?;
