@@ -8,7 +8,7 @@ use Rattle.c_types.specs.declared.library.StarredType.{StarredType}
 use Rattle.c_types.specs.Scopes.{Known}
 use Rattle.c_rules.specs.Faults.{name_place}
 use Rattle.c_programs.specs.Declarators.{after_params}
-use Rattle.c_sites.specs.Spots.{is_kept}
+use Rattle.c_locals.specs.Kept.{is_kept}
 use Rattle.c_locals.specs.Addresses.{is_among, numbered_from}
 use Rattle.c_core.specs.Core as core
 use Rattle.c_operators.specs.declared.home.Home.{Home}

@@ -12,7 +12,7 @@ use Rattle.c_sites.specs.Spots.{known_after, kinds_of_structs, program_spots, pr
 use Rattle.c_core.specs.Core as core
 use Rattle.c_operators.specs.Context.{Source}
 use Rattle.c_elaborate.specs.Functions.{definition}
-use Rattle.c_initials.specs.Globals.{globals_after, global_kinds, global_bases, objects_words}
+use Rattle.c_globals.specs.Globals.{globals_after, global_kinds, global_bases, objects_words}
 
 -- one function for a definition, and none for a prototype
 abbrev pub code_functions : Source → List ℕ → Known → ℕ → Name → Signature → Params → Code → List core.Function

@@ -16,11 +16,10 @@ ghost use Rattle.c_elaborate.specs.Functions as spec;
 ghost use Rattle.c_operators.specs.Views.{frame_in, source_in};
 
 use c_core::{Arrival, CoreFunction, Statement};
-use c_locals::{Marks, NumberTable};
+use c_locals::{Marks, NumberTable, is_kept};
 use c_operators::{Frame, Home, Source, site_at};
 use c_programs::{Table, declare_param};
 use c_rules::name_place;
-use c_sites::is_kept;
 use c_statements::{Local, block, push_parts, push_parts_locals};
 use c_tree::{Name, Param, Part};
 use c_types::StarredType;

@@ -11,13 +11,13 @@ ghost use Rattle.c_programs.specs.Table.{known_of};
 ghost use Rattle.c_sites.specs.Typed.{program_in};
 ghost use Rattle.c_core.specs.View.{core_of, function_of};
 ghost use Rattle.c_elaborate.specs.Functions.{definition};
-ghost use Rattle.c_initials.specs.Globals as spec_globals;
+ghost use Rattle.c_globals.specs.Globals as spec_globals;
 ghost use Rattle.c_operators.specs.Views.{source_in};
 ghost use Rattle.c_elaborate.specs.Whole as spec;
 
 use crate::functions::definition;
 use c_core::{Core, CoreFunction};
-use c_initials::{global_bases, global_kinds, globals_in, push_objects};
+use c_globals::{global_bases, global_kinds, globals_in, push_objects};
 use c_locals::{Marks, addressed_in};
 use c_operators::Source;
 use c_programs::{Table, declare_function, listed, note_struct, signature_of};

@@ -1,2 +1,1 @@
-pub mod Globals
 pub mod Initials

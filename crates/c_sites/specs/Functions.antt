@@ -9,7 +9,7 @@ use Rattle.c_tree.specs.Tree.{Object, Declares, declares, Start, start_declares,
 use Rattle.c_sites.specs.declared.function_info.FunctionInfo.{FunctionInfo}
 use Rattle.c_programs.specs.Declarators.{listed_params}
 use Rattle.c_programs.specs.Statements.{declared_by}
-use Rattle.c_sites.specs.Spots.{is_kept, is_kept_declared}
+use Rattle.c_locals.specs.Kept.{is_kept, is_kept_declared}
 use Rattle.c_locals.specs.Addresses.{program_addressed, is_among, count_of_outer}
 use Rattle.c_locals.specs.Roots.{program_starts, is_root_among}
 

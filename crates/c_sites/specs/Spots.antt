@@ -1,13 +1,12 @@
 -- What has cells of its own: each global, each local or formal that is kept in cells, each `malloc`, in the order of the
 -- text (C99 6.2.4, 7.20.3.3).
-use Rattle.std.specs.Prelude.{ℕ, ◌+◌, ◌==◌, nat_le, Bool, true, false, not, ◌&&◌, ◌||◌, if◌then◌else◌, List, [], ◌∷◌, ◌++◌, length, map, codes, decimal, Option, Some, None, is_some}
+use Rattle.std.specs.Prelude.{ℕ, ◌+◌, nat_le, Bool, true, false, not, ◌&&◌, ◌||◌, if◌then◌else◌, List, [], ◌∷◌, ◌++◌, length, map, codes, decimal, Option, Some, None, is_some}
 use Rattle.rr_base.specs.declared.layout.CellKind.{CellKind}
 use Rattle.rr_base.specs.declared.layout.Layout.{Layout}
 use Rattle.rr_base.specs.declared.layout.Site.{Site}
 use Rattle.c_lexer.specs.Bytes.{Text}
 use Rattle.c_tree.specs.declared.name.Name.{Name}
 use Rattle.c_tree.specs.declared.ctype.Specifier.{Specifier}
-use Rattle.c_tree.specs.declared.ctype.Specifier.TheVariants as specifier
 use Rattle.c_tree.specs.declared.program.Param.{Param}
 use Rattle.c_tree.specs.Tree.{Exp, comma, assign, conditional, binary, prefix, sizeof_exp, sizeof_type, cast, index, member, arrow, post_increment, post_decrement, named, call, number, letter, text, null, paren, Exps, no_exp, and_exp, Declared, declared, Init, value, braces, mutex_start, cond_start, Inits, no_init, and_init, Object, plain, initialised, Declares, declares, Start, start_declares, start_computes, Statement, block, compute, break_at, continue_at, gives, branch, branch_else, while_loop, do_loop, for_loop, Parts, no_part, and_declares, and_does, Code, defined, prototype, Fields, fields, Outer, structure, function, objects}
 use Rattle.rr_base.specs.declared.position.Position.{Position}
@@ -24,6 +23,7 @@ use Rattle.c_programs.specs.Initials.{value_target}
 use Rattle.c_programs.specs.Statements.{declared_by, after_declared, after_declares, after_start}
 use Rattle.c_programs.specs.Programs.{after_outer, after_function, known_at_start, signature_of}
 use Rattle.c_locals.specs.Addresses.{program_addressed, is_among, count_of_locals, count_of_start, count_of_declares, count_of_outer}
+use Rattle.c_locals.specs.Kept.{is_kept, is_kept_declared}
 
 -- what holds cells
 pub data Holder : Type 0 where
@@ -117,30 +117,6 @@ abbrev mutual
   initials_allocations known (and_init i is) = initial_allocations known no_target i ++ initials_allocations known is
 
 -- ---- objects
-
--- a struct, a mutex, a condition variable or a barrier
-abbrev pub is_kept_specifier : Specifier → Bool
-is_kept_specifier (specifier.Int at) = false
-is_kept_specifier (specifier.Long second int at) = false
-is_kept_specifier (specifier.Void at) = false
-is_kept_specifier (specifier.Struct name at) = true
-is_kept_specifier (specifier.PthreadT at) = false
-is_kept_specifier (specifier.PthreadMutexT at) = true
-is_kept_specifier (specifier.PthreadCondT at) = true
-is_kept_specifier (specifier.PthreadBarrierT at) = true
-
--- it is an array: at least one length stands after its name
-abbrev pub is_some_length : List Exp → Bool
-is_some_length [] = false
-is_some_length (e ∷ es) = true
-
--- kept in cells by its type
-abbrev pub is_kept : Specifier → ℕ → List Exp → Bool
-is_kept s stars lengths = is_some_length lengths || ((stars == 0) && is_kept_specifier s)
-
--- the same, by a declarator and its specifier
-abbrev pub is_kept_declared : Specifier → Declared → Bool
-is_kept_declared s (declared stars name lengths) = is_kept s stars lengths
 
 -- one spot, or none for what has no cells
 abbrev pub where_kept : Bool → Spot → List Spot

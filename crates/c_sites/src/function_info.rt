@@ -8,9 +8,8 @@ ghost use Rattle.c_programs.specs.Statements.{declared_by};
 ghost use Rattle.c_sites.specs.Functions as spec;
 ghost use Rattle.c_programs.specs.Table.{texts_of};
 
-use crate::spot::is_kept;
 use crate::spots::advance;
-use c_locals::{Marks, Roots, addressed_in, roots_of};
+use c_locals::{Marks, Roots, addressed_in, is_kept, roots_of};
 use c_programs::listed;
 use c_tree::{
     Body, Declaration, Declarator, External, ForStart, Item, Name, Param, Params, Part, Program,

@@ -19,5 +19,5 @@ pub use layouts::layout_of;
 pub use program_spots::spots_in;
 pub use sites::kinds_of_structs;
 pub use source::check;
-pub use spot::{Holder, Spot, is_kept};
+pub use spot::{Holder, Spot};
 pub use typed::Typed;

@@ -12,9 +12,9 @@ ghost use Rattle.c_sites.specs.SpotViews.{shown_owner, shown_spots};
 ghost use Rattle.c_programs.specs.Table.{known_of};
 
 use crate::allocations::push_fields_allocations;
-use crate::spot::{Owner, Spot, Where, is_kept, push_kept};
+use crate::spot::{Owner, Spot, Where, push_kept};
 use crate::spots::{advance, push_objects, push_parts};
-use c_locals::Marks;
+use c_locals::{Marks, is_kept};
 use c_programs::{
     Table, declare_function, declare_param, listed, note_struct, param_type, signature_of,
 };

@@ -1,8 +1,7 @@
 //! What has cells of its own: a global, a local or formal that is kept in cells, what a `malloc` gives.
 #![tactic(auto, using(crate::proofs::Spotted::spotted))]
 
-ghost use Rattle.std.specs.Prelude.{◌≡◌, ◌++◌, IfOk, OnOk, map};
-ghost use Rattle.c_tree.specs.View.{exp_of};
+ghost use Rattle.std.specs.Prelude.{◌≡◌, ◌++◌, IfOk, OnOk};
 ghost use Rattle.c_sites.specs.Spots as spec;
 ghost use Rattle.c_sites.specs.SpotViews.{shown_holder, shown_spots, shown_where};
 ghost use Rattle.c_types.specs.Shown.{shown_type, shown_target};
@@ -10,7 +9,7 @@ ghost use Rattle.c_types.specs.Shown.{shown_type, shown_target};
 use c_locals::Marks;
 use c_programs::{copy_of, put_pointers};
 use c_rules::name_place;
-use c_tree::{Expr, Name, Specifier};
+use c_tree::Name;
 use c_types::{ObjectType, Target, TypeRef};
 use rr_base::{List, Position};
 use std::alloc::{AllocError, Global};
@@ -76,37 +75,6 @@ impl<'a> Where<'a> {
             Where::InFunction(owner) => Holder::Local(owner.name, name),
         }
     }
-}
-
-fn is_kept_specifier(specifier: &Specifier) -> bool
-    ensures { result ≡ spec.is_kept_specifier specifier.now }
-{
-    match specifier {
-        Specifier::Int { .. } => false,
-        Specifier::Long { .. } => false,
-        Specifier::Void { .. } => false,
-        Specifier::Struct { .. } => true,
-        Specifier::PthreadT { .. } => false,
-        Specifier::PthreadMutexT { .. } => true,
-        Specifier::PthreadCondT { .. } => true,
-        Specifier::PthreadBarrierT { .. } => true,
-    }
-}
-
-fn is_some_length(lengths: &[Expr]) -> bool
-    ensures { result ≡ spec.is_some_length (map exp_of lengths.now) }
-{
-    match lengths {
-        [] => false,
-        [_, ..] => true,
-    }
-}
-
-/// Whether an object is kept in cells by its type.
-pub fn is_kept(specifier: &Specifier, stars: usize, lengths: &[Expr]) -> bool
-    ensures { result ≡ spec.is_kept specifier.now stars (map exp_of lengths.now) }
-{
-    is_some_length(lengths) || stars == 0 && is_kept_specifier(specifier)
 }
 
 /// Adds the object of the name, if it is kept in cells.

@@ -12,7 +12,8 @@ ghost use Rattle.c_programs.specs.Table.{known_of};
 use crate::allocations::{
     push_allocations, push_initial_allocations, push_lengths_allocations, push_maybe_allocations,
 };
-use crate::spot::{Owner, Spot, Where, is_kept, push_kept};
+use crate::spot::{Owner, Spot, Where, push_kept};
+use c_locals::is_kept;
 use c_programs::{Table, copy_of, declare_object, declared_type, ref_of, value_target};
 use c_tree::{Declaration, Declarator, Expr, ForStart, Initial, Item, Part, Specifier, Stmt};
 use c_types::{ObjectType, Target};

@@ -5,7 +5,7 @@ use Rattle.c_tree.specs.declared.ctype.Specifier.{Specifier}
 use Rattle.c_tree.specs.Tree.{Declared, declared, Object, Declares, declares, Start, start_declares, start_computes, Statement, block, compute, break_at, continue_at, gives, branch, branch_else, while_loop, do_loop, for_loop, Parts, no_part, and_declares, and_does}
 use Rattle.c_rules.specs.Faults.{name_place}
 use Rattle.c_programs.specs.Statements.{declared_by}
-use Rattle.c_sites.specs.Spots.{is_kept}
+use Rattle.c_locals.specs.Kept.{is_kept}
 use Rattle.c_statements.specs.declared.local.Local.{Local}
 
 -- whether its type keeps it in cells, whether it is a pointer, and the place of its name

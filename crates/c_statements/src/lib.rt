@@ -1,4 +1,4 @@
-//! What a statement of a C source does, as a core tree, and which locals it declares. It stands on `c_sites`, `c_core`,
+//! What a statement of a C source does, as a core tree, and which locals it declares. It stands on `c_locals`, `c_core`,
 //! `c_operators`, `c_values` and `c_initials`.
 #![tactic(auto)]
 

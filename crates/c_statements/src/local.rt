@@ -4,8 +4,8 @@ ghost use Rattle.c_tree.specs.Tree.{listed_parts};
 ghost use Rattle.c_tree.specs.View as tree;
 ghost use Rattle.c_statements.specs.Locals as spec;
 
+use c_locals::is_kept;
 use c_rules::name_place;
-use c_sites::is_kept;
 use c_tree::{Declaration, Declarator, ForStart, Item, Part, Specifier, Stmt};
 use rr_base::{List, Position};
 use std::alloc::AllocError;

@@ -18,7 +18,8 @@ use Rattle.c_rules.specs.Faults.{name_place, mismatch, specifier_faults}
 use Rattle.c_programs.specs.Declarators.{declared_name, is_void_specifier, is_struct_specifier, declarator_faults, size_faults, has_member, one_member_faults, some_members_faults, with_member, with_members, fields_faults, struct_cells, is_struct_defined, cannot_pass, passed_by, param_type, param_place, param_name_faults, param_faults, params_faults, after_param, after_params, listed_params}
 use Rattle.c_programs.specs.Programs.{signature_of, after_function, body_faults, is_definition, after_outer}
 use Rattle.c_locals.specs.Addresses.{count_of_outer}
-use Rattle.c_sites.specs.Spots.{Spot, spot_named, file_level, in_function, holder_in, is_cell_in, is_kept, declared_lengths, layout_by, lengths_allocations, parts_spots, members_allocations, fields_allocations, formal_spot, formals_spots, code_spots, outer_spots, outers_spots}
+use Rattle.c_locals.specs.Kept.{is_kept}
+use Rattle.c_sites.specs.Spots.{Spot, spot_named, file_level, in_function, holder_in, is_cell_in, declared_lengths, layout_by, lengths_allocations, parts_spots, members_allocations, fields_allocations, formal_spot, formals_spots, code_spots, outer_spots, outers_spots}
 use Rattle.c_operators.specs.Context.{Source, global_named}
 use Rattle.source_sound.proofs.Environment.{IsFormed}
 use Rattle.source_sound.proofs.FileLists.{append_nil, nil3, nil4, where_nil}

@@ -21,7 +21,7 @@ use Rattle.c_types.specs.Standing.{is_main}
 use Rattle.c_sites.specs.Spots.{types_of_members, layout_by, lengths_allocations, initial_allocations, file_level, declared_lengths, declared_spots, object_spots, objects_spots}
 use Rattle.c_operators.specs.Context.{Source, global_named}
 use Rattle.c_initials.specs.Initials.{kinds_of_some}
-use Rattle.c_initials.specs.Globals.{object_words, objects_words, start_words}
+use Rattle.c_globals.specs.Globals.{object_words, objects_words, start_words}
 use Rattle.source_sound.proofs.FileLists.{append_nil, nil4, where_nil}
 use Rattle.source_sound.proofs.Structs.{IsWithin, within_more, AreSmall, kinds_before, after_parts, after_more, cells_exact, layout_is}
 use Rattle.source_sound.proofs.DeclaredTypes.{IsDeclared, declared_known, declared_within}

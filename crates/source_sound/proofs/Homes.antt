@@ -12,7 +12,7 @@ use Rattle.c_lexer.specs.Names.{entry_of}
 use Rattle.c_types.specs.Scopes.{with_name}
 use Rattle.c_sites.specs.Spots.{Holder, a_global, a_local, an_allocation, Spot, site_of, layout_by}
 use Rattle.c_operators.specs.Context.{pointer_or_null}
-use Rattle.c_initials.specs.Globals.{with_global, holder_cells, globals_after, holder_kinds, global_kinds, holder_base, global_bases}
+use Rattle.c_globals.specs.Globals.{with_global, holder_cells, globals_after, holder_kinds, global_kinds, holder_base, global_bases}
 use Rattle.source_sound.proofs.FileLists.{text_same}
 use Rattle.source_sound.proofs.FileScope.{AllOf, all_with, found_entry, entry_kept, entry_new}
 use Rattle.source_sound.proofs.Structs.{layout_length}

@@ -18,7 +18,7 @@ use Rattle.c_sites.specs.Spots.{Spot, site_of, known_after, kinds_of_structs, pr
 use Rattle.c_sites.specs.Whole.{first_fault}
 use Rattle.c_core.specs.Core.{Program}
 use Rattle.c_operators.specs.Context.{Source, global_named}
-use Rattle.c_initials.specs.Globals.{global_kinds, global_bases}
+use Rattle.c_globals.specs.Globals.{global_kinds, global_bases}
 use Rattle.c_elaborate.specs.Whole.{outers_functions, outers_words, source_of, core_of_source}
 use Rattle.c_core.specs.Sound.{IsAddress, IsSoundFunction, LiesAt, AreAtHome, IsSound}
 use Rattle.source_sound.proofs.Faultless.{IsFaultless, faultless}

@@ -28,7 +28,7 @@ use Rattle.c_types.specs.Standing.{Target, no_target, standing}
 use Rattle.c_programs.specs.Initials.{alike_part, part_at, part_type, is_array_meaning, is_variable, is_variable_name, is_address, is_constant_address, layered_is_pointer, global_value_faults, starts_as, layered_is_base, may_be_base, where_global, value_faults, initial_faults, inits_faults}
 use Rattle.c_sites.specs.Spots.{types_of_members}
 use Rattle.c_operators.specs.Context.{Source, global_named}
-use Rattle.c_initials.specs.Globals.{address_word, computed_word, constant_word, start_words, parts_words}
+use Rattle.c_globals.specs.Globals.{address_word, computed_word, constant_word, start_words, parts_words}
 use Rattle.source_sound.proofs.FileLists.{nil3, where_nil, not_nil}
 use Rattle.source_sound.proofs.Structs.{IsWithin, within_more}
 use Rattle.source_sound.proofs.FileStructs.{AreMembers, IsStruct}

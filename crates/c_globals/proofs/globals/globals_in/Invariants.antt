@@ -1,8 +1,8 @@
 use Rattle.std.proofs.Common.{◌≡◌, length, []}
 use Rattle.c_sites.specs.SpotViews.{shown_spots}
-use Rattle.c_initials.specs.Globals.{globals_after}
+use Rattle.c_globals.specs.Globals.{globals_after}
 use Rattle.c_operators.specs.Views.{globals_of}
-use Rattle.c_initials.proofs.globals.globals_in.Given as goal
+use Rattle.c_globals.proofs.globals.globals_in.Given as goal
 
 -- those so far and the rest make the whole
 abbrev pub invariant-loop-spots : goal.invariant-loop-spots

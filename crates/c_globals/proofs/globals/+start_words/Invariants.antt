@@ -3,9 +3,9 @@ use Rattle.c_tree.specs.Tree.{listed_inits}
 use Rattle.c_tree.specs.View.{init_of}
 use Rattle.c_types.specs.Shown.{shown_maybe}
 use Rattle.c_programs.specs.Table.{known_of}
-use Rattle.c_initials.specs.Globals.{parts_words}
+use Rattle.c_globals.specs.Globals.{parts_words}
 use Rattle.c_operators.specs.Views.{source_in}
-use Rattle.c_initials.proofs.globals.+start_words.Given as goal
+use Rattle.c_globals.proofs.globals.+start_words.Given as goal
 
 -- what is pushed and the rest make the whole
 abbrev pub invariant-push_parts-loop-index : goal.invariant-push_parts-loop-index

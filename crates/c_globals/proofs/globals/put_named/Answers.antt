@@ -2,7 +2,7 @@ use Rattle.std.proofs.Common.{ap, sym, ◌∙◌, map, is_some}
 use Rattle.indexmap.proofs.CallerLemmas.{insert_entry-new}
 use Rattle.std.specs.Str.{bytes_eq}
 use Rattle.c_types.proofs.Keyed.{lookup-entry_of, map-pushed, shown, with_name-new, with_name-there}
-use Rattle.c_initials.proofs.globals.put_named.Goals as goal
+use Rattle.c_globals.proofs.globals.put_named.Goals as goal
 
 pub returns-in_ok-insert-in-None : goal.returns-in_ok-insert-in-None
 returns-in_ok-insert-in-None c =
