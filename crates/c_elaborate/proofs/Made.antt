@@ -4,7 +4,8 @@ use Rattle.std.proofs.lemmas.List.{map-append}
 use Rattle.rr_base.specs.declared.layout.Site.{Site}
 use Rattle.c_tree.specs.declared.program.Param.{Param}
 use Rattle.c_tree.specs.Tree.{Parts}
-use Rattle.c_locals.specs.Addresses.{Numbered, after_formals, numbered_from}
+use Rattle.c_numbers.specs.Numbered.{Numbered}
+use Rattle.c_locals.specs.Addresses.{after_formals, numbered_from}
 use Rattle.c_programs.specs.Declarators.{after_params}
 use Rattle.c_types.specs.Scopes.{Known}
 use Rattle.c_core.specs.declared.program.CoreFunction.{CoreFunction}

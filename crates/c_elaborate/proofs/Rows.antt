@@ -10,7 +10,7 @@ use Rattle.c_tree.specs.declared.program.Params.TheVariants as params
 use Rattle.c_tree.specs.Tree.{assign, binary, number, declares, compute, gives, no_part, and_declares, and_does, defined, Outer, function, objects}
 use Rattle.c_types.specs.Constants.{constant_named}
 use Rattle.c_types.specs.Library.{library_named}
-use Rattle.c_locals.specs.Addresses.{following}
+use Rattle.c_numbers.specs.Numbered.{following}
 use Rattle.c_sites.proofs.SiteRows.{at, name_at, plain_at, int, n, first_source}
 use Rattle.rr_base.specs.declared.position.Position.{Position}
 use Rattle.c_core.specs.Core as core

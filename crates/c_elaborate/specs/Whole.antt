@@ -5,8 +5,8 @@ use Rattle.c_tree.specs.declared.program.Params.{Params}
 use Rattle.c_tree.specs.Tree.{Code, defined, prototype, Outer, structure, function, objects}
 use Rattle.c_types.specs.declared.names.Signature.{Signature}
 use Rattle.c_types.specs.Scopes.{Known, opened}
-use Rattle.c_programs.specs.Declarators.{listed_params}
-use Rattle.c_programs.specs.Programs.{known_at_start, signature_of, after_function, after_outer}
+use Rattle.c_names.specs.Sources.{listed_params, known_at_start}
+use Rattle.c_programs.specs.Programs.{signature_of, after_function, after_outer}
 use Rattle.c_locals.specs.Addresses.{count_of_outer, program_addressed}
 use Rattle.c_sites.specs.Spots.{known_after, kinds_of_structs, program_spots, program_sites}
 use Rattle.c_core.specs.Core as core

@@ -3,11 +3,12 @@ ghost use Rattle.std.specs.Prelude.{◌≡◌, ◌+◌, ◌++◌, ◌∷◌, [],
 ghost use Rattle.c_tree.specs.Tree.{listed_parts};
 ghost use Rattle.c_tree.specs.View.{code_of, fields_of, outer_of, part_of, program_of};
 ghost use Rattle.c_locals.specs.Addresses.{count_of_code, count_of_outer, count_of_parts, program_addressed};
-ghost use Rattle.c_programs.specs.Declarators.{after_struct, listed_params};
+ghost use Rattle.c_names.specs.Sources.{listed_params, known_at_start};
+ghost use Rattle.c_programs.specs.Declarators.{after_struct};
 ghost use Rattle.c_programs.specs.Programs as programs;
 ghost use Rattle.c_types.specs.Scopes.{opened};
 ghost use Rattle.c_sites.specs.Spots.{program_sites, program_spots};
-ghost use Rattle.c_programs.specs.Table.{known_of};
+ghost use Rattle.c_names.specs.Table.{known_of};
 ghost use Rattle.c_sites.specs.Typed.{program_in};
 ghost use Rattle.c_core.specs.View.{core_of, function_of};
 ghost use Rattle.c_elaborate.specs.Functions.{definition};
@@ -19,8 +20,9 @@ use crate::functions::definition;
 use c_core::{Core, CoreFunction};
 use c_globals::{global_bases, global_kinds, globals_in, push_objects};
 use c_locals::{Marks, addressed_in};
+use c_names::{Table, listed};
 use c_operators::Source;
-use c_programs::{Table, declare_function, listed, note_struct, signature_of};
+use c_programs::{declare_function, note_struct, signature_of};
 use c_sites::{Typed, kinds_of_structs, spots_in};
 use c_tree::{Body, External, Member, Name, Param, Params, Part, Program, Specifier};
 use c_types::StarredType;
@@ -145,8 +147,8 @@ fn walked<'a>(
     marks: &Marks,
     program: &'a Program,
 ) -> Result<(List<CoreFunction>, List<u64>), AllocError>
-    ensures functions { IfOk result (λ r. map function_of r.0 ≡ spec.outers_functions (source_in source.now) marks.now.numbers (programs.known_at_start (program_of program.now)) 0 (program_of program.now)) }
-    ensures words { IfOk result (λ r. r.1 ≡ spec.outers_words (source_in source.now) (programs.known_at_start (program_of program.now)) (program_of program.now)) }
+    ensures functions { IfOk result (λ r. map function_of r.0 ≡ spec.outers_functions (source_in source.now) marks.now.numbers (known_at_start (program_of program.now)) 0 (program_of program.now)) }
+    ensures words { IfOk result (λ r. r.1 ≡ spec.outers_words (source_in source.now) (known_at_start (program_of program.now)) (program_of program.now)) }
 {
     let mut table = Table::new(alloc, program)?;
     let mut next = 0;

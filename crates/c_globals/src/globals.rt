@@ -9,13 +9,14 @@ ghost use Rattle.c_types.specs.Scopes.{with_name};
 ghost use Rattle.c_types.specs.Shown.{shown_maybe};
 ghost use Rattle.c_sites.specs.SpotViews.{shown_holder, shown_spots};
 ghost use Rattle.c_programs.specs.Statements.{after_declared, after_objects};
-ghost use Rattle.c_programs.specs.Table.{known_of};
+ghost use Rattle.c_names.specs.Table.{known_of};
 ghost use Rattle.c_globals.specs.Globals as spec;
 ghost use Rattle.c_operators.specs.Views.{globals_of, source_in};
 
 use c_initials::kinds_of_some;
+use c_names::Table;
 use c_operators::Source;
-use c_programs::{Table, copy_of, declare_object, declared_type, part_at, ref_of};
+use c_programs::{copy_of, declare_object, declared_type, part_at, ref_of};
 use c_rules::{is_constant, value_of};
 use c_sites::{Holder, Spot};
 use c_tree::{Declarator, Expr, Initial, Item, Specifier};

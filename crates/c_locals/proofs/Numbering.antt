@@ -1,15 +1,12 @@
 -- How many numbers a part of a function uses, and that a block leaves the scopes outside of it alone.
-use Rattle.std.proofs.Common.{◌≡◌, ℕ, ◌+◌, ◌-◌, ◌<◌, ◌≤◌, List, [], ◌∷◌, length, map, reverse, take, drop, slice_get, Option, None, Some, refl, sym, ap, ◌∙◌, arith}
+use Rattle.std.proofs.Common.{◌≡◌, ℕ, ◌+◌, List, [], ◌∷◌, length, drop, Option, None, Some, refl, sym, ap, ◌∙◌, arith}
 use Rattle.c_lexer.specs.Bytes.{Text}
-use Rattle.c_lexer.specs.Names.{entry_of}
 use Rattle.c_tree.specs.declared.name.Name.{Name}
 use Rattle.c_tree.specs.declared.program.Param.{Param}
 use Rattle.c_tree.specs.Tree.{Declared, Object, Declares, declares, Start, start_declares, start_computes, Parts, no_part, and_declares, and_does}
-use Rattle.c_types.specs.Scopes.{or_else}
-use Rattle.c_programs.specs.Declarators.{declared_name}
-use Rattle.c_programs.specs.Statements.{declared_by}
-use Rattle.c_locals.specs.Addresses.{Numbered, number_seen, following, inside, outside, numbered_in, after_name, after_names, after_declaration, after_for_start, past_statement, past_parts, count_of_declares, count_of_start, count_of_locals, count_of_parts, after_formal, after_formals, numbered_from}
-use Rattle.c_types.proofs.Keyed.{reverse-take}
+use Rattle.c_names.specs.Sources.{declared_name, declared_by}
+use Rattle.c_numbers.specs.Numbered.{Numbered, following, inside, outside, numbered_in}
+use Rattle.c_locals.specs.Addresses.{after_name, after_names, after_declaration, after_for_start, past_statement, past_parts, count_of_declares, count_of_start, count_of_locals, count_of_parts, after_formal, after_formals, numbered_from}
 
 same : (x y : Numbered) → x.next ≡ y.next → x.scopes ≡ y.scopes → x ≡ y
 same x y n s = ap (λ m. record x { next = m }) n ∙ ap (λ ss. record y { scopes = ss }) s
@@ -114,14 +111,3 @@ definition_numbers n last begun named filled ps parts b m f l =
     l ∙ ap (λ k. k.next) (f ∙ ap (λ k. past_parts k parts) (m ∙ ap (λ k. after_formals k ps) b)) ∙ definition_next n ps parts
 
 pub ruleset numbering = (after_none, past_both)
-
--- a name is sought in the innermost scope of those that are left
-pub seen-innermost : {S : Type 0} (f : S → List (Text × ℕ)) (xs : List S) (n : ℕ) (x : S) (name : Text) (o : Option ℕ) →
-    0 < n → n ≤ length xs → slice_get xs (n - 1) ≡ Some x → o ≡ entry_of (f x) name →
-    or_else o (number_seen (reverse (map f (take (n - 1) xs))) name) ≡ number_seen (reverse (map f (take n xs))) name
-seen-innermost f xs n x name o some within e found =
-    let below : n - 1 < length xs = omega arith in
-    let whole : n - 1 + 1 ≡ n = omega arith in
-    ap (λ p. or_else p (number_seen (reverse (map f (take (n - 1) xs))) name)) found
-    ∙ sym (ap (λ ss. number_seen ss name) (reverse-take f xs (n - 1) x below e))
-    ∙ ap (λ m. number_seen (reverse (map f (take m xs))) name) whole

@@ -1,46 +1,12 @@
 -- To which locals and formals `&` is applied anywhere: they are kept in cells (C99 6.5.3.2). The locals and the formals
 -- of definitions are numbered from 0 in the order of the text.
-use Rattle.std.specs.Prelude.{ℕ, ◌+◌, ◌==◌, Bool, true, false, ◌||◌, List, [], ◌∷◌, ◌++◌, length, drop, slice_index_or, Option, Some, None}
-use Rattle.c_lexer.specs.Bytes.{Text}
-use Rattle.c_lexer.specs.Names.{entry_of}
+use Rattle.std.specs.Prelude.{ℕ, ◌+◌, ◌==◌, Bool, true, false, ◌||◌, List, [], ◌∷◌, ◌++◌, length, slice_index_or, Option, Some, None}
 use Rattle.c_tree.specs.declared.name.Name.{Name}
 use Rattle.c_tree.specs.declared.program.Param.{Param}
 use Rattle.c_tree.specs.Tree.{Exp, comma, assign, conditional, binary, prefix, sizeof_exp, sizeof_type, cast, index, member, arrow, post_increment, post_decrement, named, call, number, letter, text, null, paren, Exps, no_exp, and_exp, Declared, declared, Init, value, braces, mutex_start, cond_start, Inits, no_init, and_init, Object, plain, initialised, Declares, declares, Start, start_declares, start_computes, Statement, block, compute, break_at, continue_at, gives, branch, branch_else, while_loop, do_loop, for_loop, Parts, no_part, and_declares, and_does, Code, defined, prototype, Outer, structure, function, objects}
-use Rattle.c_types.specs.Scopes.{or_else, with_name}
-use Rattle.c_programs.specs.Declarators.{declared_name, listed_params}
-use Rattle.c_programs.specs.Initials.{is_address}
-use Rattle.c_programs.specs.Statements.{declared_by}
-
--- the numbers of the names that are seen, the innermost scope first
-pub record Numbered : Type 0 where
-  pub next : ℕ
-  pub scopes : List (List (Text × ℕ))
-
--- the innermost name hides the others (C99 6.2.1); globals have no number
-abbrev pub number_seen : List (List (Text × ℕ)) → Text → Option ℕ
-number_seen [] name = None
-number_seen (s ∷ ss) name = or_else (entry_of s name) (number_seen ss name)
-
--- the name is declared in the innermost scope
-abbrev pub numbered_in : List (List (Text × ℕ)) → Text → ℕ → List (List (Text × ℕ))
-numbered_in [] name n = []
-numbered_in (s ∷ ss) name n = with_name s name n ∷ ss
-
--- so many numbers are used
-unfoldable pub following : Numbered → ℕ → Numbered
-following known many = record known { next = known.next + many }
-
--- the next number goes to a name
-abbrev pub number_name : Numbered → Name → Numbered
-number_name known name = following (record known { scopes = numbered_in known.scopes name.text known.next }) 1
-
--- a scope begins (C99 6.2.1)
-abbrev pub inside : Numbered → Numbered
-inside known = record known { scopes = [] ∷ known.scopes }
-
--- the innermost scope ends; its numbers stay used
-abbrev pub outside : Numbered → Numbered
-outside known = record known { scopes = drop 1 known.scopes }
+use Rattle.c_types.specs.Constants.{is_address}
+use Rattle.c_names.specs.Sources.{declared_name, listed_params, declared_by}
+use Rattle.c_numbers.specs.Numbered.{Numbered, number_seen, following, number_name, inside}
 
 -- ---- expressions
 

@@ -1,4 +1,3 @@
 pub mod Addresses
 pub mod Kept
-pub mod NumberTables
 pub mod Roots

@@ -7,16 +7,7 @@ use Rattle.c_types.specs.declared.library.LibraryName.TheVariants as library
 use Rattle.c_types.specs.Library.{library_named}
 use Rattle.c_types.specs.Scopes.{has_name, with_text}
 use Rattle.c_types.specs.Standing.{is_main}
-
--- the function is the third argument of the call, by its name
-abbrev pub name_of_start : Exp → Option Text
-name_of_start (named name at) = Some name
-name_of_start _ = None
-
--- the third argument, where it is the bare name of a function
-abbrev pub third_name : Exps → Option Text
-third_name (and_exp a (and_exp b (and_exp c more))) = name_of_start c
-third_name _ = None
+use Rattle.c_names.specs.Started.{third_name}
 
 -- the function that this call starts a thread with, if it does
 abbrev pub started_by : Option LibraryName → Exps → Option Text

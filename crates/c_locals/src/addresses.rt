@@ -3,13 +3,13 @@ ghost use Rattle.std.specs.Prelude.{◌≡◌, ◌+◌, ◌++◌, OnOk, IfOk, ma
 ghost use Rattle.c_tree.specs.Tree.{listed, listed_inits, listed_parts};
 ghost use Rattle.c_tree.specs.View.{exp_of, maybe_of, declared_of, init_of, object_of, declares_of, start_of, stmt_of, part_of, code_of, outer_of, program_of};
 ghost use Rattle.c_locals.specs.Addresses as spec;
-ghost use Rattle.c_locals.specs.NumberTables.{numbered_of};
-ghost use Rattle.c_programs.specs.Initials.{is_address};
-ghost use Rattle.c_programs.specs.Statements.{declared_by};
+ghost use Rattle.c_numbers.specs.NumberTables.{numbered_of};
+ghost use Rattle.c_types.specs.Constants.{is_address};
+ghost use Rattle.c_names.specs.Sources.{declared_by};
 
 use crate::marks::Marks;
-use crate::number_table::NumberTable;
-use c_programs::listed;
+use c_names::listed;
+use c_numbers::NumberTable;
 use c_tree::{
     Body, Declaration, Declarator, Expr, External, ForStart, Initial, Item, Param, Params, Part,
     PrefixOp, Program, Stmt,

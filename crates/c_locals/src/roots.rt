@@ -7,9 +7,9 @@ ghost use Rattle.c_types.specs.Library as library;
 ghost use Rattle.c_locals.specs.Roots as spec;
 ghost use Rattle.c_locals.specs.Roots.{is_root_among};
 ghost use Rattle.c_types.specs.Scopes.{has_name};
-ghost use Rattle.c_programs.specs.Table.{texts_of};
+ghost use Rattle.c_names.specs.Table.{texts_of};
 
-use c_programs::put_text;
+use c_names::{put_text, third_name};
 use c_rules::is_main;
 use c_tree::{Body, Declaration, Expr, External, ForStart, Initial, Item, Part, Program, Stmt};
 use c_types::{LibraryName, library_named};
@@ -34,25 +34,6 @@ impl<'a> Roots<'a> {
         ensures { result ≡ is_root_among (texts_of self.now.names.keys) name.now }
     {
         is_main(name) || self.is_started(name)
-    }
-}
-
-fn name_of_start(e: &Expr) -> Option<&[u8]>
-    ensures { option_map (λ n. n.now) result ≡ spec.name_of_start (exp_of e.now) }
-{
-    match e {
-        Expr::Name { name, .. } => Some(name.as_slice()),
-        _ => None,
-    }
-}
-
-/// The name that the third argument is, if there is one.
-pub fn third_name(es: &[Expr]) -> Option<&[u8]>
-    ensures { option_map (λ n. n.now) result ≡ spec.third_name (listed (map exp_of es.now)) }
-{
-    match es {
-        [_, _, third, ..] => name_of_start(third),
-        _ => None,
     }
 }
 

@@ -7,7 +7,7 @@ use Rattle.c_lexer.specs.Names.{entry_of}
 use Rattle.rr_base.specs.declared.position.Position.{Position}
 use Rattle.c_types.specs.declared.types.ObjectType.{ObjectType}
 use Rattle.c_types.specs.Scopes.{Known, cells_of_some, cells_of_type, member_numbered, members_of}
-use Rattle.c_locals.specs.Addresses.{Numbered, number_seen}
+use Rattle.c_numbers.specs.Numbered.{Numbered, number_seen}
 use Rattle.c_types.specs.Operands.{Operand, pointing}
 use Rattle.c_operators.specs.declared.home.Home.{Home}
 

@@ -2,7 +2,7 @@
 use Rattle.std.specs.Prelude.{ℕ, Bool, true, false, if◌then◌else◌, pos}
 use Rattle.rr_base.specs.declared.position.Position.{Position}
 use Rattle.c_types.specs.Operands.{Standing, no_type, zero_literal, null_literal, a_value, a_place, Operand, any_operand, whole, zero_operand, null_operand, pointing, no_operand, operand_of}
-use Rattle.c_programs.specs.Initials.{layered_is_array}
+use Rattle.c_types.specs.Types.{layered_is_array}
 use Rattle.c_core.specs.Core as core
 
 -- the place in the type of the core tree

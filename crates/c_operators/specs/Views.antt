@@ -5,8 +5,8 @@ use Rattle.std.specs.Global.{Box}
 use Rattle.indexmap.specs.IndexMap.{IndexMap}
 use Rattle.c_lexer.specs.Bytes.{Text}
 use Rattle.c_types.specs.Shown.{shown_standing}
-use Rattle.c_programs.specs.Table.{known_of}
-use Rattle.c_locals.specs.NumberTables.{numbered_of}
+use Rattle.c_names.specs.Table.{known_of}
+use Rattle.c_numbers.specs.NumberTables.{numbered_of}
 use Rattle.c_core.specs.declared.value.Value.{Value}
 use Rattle.c_core.specs.Core.{Exp}
 use Rattle.c_core.specs.View.{exp_of}

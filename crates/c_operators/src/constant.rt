@@ -1,10 +1,10 @@
 //! The value of a constant expression, by those of its operands (C99 6.6).
 ghost use Rattle.std.specs.Prelude.{◌≡◌};
 ghost use Rattle.c_tree.specs.View.{exp_of};
-ghost use Rattle.c_programs.specs.Table.{known_of};
+ghost use Rattle.c_names.specs.Table.{known_of};
 ghost use Rattle.c_operators.specs.Constants as spec;
 
-use c_programs::Table;
+use c_names::Table;
 use c_rules::{
     chosen_value, is_constant, is_int, is_of_numbers, operation_value, prefix_value, value_of,
 };

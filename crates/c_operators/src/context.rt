@@ -6,8 +6,8 @@ ghost use Rattle.c_operators.specs.Context as spec;
 ghost use Rattle.c_operators.specs.Views.{source_in, frame_in, context_of};
 
 use crate::home::Home;
-use c_locals::NumberTable;
-use c_programs::Table;
+use c_names::Table;
+use c_numbers::NumberTable;
 use c_types::{Names, Operand, TypeRef};
 use indexmap::IndexMap;
 use rr_base::{CellKind, List, Position, PtrWord, Site};

@@ -8,8 +8,7 @@ ghost use Rattle.c_operators.specs.Views.{denoted_of, part_of};
 use crate::constant::Constant;
 use crate::make;
 use c_core::Value;
-use c_programs::is_array;
-use c_types::{Operand, Standing};
+use c_types::{Operand, Standing, is_array};
 use rr_base::Position;
 use std::alloc::{AllocError, Global};
 

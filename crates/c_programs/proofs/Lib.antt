@@ -2,5 +2,4 @@ pub mod ByName
 pub mod Counted
 pub mod Parts
 pub mod Starts
-pub mod Tables
 pub mod Within

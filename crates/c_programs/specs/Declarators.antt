@@ -6,8 +6,6 @@ use Rattle.c_tree.specs.declared.name.Name.{Name}
 use Rattle.c_tree.specs.declared.ctype.Specifier.{Specifier}
 use Rattle.c_tree.specs.declared.ctype.Specifier.TheVariants as specifier
 use Rattle.c_tree.specs.declared.program.Param.{Param}
-use Rattle.c_tree.specs.declared.program.Params.{Params}
-use Rattle.c_tree.specs.declared.program.Params.TheVariants as params
 use Rattle.c_tree.specs.Tree.{Exp, Declared, declared, Fields, fields}
 use Rattle.rr_base.specs.declared.position.Position.{Position}
 use Rattle.c_types.specs.declared.types.BaseType.{BaseType}
@@ -22,6 +20,7 @@ use Rattle.c_types.specs.Constants.{constant_named}
 use Rattle.c_types.specs.Library.{library_named, fitting_type}
 use Rattle.c_types.specs.Found.{where_it_comes}
 use Rattle.c_types.specs.Scopes.{Known, Members, variable, innermost, base_of, starred, is_complete, struct_numbered, cells_of_some, counted_cells, most_cells, declare, with_name}
+use Rattle.c_names.specs.Sources.{declared_name}
 use Rattle.c_rules.specs.Faults.{name_place, mismatch, specifier_faults}
 use Rattle.c_rules.specs.Sizes.{length_of, length_faults}
 
@@ -50,10 +49,6 @@ complete_by known (Some t) = if is_complete known t then Some t else None
 -- the type of what is declared, where its declaration has no fault
 abbrev pub declared_type : Known → Specifier → Declared → Option ObjectType
 declared_type known s (declared stars name lengths) = complete_by known (type_by (base_of known s) stars (arrays_of known lengths))
-
--- faults of a declarator stand at this name
-abbrev pub declared_name : Declared → Name
-declared_name (declared stars name lengths) = name
 
 -- ---- faults
 
@@ -198,12 +193,6 @@ wanted_for false (Some b) stars = fitting_type stars b
 -- the argument that the parameter wants
 abbrev pub wanted_of : Known → Param → Wanted
 wanted_of known p = wanted_for (cannot_pass p.specifier p.stars) (base_of known p.specifier) p.stars
-
--- `()` and `(void)` both list none
-abbrev pub listed_params : Params → List Param
-listed_params params.Nothing = []
-listed_params params.Void = []
-listed_params (params.Listed ps) = ps
 
 -- the name, or the first token where there is no name
 abbrev pub param_place : Param → Position

@@ -1,7 +1,5 @@
 -- What objects start as (C99 6.7.8), and which rules that breaks. Every mismatch of types stands at the `=`.
 use Rattle.std.specs.Prelude.{ℕ, ◌+◌, nat_lt, Bool, true, false, not, ◌&&◌, if◌then◌else◌, List, [], ◌∷◌, ◌++◌, Option, Some, None, is_none}
-use Rattle.c_tree.specs.declared.expr.PrefixOp.{PrefixOp}
-use Rattle.c_tree.specs.declared.expr.PrefixOp.TheVariants as prefix_op
 use Rattle.c_tree.specs.Tree.{Exp, named, prefix, paren, number, null, Init, value, braces, mutex_start, cond_start, Inits, no_init, and_init}
 use Rattle.rr_base.specs.declared.position.Position.{Position}
 use Rattle.c_types.specs.declared.types.BaseType.{BaseType}
@@ -11,8 +9,8 @@ use Rattle.c_types.specs.declared.types.Layer.TheVariants as layer
 use Rattle.c_types.specs.declared.types.ObjectType.{ObjectType}
 use Rattle.c_types.specs.declared.fault.Found.{Found}
 use Rattle.c_types.specs.declared.fault.FaultKind.TheVariants as fault
-use Rattle.c_types.specs.Constants.{is_constant}
-use Rattle.c_types.specs.Types.{bare}
+use Rattle.c_types.specs.Constants.{is_constant, is_address}
+use Rattle.c_types.specs.Types.{bare, layered_is_array}
 use Rattle.c_types.specs.Scopes.{Known, member_at, Meaning, variable, seen}
 use Rattle.c_types.specs.Operands.{Operand, operand_of, same_base, is_scalar, accepts}
 use Rattle.c_types.specs.Standing.{Target, no_target, some_target, type_target, standing}
@@ -51,13 +49,7 @@ part_type (Some t) = t
 
 -- ---- constants of globals
 
--- a name of an array, or `&` of a variable, of which all that are seen here are globals
-abbrev pub layered_is_array : List Layer → Bool
-layered_is_array [] = false
-layered_is_array (layer.Pointer ∷ ls) = false
-layered_is_array (layer.Array n ∷ ls) = true
-
--- its name alone is an address constant (C99 6.6); unknown types may be arrays
+-- the name of an array alone is an address constant (C99 6.6); unknown types may be arrays
 abbrev pub is_array_meaning : Option Meaning → Bool
 is_array_meaning (Some (variable None)) = true
 is_array_meaning (Some (variable (Some t))) = layered_is_array t.layers
@@ -74,12 +66,7 @@ is_variable_name known (named name at) = is_variable (seen known name)
 is_variable_name known (paren e at) = is_variable_name known e
 is_variable_name known _ = false
 
--- of the prefix operators only `&` gives an address constant
-abbrev pub is_address : PrefixOp → Bool
-is_address prefix_op.Address = true
-is_address _ = false
-
--- what a global pointer may start as
+-- what a global pointer may start as: a name of an array, or `&` of a variable, of which all that are seen here are globals
 abbrev pub is_constant_address : Known → Exp → Bool
 is_constant_address known (null at) = true
 is_constant_address known (number n at) = is_zero n

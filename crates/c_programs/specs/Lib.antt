@@ -3,4 +3,3 @@ pub mod Initials
 pub mod Members
 pub mod Programs
 pub mod Statements
-pub mod Table

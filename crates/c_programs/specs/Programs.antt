@@ -1,6 +1,5 @@
 -- Functions and whole sources (C99 6.9), and which rules they break.
 use Rattle.std.specs.Prelude.{ℕ, ◌==◌, Bool, true, false, not, ◌&&◌, List, [], ◌∷◌, ◌++◌, map, Option, Some, None}
-use Rattle.c_lexer.specs.Bytes.{Text}
 use Rattle.c_lexer.specs.Names.{entry_of}
 use Rattle.c_tree.specs.declared.name.Name.{Name}
 use Rattle.c_tree.specs.declared.ctype.Specifier.{Specifier}
@@ -20,7 +19,8 @@ use Rattle.c_types.specs.Scopes.{Known, Meaning, variable, function_of, innermos
 use Rattle.c_types.specs.Operands.{same_base}
 use Rattle.c_types.specs.Standing.{is_main}
 use Rattle.c_rules.specs.Faults.{name_place, mismatch, specifier_faults}
-use Rattle.c_programs.specs.Declarators.{is_struct_specifier, is_library_name, struct_faults, after_struct, wanted_of, listed_params, params_faults, after_params}
+use Rattle.c_names.specs.Sources.{listed_params, known_at_start}
+use Rattle.c_programs.specs.Declarators.{is_struct_specifier, is_library_name, struct_faults, after_struct, wanted_of, params_faults, after_params}
 use Rattle.c_programs.specs.Statements.{objects_faults, after_objects, parts_faults, after_parts}
 
 -- ---- the types of functions
@@ -139,37 +139,6 @@ after_outer known (objects is_static s os at) = after_objects known true s os
 abbrev pub outers_faults : Known → List Outer → List Found
 outers_faults known [] = []
 outers_faults known (o ∷ os) = outer_faults known o ++ outers_faults (after_outer known o) os
-
--- the names of the structs that a source defines, in the order of their first definitions
-abbrev pub structs_with : List Text → List Outer → List Text
-structs_with names [] = names
-structs_with names (structure name fs ∷ os) = structs_with (with_text names name.text) os
-structs_with names (function is_static s stars name ps code ∷ os) = structs_with names os
-structs_with names (objects is_static s items at ∷ os) = structs_with names os
-
--- only a definition counts, a prototype doesn't
-abbrev pub named_by : Code → List Text → Text → List Text
-named_by (defined ps at) names name = with_text names name
-named_by prototype names name = names
-
--- the names of the functions that a source defines
-abbrev pub functions_with : List Text → List Outer → List Text
-functions_with names [] = names
-functions_with names (structure name fs ∷ os) = functions_with names os
-functions_with names (function is_static s stars name ps code ∷ os) = functions_with (named_by code names name.text) os
-functions_with names (objects is_static s items at ∷ os) = functions_with names os
-
--- what is known where a source begins
-abbrev pub known_at_start : List Outer → Known
-known_at_start os = record {
-  struct_names = structs_with [] os;
-  structs = [];
-  sizes = [];
-  defined = functions_with [] os;
-  begun = [];
-  global_cells = 0;
-  scopes = [] ∷ [];
-}
 
 -- all faults but those of `main` missing and of too many sites
 abbrev pub program_faults : List Outer → List Found

@@ -1,5 +1,5 @@
 -- Declarations of objects and statements (C99 6.7, 6.8), and which rules they break.
-use Rattle.std.specs.Prelude.{ℕ, ◌+◌, ◌^◌, nat_lt, min, Bool, true, false, not, List, [], ◌∷◌, ◌++◌, Option, Some, None}
+use Rattle.std.specs.Prelude.{ℕ, ◌+◌, nat_lt, Bool, true, false, not, List, [], ◌∷◌, ◌++◌, Option, Some, None}
 use Rattle.c_lexer.specs.Bytes.{Text}
 use Rattle.c_tree.specs.declared.name.Name.{Name}
 use Rattle.c_tree.specs.declared.ctype.Specifier.{Specifier}
@@ -15,28 +15,15 @@ use Rattle.c_types.specs.Operands.{Operand, operand_of, is_scalar, accepts}
 use Rattle.c_types.specs.Library.{starred_type}
 use Rattle.c_types.specs.Standing.{no_target, is_main, standing}
 use Rattle.c_rules.specs.Faults.{name_place, mismatch, expression_faults, go_faults}
-use Rattle.c_programs.specs.Declarators.{declared_type, declared_name, declarator_faults, taken_faults, size_faults}
+use Rattle.c_names.specs.Sources.{most_global_cells, declared_name, declared_by, global_cells_with}
+use Rattle.c_programs.specs.Declarators.{declared_type, declarator_faults, taken_faults, size_faults}
 use Rattle.c_programs.specs.Initials.{start_faults}
 
 -- ---- objects
 
--- the greatest number of cells that all globals may have
-abbrev pub most_global_cells : ℕ
-most_global_cells = 2 ^ 20
-
--- what is declared, without what it starts as
-abbrev pub declared_by : Object → Declared
-declared_by (plain d) = d
-declared_by (initialised d i at) = d
-
 -- of an object; 0 where its type isn't known
 abbrev pub cells_of_declared : Known → Specifier → Declared → ℕ
 cells_of_declared known s d = cells_of_some known (declared_type known s d)
-
--- the cells of the globals with these ones. More than all globals may have count as one more than that
-abbrev pub global_cells_with : Bool → ℕ → ℕ → ℕ
-global_cells_with true before cells = min (before + cells) (most_global_cells + 1)
-global_cells_with false before cells = before
 
 -- known after the declaration of an object of this type
 abbrev pub with_object : Known → Bool → Text → Option ObjectType → Known

@@ -6,9 +6,9 @@ ghost use Rattle.c_tree.specs.View.{exp_of, declared_of};
 ghost use Rattle.c_types.specs.declared.types.Layer.TheVariants as layer;
 ghost use Rattle.c_programs.specs.Declarators as spec;
 ghost use Rattle.c_types.specs.Found.{first_among};
-ghost use Rattle.c_programs.specs.Table.{known_of};
+ghost use Rattle.c_names.specs.Table.{known_of};
 
-use crate::table::Table;
+use c_names::Table;
 use c_rules::{constant_named, length_of, name_place, note_length, note_mismatch, note_specifier};
 use c_tree::{Declarator, Expr, Name, Specifier};
 use c_types::{

@@ -5,17 +5,18 @@ ghost use Rattle.std.specs.Prelude.{◌≡◌, ◌++◌, IfOk, OnOk};
 ghost use Rattle.c_tree.specs.View.{code_of};
 ghost use Rattle.c_types.specs.Found.{first_among};
 ghost use Rattle.c_types.specs.Scopes.{opened};
-ghost use Rattle.c_programs.specs.Declarators.{listed_params, params_faults, after_params};
+ghost use Rattle.c_names.specs.Sources.{listed_params};
+ghost use Rattle.c_programs.specs.Declarators.{params_faults, after_params};
 ghost use Rattle.c_programs.specs.Programs as spec;
 ghost use Rattle.c_types.specs.Shown.{shown_meaning};
-ghost use Rattle.c_programs.specs.Table.{known_of};
+ghost use Rattle.c_names.specs.Table.{known_of};
 
 use crate::declarators::{is_library_name, is_struct_specifier};
 use crate::params::{note_params, wanted_of};
 use crate::statements::note_parts;
-use crate::table::{Declared, Table};
+use c_names::{Declared, Table, listed};
 use c_rules::{is_main, name_place, note_mismatch, note_specifier};
-use c_tree::{Body, Name, Param, Params, Specifier};
+use c_tree::{Body, Name, Params, Specifier};
 use c_types::{
     BaseType, FaultKind, Found, Meaning, Names, Signature, StarredType, Wanted, base_of,
     have_same_base, note,
@@ -39,17 +40,6 @@ fn result_of<N: Names>(names: &N, specifier: &Specifier, stars: usize) -> Option
     match base_of(names, specifier) {
         None => None,
         Some(base) => Some(StarredType { stars, base }),
-    }
-}
-
-/// The parameters that are listed.
-pub fn listed<'a>(params: &'a Params) -> &'a [Param]
-    ensures { result.now ≡ listed_params params.now }
-{
-    match params {
-        Params::Nothing => &[],
-        Params::Void => &[],
-        Params::Listed(params) => params.as_slice(),
     }
 }
 

@@ -7,12 +7,13 @@ ghost use Rattle.c_tree.specs.View.{exp_of, init_of};
 ghost use Rattle.c_types.specs.Found.{first_among};
 ghost use Rattle.c_programs.specs.Initials as spec;
 ghost use Rattle.c_types.specs.Shown.{shown_type, shown_maybe, shown_member, shown_meaning, shown_operand, shown_target};
+ghost use Rattle.c_types.specs.Constants.{is_address};
 
 use c_rules::{first_place, is_constant, judge, note_constant, note_mismatch};
 use c_tree::{Expr, Initial, PrefixOp};
 use c_types::{
     BaseType, FaultKind, Found, Layer, Meaning, Names, Operand, Target, TypeRef, accepts,
-    have_same_base, note, type_target,
+    have_same_base, is_array, note, type_target,
 };
 use rr_base::Position;
 
@@ -62,17 +63,6 @@ pub fn part_at<'a, N: Names>(
     }
 }
 
-/// Whether the type is an array's.
-pub fn is_array(of: TypeRef) -> bool
-    ensures { result ≡ spec.layered_is_array (shown_type of.entry).layers }
-{
-    match of.peeled() {
-        Some((Layer::Array(_), _)) => true,
-        Some((Layer::Pointer, _)) => false,
-        None => false,
-    }
-}
-
 fn is_pointer(of: TypeRef) -> bool
     ensures { result ≡ spec.layered_is_pointer (shown_type of.entry).layers }
 {
@@ -115,7 +105,7 @@ fn is_variable_name<N: Names>(names: &N, e: &Expr) -> bool
 }
 
 fn is_address(op: PrefixOp) -> bool
-    ensures { result ≡ spec.is_address op }
+    ensures { result ≡ is_address op }
 {
     match op {
         PrefixOp::Address => true,

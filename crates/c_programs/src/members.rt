@@ -6,7 +6,7 @@ ghost use Rattle.c_programs.specs.Declarators as spec;
 ghost use Rattle.c_types.specs.Scopes.{with_name};
 ghost use Rattle.c_programs.specs.Members.{shown_members};
 
-use crate::table::Members;
+use c_names::Members;
 use c_types::ObjectType;
 use std::alloc::AllocError;
 

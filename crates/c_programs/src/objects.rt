@@ -9,12 +9,13 @@ ghost use Rattle.c_types.specs.Scopes as scopes;
 ghost use Rattle.c_programs.specs.Declarators.{declared_type};
 ghost use Rattle.c_programs.specs.Statements as spec;
 ghost use Rattle.c_types.specs.Shown.{shown_maybe};
-ghost use Rattle.c_programs.specs.Table.{known_of};
+ghost use Rattle.c_names.specs.Table.{known_of};
+ghost use Rattle.c_names.specs.Sources.{declared_by};
 
 use crate::declarators::{declared_type, note_declarator, note_size, note_taken};
 use crate::initials::note_start;
 use crate::structs::cells_of_some;
-use crate::table::{Declared, Table};
+use c_names::{Declared, Table};
 use c_rules::{is_main, name_place, note_mismatch};
 use c_tree::{Declaration, Declarator, Initial, Item, Name, Specifier};
 use c_types::{FaultKind, Found, ObjectType, TypeRef, note};
@@ -145,7 +146,7 @@ fn note_object<'a>(
     item: &'a Item,
     first: &mut Option<Found>,
 ) -> Result<(), AllocError>
-    ensures known { OnOk result (known_of table.new ≡ spec.after_declared (known_of table.old) is_global specifier.now (spec.declared_by (object_of item.now))) }
+    ensures known { OnOk result (known_of table.new ≡ spec.after_declared (known_of table.old) is_global specifier.now (declared_by (object_of item.now))) }
     ensures first { OnOk result (first.new ≡ first_among first.old (spec.object_faults (known_of table.old) is_global specifier.now (object_of item.now))) }
 {
     match item {

@@ -5,10 +5,11 @@ ghost use Rattle.std.specs.Prelude.{◌≡◌, OnOk, IfOk};
 ghost use Rattle.c_programs.specs.Declarators as spec;
 ghost use Rattle.c_types.specs.Found.{first_among};
 ghost use Rattle.c_types.specs.Scopes as scopes;
-ghost use Rattle.c_programs.specs.Table.{known_of};
+ghost use Rattle.c_names.specs.Table.{known_of};
+ghost use Rattle.c_names.specs.Sources.{listed_params};
 
 use crate::declarators::{is_struct_specifier, is_void_specifier, note_taken, put_pointers};
-use crate::table::{Declared, Table};
+use c_names::{Declared, Table};
 use c_rules::{name_place, note_mismatch, note_specifier};
 use c_tree::{Name, Param, Params, Specifier};
 use c_types::{BaseType, Found, Names, ObjectType, StarredType, Wanted, base_of};
@@ -117,8 +118,8 @@ pub fn note_params<'a>(
     params: &'a Params,
     first: &mut Option<Found>,
 ) -> Result<(), AllocError>
-    ensures known { OnOk result (known_of table.new ≡ spec.after_params (known_of table.old) (spec.listed_params params.now)) }
-    ensures first { OnOk result (first.new ≡ first_among first.old (spec.params_faults (known_of table.old) is_definition (spec.listed_params params.now))) }
+    ensures known { OnOk result (known_of table.new ≡ spec.after_params (known_of table.old) (listed_params params.now)) }
+    ensures first { OnOk result (first.new ≡ first_among first.old (spec.params_faults (known_of table.old) is_definition (listed_params params.now))) }
 {
     let Params::Listed(listed) = params else {
         return Ok(());

@@ -8,10 +8,10 @@ ghost use Rattle.c_types.specs.Found.{first_among};
 ghost use Rattle.c_rules.specs.Faults as faults;
 ghost use Rattle.c_programs.specs.Statements as spec;
 ghost use Rattle.c_types.specs.Shown.{shown_operand, shown_standing};
-ghost use Rattle.c_programs.specs.Table.{known_of};
+ghost use Rattle.c_names.specs.Table.{known_of};
 
 use crate::objects::note_declaration;
-use crate::table::Table;
+use c_names::Table;
 use c_rules::{can_go, judge, note_mismatch, own_place};
 use c_tree::{Expr, ForStart, Part, Stmt};
 use c_types::{Found, Names, Operand, Standing, StarredType, Target, TypeRef, accepts};

@@ -7,11 +7,11 @@ ghost use Rattle.c_programs.specs.Declarators as spec;
 ghost use Rattle.c_types.specs.Found.{first_among};
 ghost use Rattle.c_programs.specs.Members.{shown_members};
 ghost use Rattle.c_types.specs.Scopes as scopes;
-ghost use Rattle.c_programs.specs.Table.{known_of};
+ghost use Rattle.c_names.specs.Table.{known_of};
 
 use crate::declarators::{declared_type, note_declarator, note_size};
 use crate::members::add_member;
-use crate::table::{Members, Table};
+use c_names::{Members, Table};
 use c_rules::name_place;
 use c_tree::{Declarator, Member, Name, Specifier};
 use c_types::{FaultKind, Found, MAX_CELLS, Names, ObjectType, TypeRef, note};

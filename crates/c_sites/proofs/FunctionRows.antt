@@ -9,7 +9,7 @@ use Rattle.c_tree.specs.Tree.{Exp, call, null, sizeof_exp, no_exp, and_exp, decl
 use Rattle.c_sites.specs.declared.function_info.FunctionInfo.{FunctionInfo}
 use Rattle.c_types.specs.Constants.{constant_named}
 use Rattle.c_types.specs.Library.{library_named}
-use Rattle.c_locals.specs.Addresses.{following}
+use Rattle.c_numbers.specs.Numbered.{following}
 use Rattle.c_sites.specs.Functions.{program_functions}
 use Rattle.c_sites.specs.Layouts.{layout_named}
 use Rattle.c_sites.proofs.SiteRows.{at, name_at, plain_at, int, address, n, function_at, of_kinds, first_source, second_source}

@@ -15,7 +15,7 @@ use Rattle.c_types.specs.declared.fault.Found.{Found}
 use Rattle.c_types.specs.Constants.{constant_named}
 use Rattle.c_types.specs.Library.{library_named}
 use Rattle.c_types.specs.Found.{found_at}
-use Rattle.c_locals.specs.Addresses.{following}
+use Rattle.c_numbers.specs.Numbered.{following}
 use Rattle.c_sites.specs.Whole.{first_fault}
 
 abbrev at : ℕ → Position

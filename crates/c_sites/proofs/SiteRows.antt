@@ -15,7 +15,8 @@ use Rattle.rr_base.specs.declared.position.Position.{Position}
 use Rattle.rr_base.specs.Positions.{position_at}
 use Rattle.c_types.specs.Constants.{constant_named}
 use Rattle.c_types.specs.Library.{library_named}
-use Rattle.c_locals.specs.Addresses.{following, program_addressed}
+use Rattle.c_numbers.specs.Numbered.{following}
+use Rattle.c_locals.specs.Addresses.{program_addressed}
 use Rattle.c_sites.specs.Spots.{Holder, a_global, a_local, an_allocation, program_spots, kinds_of_structs, layout_by}
 
 abbrev pub at : ℕ → Position

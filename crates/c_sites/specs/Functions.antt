@@ -7,8 +7,7 @@ use Rattle.c_tree.specs.declared.ctype.Specifier.{Specifier}
 use Rattle.c_tree.specs.declared.program.Param.{Param}
 use Rattle.c_tree.specs.Tree.{Object, Declares, declares, Start, start_declares, start_computes, Statement, block, compute, break_at, continue_at, gives, branch, branch_else, while_loop, do_loop, for_loop, Parts, no_part, and_declares, and_does, Code, defined, prototype, Outer, structure, function, objects}
 use Rattle.c_sites.specs.declared.function_info.FunctionInfo.{FunctionInfo}
-use Rattle.c_programs.specs.Declarators.{listed_params}
-use Rattle.c_programs.specs.Statements.{declared_by}
+use Rattle.c_names.specs.Sources.{listed_params, declared_by}
 use Rattle.c_locals.specs.Kept.{is_kept, is_kept_declared}
 use Rattle.c_locals.specs.Addresses.{program_addressed, is_among, count_of_outer}
 use Rattle.c_locals.specs.Roots.{program_starts, is_root_among}

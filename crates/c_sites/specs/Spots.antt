@@ -18,10 +18,11 @@ use Rattle.c_types.specs.Types.{kinds_of_type, layered_element, layout_of_type, 
 use Rattle.c_types.specs.Library.{library_named}
 use Rattle.c_types.specs.Scopes.{Known, Members, members_of, most_cells, seen, type_named, opened}
 use Rattle.c_types.specs.Standing.{Target, no_target, target_of, assigned_target, cast_target, standing}
-use Rattle.c_programs.specs.Declarators.{declared_type, declared_name, listed_params, param_type, after_param, after_params}
+use Rattle.c_names.specs.Sources.{declared_name, listed_params, declared_by, known_at_start}
+use Rattle.c_programs.specs.Declarators.{declared_type, param_type, after_param, after_params}
 use Rattle.c_programs.specs.Initials.{value_target}
-use Rattle.c_programs.specs.Statements.{declared_by, after_declared, after_declares, after_start}
-use Rattle.c_programs.specs.Programs.{after_outer, after_function, known_at_start, signature_of}
+use Rattle.c_programs.specs.Statements.{after_declared, after_declares, after_start}
+use Rattle.c_programs.specs.Programs.{after_outer, after_function, signature_of}
 use Rattle.c_locals.specs.Addresses.{program_addressed, is_among, count_of_locals, count_of_start, count_of_declares, count_of_outer}
 use Rattle.c_locals.specs.Kept.{is_kept, is_kept_declared}
 

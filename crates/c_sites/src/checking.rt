@@ -5,11 +5,12 @@ ghost use Rattle.std.specs.Prelude.{◌≡◌, IfOk, OnOk, map};
 ghost use Rattle.c_tree.specs.View.{outer_of, program_of};
 ghost use Rattle.c_types.specs.Found.{first_among};
 ghost use Rattle.c_programs.specs.Programs as spec;
-ghost use Rattle.c_programs.specs.Table.{known_of};
+ghost use Rattle.c_names.specs.Table.{known_of};
 ghost use Rattle.c_sites.specs.Whole as whole;
 
 use crate::sites::note_sites;
-use c_programs::{Table, note_function, note_objects, note_struct};
+use c_names::Table;
+use c_programs::{note_function, note_objects, note_struct};
 use c_tree::{External, Program};
 use c_types::{FaultKind, Found, Names};
 use rr_base::Position;

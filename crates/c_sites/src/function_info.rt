@@ -3,14 +3,13 @@ ghost use Rattle.std.specs.Prelude.{◌≡◌, ◌+◌, ◌++◌, [], IfOk, OnOk
 ghost use Rattle.c_tree.specs.Tree.{listed_parts};
 ghost use Rattle.c_tree.specs.View.{declared_of, object_of, declares_of, start_of, stmt_of, part_of, code_of, outer_of, program_of};
 ghost use Rattle.c_locals.specs.Addresses.{count_of_parts, count_of_outer, count_of_code};
-ghost use Rattle.c_programs.specs.Declarators.{listed_params};
-ghost use Rattle.c_programs.specs.Statements.{declared_by};
+ghost use Rattle.c_names.specs.Sources.{listed_params, declared_by};
 ghost use Rattle.c_sites.specs.Functions as spec;
-ghost use Rattle.c_programs.specs.Table.{texts_of};
+ghost use Rattle.c_names.specs.Table.{texts_of};
 
 use crate::spots::advance;
 use c_locals::{Marks, Roots, addressed_in, is_kept, roots_of};
-use c_programs::listed;
+use c_names::listed;
 use c_tree::{
     Body, Declaration, Declarator, External, ForStart, Item, Name, Param, Params, Part, Program,
     Specifier, Stmt,

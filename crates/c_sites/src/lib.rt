@@ -1,5 +1,5 @@
 //! A checked C source: the first rule that it breaks, or its objects with their layouts, and its functions. It stands on
-//! `c_locals` and `number_text`.
+//! `c_programs`, `c_locals` and `number_text`.
 #![tactic(auto)]
 
 mod allocations;

@@ -3,21 +3,20 @@ ghost use Rattle.std.specs.Prelude.{◌≡◌, ◌+◌, ◌++◌, IfOk, OnOk, ma
 ghost use Rattle.c_tree.specs.Tree.{listed_parts};
 ghost use Rattle.c_tree.specs.View.{code_of, fields_of, part_of, outer_of, program_of};
 ghost use Rattle.c_locals.specs.Addresses.{count_of_parts, count_of_code, count_of_outer};
-ghost use Rattle.c_programs.specs.Declarators.{after_struct, after_params, listed_params};
+ghost use Rattle.c_names.specs.Sources.{listed_params, known_at_start};
+ghost use Rattle.c_programs.specs.Declarators.{after_struct, after_params};
 ghost use Rattle.c_programs.specs.Programs as programs;
-ghost use Rattle.c_programs.specs.Programs.{known_at_start};
 ghost use Rattle.c_types.specs.Scopes.{opened};
 ghost use Rattle.c_sites.specs.Spots as spec;
 ghost use Rattle.c_sites.specs.SpotViews.{shown_owner, shown_spots};
-ghost use Rattle.c_programs.specs.Table.{known_of};
+ghost use Rattle.c_names.specs.Table.{known_of};
 
 use crate::allocations::push_fields_allocations;
 use crate::spot::{Owner, Spot, Where, push_kept};
 use crate::spots::{advance, push_objects, push_parts};
 use c_locals::{Marks, is_kept};
-use c_programs::{
-    Table, declare_function, declare_param, listed, note_struct, param_type, signature_of,
-};
+use c_names::{Table, listed};
+use c_programs::{declare_function, declare_param, note_struct, param_type, signature_of};
 use c_tree::{Body, External, Member, Name, Param, Params, Part, Program, Specifier};
 use rr_base::List;
 use std::alloc::{AllocError, Global};

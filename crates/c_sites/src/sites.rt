@@ -6,8 +6,8 @@ ghost use Rattle.c_types.specs.Scopes.{members_of, counted_cells};
 ghost use Rattle.c_types.specs.Shown.{shown_maybe};
 ghost use Rattle.c_sites.specs.Spots as spec;
 ghost use Rattle.c_sites.specs.SpotViews.{shown_holder, shown_spot};
-ghost use Rattle.c_programs.specs.Programs.{known_at_start};
-ghost use Rattle.c_programs.specs.Table.{known_of};
+ghost use Rattle.c_names.specs.Sources.{known_at_start};
+ghost use Rattle.c_names.specs.Table.{known_of};
 ghost use Rattle.c_types.specs.Types.{struct_kinds};
 ghost use Rattle.c_sites.specs.Whole as whole;
 
@@ -15,7 +15,7 @@ use crate::program_spots::spots_in;
 use crate::spot::{Holder, Spot, object_of};
 use crate::spots::advance;
 use c_locals::{Marks, addressed_in};
-use c_programs::Table;
+use c_names::Table;
 use c_tree::Program;
 use c_types::{
     FaultKind, Found, MAX_CELLS, Names, ObjectType, TypeRef, cells_of, cells_of_structs,

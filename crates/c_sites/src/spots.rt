@@ -7,14 +7,16 @@ ghost use Rattle.c_programs.specs.Declarators.{declared_type};
 ghost use Rattle.c_programs.specs.Statements as statements;
 ghost use Rattle.c_sites.specs.Spots as spec;
 ghost use Rattle.c_sites.specs.SpotViews.{shown_owner, shown_spots, shown_where};
-ghost use Rattle.c_programs.specs.Table.{known_of};
+ghost use Rattle.c_names.specs.Table.{known_of};
+ghost use Rattle.c_names.specs.Sources.{declared_by};
 
 use crate::allocations::{
     push_allocations, push_initial_allocations, push_lengths_allocations, push_maybe_allocations,
 };
 use crate::spot::{Owner, Spot, Where, push_kept};
 use c_locals::is_kept;
-use c_programs::{Table, copy_of, declare_object, declared_type, ref_of, value_target};
+use c_names::Table;
+use c_programs::{copy_of, declare_object, declared_type, ref_of, value_target};
 use c_tree::{Declaration, Declarator, Expr, ForStart, Initial, Item, Part, Specifier, Stmt};
 use c_types::{ObjectType, Target};
 use rr_base::List;
@@ -99,7 +101,7 @@ fn push_object<'a>(
     item: &'a Item,
     out: &mut List<Spot<'a>>,
 ) -> Result<(), AllocError>
-    ensures known { OnOk result (known_of table.new ≡ statements.after_declared (known_of table.old) (spec.is_global_level (shown_where here.entry)) specifier.now (statements.declared_by (object_of item.now))) }
+    ensures known { OnOk result (known_of table.new ≡ statements.after_declared (known_of table.old) (spec.is_global_level (shown_where here.entry)) specifier.now (declared_by (object_of item.now))) }
     ensures out { OnOk result (shown_spots out.new ≡ shown_spots out.old ++ spec.object_spots (shown_where here.entry) (known_of table.old) number specifier.now (object_of item.now)) }
 {
     match item {

@@ -3,7 +3,7 @@ use Rattle.std.proofs.Common.{◌≡◌, List, Option, Result, Ok, Err, OnOk, ap
 use Rattle.c_tree.specs.Tree.{Exp, Start, Statement, Parts, for_loop}
 use Rattle.rr_base.specs.declared.position.Position.{Position}
 use Rattle.c_types.specs.Scopes.{Known, opened}
-use Rattle.c_locals.specs.Addresses.{Numbered, inside}
+use Rattle.c_numbers.specs.Numbered.{Numbered, inside}
 use Rattle.c_locals.proofs.Numbering.{after_none, past_both}
 use Rattle.c_core.specs.Core as core
 use Rattle.c_operators.specs.Denoted.{position_of}

@@ -4,7 +4,7 @@ use Rattle.rr_base.specs.declared.position.Position.{Position}
 use Rattle.c_tree.specs.declared.ctype.Specifier.{Specifier}
 use Rattle.c_tree.specs.Tree.{Declared, declared, Object, Declares, declares, Start, start_declares, start_computes, Statement, block, compute, break_at, continue_at, gives, branch, branch_else, while_loop, do_loop, for_loop, Parts, no_part, and_declares, and_does}
 use Rattle.c_rules.specs.Faults.{name_place}
-use Rattle.c_programs.specs.Statements.{declared_by}
+use Rattle.c_names.specs.Sources.{declared_by}
 use Rattle.c_locals.specs.Kept.{is_kept}
 use Rattle.c_statements.specs.declared.local.Local.{Local}
 

@@ -6,9 +6,11 @@ use Rattle.c_tree.specs.declared.ctype.Specifier.{Specifier}
 use Rattle.c_tree.specs.Tree.{Exp, Declared, Object, plain, initialised, Declares, declares, Start, start_declares, start_computes, Statement, block, compute, break_at, continue_at, gives, branch, branch_else, while_loop, do_loop, for_loop, Parts, no_part, and_declares, and_does}
 use Rattle.c_types.specs.Scopes.{opened}
 use Rattle.c_types.specs.Standing.{no_target}
-use Rattle.c_programs.specs.Declarators.{declared_type, declared_name}
-use Rattle.c_programs.specs.Statements.{declared_by, after_declared, after_declares, after_start}
-use Rattle.c_locals.specs.Addresses.{after_name, after_declaration, after_for_start, past_statement, inside}
+use Rattle.c_names.specs.Sources.{declared_name, declared_by}
+use Rattle.c_programs.specs.Declarators.{declared_type}
+use Rattle.c_programs.specs.Statements.{after_declared, after_declares, after_start}
+use Rattle.c_numbers.specs.Numbered.{inside}
+use Rattle.c_locals.specs.Addresses.{after_name, after_declaration, after_for_start, past_statement}
 use Rattle.c_core.specs.Core as core
 use Rattle.c_operators.specs.Denoted.{position_of}
 use Rattle.c_operators.specs.Context.{Context, home_of}

@@ -4,9 +4,9 @@ ghost use Rattle.std.specs.Prelude.{◌≡◌, ◌++◌, [], false, IfOk, OnOk, 
 ghost use Rattle.c_tree.specs.Tree.{initialised, listed_parts};
 ghost use Rattle.c_tree.specs.View as tree;
 ghost use Rattle.c_locals.specs.Addresses as numbering;
-ghost use Rattle.c_locals.specs.NumberTables.{numbered_of};
+ghost use Rattle.c_numbers.specs.NumberTables.{numbered_of};
 ghost use Rattle.c_programs.specs.Statements as statements;
-ghost use Rattle.c_programs.specs.Table.{known_of};
+ghost use Rattle.c_names.specs.Table.{known_of};
 ghost use Rattle.c_tree.specs.Tree as trees;
 ghost use Rattle.c_core.specs.Core as core;
 ghost use Rattle.c_core.specs.View.{exp_of, stmt_of};
@@ -15,13 +15,16 @@ ghost use Rattle.c_operators.specs.Context.{context_in};
 ghost use Rattle.c_values.specs.Expressions.{value_of};
 ghost use Rattle.c_statements.specs.Statements as spec;
 ghost use Rattle.c_operators.specs.Views.{frame_in, context_of, maybe_word, source_in};
+ghost use Rattle.c_names.specs.Sources.{declared_by};
+ghost use Rattle.c_numbers.specs.Numbered.{following};
 
 use crate::make::{self, ForHead};
 use c_core::{Statement, Value};
 use c_initials::push_begun;
-use c_locals::NumberTable;
+use c_names::Table;
+use c_numbers::NumberTable;
 use c_operators::{Context, Frame, Source};
-use c_programs::{Table, copy_of, declare_object, declared_type};
+use c_programs::{copy_of, declare_object, declared_type};
 use c_tree::{Declaration, Declarator, Expr, ForStart, Initial, Item, Part, Specifier, Stmt};
 use c_types::Target;
 use c_values::{value, wanted};
@@ -97,8 +100,8 @@ fn push_object<'a>(
     item: &'a Item,
     out: &mut List<Statement>,
 ) -> Result<(), AllocError>
-    ensures known { OnOk result (known_of table.new ≡ statements.after_declared (known_of table.old) false specifier.now (statements.declared_by (tree.object_of item.now))) }
-    ensures numbers { OnOk result (numbered_of numbers.new ≡ numbering.after_name (numbered_of numbers.old) (statements.declared_by (tree.object_of item.now))) }
+    ensures known { OnOk result (known_of table.new ≡ statements.after_declared (known_of table.old) false specifier.now (declared_by (tree.object_of item.now))) }
+    ensures numbers { OnOk result (numbered_of numbers.new ≡ numbering.after_name (numbered_of numbers.old) (declared_by (tree.object_of item.now))) }
     ensures out { OnOk result (map stmt_of out.new ≡ map stmt_of out.old ++ spec.object_elaborated (context_in (source_in source.now) (frame_in frame.now) (known_of table.old) (numbered_of numbers.old)) specifier.now (tree.object_of item.now)) }
 {
     match item {
@@ -273,7 +276,7 @@ fn block<'a>(
     parts: &'a [Part],
 ) -> Result<Box<Statement>, AllocError>
     ensures known { OnOk result (known_of table.new ≡ known_of table.old) }
-    ensures numbers { OnOk result (numbered_of numbers.new ≡ numbering.following (numbered_of numbers.old) (numbering.count_of_parts (listed_parts (map tree.part_of parts.now)))) }
+    ensures numbers { OnOk result (numbered_of numbers.new ≡ following (numbered_of numbers.old) (numbering.count_of_parts (listed_parts (map tree.part_of parts.now)))) }
     ensures statement { IfOk result (λ s. stmt_of s.value ≡ spec.block_of (spec.all_elaborated (spec.context_inside (context_in (source_in source.now) (frame_in frame.now) (known_of table.old) (numbered_of numbers.old))) (listed_parts (map tree.part_of parts.now)))) }
 {
     table.open(alloc)?;

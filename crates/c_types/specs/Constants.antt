@@ -53,6 +53,11 @@ is_of_numbers prefix_op.Complement = true
 is_of_numbers prefix_op.Increment = false
 is_of_numbers prefix_op.Decrement = false
 
+-- of the prefix operators only `&` gives an address constant
+abbrev pub is_address : PrefixOp → Bool
+is_address prefix_op.Address = true
+is_address _ = false
+
 -- it has the form of a constant expression, also in what isn't computed
 abbrev pub is_constant : Exp → Bool
 is_constant (comma e es at) = false

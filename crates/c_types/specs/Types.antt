@@ -1,5 +1,5 @@
 -- Types, and the cells of which their objects consist (C99 6.2.5).
-use Rattle.std.specs.Prelude.{ℕ, zero, suc, ◌*◌, List, [], ◌∷◌, ◌++◌, length, slice_get, unwrap_or}
+use Rattle.std.specs.Prelude.{ℕ, zero, suc, ◌*◌, Bool, true, false, List, [], ◌∷◌, ◌++◌, length, slice_get, unwrap_or}
 use Rattle.rr_base.specs.declared.layout.CellKind.{CellKind}
 use Rattle.rr_base.specs.declared.layout.CellKind.TheVariants as cell
 use Rattle.rr_base.specs.declared.layout.Layout.{Layout}
@@ -24,6 +24,12 @@ pointer_to t = record { layers = layer.Pointer ∷ t.layers; base = t.base }
 -- so many elements of the type, one after another
 abbrev pub array_of : ℕ → ObjectType → ObjectType
 array_of n t = record { layers = layer.Array n ∷ t.layers; base = t.base }
+
+-- the outermost layer is an array's
+abbrev pub layered_is_array : List Layer → Bool
+layered_is_array [] = false
+layered_is_array (layer.Pointer ∷ ls) = false
+layered_is_array (layer.Array n ∷ ls) = true
 
 -- ---- cells, where each struct has the given ones
 

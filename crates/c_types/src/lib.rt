@@ -37,6 +37,6 @@ pub use standing::{
     member_standing, named_standing, pointed_struct, prefix_standing, sizeof_standing,
     sizeof_type_standing, stepped, struct_of, type_named, type_target,
 };
-pub use type_ref::{TypeRef, have_same_base};
+pub use type_ref::{TypeRef, have_same_base, is_array};
 pub use types::{BaseType, Layer, ObjectType};
 pub use wants::Wants;

@@ -2,6 +2,7 @@
 ghost use Rattle.std.specs.Prelude.{◌≡◌};
 ghost use Rattle.c_types.specs.Scopes.{starred};
 ghost use Rattle.c_types.specs.Operands as spec;
+ghost use Rattle.c_types.specs.Types.{layered_is_array};
 ghost use Rattle.c_types.specs.Shown.{shown_type, peeled, shown_peeled};
 
 use crate::types::{BaseType, Layer, ObjectType};
@@ -84,6 +85,17 @@ impl<'a> TypeRef<'a> {
         ensures { result ≡ spec.same_type (shown_type self.entry) (shown_type other.entry) }
     {
         have_same_base(self.base, other.base) && have_same_layers(self, other)
+    }
+}
+
+/// Whether the type is an array's.
+pub fn is_array(of: TypeRef) -> bool
+    ensures { result ≡ layered_is_array (shown_type of.entry).layers }
+{
+    match of.peeled() {
+        Some((Layer::Array(_), _)) => true,
+        Some((Layer::Pointer, _)) => false,
+        None => false,
     }
 }
 

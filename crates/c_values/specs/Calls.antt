@@ -15,7 +15,7 @@ use Rattle.c_types.specs.declared.library.Wanted.TheVariants as wants
 use Rattle.c_types.specs.declared.library.LibraryName.{LibraryName}
 use Rattle.c_types.specs.declared.library.LibraryName.TheVariants as library
 use Rattle.c_types.specs.Scopes.{Known, Meaning, variable, function_of, function_numbered}
-use Rattle.c_locals.specs.Roots.{third_name}
+use Rattle.c_names.specs.Started.{third_name}
 use Rattle.rr_base.specs.declared.position.Position.{Position}
 use Rattle.c_core.specs.Core as core
 use Rattle.c_operators.specs.Denoted.{Part, value_in, wanted_in}

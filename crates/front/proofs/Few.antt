@@ -22,7 +22,8 @@ use Rattle.c_types.specs.Scopes.{Known}
 use Rattle.c_types.specs.declared.names.Signature.{Signature}
 use Rattle.c_types.specs.declared.fault.Found.{Found as Refused}
 use Rattle.c_sites.specs.Whole.{first_fault}
-use Rattle.c_programs.specs.Programs.{after_outer, known_at_start, signature_of}
+use Rattle.c_names.specs.Sources.{known_at_start}
+use Rattle.c_programs.specs.Programs.{after_outer, signature_of}
 use Rattle.c_locals.specs.Addresses.{count_of_outer, program_addressed}
 use Rattle.c_operators.specs.Context.{Source}
 use Rattle.c_elaborate.specs.Whole.{code_functions, outer_functions, outers_functions, source_of, core_of_source}

@@ -15,7 +15,8 @@ use Rattle.c_tree.specs.declared.program.Params.{Params}
 use Rattle.c_types.specs.Scopes.{Known}
 use Rattle.c_types.specs.declared.fault.Found.{Found}
 use Rattle.c_types.specs.declared.names.Signature.{Signature}
-use Rattle.c_programs.specs.Programs.{known_at_start, signature_of, after_outer}
+use Rattle.c_names.specs.Sources.{known_at_start}
+use Rattle.c_programs.specs.Programs.{signature_of, after_outer}
 use Rattle.c_locals.specs.Addresses.{count_of_outer, program_addressed}
 use Rattle.c_sites.specs.Whole.{first_fault}
 use Rattle.c_core.specs.Core as core

@@ -10,8 +10,9 @@ use Rattle.c_types.specs.declared.names.Signature.{Signature}
 use Rattle.c_types.specs.declared.types.ObjectType.{ObjectType}
 use Rattle.c_types.specs.Scopes.{Known, Members, member_among, has_name, with_text}
 use Rattle.c_programs.specs.Declarators.{is_numbered_below, is_struct_defined, struct_faults, after_struct, with_fields}
-use Rattle.c_programs.specs.Statements.{declared_by, after_declared, after_objects}
-use Rattle.c_programs.specs.Programs.{signature_of, after_function, outer_faults, after_outer, outers_faults, structs_with}
+use Rattle.c_names.specs.Sources.{declared_by, structs_with}
+use Rattle.c_programs.specs.Statements.{after_declared, after_objects}
+use Rattle.c_programs.specs.Programs.{signature_of, after_function, outer_faults, after_outer, outers_faults}
 use Rattle.c_sites.specs.Spots.{known_after}
 use Rattle.source_sound.proofs.Environment.{IsFormed}
 use Rattle.source_sound.proofs.FileLists.{append_nil}

@@ -19,7 +19,7 @@ use Rattle.c_types.specs.Scopes.{Known, Meaning, variable, function_of, seen, ha
 use Rattle.c_types.specs.Operands.{Operand, type_operand, accepts, is_void}
 use Rattle.c_types.specs.Library.{starred_type, an_int, wanted_by}
 use Rattle.c_types.specs.Format.{conversions}
-use Rattle.c_locals.specs.Roots.{third_name}
+use Rattle.c_names.specs.Started.{third_name}
 use Rattle.c_types.specs.Standing.{is_main, is_pointer_to_void, wants_pointer_to_void, gives_pointer_to_void, has_root_types, is_root_type, is_root, fit_wanted}
 use Rattle.rr_base.specs.declared.position.Position.{Position}
 use Rattle.c_core.specs.Core as core

@@ -15,9 +15,11 @@ use Rattle.c_types.specs.Standing.{type_struct}
 use Rattle.c_types.specs.Scopes.{Known, Scope, Meaning, variable, or_else, innermost, with_name, declared_in}
 use Rattle.c_types.specs.Operands.{a_place, type_operand}
 use Rattle.c_rules.specs.Faults.{name_place, mismatch, specifier_faults}
-use Rattle.c_programs.specs.Declarators.{declared_type, declared_name, is_library_name, is_taken, declarator_faults, taken_faults, size_faults, cannot_pass, param_type, param_place, param_faults, params_faults, after_param, after_params}
-use Rattle.c_programs.specs.Statements.{declared_by, cells_of_declared, global_cells_with, after_declared, global_name_faults, declared_faults, object_faults, objects_faults, declares_faults, after_objects, start_of_for_faults}
-use Rattle.c_locals.specs.Addresses.{Numbered, number_seen, numbered_in, following, number_name, after_name, after_names, past_statement, inside, after_formal, after_formals, count_of_locals}
+use Rattle.c_names.specs.Sources.{declared_name, declared_by, global_cells_with}
+use Rattle.c_programs.specs.Declarators.{declared_type, is_library_name, is_taken, declarator_faults, taken_faults, size_faults, cannot_pass, param_type, param_place, param_faults, params_faults, after_param, after_params}
+use Rattle.c_programs.specs.Statements.{cells_of_declared, after_declared, global_name_faults, declared_faults, object_faults, objects_faults, declares_faults, after_objects, start_of_for_faults}
+use Rattle.c_numbers.specs.Numbered.{Numbered, number_seen, numbered_in, following, number_name, inside}
+use Rattle.c_locals.specs.Addresses.{after_name, after_names, past_statement, after_formal, after_formals, count_of_locals}
 use Rattle.c_locals.specs.Kept.{is_kept}
 use Rattle.rr_base.specs.declared.position.Position.{Position}
 use Rattle.c_core.specs.Core.{Function, Program}

@@ -12,7 +12,7 @@ use Rattle.c_types.specs.Scopes.{seen, type_named}
 use Rattle.c_types.specs.Operands.{Standing, Operand, operand_of, as_value, takes, is_scalar}
 use Rattle.c_types.specs.Standing.{Target, no_target, assigned_target, cast_target, casts_to, can_index, struct_of, pointed_struct, let_go, following, is_sized, format_of, standing, last_standing}
 use Rattle.c_rules.specs.Faults.{mismatch, condition_takes, go_faults, step_faults, cast_faults, specifier_faults, assign_faults, prefix_faults, member_faults, callee_faults, format_faults, begins_with_text, count_of, place_of_first, call_faults, wants_of, one_argument_faults, faults, rest_faults, arguments_faults}
-use Rattle.c_programs.specs.Initials.{is_address}
+use Rattle.c_types.specs.Constants.{is_address}
 use Rattle.c_locals.specs.Addresses.{where_address, number_of_operand, addressed, all_addressed}
 use Rattle.c_sites.specs.Spots.{is_malloc, where_malloc, allocations, all_allocations}
 use Rattle.rr_base.specs.declared.position.Position.{Position}

@@ -20,9 +20,10 @@ use Rattle.c_types.specs.Found.{where_it_comes}
 use Rattle.c_rules.specs.Faults.{name_place, mismatch}
 use Rattle.c_types.specs.Scopes.{Known, Scope, Meaning, variable, function_of, innermost, with_text, has_name, opened}
 use Rattle.c_types.specs.Standing.{is_main as is_main_name}
-use Rattle.c_programs.specs.Declarators.{is_struct_defined, with_fields, struct_cells, after_struct, listed_params, wanted_of}
-use Rattle.c_programs.specs.Statements.{declared_by, after_declared, after_objects}
-use Rattle.c_programs.specs.Programs.{signature_of, result_of, after_function, after_outer, again_faults, is_main_signature, int_result, agree, agree_on_result, agree_on_params, functions_with}
+use Rattle.c_names.specs.Sources.{listed_params, declared_by, functions_with}
+use Rattle.c_programs.specs.Declarators.{is_struct_defined, with_fields, struct_cells, after_struct, wanted_of}
+use Rattle.c_programs.specs.Statements.{after_declared, after_objects}
+use Rattle.c_programs.specs.Programs.{signature_of, result_of, after_function, after_outer, again_faults, is_main_signature, int_result, agree, agree_on_result, agree_on_params}
 use Rattle.c_locals.specs.Addresses.{count_of_outer}
 use Rattle.c_sites.specs.Spots.{known_after}
 use Rattle.c_core.specs.Core.{Function}

@@ -15,7 +15,8 @@ use Rattle.c_types.specs.declared.fault.FaultKind.TheVariants as fault
 use Rattle.c_types.specs.Found.{where_it_comes}
 use Rattle.c_types.specs.Scopes.{Known, Scope, Members, Meaning, variable, function_of, base_of, starred, is_complete, opened}
 use Rattle.c_rules.specs.Faults.{name_place, mismatch, specifier_faults}
-use Rattle.c_programs.specs.Declarators.{declared_name, is_void_specifier, is_struct_specifier, declarator_faults, size_faults, has_member, one_member_faults, some_members_faults, with_member, with_members, fields_faults, struct_cells, is_struct_defined, cannot_pass, passed_by, param_type, param_place, param_name_faults, param_faults, params_faults, after_param, after_params, listed_params}
+use Rattle.c_names.specs.Sources.{declared_name, listed_params}
+use Rattle.c_programs.specs.Declarators.{is_void_specifier, is_struct_specifier, declarator_faults, size_faults, has_member, one_member_faults, some_members_faults, with_member, with_members, fields_faults, struct_cells, is_struct_defined, cannot_pass, passed_by, param_type, param_place, param_name_faults, param_faults, params_faults, after_param, after_params}
 use Rattle.c_programs.specs.Programs.{signature_of, after_function, body_faults, is_definition, after_outer}
 use Rattle.c_locals.specs.Addresses.{count_of_outer}
 use Rattle.c_locals.specs.Kept.{is_kept}

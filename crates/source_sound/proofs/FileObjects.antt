@@ -11,9 +11,10 @@ use Rattle.c_types.specs.declared.types.ObjectType.{ObjectType}
 use Rattle.c_types.specs.Constants.{constant_named}
 use Rattle.c_types.specs.Types.{kinds_of_type, members_kinds, struct_kinds}
 use Rattle.c_types.specs.Scopes.{Known, Scope, Members, variable, seen, with_name, cells_of_type, cells_of_some}
-use Rattle.c_programs.specs.Declarators.{declared_type, declared_name, declarator_faults, taken_faults, size_faults}
+use Rattle.c_names.specs.Sources.{declared_name, most_global_cells, declared_by, global_cells_with}
+use Rattle.c_programs.specs.Declarators.{declared_type, declarator_faults, taken_faults, size_faults}
 use Rattle.c_programs.specs.Initials.{value_target, start_faults}
-use Rattle.c_programs.specs.Statements.{most_global_cells, declared_by, declared_faults, cells_of_declared, global_name_faults, global_cells_with, object_faults, objects_faults, after_declared, after_objects}
+use Rattle.c_programs.specs.Statements.{declared_faults, cells_of_declared, global_name_faults, object_faults, objects_faults, after_declared, after_objects}
 use Rattle.c_rules.specs.Faults.{mismatch, name_place}
 use Rattle.c_types.specs.Found.{where_it_comes}
 use Rattle.c_types.specs.declared.fault.FaultKind.TheVariants as fault

@@ -9,7 +9,8 @@ use Rattle.c_tree.specs.declared.program.Params.{Params}
 use Rattle.c_tree.specs.Tree.{Fields, Code, defined, prototype, Outer, structure, function, objects}
 use Rattle.c_types.specs.declared.names.Signature.{Signature}
 use Rattle.c_types.specs.Scopes.{Known, Scope, Members, function_of, with_name}
-use Rattle.c_programs.specs.Declarators.{struct_faults, after_struct, listed_params}
+use Rattle.c_names.specs.Sources.{listed_params}
+use Rattle.c_programs.specs.Declarators.{struct_faults, after_struct}
 use Rattle.c_programs.specs.Programs.{signature_of, after_function, function_faults, outer_faults, after_outer, outers_faults}
 use Rattle.c_locals.specs.Addresses.{count_of_outer}
 use Rattle.c_sites.specs.Spots.{in_function, code_spots, fields_allocations, outer_spots, outers_spots, known_after}

@@ -18,8 +18,9 @@ use Rattle.c_types.specs.Library.{library_named}
 use Rattle.c_types.specs.Scopes.{Known, Scope, Meaning, variable, function_of, seen, seen_in, or_else, innermost, with_name, declare, declared_in, opened, has_name}
 use Rattle.c_types.specs.Standing.{is_main}
 use Rattle.c_rules.specs.Faults.{name_place, mismatch, specifier_faults}
-use Rattle.c_programs.specs.Declarators.{declared_type, declared_name, declarator_faults, taken_faults, is_library_name, size_faults, listed_params, params_faults, after_params}
-use Rattle.c_programs.specs.Statements.{declared_faults, cells_of_declared, global_name_faults, global_cells_with, after_declared}
+use Rattle.c_names.specs.Sources.{declared_name, listed_params, global_cells_with}
+use Rattle.c_programs.specs.Declarators.{declared_type, declarator_faults, taken_faults, is_library_name, size_faults, params_faults, after_params}
+use Rattle.c_programs.specs.Statements.{declared_faults, cells_of_declared, global_name_faults, after_declared}
 use Rattle.c_programs.specs.Programs.{result_of, signature_of, cannot_give, again_faults, is_definition, function_name_faults, is_main_signature, agree, after_function, function_faults, body_faults}
 use Rattle.source_sound.proofs.Environment.{IsFormed}
 use Rattle.source_sound.proofs.FileLists.{append_nil, nil3, nil4, nil5, where_nil, not_nil, same_text, text_same}

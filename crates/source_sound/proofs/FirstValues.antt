@@ -16,8 +16,9 @@ use Rattle.c_types.specs.Operands.{operand_of, type_operand, accepts}
 use Rattle.c_types.specs.Standing.{Target, no_target, standing}
 use Rattle.c_rules.specs.Faults.{mismatch, faults}
 use Rattle.c_programs.specs.Initials.{layered_part, part_at, part_type, starts_as, value_target, where_global, global_value_faults, initial_faults, inits_faults, start_faults}
-use Rattle.c_programs.specs.Declarators.{declared_type, declared_name}
-use Rattle.c_programs.specs.Statements.{declared_by, after_declared, declared_faults, object_faults, objects_faults, declares_faults}
+use Rattle.c_names.specs.Sources.{declared_name, declared_by}
+use Rattle.c_programs.specs.Declarators.{declared_type}
+use Rattle.c_programs.specs.Statements.{after_declared, declared_faults, object_faults, objects_faults, declares_faults}
 use Rattle.c_sites.specs.Spots.{in_function, allocations, initial_allocations, initials_allocations, declared_spots, object_spots, objects_spots, declares_spots}
 use Rattle.c_locals.specs.Addresses.{addressed, initial_addressed, initials_addressed, declared_addressed, object_addressed, objects_addressed, declares_addressed, after_name}
 use Rattle.rr_base.specs.declared.position.Position.{Position}

@@ -12,7 +12,8 @@ use Rattle.c_types.specs.Scopes.{Known, member_of, cells_of_type, opened}
 use Rattle.c_rules.specs.Faults.{mismatch, specifier_faults}
 use Rattle.c_programs.specs.Declarators.{cannot_pass, param_place, param_name_faults, param_faults, params_faults, after_param, after_params}
 use Rattle.c_programs.specs.Statements.{parts_faults}
-use Rattle.c_locals.specs.Addresses.{Numbered, is_among, numbered_from, parts_addressed}
+use Rattle.c_numbers.specs.Numbered.{Numbered}
+use Rattle.c_locals.specs.Addresses.{is_among, numbered_from, parts_addressed}
 use Rattle.c_sites.specs.Spots.{in_function, formals_spots, parts_spots, definition_spots}
 use Rattle.c_core.specs.Core as core
 use Rattle.c_core.specs.Core.{Function, Program, Arrival}

@@ -7,8 +7,9 @@ use Rattle.c_tree.specs.declared.ctype.Specifier.{Specifier}
 use Rattle.c_tree.specs.Tree.{Declared, Object, Fields, Code, defined, prototype, Outer, structure, function, objects}
 use Rattle.c_types.specs.declared.names.Signature.{Signature}
 use Rattle.c_types.specs.Scopes.{Known, Scope, Members, Meaning, variable, function_of, innermost, declared_in, declare}
-use Rattle.c_programs.specs.Declarators.{with_fields, struct_cells, is_struct_defined, after_struct, declared_type, declared_name}
-use Rattle.c_programs.specs.Statements.{declared_by, after_declared, after_objects}
+use Rattle.c_names.specs.Sources.{declared_name, declared_by}
+use Rattle.c_programs.specs.Declarators.{with_fields, struct_cells, is_struct_defined, after_struct, declared_type}
+use Rattle.c_programs.specs.Statements.{after_declared, after_objects}
 use Rattle.c_programs.specs.Programs.{signature_of, after_function, after_outer}
 use Rattle.c_sites.specs.Spots.{known_after}
 use Rattle.source_sound.proofs.FileScope.{entry_kept}

@@ -9,7 +9,7 @@ use Rattle.c_types.specs.Constants.{constant_named}
 use Rattle.c_types.specs.Scopes.{Scope, Meaning, variable, function_of, or_else, seen_in, seen, has_name, member_of, struct_numbered, cells_of_type}
 use Rattle.c_types.specs.Operands.{a_place}
 use Rattle.c_types.specs.Standing.{type_struct, is_main}
-use Rattle.c_locals.specs.Addresses.{Numbered, number_seen}
+use Rattle.c_numbers.specs.Numbered.{Numbered, number_seen}
 use Rattle.rr_base.specs.declared.position.Position.{Position}
 use Rattle.c_core.specs.Core.{Function, Program}
 use Rattle.c_operators.specs.declared.home.Home.{Home}

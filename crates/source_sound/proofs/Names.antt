@@ -19,7 +19,8 @@ use Rattle.c_types.specs.Scopes.{Known, Meaning, variable, function_of, seen, st
 use Rattle.c_types.specs.Operands.{Standing, no_type, zero_literal, null_literal, a_value, a_place, Operand, any_operand, whole, zero_operand, null_operand, pointing, no_operand, operand_of, is_void, is_typed, int_value}
 use Rattle.c_types.specs.Standing.{Target, no_target, pointee, can_index, element_place, place_by, struct_of, pointed_struct, member_standing, constant_standing, named_standing, sizeof_type_standing, standing}
 use Rattle.c_rules.specs.Faults.{name_place, mismatch, lacks_struct_by, is_unknown_struct, specifier_faults, is_some_void, name_can_be_place, can_be_place, sizeof_type_faults}
-use Rattle.c_locals.specs.Addresses.{number_seen, maybe_listed, number_of_operand}
+use Rattle.c_numbers.specs.Numbered.{number_seen}
+use Rattle.c_locals.specs.Addresses.{maybe_listed, number_of_operand}
 use Rattle.rr_base.specs.declared.position.Position.{Position}
 use Rattle.c_core.specs.Core as core
 use Rattle.c_core.specs.Core.{Function, Program}

@@ -11,7 +11,7 @@ use Rattle.rr_base.specs.declared.position.Position.{Position}
 use Rattle.c_types.specs.declared.types.ObjectType.{ObjectType}
 use Rattle.c_types.specs.declared.fault.FaultKind.TheVariants as fault
 use Rattle.c_types.specs.Numbers.{is_zero}
-use Rattle.c_types.specs.Constants.{constant_named, is_constant}
+use Rattle.c_types.specs.Constants.{constant_named, is_constant, is_address}
 use Rattle.c_types.specs.Library.{library_named}
 use Rattle.c_types.specs.Scopes.{Meaning, variable, function_of, seen, has_name}
 use Rattle.c_types.specs.Operands.{Standing, no_type, zero_literal, null_literal, a_value, a_place, operand_of, as_value, int_value, is_scalar}
@@ -19,7 +19,6 @@ use Rattle.c_rules.specs.Sizes.{value_here, size_here}
 use Rattle.c_types.specs.Standing.{Target, no_target, stepped, prefix_standing, assign_standing, casts_to, cast_standing, named_standing, can_go, let_go, following, is_sized, standing}
 use Rattle.c_types.specs.Found.{where_it_comes, found_at}
 use Rattle.c_rules.specs.Faults.{mismatch, own_place, place_faults, can_be_place, go_faults, steps, standing_type, assigns_to, needs_place, prefix_takes, step_faults, assign_faults, prefix_faults, named_faults}
-use Rattle.c_programs.specs.Initials.{is_address}
 use Rattle.c_locals.specs.Addresses.{where_address, number_of_operand}
 use Rattle.rr_base.specs.declared.position.Position.{Position}
 use Rattle.c_core.specs.Core as core

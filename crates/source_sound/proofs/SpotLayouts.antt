@@ -10,9 +10,10 @@ use Rattle.c_types.specs.Scopes.{Known, Scope, Meaning, variable, declared_in, d
 use Rattle.c_types.specs.Operands.{operand_of, is_scalar}
 use Rattle.c_types.specs.Standing.{no_target, standing}
 use Rattle.c_rules.specs.Faults.{name_place, mismatch, specifier_faults, expression_faults, go_faults}
-use Rattle.c_programs.specs.Declarators.{declared_type, declared_name, is_void_specifier, declarator_faults, lengths_faults, taken_faults, size_faults}
+use Rattle.c_names.specs.Sources.{declared_name, declared_by, global_cells_with}
+use Rattle.c_programs.specs.Declarators.{declared_type, is_void_specifier, declarator_faults, lengths_faults, taken_faults, size_faults}
 use Rattle.c_programs.specs.Initials.{value_target, start_faults}
-use Rattle.c_programs.specs.Statements.{declared_by, cells_of_declared, global_name_faults, global_cells_with, after_declared, declared_faults, object_faults, objects_faults, after_objects, declares_faults, after_declares, computed_faults, condition_faults, test_faults, gives_fit, return_faults, start_of_for_faults, after_start, statement_faults, parts_faults}
+use Rattle.c_programs.specs.Statements.{cells_of_declared, global_name_faults, after_declared, declared_faults, object_faults, objects_faults, after_objects, declares_faults, after_declares, computed_faults, condition_faults, test_faults, gives_fit, return_faults, start_of_for_faults, after_start, statement_faults, parts_faults}
 use Rattle.c_locals.specs.Addresses.{count_of_locals, count_of_start, count_of_declares}
 use Rattle.c_locals.specs.Kept.{is_kept_declared}
 use Rattle.c_sites.specs.Spots.{Spot, spot_named, where_kept, Where, in_function, holder_in, is_cell_in, is_global_level, declared_lengths, layout_by, allocations, maybe_allocations, lengths_allocations, initial_allocations, declared_spots, object_spots, objects_spots, declares_spots, start_spots, for_spots, statement_spots, parts_spots}

@@ -6,7 +6,7 @@ use Rattle.c_types.specs.declared.types.Layer.{Layer}
 use Rattle.c_types.specs.declared.types.Layer.TheVariants as layer
 use Rattle.c_types.specs.declared.types.ObjectType.{ObjectType}
 use Rattle.c_types.specs.Operands.{Standing, no_type, zero_literal, null_literal, a_value, a_place, Operand, pointing, operand_of, layered_operand, type_operand, layered_is_void, is_typed, is_some_pointer}
-use Rattle.c_programs.specs.Initials.{layered_is_array}
+use Rattle.c_types.specs.Types.{layered_is_array}
 use Rattle.c_types.specs.Standing.{type_struct}
 use Rattle.rr_base.specs.declared.position.Position.{Position}
 use Rattle.c_core.specs.Core as core

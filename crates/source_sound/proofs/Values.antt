@@ -8,7 +8,7 @@ use Rattle.c_types.specs.declared.types.ObjectType.{ObjectType}
 use Rattle.c_types.specs.declared.library.StarredType.{StarredType}
 use Rattle.c_types.specs.Library.{starred_type}
 use Rattle.c_types.specs.Operands.{Standing, no_type, zero_literal, null_literal, a_value, a_place, operand_of, type_operand, layered_operand, is_typed, is_whole, is_some_pointer, accepts}
-use Rattle.c_programs.specs.Initials.{layered_is_array}
+use Rattle.c_types.specs.Types.{layered_is_array}
 use Rattle.c_types.specs.Standing.{Target, no_target, standing}
 use Rattle.c_rules.specs.Faults.{faults}
 use Rattle.c_locals.specs.Addresses.{addressed}

@@ -12,7 +12,7 @@ use Rattle.c_lexer.specs.Bytes.{Text}
 use Rattle.c_lexer.specs.Names.{entry_of}
 use Rattle.c_tree.specs.Tree.{Outer}
 use Rattle.c_types.specs.Scopes.{Known}
-use Rattle.c_programs.specs.Programs.{known_at_start}
+use Rattle.c_names.specs.Sources.{known_at_start}
 use Rattle.c_locals.specs.Addresses.{program_addressed}
 use Rattle.c_sites.specs.Spots.{Spot, site_of, known_after, kinds_of_structs, program_spots, program_sites}
 use Rattle.c_sites.specs.Whole.{first_fault}

@@ -17,7 +17,7 @@ use Rattle.c_types.specs.declared.types.Layer.TheVariants as layer
 use Rattle.c_types.specs.declared.types.ObjectType.{ObjectType}
 use Rattle.c_types.specs.declared.fault.FaultKind.TheVariants as fault
 use Rattle.c_types.specs.Numbers.{is_zero}
-use Rattle.c_types.specs.Constants.{constant_named}
+use Rattle.c_types.specs.Constants.{constant_named, is_address}
 use Rattle.c_types.specs.Types.{repeated, base_kinds, layered_kinds, kinds_of_type, members_kinds}
 use Rattle.c_types.specs.Found.{where_it_comes}
 use Rattle.c_rules.specs.Faults.{mismatch, faults, first_place}
@@ -25,7 +25,7 @@ use Rattle.c_rules.specs.Sizes.{value_here, constant_faults}
 use Rattle.c_types.specs.Scopes.{Known, Meaning, variable, function_of, seen, Members, members_of}
 use Rattle.c_types.specs.Operands.{Operand, operand_of, accepts, layered_accepts, same_base}
 use Rattle.c_types.specs.Standing.{Target, no_target, standing}
-use Rattle.c_programs.specs.Initials.{alike_part, part_at, part_type, is_array_meaning, is_variable, is_variable_name, is_address, is_constant_address, layered_is_pointer, global_value_faults, starts_as, layered_is_base, may_be_base, where_global, value_faults, initial_faults, inits_faults}
+use Rattle.c_programs.specs.Initials.{alike_part, part_at, part_type, is_array_meaning, is_variable, is_variable_name, is_constant_address, layered_is_pointer, global_value_faults, starts_as, layered_is_base, may_be_base, where_global, value_faults, initial_faults, inits_faults}
 use Rattle.c_sites.specs.Spots.{types_of_members}
 use Rattle.c_operators.specs.Context.{Source, global_named}
 use Rattle.c_globals.specs.Globals.{address_word, computed_word, constant_word, start_words, parts_words}

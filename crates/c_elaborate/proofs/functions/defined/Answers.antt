@@ -2,7 +2,7 @@ use Rattle.std.proofs.Common.{◌≡◌, IfOk, map, subst}
 use Rattle.c_tree.specs.Tree.{listed_parts}
 use Rattle.c_tree.specs.View.{part_of}
 use Rattle.c_programs.specs.Declarators.{after_params}
-use Rattle.c_programs.specs.Table.{known_of}
+use Rattle.c_names.specs.Table.{known_of}
 use Rattle.c_core.specs.Core as core
 use Rattle.c_core.specs.View.{function_of, stmt_of}
 use Rattle.c_operators.specs.Views.{frame_in, source_in}

@@ -1,8 +1,8 @@
 use Rattle.std.proofs.Common.{◌≡◌, drop}
 use Rattle.c_locals.specs.Addresses.{after_formals}
 use Rattle.c_programs.specs.Declarators.{after_params}
-use Rattle.c_locals.specs.NumberTables.{numbered_of}
-use Rattle.c_programs.specs.Table.{known_of}
+use Rattle.c_numbers.specs.NumberTables.{numbered_of}
+use Rattle.c_names.specs.Table.{known_of}
 use Rattle.c_elaborate.proofs.functions.pass_formals.Given as goal
 
 -- what is passed and the rest make the whole

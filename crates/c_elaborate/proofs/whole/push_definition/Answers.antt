@@ -5,7 +5,7 @@ use Rattle.c_tree.specs.View.{part_of}
 use Rattle.c_programs.specs.Declarators.{after_params}
 use Rattle.c_types.specs.Scopes.{Known, closed}
 use Rattle.c_programs.specs.Statements.{after_parts}
-use Rattle.c_programs.specs.Table.{known_of}
+use Rattle.c_names.specs.Table.{known_of}
 use Rattle.c_programs.proofs.Within.{closed_body}
 use Rattle.c_elaborate.specs.Functions.{definition}
 use Rattle.c_operators.specs.Views.{source_in}

@@ -2,7 +2,7 @@ use Rattle.std.proofs.Common.{◌≡◌, ◌++◌, drop, map}
 use Rattle.c_tree.specs.Tree.{listed_inits}
 use Rattle.c_tree.specs.View.{init_of}
 use Rattle.c_types.specs.Shown.{shown_maybe}
-use Rattle.c_programs.specs.Table.{known_of}
+use Rattle.c_names.specs.Table.{known_of}
 use Rattle.c_globals.specs.Globals.{parts_words}
 use Rattle.c_operators.specs.Views.{source_in}
 use Rattle.c_globals.proofs.globals.+start_words.Given as goal

@@ -1,7 +1,7 @@
 use Rattle.std.proofs.Common.{◌≡◌, ◌++◌, drop, map, true}
 use Rattle.c_tree.specs.View.{object_of}
 use Rattle.c_programs.specs.Statements.{after_objects}
-use Rattle.c_programs.specs.Table.{known_of}
+use Rattle.c_names.specs.Table.{known_of}
 use Rattle.c_globals.specs.Globals.{objects_words}
 use Rattle.c_operators.specs.Views.{source_in}
 use Rattle.c_globals.proofs.globals.push_objects.Given as goal

@@ -2,7 +2,7 @@ use Rattle.std.proofs.Common.{◌≡◌, ◌++◌, drop, map}
 use Rattle.c_tree.specs.Tree.{listed}
 use Rattle.c_tree.specs.View.{exp_of}
 use Rattle.c_locals.specs.Addresses.{all_addressed}
-use Rattle.c_locals.specs.NumberTables.{numbered_of}
+use Rattle.c_numbers.specs.NumberTables.{numbered_of}
 use Rattle.c_locals.proofs.addresses.+addressed.Given as goal
 
 -- what is pushed and the rest make the whole

@@ -2,7 +2,7 @@ use Rattle.std.proofs.Common.{◌≡◌, ◌++◌, drop, map}
 use Rattle.c_tree.specs.Tree.{listed_inits}
 use Rattle.c_tree.specs.View.{init_of}
 use Rattle.c_locals.specs.Addresses.{initials_addressed}
-use Rattle.c_locals.specs.NumberTables.{numbered_of}
+use Rattle.c_numbers.specs.NumberTables.{numbered_of}
 use Rattle.c_locals.proofs.addresses.+initial_addressed.Given as goal
 
 -- what is pushed and the rest make the whole

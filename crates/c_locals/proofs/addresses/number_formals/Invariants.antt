@@ -1,6 +1,6 @@
 use Rattle.std.proofs.Common.{◌≡◌, drop}
 use Rattle.c_locals.specs.Addresses.{after_formals}
-use Rattle.c_locals.specs.NumberTables.{numbered_of}
+use Rattle.c_numbers.specs.NumberTables.{numbered_of}
 use Rattle.c_locals.proofs.addresses.number_formals.Given as goal
 
 abbrev pub invariant-loop-param : goal.invariant-loop-param

@@ -1,7 +1,7 @@
 use Rattle.std.proofs.Common.{◌≡◌, ◌++◌, drop, map}
 use Rattle.c_tree.specs.View.{exp_of, declared_of}
 use Rattle.c_locals.specs.Addresses.{lengths_addressed, declared_addressed}
-use Rattle.c_locals.specs.NumberTables.{numbered_of}
+use Rattle.c_numbers.specs.NumberTables.{numbered_of}
 use Rattle.c_locals.proofs.addresses.push_declared.Given as goal
 
 -- what is pushed and the rest make the whole

@@ -2,7 +2,7 @@ use Rattle.std.proofs.Common.{◌≡◌, drop, map}
 use Rattle.c_tree.specs.Tree.{listed_inits}
 use Rattle.c_tree.specs.View.{init_of}
 use Rattle.c_locals.specs.Roots.{with_initials_starts}
-use Rattle.c_programs.specs.Table.{texts_of}
+use Rattle.c_names.specs.Table.{texts_of}
 use Rattle.c_locals.proofs.roots.+with_initial_starts.Given as goal
 
 -- what is put and the rest make the whole

@@ -2,7 +2,7 @@ use Rattle.std.proofs.Common.{◌≡◌, drop, map}
 use Rattle.c_tree.specs.Tree.{listed}
 use Rattle.c_tree.specs.View.{exp_of}
 use Rattle.c_locals.specs.Roots.{with_all_starts}
-use Rattle.c_programs.specs.Table.{texts_of}
+use Rattle.c_names.specs.Table.{texts_of}
 use Rattle.c_locals.proofs.roots.+with_starts.Given as goal
 
 -- what is put and the rest make the whole

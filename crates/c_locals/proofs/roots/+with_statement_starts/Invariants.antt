@@ -2,7 +2,7 @@ use Rattle.std.proofs.Common.{◌≡◌, drop, map}
 use Rattle.c_tree.specs.Tree.{listed_parts}
 use Rattle.c_tree.specs.View.{part_of}
 use Rattle.c_locals.specs.Roots.{with_parts_starts}
-use Rattle.c_programs.specs.Table.{texts_of}
+use Rattle.c_names.specs.Table.{texts_of}
 use Rattle.c_locals.proofs.roots.+with_statement_starts.Given as goal
 
 -- what is put and the rest make the whole

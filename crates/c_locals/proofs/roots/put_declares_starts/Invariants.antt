@@ -1,7 +1,7 @@
 use Rattle.std.proofs.Common.{◌≡◌, drop, map}
 use Rattle.c_tree.specs.View.{object_of}
 use Rattle.c_locals.specs.Roots.{with_objects_starts}
-use Rattle.c_programs.specs.Table.{texts_of}
+use Rattle.c_names.specs.Table.{texts_of}
 use Rattle.c_locals.proofs.roots.put_declares_starts.Given as goal
 
 -- what is put and the rest make the whole

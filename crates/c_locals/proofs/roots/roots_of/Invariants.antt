@@ -1,7 +1,7 @@
 use Rattle.std.proofs.Common.{◌≡◌, drop, map}
 use Rattle.c_tree.specs.View.{outer_of, program_of}
 use Rattle.c_locals.specs.Roots.{with_outers_starts, program_starts}
-use Rattle.c_programs.specs.Table.{texts_of}
+use Rattle.c_names.specs.Table.{texts_of}
 use Rattle.c_locals.proofs.roots.roots_of.Given as goal
 
 -- what is put and the rest make the whole

@@ -1,9 +1,10 @@
 use Rattle.std.proofs.Common.{ap, ◌∙◌}
 use Rattle.c_tree.specs.View.{code_of}
 use Rattle.c_types.specs.Scopes.{closed}
-use Rattle.c_programs.specs.Declarators.{listed_params, after_params}
+use Rattle.c_names.specs.Sources.{listed_params}
+use Rattle.c_programs.specs.Declarators.{after_params}
 use Rattle.c_programs.specs.Programs.{after_body}
-use Rattle.c_programs.specs.Table.{known_of}
+use Rattle.c_names.specs.Table.{known_of}
 use Rattle.c_programs.proofs.Within.{closed_body}
 use Rattle.c_programs.proofs.functions.note_inside.Goals as goal
 

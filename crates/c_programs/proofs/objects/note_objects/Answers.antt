@@ -6,7 +6,8 @@ use Rattle.c_tree.specs.View.{object_of}
 use Rattle.c_types.specs.declared.fault.Found.{Found}
 use Rattle.c_types.specs.Found.{first_among}
 use Rattle.c_types.specs.Scopes.{Known}
-use Rattle.c_programs.specs.Statements.{declared_by, after_declared, object_faults, objects_faults, after_objects}
+use Rattle.c_names.specs.Sources.{declared_by}
+use Rattle.c_programs.specs.Statements.{after_declared, object_faults, objects_faults, after_objects}
 use Rattle.c_types.proofs.First.{first_of_both}
 use Rattle.c_programs.proofs.objects.note_objects.Goals as goal
 

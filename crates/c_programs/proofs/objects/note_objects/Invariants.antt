@@ -2,7 +2,7 @@ use Rattle.std.proofs.Common.{◌≡◌, drop, map}
 use Rattle.c_tree.specs.View.{object_of}
 use Rattle.c_types.specs.Found.{first_among}
 use Rattle.c_programs.specs.Statements.{objects_faults, after_objects}
-use Rattle.c_programs.specs.Table.{known_of}
+use Rattle.c_names.specs.Table.{known_of}
 use Rattle.c_programs.proofs.objects.note_objects.Given as goal
 
 -- the objects that are left make of what is known and found what all of them make

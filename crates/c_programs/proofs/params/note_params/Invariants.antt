@@ -1,7 +1,8 @@
 use Rattle.std.proofs.Common.{◌≡◌, drop}
 use Rattle.c_types.specs.Found.{first_among}
-use Rattle.c_programs.specs.Table.{known_of}
-use Rattle.c_programs.specs.Declarators.{listed_params, after_params, params_faults}
+use Rattle.c_names.specs.Table.{known_of}
+use Rattle.c_names.specs.Sources.{listed_params}
+use Rattle.c_programs.specs.Declarators.{after_params, params_faults}
 use Rattle.c_programs.proofs.params.note_params.Given as goal
 
 -- what is done and the rest make the whole

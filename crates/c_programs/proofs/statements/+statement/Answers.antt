@@ -5,7 +5,7 @@ use Rattle.c_tree.proofs.Views.{parts_of_row-list}
 use Rattle.c_types.specs.Found.{first_among}
 use Rattle.c_types.specs.Scopes.{closed}
 use Rattle.c_programs.specs.Statements.{after_start, statement_faults, after_parts}
-use Rattle.c_programs.specs.Table.{known_of}
+use Rattle.c_names.specs.Table.{known_of}
 use Rattle.c_programs.proofs.Parts.{after_part, part_faults, shown_parts, known_after, first_after, first_of_block, first_of_for}
 use Rattle.c_programs.proofs.Within.{closed_parts, closed_start}
 use Rattle.c_programs.proofs.statements.+statement.Goals as goal

@@ -3,7 +3,7 @@ use Rattle.c_tree.specs.Tree.{listed_parts}
 use Rattle.c_tree.specs.View.{part_of}
 use Rattle.c_types.specs.Found.{first_among}
 use Rattle.c_programs.specs.Statements.{parts_faults, after_parts}
-use Rattle.c_programs.specs.Table.{known_of}
+use Rattle.c_names.specs.Table.{known_of}
 use Rattle.c_programs.proofs.statements.+statement.Given as goal
 
 -- the parts that are left make of what is known and found what all of them make

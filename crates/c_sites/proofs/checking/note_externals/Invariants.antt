@@ -2,7 +2,7 @@ use Rattle.std.proofs.Common.{◌≡◌, drop, map}
 use Rattle.c_tree.specs.View.{outer_of}
 use Rattle.c_types.specs.Found.{first_among}
 use Rattle.c_programs.specs.Programs.{outers_faults}
-use Rattle.c_programs.specs.Table.{known_of}
+use Rattle.c_names.specs.Table.{known_of}
 use Rattle.c_sites.proofs.checking.note_externals.Given as goal
 
 -- what is left of the source makes of what is found what the whole makes

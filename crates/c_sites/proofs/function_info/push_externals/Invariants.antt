@@ -1,7 +1,7 @@
 use Rattle.std.proofs.Common.{◌≡◌, ◌++◌, drop, map}
 use Rattle.c_tree.specs.View.{outer_of}
 use Rattle.c_sites.specs.Functions.{outers_functions}
-use Rattle.c_programs.specs.Table.{texts_of}
+use Rattle.c_names.specs.Table.{texts_of}
 use Rattle.c_sites.proofs.function_info.push_externals.Given as goal
 
 -- what is pushed and the rest make the whole

@@ -2,7 +2,7 @@ use Rattle.std.proofs.Common.{◌≡◌, ◌++◌, drop, map}
 use Rattle.c_tree.specs.View.{outer_of}
 use Rattle.c_sites.specs.Spots.{known_after, outers_spots}
 use Rattle.c_sites.specs.SpotViews.{shown_spots}
-use Rattle.c_programs.specs.Table.{known_of}
+use Rattle.c_names.specs.Table.{known_of}
 use Rattle.c_sites.proofs.program_spots.push_externals.Given as goal
 
 -- what is done and the rest make the whole

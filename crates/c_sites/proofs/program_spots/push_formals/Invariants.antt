@@ -2,7 +2,7 @@ use Rattle.std.proofs.Common.{◌≡◌, ◌+◌, ◌++◌, drop, length}
 use Rattle.c_programs.specs.Declarators.{after_params}
 use Rattle.c_sites.specs.Spots.{formals_spots}
 use Rattle.c_sites.specs.SpotViews.{shown_owner, shown_spots}
-use Rattle.c_programs.specs.Table.{known_of}
+use Rattle.c_names.specs.Table.{known_of}
 use Rattle.c_sites.proofs.program_spots.push_formals.Given as goal
 
 -- what is done and the rest make the whole

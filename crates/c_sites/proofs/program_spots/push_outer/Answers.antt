@@ -1,6 +1,6 @@
 use Rattle.std.proofs.Common.{◌++◌, ap, ◌∙◌}
 use Rattle.c_tree.specs.View.{code_of}
-use Rattle.c_programs.specs.Declarators.{listed_params}
+use Rattle.c_names.specs.Sources.{listed_params}
 use Rattle.c_sites.specs.Spots.{in_function, code_spots}
 use Rattle.c_sites.specs.SpotViews.{shown_spots}
 use Rattle.c_sites.proofs.program_spots.push_outer.Goals as goal

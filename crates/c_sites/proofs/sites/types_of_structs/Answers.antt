@@ -1,5 +1,5 @@
 use Rattle.std.proofs.Common.{◌<◌, length, ◌∙◌, arith}
-use Rattle.c_programs.specs.Table.{known_of}
+use Rattle.c_names.specs.Table.{known_of}
 use Rattle.c_sites.proofs.Typing.{more_types}
 use Rattle.c_sites.proofs.sites.types_of_structs.Goals as goal
 

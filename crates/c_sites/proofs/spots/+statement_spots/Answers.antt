@@ -6,7 +6,7 @@ use Rattle.c_types.specs.Scopes.{closed}
 use Rattle.c_programs.specs.Statements.{after_start, after_parts}
 use Rattle.c_sites.specs.Spots.{parts_spots}
 use Rattle.c_sites.specs.SpotViews.{shown_owner, shown_spots}
-use Rattle.c_programs.specs.Table.{known_of}
+use Rattle.c_names.specs.Table.{known_of}
 use Rattle.c_programs.proofs.Within.{closed_parts, closed_start}
 use Rattle.c_sites.proofs.spots.+statement_spots.Goals as goal
 

@@ -5,7 +5,7 @@ use Rattle.c_locals.specs.Addresses.{count_of_parts}
 use Rattle.c_programs.specs.Statements.{after_parts}
 use Rattle.c_sites.specs.Spots.{parts_spots}
 use Rattle.c_sites.specs.SpotViews.{shown_owner, shown_spots}
-use Rattle.c_programs.specs.Table.{known_of}
+use Rattle.c_names.specs.Table.{known_of}
 use Rattle.c_sites.proofs.spots.+statement_spots.Given as goal
 
 -- what is done and the rest make the whole

@@ -3,7 +3,7 @@ use Rattle.c_tree.specs.View.{object_of}
 use Rattle.c_programs.specs.Statements.{after_objects}
 use Rattle.c_sites.specs.Spots.{is_global_level, objects_spots}
 use Rattle.c_sites.specs.SpotViews.{shown_spots, shown_where}
-use Rattle.c_programs.specs.Table.{known_of}
+use Rattle.c_names.specs.Table.{known_of}
 use Rattle.c_sites.proofs.spots.push_objects.Given as goal
 
 -- what is done and the rest make the whole

@@ -4,10 +4,10 @@ use Rattle.c_tree.specs.Tree.{Statement, Parts, block as block_tree, listed_part
 use Rattle.c_tree.specs.View.{start_of, maybe_of, stmt_of, part_of}
 use Rattle.c_tree.proofs.Views.{parts_of_row-list}
 use Rattle.c_locals.specs.Addresses.{past_statement, count_of_locals}
-use Rattle.c_locals.specs.NumberTables.{numbered_of}
+use Rattle.c_numbers.specs.NumberTables.{numbered_of}
 use Rattle.c_types.specs.Scopes.{closed}
 use Rattle.c_programs.specs.Statements.{after_start, after_parts}
-use Rattle.c_programs.specs.Table.{known_of}
+use Rattle.c_names.specs.Table.{known_of}
 use Rattle.c_locals.proofs.Numbering.{after_none, block_numbers, for_numbers}
 use Rattle.c_programs.proofs.Within.{closed_parts, closed_start}
 use Rattle.c_core.specs.View as core_view

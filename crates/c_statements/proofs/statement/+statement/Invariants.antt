@@ -2,9 +2,9 @@ use Rattle.std.proofs.Common.{◌≡◌, ◌++◌, drop, map}
 use Rattle.c_tree.specs.Tree.{listed_parts}
 use Rattle.c_tree.specs.View.{part_of}
 use Rattle.c_locals.specs.Addresses.{past_parts}
-use Rattle.c_locals.specs.NumberTables.{numbered_of}
+use Rattle.c_numbers.specs.NumberTables.{numbered_of}
 use Rattle.c_programs.specs.Statements.{after_parts}
-use Rattle.c_programs.specs.Table.{known_of}
+use Rattle.c_names.specs.Table.{known_of}
 use Rattle.c_core.specs.View.{stmt_of}
 use Rattle.c_operators.specs.Context.{context_in}
 use Rattle.c_statements.specs.Statements.{all_elaborated}

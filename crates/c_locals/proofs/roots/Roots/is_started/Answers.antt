@@ -1,5 +1,5 @@
 use Rattle.std.proofs.Common.{◌∙◌}
-use Rattle.c_programs.proofs.Tables.{has_text}
+use Rattle.c_names.proofs.Tables.{has_text}
 use Rattle.c_locals.proofs.roots.Roots.is_started.Goals as goal
 
 pub returns : goal.returns

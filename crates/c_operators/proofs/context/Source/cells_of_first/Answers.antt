@@ -1,7 +1,7 @@
 use Rattle.std.proofs.Common.{◌≡◌, ◌-◌, ◌<◌, slice_get, Some, None, sym, arith}
 use Rattle.c_types.specs.Scopes.{members_of}
 use Rattle.c_types.specs.Shown.{shown_maybe}
-use Rattle.c_programs.specs.Table.{known_of}
+use Rattle.c_names.specs.Table.{known_of}
 use Rattle.c_operators.proofs.Offsets.{cells_after, cells_met}
 use Rattle.c_operators.proofs.context.Source.cells_of_first.Goals as goal
 

@@ -1,6 +1,6 @@
 use Rattle.std.proofs.Common.{◌≡◌, ◌+◌, ◌-◌, drop, slice_get}
 use Rattle.c_types.specs.Scopes.{members_of}
-use Rattle.c_programs.specs.Table.{known_of}
+use Rattle.c_names.specs.Table.{known_of}
 use Rattle.c_operators.specs.Context.{cells_of_first}
 use Rattle.c_operators.proofs.context.Source.cells_of_first.Given as goal
 

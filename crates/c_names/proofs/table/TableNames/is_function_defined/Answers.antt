@@ -1,0 +1,6 @@
+use Rattle.std.proofs.Common.{◌∙◌}
+use Rattle.c_names.proofs.Tables.{has_text}
+use Rattle.c_names.proofs.table.TableNames.is_function_defined.Goals as goal
+
+pub returns : goal.returns
+returns c = c.contains.ensures ∙ has_text c.args.self.now.defined.keys c.args.name.now

@@ -1,6 +1,0 @@
-use Rattle.std.proofs.Common.{◌∙◌}
-use Rattle.c_programs.proofs.Tables.{has_text}
-use Rattle.c_programs.proofs.table.Table.has_begun.Goals as goal
-
-pub returns : goal.returns
-returns c = c.contains.ensures ∙ has_text c.args.self.now.begun.keys c.args.name.now
