@@ -23,6 +23,8 @@ mod record_tests;
 #[cfg(test)]
 mod region_tests;
 #[cfg(test)]
+mod shelves;
+#[cfg(test)]
 mod tests;
 #[cfg(test)]
 mod thread_tests;

@@ -1,4 +1,5 @@
-use crate::tests::{Outside, SOUND, call, check, shelf_of};
+use crate::shelves::{holds_bytes, shelf_of};
+use crate::tests::{Outside, SOUND, check, check_in};
 use rr_base::{List, MemShelf};
 use std::alloc::Global;
 use std::process::Abort;
@@ -9,8 +10,7 @@ use workload::program_of;
 
 fn holds_source(rt: &impl Abort, alloc: Global, shelf: &MemShelf) -> Result<(), Fail> {
     let want = program_of(alloc, 1)?;
-    let found = shelf.content("n.c").map(|held| held.as_slice());
-    assert_eq!(rt; found, Some(want.as_slice()));
+    holds_bytes(rt, shelf, "n.c", want.as_slice());
     Ok(())
 }
 
@@ -34,14 +34,22 @@ static NO_MAKES: [&[&str]; 4] = [
     &["make", "1", "a", "b"],
 ];
 
+// File `a` stays empty.
+fn check_no_make(
+    rt: &(impl Abort + Threads + Wait + Sync),
+    alloc: Global,
+    words: &[&str],
+) -> Result<(), Fail> {
+    let mut shelf = shelf_of(alloc, &[], &[])?;
+    check(rt, alloc, words, &[], &mut shelf, ("usage\n", 1))?;
+    holds_bytes(rt, &shelf, "a", &[]);
+    Ok(())
+}
+
 #[test]
 fn makes_none_of_other_sizes(rt: HostRuntime) -> Result<(), Fail> {
-    let alloc = rt.alloc();
-    for words in NO_MAKES {
-        let mut shelf = shelf_of(alloc, List::new(alloc), List::new(alloc))?;
-        check(&rt, alloc, words, &[], &mut shelf, ("usage\n", 1))?;
-        let kept = shelf.content("a").map(|held| held.is_empty());
-        assert_eq!(rt; kept, Some(true));
+    for words in &NO_MAKES {
+        check_no_make(&rt, rt.alloc(), words)?;
     }
     Ok(())
 }
@@ -67,9 +75,8 @@ fn check_fault(
         turns,
         ..SOUND
     };
-    let (told, found) = call(rt, alloc, &["make", "1", "n.c"], &outside, &mut shelf)?;
-    assert_eq!(rt; told.as_slice(), text.as_bytes());
-    assert_eq!(rt; found, status, "{text}");
+    let words = ["make", "1", "n.c"];
+    check_in(rt, alloc, &words, &outside, &mut shelf, (text, status))?;
     assert_eq!(rt; shelf.content("n.c").is_some(), has_source, "{text}");
     assert_eq!(rt; shelf.content("n.c.log").is_some(), has_log, "{text}");
     Ok(())

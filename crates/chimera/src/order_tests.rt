@@ -1,10 +1,15 @@
 use crate::race_tests::{COUNTER, HELD_BY_CALLER};
 use crate::record_tests::{same_log, with_source};
+use crate::shelves::{files_of, log_files};
 use crate::tests::{
     BANK, BEGIN, FIRST, GOES_ON, LAST, LOCK, Outside, SLOTS_8, SOUND, STARTS, UNLOCK, check_in,
-    files_of, log_files,
 };
+use rr_base::MemShelf;
+use std::alloc::Global;
+use std::process::Abort;
+use std::sync::Wait;
 use std::test::Fail;
+use std::thread::Threads;
 
 const SLOTS_3_NO_PAIRS: &str =
     "chimera log 1\nslots 3\ncells 16384\nlimit 16777216\nprofile 0\ninput 0\n\n";
@@ -38,20 +43,40 @@ static RECORDS: [(&[&str], &str, &[(u8, usize)], &str, &[&str]); 3] = [
     ),
 ];
 
+// Each order of turns tells the same.
+fn check_orders(
+    rt: &(impl Abort + Threads + Wait + Sync),
+    alloc: Global,
+    words: &[&str],
+    orders: &[&[(u8, usize)]],
+    shelf: &mut MemShelf,
+    want: (&str, u8),
+) -> Result<(), Fail> {
+    for &order in orders {
+        let outside = Outside { order, ..SOUND };
+        check_in(rt, alloc, words, &outside, shelf, want)?;
+    }
+    Ok(())
+}
+
+fn check_record(
+    rt: &(impl Abort + Threads + Wait + Sync),
+    alloc: Global,
+    row: (&[&str], &str, &[(u8, usize)], &str, &[&str]),
+) -> Result<(), Fail> {
+    let (words, source, order, text, log) = row;
+    let mut shelf = with_source(alloc, &[source])?;
+    check_orders(rt, alloc, words, &[order], &mut shelf, (text, 0))?;
+    same_log(rt, alloc, &shelf, log)?;
+    let replay = ["replay", "a", "l"];
+    check_orders(rt, alloc, &replay, &ORDERS, &mut shelf, (text, 0))
+}
+
 // A run shows the order of its turns, and its log is replayed the same by any order.
 #[test]
 fn records_by_orders(rt: HostRuntime) -> Result<(), Fail> {
-    let alloc = rt.alloc();
-    for (words, source, order, text, log) in RECORDS {
-        let mut shelf = with_source(alloc, &[source])?;
-        let outside = Outside { order, ..SOUND };
-        check_in(&rt, alloc, words, &outside, &mut shelf, (text, 0))?;
-        same_log(&rt, alloc, &shelf, log)?;
-        for order in ORDERS {
-            let outside = Outside { order, ..SOUND };
-            let words = ["replay", "a", "l"];
-            check_in(&rt, alloc, &words, &outside, &mut shelf, (text, 0))?;
-        }
+    for row in RECORDS {
+        check_record(&rt, rt.alloc(), row)?;
     }
     Ok(())
 }
@@ -153,18 +178,37 @@ pub static CHANGES: [(&[&str], &str, u8); 13] = [
     ),
 ];
 
+fn check_change(
+    rt: &(impl Abort + Threads + Wait + Sync),
+    alloc: Global,
+    entries: &[&str],
+    want: (&str, u8),
+) -> Result<(), Fail> {
+    let mut shelf = log_files(alloc, &[BANK], &[FIRST, SLOTS_8], entries)?;
+    let words = ["replay", "a", "b"];
+    check_orders(rt, alloc, &words, &TWENTY, &mut shelf, want)
+}
+
 #[test]
 fn names_the_first_wrong_entry_by_any_order(rt: HostRuntime) -> Result<(), Fail> {
-    let alloc = rt.alloc();
-    for (entries, text, wanted) in CHANGES {
-        let mut shelf = log_files(alloc, &[BANK], &[FIRST, SLOTS_8], entries)?;
-        for order in TWENTY {
-            let outside = Outside { order, ..SOUND };
-            let words = ["replay", "a", "b"];
-            check_in(&rt, alloc, &words, &outside, &mut shelf, (text, wanted))?;
-        }
+    for &(entries, text, status) in &CHANGES {
+        check_change(&rt, rt.alloc(), entries, (text, status))?;
     }
     Ok(())
+}
+
+// No log `l` stands there before.
+fn check_turns(
+    rt: &(impl Abort + Threads + Wait + Sync),
+    alloc: Global,
+    turns: u64,
+    shelf: &mut MemShelf,
+    want: (&str, u8),
+) -> Result<(), Fail> {
+    assert!(rt; shelf.content("l").is_none());
+    let outside = Outside { turns, ..SOUND };
+    check_in(rt, alloc, &["replay", "a", "b"], &outside, shelf, want)?;
+    check_in(rt, alloc, &["record", "a", "l"], &outside, shelf, want)
 }
 
 // A crew with fewer turns than the log has entries, and one with enough of them.
@@ -173,19 +217,8 @@ fn tells_when_the_turns_end(rt: HostRuntime) -> Result<(), Fail> {
     let alloc = rt.alloc();
     let log = [FIRST, SLOTS_8, STARTS, BEGIN, LOCK, UNLOCK, GOES_ON, LAST];
     let mut shelf = files_of(alloc, &[BANK], &log)?;
-    for (turns, want) in [(24, ("crew fault\n", 10)), (1000, ("20\n", 0))] {
-        assert!(rt; shelf.content("l").is_none());
-        for words in [["replay", "a", "b"], ["record", "a", "l"]] {
-            let outside = Outside { turns, ..SOUND };
-            check_in(&rt, alloc, &words, &outside, &mut shelf, want)?;
-        }
-    }
-    check_in(
-        &rt,
-        alloc,
-        &["replay", "a", "l"],
-        &SOUND,
-        &mut shelf,
-        ("20\n", 0),
-    )
+    check_turns(&rt, alloc, 24, &mut shelf, ("crew fault\n", 10))?;
+    check_turns(&rt, alloc, 1000, &mut shelf, ("20\n", 0))?;
+    let words = ["replay", "a", "l"];
+    check_in(&rt, alloc, &words, &SOUND, &mut shelf, ("20\n", 0))
 }

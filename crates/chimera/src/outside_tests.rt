@@ -1,7 +1,7 @@
 use crate::race_tests::HELD_BY_CALLER;
+use crate::shelves::push_file;
 use crate::tests::{
     BANK, BEGIN, FIRST, GOES_ON, LAST, LOCK, Outside, SLOTS_8, SOUND, STARTS, UNLOCK, check_in,
-    push_file,
 };
 use rr_base::{Bytes, List, MemShelf};
 use std::alloc::{AllocError, Global};
@@ -34,7 +34,7 @@ const LOCKS: &str =
     "lock w0 x+0 stripes 1\naccess 4:18 store function h\naccess 6:3 store function f\n";
 
 // Words, what fails, what is told with which status, and whether `l` and `r` are put.
-static ROWS: [(&[&str], Failing, &str, u8, (bool, bool)); 22] = [
+static RECORDS: [(&[&str], Failing, &str, u8, (bool, bool)); 10] = [
     (RECORD, Nothing, "20\n", 0, (true, true)),
     (RECORD, Shelf(0), "shelf fault\n", 9, (false, false)),
     (RECORD, Shelf(1), "shelf fault\n", 9, (false, false)),
@@ -45,6 +45,10 @@ static ROWS: [(&[&str], Failing, &str, u8, (bool, bool)); 22] = [
     (RECORD, Shelf(3), "shelf fault\n", 9, (true, false)),
     (RECORD, Write(0), "", 8, (true, true)),
     (RECORD, Write(1), "2", 8, (true, true)),
+];
+
+// The same of the jobs that record nothing.
+static OTHERS: [(&[&str], Failing, &str, u8, (bool, bool)); 12] = [
     (REPLAY, Nothing, "20\n", 0, (false, true)),
     (REPLAY, Shelf(0), "shelf fault\n", 9, (false, false)),
     (REPLAY, Shelf(1), "shelf fault\n", 9, (false, false)),
@@ -119,11 +123,25 @@ fn check_failing(
     Ok(())
 }
 
-// Each call that a job makes outside fails in turn: what was put before stays, and nothing is put after it.
-#[test]
-fn tells_each_fault_of_the_outside(rt: HostRuntime) -> Result<(), Fail> {
-    for &(words, failing, text, status, puts) in &ROWS {
-        check_failing(&rt, rt.alloc(), words, failing, (text, status), puts)?;
+fn check_rows(
+    rt: &(impl Abort + Threads + Wait + Sync),
+    alloc: Global,
+    rows: &[(&[&str], Failing, &str, u8, (bool, bool))],
+) -> Result<(), Fail> {
+    for &(words, failing, text, status, puts) in rows {
+        check_failing(rt, alloc, words, failing, (text, status), puts)?;
     }
     Ok(())
+}
+
+// Each call that a recording makes outside fails in turn: what was put before stays, and nothing is put after it.
+#[test]
+fn tells_each_fault_of_a_recording(rt: HostRuntime) -> Result<(), Fail> {
+    check_rows(&rt, rt.alloc(), &RECORDS)
+}
+
+// The same of the other jobs.
+#[test]
+fn tells_each_fault_of_the_outside(rt: HostRuntime) -> Result<(), Fail> {
+    check_rows(&rt, rt.alloc(), &OTHERS)
 }

@@ -1,7 +1,7 @@
 use crate::race_tests::{COUNTER, HELD_BY_CALLER};
+use crate::shelves::{files_of, holds_bytes, holds_parts, push_file};
 use crate::tests::{
     BANK, FIRST, HELD, IDLE, MISUSE, Outside, SLOTS_1, SLOTS_2, SLOTS_3, SLOTS_8, SOUND, check_in,
-    files_of, joined, push_file,
 };
 use crate::{tests, weak_tests};
 use rr_base::{List, MemShelf};
@@ -153,21 +153,10 @@ static PROFILE: [&str; 4] = ["profile", "a", "b", "p"];
 
 // Under this name stands this profile, or nothing.
 fn holds(rt: &impl Abort, shelf: &MemShelf, name: &str, want: Option<&str>) {
-    let found = shelf.content(name).map(|held| held.as_slice());
-    assert_eq!(rt; found, want.map(|text| text.as_bytes()), "{name}");
-}
-
-// File `b` is still this log.
-fn keeps_log(
-    rt: &impl Abort,
-    alloc: Global,
-    shelf: &MemShelf,
-    log: &[&str],
-) -> Result<(), AllocError> {
-    let whole = joined(alloc, log)?;
-    let kept = shelf.content("b").map(|held| held.as_slice());
-    assert_eq!(rt; kept, Some(whole.as_slice()));
-    Ok(())
+    match want {
+        Some(text) => holds_bytes(rt, shelf, name, text.as_bytes()),
+        None => assert!(rt; shelf.content(name).is_none(), "{name}"),
+    }
 }
 
 fn check_profile(
@@ -181,8 +170,8 @@ fn check_profile(
     let mut shelf = files_of(alloc, &[source], log)?;
     check_in(rt, alloc, &PROFILE, &SOUND, &mut shelf, want)?;
     holds(rt, &shelf, "p", profile);
-    holds(rt, &shelf, "a", Some(source));
-    Ok(keeps_log(rt, alloc, &shelf, log)?)
+    holds_bytes(rt, &shelf, "a", source.as_bytes());
+    Ok(holds_parts(rt, alloc, &shelf, "b", log)?)
 }
 
 #[test]
@@ -210,17 +199,29 @@ static FAULTS: [(&[u64], &[u64], &str, u8, Option<&str>); 5] = [
     (&[], &[4], "trap", 8, Some(BOTH_AND_MAIN)),
 ];
 
+fn check_fault(
+    rt: &(impl Abort + Threads + Wait + Sync),
+    alloc: Global,
+    shelf_fails: &[u64],
+    write_fails: &[u64],
+    want: (&str, u8),
+    profile: Option<&str>,
+) -> Result<(), Fail> {
+    let mut shelf = failing(alloc, shelf_fails)?;
+    let outside = Outside {
+        write_fails,
+        ..SOUND
+    };
+    check_in(rt, alloc, &PROFILE, &outside, &mut shelf, want)?;
+    holds(rt, &shelf, "p", profile);
+    Ok(())
+}
+
 #[test]
 fn tells_faults_of_a_profile(rt: HostRuntime) -> Result<(), Fail> {
-    let alloc = rt.alloc();
-    for (shelf_fails, write_fails, text, status, profile) in FAULTS {
-        let mut shelf = failing(alloc, shelf_fails)?;
-        let outside = Outside {
-            write_fails,
-            ..SOUND
-        };
-        check_in(&rt, alloc, &PROFILE, &outside, &mut shelf, (text, status))?;
-        holds(&rt, &shelf, "p", profile);
+    for &(shelf_fails, write_fails, text, status, profile) in &FAULTS {
+        let want = (text, status);
+        check_fault(&rt, rt.alloc(), shelf_fails, write_fails, want, profile)?;
     }
     Ok(())
 }

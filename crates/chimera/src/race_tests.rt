@@ -1,4 +1,5 @@
-use crate::tests::{BANK, check, check_files, check_large, files_of};
+use crate::shelves::files_of;
+use crate::tests::{BANK, check, check_files, check_large};
 use std::alloc::Global;
 use std::process::Abort;
 use std::sync::Wait;

@@ -1,6 +1,11 @@
-use crate::tests::{FIRST, SLOTS_3, SOUND, check_in, files_of, log_files};
+use crate::shelves::log_files;
+use crate::tests::{FIRST, SLOTS_3, SOUND, check_files, check_in};
 use crate::weak_tests::{BEGIN, STARTS};
+use std::alloc::Global;
+use std::process::Abort;
+use std::sync::Wait;
 use std::test::Fail;
+use std::thread::Threads;
 
 const HEAD: &str = "#include <pthread.h>\nint v[8]; int u[8];\n";
 
@@ -133,24 +138,42 @@ static RANGES: [(&str, &str, &[&str], &str, u8); 7] = [
     ),
 ];
 
+fn check_without_range(
+    rt: &(impl Abort + Threads + Wait + Sync),
+    alloc: Global,
+) -> Result<(), Fail> {
+    for &(body, listing) in &WITHOUT_RANGE {
+        let source = [HEAD, body, MAIN];
+        check_files(rt, alloc, &["weaken", "a"], &source, &[], (listing, 0))?;
+    }
+    Ok(())
+}
+
+fn check_range(
+    rt: &(impl Abort + Threads + Wait + Sync),
+    alloc: Global,
+    body: &str,
+    listing: &str,
+    entries: &[&str],
+    want: (&str, u8),
+) -> Result<(), Fail> {
+    let head = [FIRST, SLOTS_3, STARTS];
+    let mut shelf = log_files(alloc, &[HEAD, body, MAIN], &head, entries)?;
+    let weaken = ["weaken", "a"];
+    check_in(rt, alloc, &weaken, &SOUND, &mut shelf, (listing, 0))?;
+    check_in(rt, alloc, &["replay", "a", "b"], &SOUND, &mut shelf, want)
+}
+
+fn check_ranges(rt: &(impl Abort + Threads + Wait + Sync), alloc: Global) -> Result<(), Fail> {
+    for &(body, listing, entries, text, status) in &RANGES {
+        check_range(rt, alloc, body, listing, entries, (text, status))?;
+    }
+    Ok(())
+}
+
 // The weak locks of loops, and the stripes that a thread takes where it enters one.
 #[test]
 fn takes_the_ranges_of_loops(rt: HostRuntime) -> Result<(), Fail> {
-    let alloc = rt.alloc();
-    for (body, listing) in WITHOUT_RANGE {
-        let mut shelf = files_of(alloc, &[HEAD, body, MAIN], &[])?;
-        let words = ["weaken", "a"];
-        check_in(&rt, alloc, &words, &SOUND, &mut shelf, (listing, 0))?;
-    }
-    for (body, listing, entries, text, status) in RANGES {
-        let head = [FIRST, SLOTS_3, STARTS];
-        let mut shelf = log_files(alloc, &[HEAD, body, MAIN], &head, entries)?;
-        for (words, want) in [
-            (&["weaken", "a"][..], (listing, 0)),
-            (&["replay", "a", "b"], (text, status)),
-        ] {
-            check_in(&rt, alloc, words, &SOUND, &mut shelf, want)?;
-        }
-    }
-    Ok(())
+    check_without_range(&rt, rt.alloc())?;
+    check_ranges(&rt, rt.alloc())
 }

@@ -1,9 +1,10 @@
 use crate::race_tests::{COUNTER, HELD_BY_CALLER};
+use crate::shelves::{files_of, holds_bytes, holds_parts};
 use crate::tests::{
     BANK, DIVIDES, ECHOES, FIRST, IDLE, INPUT_HI, MISUSE, NO_POINTER, NONE_LEFT, Outside, PASSES,
-    SLOTS_1, SLOTS_3, SLOTS_8, SOUND, WAITS, call, check_in, files_of, joined,
+    SLOTS_1, SLOTS_3, SLOTS_8, SOUND, WAITS, check_files, check_in, repeated,
 };
-use rr_base::{Bytes, MemShelf};
+use rr_base::MemShelf;
 use std::alloc::Global;
 use std::process::Abort;
 use std::sync::Wait;
@@ -91,31 +92,51 @@ pub fn same_log(
     shelf: &MemShelf,
     log: &[&str],
 ) -> Result<(), Fail> {
-    let want = joined(alloc, log)?;
-    let found = shelf.content("l").map(|held| held.as_slice());
     if log.is_empty() {
-        assert!(rt; found.is_some());
+        assert!(rt; shelf.content("l").is_some());
     } else {
-        assert_eq!(rt; found, Some(want.as_slice()));
+        holds_parts(rt, alloc, shelf, "l", log)?;
     }
     Ok(())
+}
+
+// A call, and the log that stands there after it.
+fn check_log(
+    rt: &(impl Abort + Threads + Wait + Sync),
+    alloc: Global,
+    words: &[&str],
+    outside: &Outside,
+    shelf: &mut MemShelf,
+    want: (&str, u8),
+    log: &[&str],
+) -> Result<(), Fail> {
+    check_in(rt, alloc, words, outside, shelf, want)?;
+    same_log(rt, alloc, shelf, log)
+}
+
+fn check_record(
+    rt: &(impl Abort + Threads + Wait + Sync),
+    alloc: Global,
+    row: (&[&str], &str, &str, &str, u8, &[&str]),
+) -> Result<(), Fail> {
+    let (words, source, input, text, status, log) = row;
+    let want = (text, status);
+    let mut shelf = with_source(alloc, &[source])?;
+    let outside = Outside {
+        input: input.as_bytes(),
+        turns: 100_000,
+        ..SOUND
+    };
+    check_log(rt, alloc, words, &outside, &mut shelf, want, log)?;
+    let replay = ["replay", "a", "l"];
+    check_log(rt, alloc, &replay, &outside, &mut shelf, want, log)
 }
 
 // Each row is told, and its log is told the same.
 #[test]
 fn records_and_replays(rt: HostRuntime) -> Result<(), Fail> {
-    let alloc = rt.alloc();
-    for (words, source, input, text, status, log) in RECORDS {
-        let mut shelf = with_source(alloc, &[source])?;
-        let outside = Outside {
-            input: input.as_bytes(),
-            turns: 100_000,
-            ..SOUND
-        };
-        for words in [words, &["replay", "a", "l"]] {
-            check_in(&rt, alloc, words, &outside, &mut shelf, (text, status))?;
-            same_log(&rt, alloc, &shelf, log)?;
-        }
+    for row in RECORDS {
+        check_record(&rt, rt.alloc(), row)?;
     }
     Ok(())
 }
@@ -123,22 +144,36 @@ fn records_and_replays(rt: HostRuntime) -> Result<(), Fail> {
 // An input of so many bytes, and what is told of it.
 static INPUTS: [(usize, &str, u8); 2] = [(1_048_576, "", 0), (1_048_577, "too large input\n", 11)];
 
+// A log is put where all is well.
+fn check_input(
+    rt: &(impl Abort + Threads + Wait + Sync),
+    alloc: Global,
+    input: &[u8],
+    want: (&str, u8),
+) -> Result<(), Fail> {
+    let (_, status) = want;
+    let mut shelf = with_source(alloc, &[SHORT])?;
+    let outside = Outside { input, ..SOUND };
+    let words = ["record", "a", "l"];
+    check_in(rt, alloc, &words, &outside, &mut shelf, want)?;
+    assert_eq!(rt; shelf.content("l").is_some(), status == 0);
+    Ok(())
+}
+
+fn check_length(
+    rt: &(impl Abort + Threads + Wait + Sync),
+    alloc: Global,
+    length: usize,
+    want: (&str, u8),
+) -> Result<(), Fail> {
+    let input = repeated(alloc, b'a', length)?;
+    check_input(rt, alloc, input.as_slice(), want)
+}
+
 #[test]
 fn takes_an_input_of_its_limit(rt: HostRuntime) -> Result<(), Fail> {
-    let alloc = rt.alloc();
-    for (length, text, status) in INPUTS {
-        let mut shelf = with_source(alloc, &[SHORT])?;
-        let input = vec![in alloc; b'a'; length]?;
-        let outside = Outside {
-            input: input.as_slice(),
-            ..SOUND
-        };
-        let (told, found) = call(&rt, alloc, &["record", "a", "l"], &outside, &mut shelf)?;
-        assert_eq!(rt; told.as_slice(), text.as_bytes());
-        assert_eq!(rt;
-            (found, shelf.content("l").is_some()),
-            (status, status == 0)
-        );
+    for &(length, text, status) in &INPUTS {
+        check_length(&rt, rt.alloc(), length, (text, status))?;
     }
     Ok(())
 }
@@ -174,10 +209,9 @@ static PROFILES: [(&[&str], &str, &str, u8); 5] = [
 
 #[test]
 fn takes_a_profile(rt: HostRuntime) -> Result<(), Fail> {
-    let alloc = rt.alloc();
-    for (words, profile, text, status) in PROFILES {
-        let mut shelf = files_of(alloc, &[HELD_BY_CALLER], &[profile])?;
-        check_in(&rt, alloc, words, &SOUND, &mut shelf, (text, status))?;
+    for &(words, profile, text, status) in &PROFILES {
+        let want = (text, status);
+        check_files(&rt, rt.alloc(), words, &[HELD_BY_CALLER], &[profile], want)?;
     }
     Ok(())
 }
@@ -194,7 +228,6 @@ fn writes_the_loads(rt: HostRuntime) -> Result<(), Fail> {
     let mut shelf = files_of(alloc, &[COUNTER], &[FIRST, SLOTS_3, LOST_UPDATE])?;
     let words = ["replay", "a", "--reads", "r", "b"];
     check_in(&rt, alloc, &words, &SOUND, &mut shelf, ("1\n", 0))?;
-    let reads = shelf.content("r").map(|held| held.as_slice());
-    assert_eq!(rt; reads, Some(LOADS.as_bytes()));
+    holds_bytes(&rt, &shelf, "r", LOADS.as_bytes());
     Ok(())
 }

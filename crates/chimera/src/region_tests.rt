@@ -1,7 +1,11 @@
 use crate::order_tests::ORDERS;
 use crate::record_tests::with_source;
 use crate::tests::{Outside, SOUND, check_in};
+use std::alloc::Global;
+use std::process::Abort;
+use std::sync::Wait;
 use std::test::Fail;
+use std::thread::Threads;
 
 // Two threads that run `f`, and what `main` does after them.
 const MAIN: &str = "int main(void) {
@@ -62,19 +66,39 @@ static REGIONS: [(&str, &str, u8); 7] = [
     ),
 ];
 
+static RECORD: [&str; 7] = ["record", "a", "l", "--slots", "3", "--profile", "b"];
+
+fn check_order(
+    rt: &(impl Abort + Threads + Wait + Sync),
+    alloc: Global,
+    body: &str,
+    order: &[(u8, usize)],
+    want: (&str, u8),
+) -> Result<(), Fail> {
+    let mut shelf = with_source(alloc, &[HEAD, body, MAIN])?;
+    let outside = Outside { order, ..SOUND };
+    check_in(rt, alloc, &RECORD, &outside, &mut shelf, want)?;
+    let replay = ["replay", "a", "l"];
+    check_in(rt, alloc, &replay, &outside, &mut shelf, want)
+}
+
+fn check_orders(
+    rt: &(impl Abort + Threads + Wait + Sync),
+    alloc: Global,
+    body: &str,
+    want: (&str, u8),
+) -> Result<(), Fail> {
+    for order in &ORDERS {
+        check_order(rt, alloc, body, order, want)?;
+    }
+    Ok(())
+}
+
 // Each is recorded by some orders of turns, and told the same by its log.
 #[test]
 fn keeps_regions_by_any_order(rt: HostRuntime) -> Result<(), Fail> {
-    let alloc = rt.alloc();
-    let record = ["record", "a", "l", "--slots", "3", "--profile", "b"];
-    for (body, text, wanted) in REGIONS {
-        for order in ORDERS {
-            let mut shelf = with_source(alloc, &[HEAD, body, MAIN])?;
-            let outside = Outside { order, ..SOUND };
-            for words in [&record[..], &["replay", "a", "l"]] {
-                check_in(&rt, alloc, words, &outside, &mut shelf, (text, wanted))?;
-            }
-        }
+    for &(body, text, status) in &REGIONS {
+        check_orders(&rt, rt.alloc(), body, (text, status))?;
     }
     Ok(())
 }

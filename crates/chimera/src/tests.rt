@@ -1,5 +1,6 @@
 ghost use Rattle.std.specs.Prelude.{◌<◌};
 
+use crate::shelves::{files_of, joined, push_part, shelf_of};
 use crew::{Crew, SchedCrew};
 use jobs::chimera;
 use rr_base::{Bytes, List, MemShelf, MemSink, MemSource};
@@ -465,53 +466,6 @@ static NO_JOBS: [&[&str]; 7] = [
     &["profile", "a", "b", "p", "--reads", "r"],
 ];
 
-// The parts of a text, one after another.
-pub fn joined(alloc: Global, parts: &[&str]) -> Result<Bytes, AllocError> {
-    let mut text = List::new(alloc);
-    for part in parts {
-        text.extend_from_slice(part.as_bytes())?;
-    }
-    Ok(text)
-}
-
-/// Puts a file of these parts after the others.
-pub fn push_file(
-    alloc: Global,
-    files: &mut List<(Bytes, Bytes)>,
-    name: &str,
-    parts: &[&str],
-) -> Result<(), AllocError> {
-    let content = joined(alloc, parts)?;
-    files.push((joined(alloc, &[name])?, content))
-}
-
-/// A shelf of a source `a` and another file `b`.
-pub fn shelf_of(alloc: Global, source: Bytes, log: Bytes) -> Result<MemShelf, AllocError> {
-    let mut files = List::new(alloc);
-    files.push((List::from_slice(alloc, b"a")?, source))?;
-    files.push((List::from_slice(alloc, b"b")?, log))?;
-    Ok(MemShelf::new(files, List::new(alloc)))
-}
-
-/// The same, where each file has these parts.
-pub fn files_of(alloc: Global, source: &[&str], other: &[&str]) -> Result<MemShelf, AllocError> {
-    let source = joined(alloc, source)?;
-    shelf_of(alloc, source, joined(alloc, other)?)
-}
-
-/// The same of a source and a log of this head and these entries.
-pub fn log_files(
-    alloc: Global,
-    source: &[&str],
-    head: &[&str],
-    entries: &[&str],
-) -> Result<MemShelf, AllocError> {
-    let source = joined(alloc, source)?;
-    let mut log = joined(alloc, head)?;
-    log.append(joined(alloc, entries)?)?;
-    shelf_of(alloc, source, log)
-}
-
 /// The outside of a call but for its shelf: the input with the numbers of its reads that fail, the numbers of the sink's calls
 /// that fail, where each takes one byte, the order of the crew's first turns, as jobs with how many turns each, and how many
 /// turns it gives in all.
@@ -533,22 +487,22 @@ pub const SOUND: Outside<'static> = Outside {
     turns: u64::MAX,
 };
 
-// So many turns of one job, after those before them.
-fn push_turns(
-    alloc: Global,
-    order: &mut List<u8>,
-    job: u8,
-    turns: usize,
-) -> Result<(), AllocError> {
-    let jobs = vec![in alloc; job; turns]?;
-    order.extend_from_slice(jobs.as_slice())
+/// So many of one byte.
+pub fn repeated(alloc: Global, byte: u8, times: usize) -> Result<Vec<u8>, AllocError> {
+    vec![in alloc; byte; times]
+}
+
+// So many of one byte, after those before them.
+fn push_times(alloc: Global, bytes: &mut Bytes, byte: u8, times: usize) -> Result<(), AllocError> {
+    let more = repeated(alloc, byte, times)?;
+    bytes.extend_from_slice(more.as_slice())
 }
 
 // The jobs to which the crew's first turns go, one after another.
 fn order_of(alloc: Global, runs: &[(u8, usize)]) -> Result<List<u8>, AllocError> {
     let mut order = List::new(alloc);
     for &(job, turns) in runs {
-        push_turns(alloc, &mut order, job, turns)?;
+        push_times(alloc, &mut order, job, turns)?;
     }
     Ok(order)
 }
@@ -594,8 +548,8 @@ pub fn call_on<C: Crew>(
     Ok((out.bytes().copied(alloc)?, status))
 }
 
-/// Calls with these words on the outside's crew, and answers what the sink holds then, and the status.
-pub fn call(
+// Calls with these words on the outside's crew, and answers what the sink holds then, and the status.
+fn call(
     rt: &(impl Abort + Threads + Wait + Sync),
     alloc: Global,
     words: &[&str],
@@ -604,6 +558,13 @@ pub fn call(
 ) -> Result<(Bytes, u8), Fail> {
     let mut crew = SchedCrew::new(order_of(alloc, outside.order)?, outside.turns);
     call_on(rt, alloc, words, outside, shelf, &mut crew)
+}
+
+/// What is told and the status are those that are wanted.
+pub fn tells(rt: &impl Abort, told: &[u8], status: u8, want: (&str, u8)) {
+    let (text, wanted) = want;
+    assert_eq!(rt; told, text.as_bytes());
+    assert_eq!(rt; status, wanted, "{text}");
 }
 
 /// Calls with these words, and compares what is told and the status.
@@ -616,9 +577,7 @@ pub fn check_in(
     want: (&str, u8),
 ) -> Result<(), Fail> {
     let (told, status) = call(rt, alloc, words, outside, shelf)?;
-    let (text, wanted) = want;
-    assert_eq!(rt; told.as_slice(), text.as_bytes());
-    assert_eq!(rt; status, wanted, "{text}");
+    tells(rt, told.as_slice(), status, want);
     Ok(())
 }
 
@@ -658,8 +617,8 @@ pub fn check_large(
     words: &[&str],
     missing: &[&str],
 ) -> Result<(), Fail> {
-    let large = List::from_vec(vec![in alloc; b' '; 1_048_577]?);
-    let mut shelf = shelf_of(alloc, large, List::new(alloc))?;
+    let large = repeated(alloc, b' ', 1_048_577)?;
+    let mut shelf = shelf_of(alloc, large.as_slice(), &[])?;
     let want = ("too large source\n", 11);
     check(rt, alloc, words, &[], &mut shelf, want)?;
     check(rt, alloc, missing, &[], &mut shelf, ("shelf fault\n", 9))
@@ -693,7 +652,10 @@ fn check_rows(
 }
 
 fn check_runs(rt: &(impl Abort + Threads + Wait + Sync), alloc: Global) -> Result<(), Fail> {
-    check_rows(rt, alloc, &RUNS)?;
+    check_rows(rt, alloc, &RUNS)
+}
+
+fn check_more_runs(rt: &(impl Abort + Threads + Wait + Sync), alloc: Global) -> Result<(), Fail> {
     check_rows(rt, alloc, &MORE_RUNS)
 }
 
@@ -712,8 +674,7 @@ fn check_front_part(
     alloc: Global,
     front: &[u8],
 ) -> Result<(), Fail> {
-    let source = joined(alloc, &[BANK])?;
-    let mut shelf = shelf_of(alloc, source, List::from_slice(alloc, front)?)?;
+    let mut shelf = shelf_of(alloc, BANK.as_bytes(), front)?;
     let (text, status) = cut_answer(alloc, front)?;
     check(rt, alloc, &REPLAY, &[], &mut shelf, (&text, status))
 }
@@ -737,11 +698,11 @@ fn check_sources(rt: &(impl Abort + Threads + Wait + Sync), alloc: Global) -> Re
 
 // `main` returns 0 in so many parentheses, on one line.
 fn nested(alloc: Global, depth: usize) -> Result<Bytes, AllocError> {
-    let mut text = List::from_slice(alloc, b"int main(void){return ")?;
-    text.extend_from_slice(vec![in alloc; b'('; depth]?.as_slice())?;
-    text.push(b'0')?;
-    text.extend_from_slice(vec![in alloc; b')'; depth]?.as_slice())?;
-    text.extend_from_slice(b";}\n")?;
+    let mut text = joined(alloc, &["int main(void){return "])?;
+    push_times(alloc, &mut text, b'(', depth)?;
+    push_part(&mut text, "0")?;
+    push_times(alloc, &mut text, b')', depth)?;
+    push_part(&mut text, ";}\n")?;
     Ok(text)
 }
 
@@ -753,7 +714,7 @@ fn check_nested(
 ) -> Result<(), Fail> {
     let source = nested(alloc, depth)?;
     let log = joined(alloc, &[FIRST, SLOTS_8, IDLE])?;
-    let mut shelf = shelf_of(alloc, source, log)?;
+    let mut shelf = shelf_of(alloc, source.as_slice(), log.as_slice())?;
     check(rt, alloc, &REPLAY, &[], &mut shelf, want)
 }
 
@@ -772,6 +733,7 @@ fn tells_the_rows(rt: HostRuntime) -> Result<(), Fail> {
     check_large(&rt, rt.alloc(), &REPLAY, &["replay", "c", "b"])?;
     check_outside(&rt, rt.alloc())?;
     check_runs(&rt, rt.alloc())?;
+    check_more_runs(&rt, rt.alloc())?;
     check_sources(&rt, rt.alloc())?;
     check_levels(&rt, rt.alloc())?;
     check_front_parts(&rt, rt.alloc())

@@ -1,5 +1,6 @@
 use crate::race_tests::{COUNTER, HELD_BY_CALLER, ONE_LINE, READERS};
-use crate::tests::{BANK, FIRST, SLOTS_3, check, check_files, check_large, files_of};
+use crate::shelves::files_of;
+use crate::tests::{BANK, FIRST, SLOTS_3, check, check_files, check_large};
 use std::alloc::Global;
 use std::process::Abort;
 use std::sync::Wait;
@@ -212,7 +213,7 @@ pub static RUNS: [(&str, &[&str], &str, u8); 9] = [
 static WEAKEN: [&str; 2] = ["weaken", "a"];
 
 fn check_listings(rt: &(impl Abort + Threads + Wait + Sync), alloc: Global) -> Result<(), Fail> {
-    for (source, text, status) in LISTINGS {
+    for &(source, text, status) in &LISTINGS {
         check_files(rt, alloc, &WEAKEN, &[source], &[], (text, status))?;
     }
     Ok(())
@@ -221,7 +222,7 @@ fn check_listings(rt: &(impl Abort + Threads + Wait + Sync), alloc: Global) -> R
 static REPLAY: [&str; 3] = ["replay", "a", "b"];
 
 fn check_runs(rt: &(impl Abort + Threads + Wait + Sync), alloc: Global) -> Result<(), Fail> {
-    for (source, log, text, status) in RUNS {
+    for &(source, log, text, status) in &RUNS {
         check_files(rt, alloc, &REPLAY, &[source], log, (text, status))?;
     }
     Ok(())
