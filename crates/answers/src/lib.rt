@@ -3,8 +3,6 @@
 //! the system is counted.
 #![tactic(auto)]
 
-#[cfg(test)]
-mod adapter_tests;
 mod adapters;
 mod answer;
 mod arguments;
@@ -16,8 +14,6 @@ mod number;
 mod reading;
 mod summary;
 mod telling;
-#[cfg(test)]
-mod tests;
 
 pub use adapters::{FileShelf, InSource, OutSink};
 pub use answer::{Answer, Part, text_of};

@@ -6,11 +6,7 @@
 mod analysed;
 mod code;
 mod laws;
-#[cfg(test)]
-mod listing_tests;
 mod reading;
-#[cfg(test)]
-mod tests;
 
 pub use analysed::compile;
 pub use code::plain;

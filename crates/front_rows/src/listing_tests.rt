@@ -1,7 +1,7 @@
 ghost use Rattle.std.specs.Prelude.{◌≤◌, ◌^◌, length};
 
-use crate::typed;
 use c_sites::FunctionInfo;
+use front::typed;
 use rr_base::{Bytes, CellKind, Site};
 use std::alloc::Global;
 use std::fmt::Write;

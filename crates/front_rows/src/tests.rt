@@ -1,6 +1,6 @@
 ghost use Rattle.std.specs.Prelude.{◌≤◌, ◌^◌, length};
 
-use crate::{CompileFault, typed};
+use front::{CompileFault, typed};
 use std::alloc::Global;
 use std::fmt::Write;
 use std::process::Abort;

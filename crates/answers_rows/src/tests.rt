@@ -1,4 +1,4 @@
-use crate::{Answer, Job, Part, RecordJob, job_of, summary_text, text_of};
+use answers::{Answer, Job, Part, RecordJob, job_of, summary_text, text_of};
 use rr_base::{Bytes, List, Trap};
 use std::alloc::{AllocError, Global};
 use std::test::Fail;

@@ -1,4 +1,4 @@
-use crate::{FileShelf, InSource, OutSink};
+use answers::{FileShelf, InSource, OutSink};
 use rr_base::{Failed, Shelf, ShelfEnd, Sink, SinkEnd, Source};
 use std::io::{self, ErrorKind, Read, Write};
 use std::test::Fail;
