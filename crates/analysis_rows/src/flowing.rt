@@ -1,10 +1,10 @@
 ghost use Rattle.std.specs.Prelude.{◌≡◌, true, IfOk};
 ghost use Rattle.lockset_flow.specs.Flow.{all_sized};
 
-use crate::made::{instrs, library};
+use crate::made::{add, library};
 use abstract_machine::LibraryCall;
 use facts::{LockPath, Minus, RelLocks, argument_names};
-use flow_code::{Act, Code, Function, is_valid};
+use flow_code::{Act, Code, Function, Instr, is_valid};
 use lockset_flow::{FlowFacts, flow_function};
 use rr_base::{Bytes, List};
 use std::alloc::{AllocError, Global};
@@ -39,37 +39,46 @@ enum Body {
 }
 
 // The instructions after the first one, which takes the mutex or tries to.
-fn rest(alloc: Global, body: Body) -> Result<Vec<Act>, AllocError> {
-    let mut acts = Vec::new(alloc);
+fn push_rest(alloc: Global, instrs: &mut List<Instr>, body: Body) -> Result<(), AllocError> {
     match body {
         Body::Guards => {
-            acts.push(Act::StoreCell {
-                through: 0,
-                from: 3,
-            })?;
-            acts.push(library(alloc, LibraryCall::MutexUnlock, &[0])?)?;
+            add(
+                instrs,
+                Act::StoreCell {
+                    through: 0,
+                    from: 3,
+                },
+            )?;
+            add(instrs, library(alloc, LibraryCall::MutexUnlock, &[0])?)
         }
         Body::GivesUnknown => {
-            acts.push(Act::LoadCell {
-                into: 2,
-                through: 0,
-            })?;
-            acts.push(library(alloc, LibraryCall::MutexUnlock, &[2])?)?;
+            add(
+                instrs,
+                Act::LoadCell {
+                    into: 2,
+                    through: 0,
+                },
+            )?;
+            add(instrs, library(alloc, LibraryCall::MutexUnlock, &[2])?)
         }
-        Body::Loops => {
-            acts.push(Act::Mark)?;
-            acts.push(Act::Branch {
-                on: 3,
-                then_at: 3,
-                else_at: 5,
-            })?;
-            acts.push(library(alloc, LibraryCall::MutexUnlock, &[0])?)?;
-            acts.push(Act::Jump { to: 1 })?;
-        }
-        Body::Waits => acts.push(library(alloc, LibraryCall::CondWait, &[1, 0])?)?,
-        Body::Tries | Body::Calls => {}
+        Body::Loops => push_loop(alloc, instrs),
+        Body::Waits => add(instrs, library(alloc, LibraryCall::CondWait, &[1, 0])?),
+        Body::Tries | Body::Calls => Ok(()),
     }
-    Ok(acts)
+}
+
+fn push_loop(alloc: Global, instrs: &mut List<Instr>) -> Result<(), AllocError> {
+    add(instrs, Act::Mark)?;
+    add(
+        instrs,
+        Act::Branch {
+            on: 3,
+            then_at: 3,
+            else_at: 5,
+        },
+    )?;
+    add(instrs, library(alloc, LibraryCall::MutexUnlock, &[0])?)?;
+    add(instrs, Act::Jump { to: 1 })
 }
 
 fn first(alloc: Global, body: Body) -> Result<Act, AllocError> {
@@ -88,7 +97,7 @@ fn function(
     alloc: Global,
     name: &[u8],
     formals: u32,
-    acts: Vec<Act>,
+    instrs: List<Instr>,
 ) -> Result<Function, AllocError> {
     let name: Bytes = List::from_slice(alloc, name)?;
     let pointers = List::from_slice(alloc, &[true, true, true, false])?;
@@ -99,24 +108,36 @@ fn function(
         registers: 4,
         pointers,
         gives_pointer: false,
-        instrs: instrs(alloc, acts)?,
+        instrs,
         loops: List::new(alloc),
         regions: List::new(alloc),
     })
 }
 
-// A function with two formals and this body, and an empty `main`.
+fn push_instrs(alloc: Global, instrs: &mut List<Instr>, body: Body) -> Result<(), AllocError> {
+    add(instrs, first(alloc, body)?)?;
+    push_rest(alloc, instrs, body)?;
+    add(instrs, Act::Return { value: None })
+}
+
+// A function with two formals and this body.
+fn work(alloc: Global, body: Body) -> Result<Function, AllocError> {
+    let mut instrs = List::new(alloc);
+    push_instrs(alloc, &mut instrs, body)?;
+    function(alloc, b"work", 2, instrs)
+}
+
+fn empty_main(alloc: Global) -> Result<Function, AllocError> {
+    let mut instrs = List::new(alloc);
+    add(&mut instrs, Act::Return { value: None })?;
+    function(alloc, b"main", 0, instrs)
+}
+
+// That function, and an empty `main`.
 fn code_of(alloc: Global, body: Body) -> Result<Code, AllocError> {
-    let mut acts = Vec::new(alloc);
-    acts.push(first(alloc, body)?)?;
-    let mut more = rest(alloc, body)?;
-    acts.append(&mut more)?;
-    acts.push(Act::Return { value: None })?;
-    let mut empty = Vec::new(alloc);
-    empty.push(Act::Return { value: None })?;
     let mut functions = List::new(alloc);
-    functions.push(function(alloc, b"work", 2, acts)?)?;
-    functions.push(function(alloc, b"main", 0, empty)?)?;
+    functions.push(work(alloc, body)?)?;
+    functions.push(empty_main(alloc)?)?;
     Ok(Code {
         functions,
         sites: List::new(alloc),
@@ -166,6 +187,28 @@ fn are(locks: &RelLocks, held: &[LockPath], gone: Option<&[LockPath]>) -> bool {
     plus_is && minus_is
 }
 
+// Whether the locks before this instruction of the function are these.
+fn flow_to(
+    alloc: Global,
+    body: Body,
+    exits: &[RelLocks],
+    at: usize,
+    held: &[LockPath],
+    gone: Option<&[LockPath]>,
+) -> Result<bool, AllocError>
+    requires { all_sized exits.now ≡ true }
+{
+    let code = code_of(alloc, body)?;
+    let facts = facts_of(alloc, &code, exits)?;
+    let Some(facts) = &facts else {
+        return Ok(false);
+    };
+    let Some(locks) = facts.before().get(at) else {
+        return Ok(false);
+    };
+    Ok(are(locks, held, gone))
+}
+
 #[test]
 fn locks_flow(rt: HostRuntime) -> Result<(), Fail> {
     let alloc = rt.alloc();
@@ -180,16 +223,8 @@ fn locks_flow(rt: HostRuntime) -> Result<(), Fail> {
         (Body::Tries, 1, &[], Some(&[])),
         (Body::Calls, 1, &[THIRD], None),
     ];
-    for (body, at, held, gone) in rows {
-        let code = code_of(alloc, body)?;
-        let facts = facts_of(alloc, &code, &exits)?;
-        let found = match &facts {
-            Some(facts) => match facts.before().get(at) {
-                Some(locks) => are(locks, held, gone),
-                None => false,
-            },
-            None => false,
-        };
+    for &(body, at, held, gone) in &rows {
+        let found = flow_to(alloc, body, &exits, at, held, gone)?;
         assert!(rt; found, "{body:?} before {at}");
     }
     Ok(())

@@ -17,11 +17,16 @@ pub fn library(alloc: Global, call: LibraryCall, arguments: &[u32]) -> Result<Ac
     })
 }
 
+/// One more instruction, at the same place of the source.
+pub fn add(instrs: &mut List<Instr>, act: Act) -> Result<(), AllocError> {
+    instrs.push(Instr { at: START, act })
+}
+
 /// The instructions that do this, all at one place of the source.
 pub fn instrs(alloc: Global, acts: Vec<Act>) -> Result<List<Instr>, AllocError> {
     let mut instrs = List::new(alloc);
     for act in acts {
-        instrs.push(Instr { at: START, act })?;
+        add(&mut instrs, act)?;
     }
     Ok(instrs)
 }

@@ -2,13 +2,14 @@ ghost use Rattle.std.specs.Prelude.{◌≡◌, ◌<◌};
 ghost use Rattle.facts.specs.PointsTo as spec;
 ghost use Rattle.facts.specs.PointsTo.{IsPointsTo};
 
-use crate::made::{START, instrs};
+use crate::made::{START, add};
 use abstract_machine::LibraryCall;
 use facts::{Node, PointsTo};
-use flow_code::{Act, Code, Function, Work, is_valid};
+use flow_code::{Act, Code, Function, Instr, Work, is_valid};
 use points_to::solve;
 use rr_base::{CellKind, Layout, List, Place, PtrWord, Site};
 use std::alloc::{AllocError, Global};
+use std::process::Abort;
 use std::test::Fail;
 
 // An instruction; the numbers are registers.
@@ -108,25 +109,33 @@ fn site_of(alloc: Global, kind: CellKind, size: u32, element: u32) -> Result<Sit
     })
 }
 
-fn function_of(
-    alloc: Global,
-    name: &[u8],
+/// A function: its name, which of its registers are pointers, and its steps.
+#[derive(Clone, Copy)]
+struct Body<'a> {
+    name: &'a [u8],
     formals: u32,
-    pointers: &[bool],
-    steps: &[Step],
-) -> Result<Function, AllocError> {
-    let mut acts = Vec::new(alloc);
+    pointers: &'a [bool],
+    steps: &'a [Step],
+}
+
+fn instrs_of(alloc: Global, steps: &[Step]) -> Result<List<Instr>, AllocError> {
+    let mut instrs = List::new(alloc);
     for step in steps {
-        acts.push(act_of(alloc, *step)?)?;
+        add(&mut instrs, act_of(alloc, *step)?)?;
     }
+    Ok(instrs)
+}
+
+fn function_of(alloc: Global, body: &Body<'_>) -> Result<Function, AllocError> {
+    let instrs = instrs_of(alloc, body.steps)?;
     Ok(Function {
-        name: List::from_slice(alloc, name)?,
+        name: List::from_slice(alloc, body.name)?,
         line: 1,
-        formals,
-        registers: (pointers.len() % 64) as u32,
-        pointers: List::from_slice(alloc, pointers)?,
-        gives_pointer: formals == 1,
-        instrs: instrs(alloc, acts)?,
+        formals: body.formals,
+        registers: (body.pointers.len() % 64) as u32,
+        pointers: List::from_slice(alloc, body.pointers)?,
+        gives_pointer: body.formals == 1,
+        instrs,
         loops: List::new(alloc),
         regions: List::new(alloc),
     })
@@ -213,31 +222,69 @@ fn places<'a>(code: &Code, answer: &'a PointsTo, node: Node) -> Option<&'a [Plac
     }
 }
 
-// The first node whose places aren't the two wanted at most; a code that isn't valid has none to ask.
-fn first_wrong(
-    alloc: Global,
-    code: &Code,
-    rows: &[(Node, Option<Place>, Option<Place>)],
-) -> Result<Option<Node>, AllocError> {
+/// A node with the two places wanted at most.
+type Wanted = (Node, Option<Place>, Option<Place>);
+
+// The first node whose places aren't the wanted ones.
+fn first_other(code: &Code, answer: &PointsTo, rows: &[Wanted]) -> Option<Node>
+    requires { IsPointsTo code.now answer.now }
+{
+    for (node, first, second) in rows {
+        let Some(got) = places(code, answer, *node) else {
+            return Some(*node);
+        };
+        if got.get(0).copied() != *first || got.get(1).copied() != *second || got.len() > 2 {
+            return Some(*node);
+        }
+    }
+    None
+}
+
+// The same of a code; one that isn't valid has no nodes to ask.
+fn first_wrong(alloc: Global, code: &Code, rows: &[Wanted]) -> Result<Option<Node>, AllocError> {
     if !is_valid(code) {
         return Ok(Some(Node::Ended));
     }
     let answer = solve(alloc, code)?;
-    for (node, first, second) in rows {
-        let Some(got) = places(code, &answer, *node) else {
-            return Ok(Some(*node));
-        };
-        if got.get(0).copied() != *first || got.get(1).copied() != *second || got.len() > 2 {
-            return Ok(Some(*node));
-        }
+    Ok(first_other(code, &answer, rows))
+}
+
+/// What a test's code has: its functions, the kinds, sizes and element sizes of its globals, and their words.
+#[derive(Clone, Copy)]
+struct Source<'a> {
+    functions: &'a [Body<'a>],
+    globals: &'a [(CellKind, u32, u32)],
+    words: &'a [u64],
+}
+
+fn functions_of(alloc: Global, bodies: &[Body<'_>]) -> Result<List<Function>, AllocError> {
+    let mut functions = List::new(alloc);
+    for body in bodies {
+        functions.push(function_of(alloc, body)?)?;
     }
-    Ok(None)
+    Ok(functions)
+}
+
+fn check(rt: &impl Abort, alloc: Global, source: &Source<'_>, rows: &[Wanted]) -> Result<(), Fail> {
+    let functions = functions_of(alloc, source.functions)?;
+    let code = code_of(alloc, functions, source.globals, source.words)?;
+    let wrong = first_wrong(alloc, &code, rows)?;
+    assert_eq!(rt; wrong, None);
+    Ok(())
+}
+
+fn main_of<'a>(pointers: &'a [bool], steps: &'a [Step]) -> Body<'a> {
+    Body {
+        name: b"main",
+        formals: 0,
+        pointers,
+        steps,
+    }
 }
 
 // int a; int b; int *p = &a; int main(void) { int *q = p; p = &b; *q = 1; return 1; }
 #[test]
 fn stores_are_loaded(rt: HostRuntime) -> Result<(), Fail> {
-    let alloc = rt.alloc();
     let steps = [
         Step::Compute(0, address(3, 2, 1)),
         Step::Load(1, 0),
@@ -248,10 +295,13 @@ fn stores_are_loaded(rt: HostRuntime) -> Result<(), Fail> {
         Step::Return(3),
     ];
     let pointers = [true, true, true, false];
-    let mut functions = List::new(alloc);
-    functions.push(function_of(alloc, b"main", 0, &pointers, &steps)?)?;
+    let main = main_of(&pointers, &steps);
     let words = [0, 0, (1 << 54) + (1 << 16)];
-    let code = code_of(alloc, functions, &[WHOLE, WHOLE, POINTER], &words)?;
+    let source = Source {
+        functions: &[main],
+        globals: &[WHOLE, WHOLE, POINTER],
+        words: &words,
+    };
     let first = Some(place(1, 0));
     let second = Some(place(2, 0));
     let rows = [
@@ -260,26 +310,26 @@ fn stores_are_loaded(rt: HostRuntime) -> Result<(), Fail> {
         (register(0, 2), second, None),
         (cells(1), None, None),
     ];
-    assert_eq!(rt; first_wrong(alloc, &code, &rows)?, None);
-    Ok(())
+    check(&rt, rt.alloc(), &source, &rows)
 }
 
 // int a; int *p = &a; int **unused = &p; int main(void) { return 1; }
 #[test]
 fn unnamed_globals_count(rt: HostRuntime) -> Result<(), Fail> {
-    let alloc = rt.alloc();
     let steps = [Step::Compute(0, Work::Constant(1)), Step::Return(0)];
-    let mut functions = List::new(alloc);
-    functions.push(function_of(alloc, b"main", 0, &[false], &steps)?)?;
+    let main = main_of(&[false], &steps);
     let words = [0, (1 << 54) + (1 << 16), (2 << 54) + (1 << 32) + (1 << 16)];
-    let code = code_of(alloc, functions, &[WHOLE, POINTER, POINTER], &words)?;
+    let source = Source {
+        functions: &[main],
+        globals: &[WHOLE, POINTER, POINTER],
+        words: &words,
+    };
     let rows = [
         (cells(1), None, None),
         (cells(2), Some(place(1, 0)), None),
         (cells(3), Some(place(2, 0)), None),
     ];
-    assert_eq!(rt; first_wrong(alloc, &code, &rows)?, None);
-    Ok(())
+    check(&rt, rt.alloc(), &source, &rows)
 }
 
 // struct s { int a; int b; }; struct s v[4];
@@ -287,7 +337,6 @@ fn unnamed_globals_count(rt: HostRuntime) -> Result<(), Fail> {
 // and q moved by n elements of v
 #[test]
 fn moves_go_on(rt: HostRuntime) -> Result<(), Fail> {
-    let alloc = rt.alloc();
     let steps = [
         Step::GetChar(0),
         Step::Compute(1, address(1, 0, 8)),
@@ -298,9 +347,12 @@ fn moves_go_on(rt: HostRuntime) -> Result<(), Fail> {
         Step::Return(0),
     ];
     let pointers = [false, true, false, true, true, true];
-    let mut functions = List::new(alloc);
-    functions.push(function_of(alloc, b"main", 0, &pointers, &steps)?)?;
-    let code = code_of(alloc, functions, &[(CellKind::Whole, 8, 2)], &[0; 8])?;
+    let main = main_of(&pointers, &steps);
+    let source = Source {
+        functions: &[main],
+        globals: &[(CellKind::Whole, 8, 2)],
+        words: &[0; 8],
+    };
     let first = Some(place(1, 0));
     let second = Some(place(1, 1));
     let rows = [
@@ -309,15 +361,13 @@ fn moves_go_on(rt: HostRuntime) -> Result<(), Fail> {
         (register(0, 4), first, second),
         (register(0, 5), second, None),
     ];
-    assert_eq!(rt; first_wrong(alloc, &code, &rows)?, None);
-    Ok(())
+    check(&rt, rt.alloc(), &source, &rows)
 }
 
 // int x; int y; long t; void *left; void *work(void *given) { pthread_exit(&y); return given; }
 // int main(void) { pthread_create(&t, work, &x); pthread_join(t, &left); int *p = left; return 0; }
 #[test]
 fn threads_hand_over(rt: HostRuntime) -> Result<(), Fail> {
-    let alloc = rt.alloc();
     let steps = [
         Step::Compute(0, address(3, 2, 1)),
         Step::Compute(1, address(1, 0, 1)),
@@ -329,15 +379,23 @@ fn threads_hand_over(rt: HostRuntime) -> Result<(), Fail> {
         Step::Return(2),
     ];
     let pointers = [true, true, false, false, true, true];
-    let mut functions = List::new(alloc);
-    functions.push(function_of(alloc, b"main", 0, &pointers, &steps)?)?;
+    let main = main_of(&pointers, &steps);
     let steps = [
         Step::Compute(1, address(2, 1, 1)),
         Step::Exit(1),
         Step::Return(0),
     ];
-    functions.push(function_of(alloc, b"work", 1, &[true, true], &steps)?)?;
-    let code = code_of(alloc, functions, &[WHOLE, WHOLE, WHOLE, POINTER], &[0; 4])?;
+    let work = Body {
+        name: b"work",
+        formals: 1,
+        pointers: &[true, true],
+        steps: &steps,
+    };
+    let source = Source {
+        functions: &[main, work],
+        globals: &[WHOLE, WHOLE, WHOLE, POINTER],
+        words: &[0; 4],
+    };
     let first = Some(place(1, 0));
     let second = Some(place(2, 0));
     let rows = [
@@ -345,14 +403,12 @@ fn threads_hand_over(rt: HostRuntime) -> Result<(), Fail> {
         (cells(4), first, second),
         (register(0, 5), first, second),
     ];
-    assert_eq!(rt; first_wrong(alloc, &code, &rows)?, None);
-    Ok(())
+    check(&rt, rt.alloc(), &source, &rows)
 }
 
 // int a; int main(void) { int *p = &a; long n = (long)p; int *q = (int *)n; int *r = p; return n; }
 #[test]
 fn casts_hand_on_nothing(rt: HostRuntime) -> Result<(), Fail> {
-    let alloc = rt.alloc();
     let steps = [
         Step::Compute(0, address(1, 0, 1)),
         Step::Compute(1, Work::ToNumber(0)),
@@ -361,9 +417,12 @@ fn casts_hand_on_nothing(rt: HostRuntime) -> Result<(), Fail> {
         Step::Return(1),
     ];
     let pointers = [true, false, true, true];
-    let mut functions = List::new(alloc);
-    functions.push(function_of(alloc, b"main", 0, &pointers, &steps)?)?;
-    let code = code_of(alloc, functions, &[WHOLE], &[0])?;
+    let main = main_of(&pointers, &steps);
+    let source = Source {
+        functions: &[main],
+        globals: &[WHOLE],
+        words: &[0],
+    };
     let first = Some(place(1, 0));
     let rows = [
         (register(0, 0), first, None),
@@ -371,6 +430,5 @@ fn casts_hand_on_nothing(rt: HostRuntime) -> Result<(), Fail> {
         (register(0, 2), None, None),
         (register(0, 3), first, None),
     ];
-    assert_eq!(rt; first_wrong(alloc, &code, &rows)?, None);
-    Ok(())
+    check(&rt, rt.alloc(), &source, &rows)
 }

@@ -1,10 +1,11 @@
-use crate::made::{START, instrs, library};
+use crate::made::{START, add, library};
 use abstract_machine::LibraryCall;
 use facts::{Guarded, LockPath, Minus, RelLocks, Summary};
-use flow_code::{Act, Code, Function, Work, is_valid};
+use flow_code::{Act, Code, Function, Instr, Work, is_valid};
 use lockset_summary::summaries;
 use rr_base::{CellKind, Layout, List, PtrWord, Site};
 use std::alloc::{AllocError, Global};
+use std::process::Abort;
 use std::test::Fail;
 
 // The addresses of the globals: a mutex, and two numbers.
@@ -66,85 +67,119 @@ fn call(alloc: Global, function: u32, arguments: &[u32]) -> Result<Act, AllocErr
     })
 }
 
-fn give_back(alloc: Global, acts: &mut Vec<Act>) -> Result<(), AllocError> {
-    acts.push(address(MUTEX))?;
-    acts.push(library(alloc, LibraryCall::MutexUnlock, &[1])?)?;
+fn give_back(alloc: Global, instrs: &mut List<Instr>) -> Result<(), AllocError> {
+    add(instrs, address(MUTEX))?;
+    add(instrs, library(alloc, LibraryCall::MutexUnlock, &[1])?)?;
     Ok(())
 }
 
-fn take(alloc: Global, acts: &mut Vec<Act>) -> Result<(), AllocError> {
-    acts.push(address(MUTEX))?;
-    acts.push(library(alloc, LibraryCall::MutexLock, &[1])?)?;
+fn take(alloc: Global, instrs: &mut List<Instr>) -> Result<(), AllocError> {
+    add(instrs, address(MUTEX))?;
+    add(instrs, library(alloc, LibraryCall::MutexLock, &[1])?)?;
     Ok(())
 }
 
-fn start_and_join(alloc: Global, acts: &mut Vec<Act>) -> Result<(), AllocError> {
-    acts.push(address(THREAD))?;
-    acts.push(library(alloc, LibraryCall::Create { function: 1 }, &[1, 1])?)?;
-    acts.push(library(alloc, LibraryCall::Create { function: 2 }, &[1, 1])?)?;
-    acts.push(Act::LoadCell {
-        into: 2,
-        through: 1,
-    })?;
-    acts.push(library(alloc, LibraryCall::Join, &[2, 1])?)?;
-    acts.push(library(alloc, LibraryCall::Join, &[2, 1])?)?;
+fn start_and_join(alloc: Global, instrs: &mut List<Instr>) -> Result<(), AllocError> {
+    add(instrs, address(THREAD))?;
+    add(
+        instrs,
+        library(alloc, LibraryCall::Create { function: 1 }, &[1, 1])?,
+    )?;
+    add(
+        instrs,
+        library(alloc, LibraryCall::Create { function: 2 }, &[1, 1])?,
+    )?;
+    add(
+        instrs,
+        Act::LoadCell {
+            into: 2,
+            through: 1,
+        },
+    )?;
+    add(instrs, library(alloc, LibraryCall::Join, &[2, 1])?)?;
+    add(instrs, library(alloc, LibraryCall::Join, &[2, 1])?)?;
     Ok(())
 }
 
-fn threads_acts(alloc: Global, function: usize) -> Result<Vec<Act>, AllocError> {
-    let mut acts = Vec::new(alloc);
+fn push_threads(
+    alloc: Global,
+    instrs: &mut List<Instr>,
+    function: usize,
+) -> Result<(), AllocError> {
     match function {
         0 => {
-            acts.push(address(NUMBER))?;
-            acts.push(store())?;
+            add(instrs, address(NUMBER))?;
+            add(instrs, store())
         }
         1 => {
-            acts.push(address(NUMBER))?;
-            acts.push(store())?;
-            take(alloc, &mut acts)?;
-            give_back(alloc, &mut acts)?;
+            add(instrs, address(NUMBER))?;
+            add(instrs, store())?;
+            take(alloc, instrs)?;
+            give_back(alloc, instrs)
         }
         2 => {
-            take(alloc, &mut acts)?;
-            acts.push(call(alloc, 0, &[0])?)?;
-            give_back(alloc, &mut acts)?;
+            take(alloc, instrs)?;
+            add(instrs, call(alloc, 0, &[0])?)?;
+            give_back(alloc, instrs)
         }
-        _ => start_and_join(alloc, &mut acts)?,
+        _ => start_and_join(alloc, instrs),
     }
-    Ok(acts)
 }
 
-fn call_and_store(alloc: Global, acts: &mut Vec<Act>, function: u32) -> Result<(), AllocError> {
-    acts.push(address(MUTEX))?;
-    acts.push(call(alloc, function, &[1])?)?;
-    acts.push(address(NUMBER))?;
-    acts.push(store())?;
+fn call_and_store(
+    alloc: Global,
+    instrs: &mut List<Instr>,
+    function: u32,
+) -> Result<(), AllocError> {
+    add(instrs, address(MUTEX))?;
+    add(instrs, call(alloc, function, &[1])?)?;
+    add(instrs, address(NUMBER))?;
+    add(instrs, store())?;
     Ok(())
 }
 
-fn formals_acts(alloc: Global, function: usize) -> Result<Vec<Act>, AllocError> {
-    let mut acts = Vec::new(alloc);
+fn push_formals(
+    alloc: Global,
+    instrs: &mut List<Instr>,
+    function: usize,
+) -> Result<(), AllocError> {
     match function {
-        0 => acts.push(library(alloc, LibraryCall::MutexLock, &[0])?)?,
+        0 => add(instrs, library(alloc, LibraryCall::MutexLock, &[0])?),
         1 => {
-            acts.push(Act::Compute {
-                into: 0,
-                work: Work::Copy(1),
-            })?;
-            acts.push(library(alloc, LibraryCall::MutexUnlock, &[0])?)?;
+            add(
+                instrs,
+                Act::Compute {
+                    into: 0,
+                    work: Work::Copy(1),
+                },
+            )?;
+            add(instrs, library(alloc, LibraryCall::MutexUnlock, &[0])?)
         }
         2 => {
-            call_and_store(alloc, &mut acts, 0)?;
-            call_and_store(alloc, &mut acts, 1)?;
+            call_and_store(alloc, instrs, 0)?;
+            call_and_store(alloc, instrs, 1)
         }
-        _ => {}
+        _ => Ok(()),
     }
-    Ok(acts)
+}
+
+fn push_instrs(
+    alloc: Global,
+    instrs: &mut List<Instr>,
+    program: Program,
+    function: usize,
+) -> Result<(), AllocError> {
+    match program {
+        Program::Threads => push_threads(alloc, instrs, function)?,
+        Program::Formals => push_formals(alloc, instrs, function)?,
+    }
+    add(instrs, Act::Return { value: None })
 }
 
 // Registers 0 and 1 are pointers, and 2 is a number. Each function but `main` has one formal.
-fn function(alloc: Global, index: usize, mut acts: Vec<Act>) -> Result<Function, AllocError> {
-    acts.push(Act::Return { value: None })?;
+fn function(alloc: Global, program: Program, index: usize) -> Result<Function, AllocError> {
+    let mut instrs = List::new(alloc);
+    push_instrs(alloc, &mut instrs, program, index)?;
     let name: &[u8] = if index == 3 { b"main" } else { b"work" };
     Ok(Function {
         name: List::from_slice(alloc, name)?,
@@ -153,7 +188,7 @@ fn function(alloc: Global, index: usize, mut acts: Vec<Act>) -> Result<Function,
         registers: 3,
         pointers: List::from_slice(alloc, &[true, true, false])?,
         gives_pointer: index != 3,
-        instrs: instrs(alloc, acts)?,
+        instrs,
         loops: List::new(alloc),
         regions: List::new(alloc),
     })
@@ -162,32 +197,38 @@ fn function(alloc: Global, index: usize, mut acts: Vec<Act>) -> Result<Function,
 fn functions(alloc: Global, program: Program) -> Result<List<Function>, AllocError> {
     let mut functions = List::new(alloc);
     for index in 0..4 {
-        let acts = match program {
-            Program::Threads => threads_acts(alloc, index)?,
-            Program::Formals => formals_acts(alloc, index)?,
-        };
-        functions.push(function(alloc, index, acts)?)?;
+        functions.push(function(alloc, program, index)?)?;
     }
     Ok(functions)
 }
 
-fn code_of(alloc: Global, program: Program) -> Result<Code, AllocError> {
-    let kinds = [CellKind::Mutex, CellKind::Whole, CellKind::Whole];
+fn site(alloc: Global, kind: CellKind) -> Result<Site, AllocError> {
+    let layout = Layout {
+        size: 1,
+        element: 1,
+        kinds: List::from_slice(alloc, &[kind])?,
+    };
+    Ok(Site {
+        name: List::new(alloc),
+        layout,
+        at: START,
+    })
+}
+
+fn sites(alloc: Global, kinds: &[CellKind]) -> Result<List<Site>, AllocError> {
     let mut sites = List::new(alloc);
     for kind in kinds {
-        let layout = Layout {
-            size: 1,
-            element: 1,
-            kinds: List::from_slice(alloc, &[kind])?,
-        };
-        sites.push(Site {
-            name: List::new(alloc),
-            layout,
-            at: START,
-        })?;
+        sites.push(site(alloc, *kind)?)?;
     }
+    Ok(sites)
+}
+
+fn code_of(alloc: Global, program: Program) -> Result<Code, AllocError> {
+    let kinds = [CellKind::Mutex, CellKind::Whole, CellKind::Whole];
+    let functions = functions(alloc, program)?;
+    let sites = sites(alloc, &kinds)?;
     Ok(Code {
-        functions: functions(alloc, program)?,
+        functions,
         sites,
         globals: List::from_slice(alloc, &[0, 0, 0])?,
         global_kinds: List::from_slice(alloc, &kinds)?,
@@ -255,55 +296,116 @@ fn agrees(
     paths_are(plus, minus, held, gone) && are_wanted(summary.guarded.as_slice(), wants)
 }
 
-fn free(function: u32, instr: u32, store: bool) -> Want {
-    Want {
-        function,
-        instr,
-        store,
-        plus: &[],
-        minus: Some(&[]),
-    }
-}
+// The second instruction of function 0, which stores without a lock.
+const FREE: Want = Want {
+    function: 0,
+    instr: 1,
+    store: true,
+    plus: &[],
+    minus: Some(&[]),
+};
 
-#[test]
-fn functions_are_summarised(rt: HostRuntime) -> Result<(), Fail> {
-    let alloc = rt.alloc();
-    let under = Want {
-        plus: HELD,
-        ..free(0, 1, true)
-    };
-    let after_take = Want {
-        plus: HELD,
-        ..free(2, 3, true)
-    };
-    let after_any = Want {
-        minus: None,
-        ..free(2, 7, true)
-    };
-    let main = [
-        free(3, 1, true),
-        free(3, 2, true),
-        free(3, 3, false),
-        free(3, 4, true),
-        free(3, 5, true),
-    ];
-    let none: &[LockPath] = &[];
-    let rows: [(Program, usize, &[LockPath], Option<&[LockPath]>, &[Want]); 8] = [
-        (Program::Threads, 0, &[], Some(none), &[free(0, 1, true)]),
-        (Program::Threads, 1, &[], Some(HELD), &[free(1, 1, true)]),
-        (Program::Threads, 2, &[], Some(HELD), &[under]),
-        (Program::Threads, 3, &[], Some(none), &main),
-        (Program::Formals, 0, HANDED, Some(none), &[]),
-        (Program::Formals, 1, &[], None, &[]),
-        (Program::Formals, 2, &[], None, &[after_take, after_any]),
-        (Program::Formals, 3, &[], Some(none), &[]),
-    ];
-    for (program, function, held, gone, wants) in rows {
+const UNDER: Want = Want { plus: HELD, ..FREE };
+
+const ALONE: Want = Want {
+    function: 1,
+    ..FREE
+};
+
+const AFTER_TAKE: Want = Want {
+    function: 2,
+    instr: 3,
+    plus: HELD,
+    ..FREE
+};
+
+const AFTER_ANY: Want = Want {
+    function: 2,
+    instr: 7,
+    minus: None,
+    ..FREE
+};
+
+const START_FIRST: Want = Want {
+    function: 3,
+    ..FREE
+};
+
+const START_SECOND: Want = Want {
+    instr: 2,
+    ..START_FIRST
+};
+
+const LOAD_THREAD: Want = Want {
+    instr: 3,
+    store: false,
+    ..START_FIRST
+};
+
+const JOIN_FIRST: Want = Want {
+    instr: 4,
+    ..START_FIRST
+};
+
+const JOIN_SECOND: Want = Want {
+    instr: 5,
+    ..START_FIRST
+};
+
+/// The locks at a function's exit, those that may have been given back by then, and its accesses.
+type Found = (
+    &'static [LockPath],
+    Option<&'static [LockPath]>,
+    &'static [Want],
+);
+
+// What is found of each function of the two programs.
+static THREADS: [Found; 4] = [
+    (&[], Some(&[]), &[FREE]),
+    (&[], Some(HELD), &[ALONE]),
+    (&[], Some(HELD), &[UNDER]),
+    (
+        &[],
+        Some(&[]),
+        &[
+            START_FIRST,
+            START_SECOND,
+            LOAD_THREAD,
+            JOIN_FIRST,
+            JOIN_SECOND,
+        ],
+    ),
+];
+
+static FORMALS: [Found; 4] = [
+    (HANDED, Some(&[]), &[]),
+    (&[], None, &[]),
+    (&[], None, &[AFTER_TAKE, AFTER_ANY]),
+    (&[], Some(&[]), &[]),
+];
+
+fn check_program(
+    rt: &impl Abort,
+    alloc: Global,
+    program: Program,
+    rows: &[Found],
+) -> Result<(), Fail> {
+    for (function, (held, gone, wants)) in rows.iter().enumerate() {
         let found = summaries_of(alloc, program)?;
         assert!(rt;
-            agrees(&found, function, held, gone, wants),
+            agrees(&found, function, held, *gone, wants),
             "{program:?} function {function}"
         );
     }
     Ok(())
+}
+
+#[test]
+fn functions_with_threads_are_summarised(rt: HostRuntime) -> Result<(), Fail> {
+    check_program(&rt, rt.alloc(), Program::Threads, &THREADS)
+}
+
+#[test]
+fn functions_with_formals_are_summarised(rt: HostRuntime) -> Result<(), Fail> {
+    check_program(&rt, rt.alloc(), Program::Formals, &FORMALS)
 }

@@ -2,4 +2,6 @@
 #![tactic(auto)]
 
 #[cfg(test)]
+mod instructions;
+#[cfg(test)]
 mod tests;

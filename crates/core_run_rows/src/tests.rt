@@ -1,9 +1,13 @@
 // Walks of logs in which stripes are taken, given, revoked and retaken.
+use crate::instructions::{
+    add, address, binary, call, cell, compute, constant, function, load, lone, site, store, whole,
+};
 use abstract_machine::{BinaryOp, LibraryCall, Piece};
 use core_run::{Entry, Formula, Walk, walk};
 use flow_code::{Act, Base, Bound, Code, Function, Instr, LockInfo, Region, Span, Work, is_valid};
-use rr_base::{Bytes, CellKind, Layout, List, Position, PtrWord, Site};
+use rr_base::{Bytes, CellKind, List, PtrWord, Site};
 use std::alloc::{AllocError, Global};
+use std::process::Abort;
 use std::test::Fail;
 use sync_objects::{ObjId, OpName, Setup};
 
@@ -11,113 +15,37 @@ type Row = (u8, u32, OpName, ObjId);
 
 const W: ObjId = ObjId::Weak { lock: 0, stripe: 0 };
 
-fn lone<T: Drop>(alloc: Global, item: T) -> Result<List<T>, AllocError> {
-    let mut list = List::new(alloc);
-    list.push(item)?;
-    Ok(list)
-}
-
-fn registers(alloc: Global, numbers: &[u32]) -> Result<List<u32>, AllocError> {
-    List::from_slice(alloc, numbers)
-}
-
-fn site(alloc: Global, kind: CellKind, size: u32) -> Result<Site, AllocError> {
-    let mut kinds = List::new(alloc);
-    for _k in 0..size {
-        kinds.push(kind)?;
-    }
-    Ok(Site {
-        name: List::new(alloc),
-        layout: Layout {
-            size,
-            element: 1,
-            kinds,
-        },
-        at: Position { line: 1, column: 1 },
-    })
-}
-
-fn compute(into: u32, work: Work) -> Act {
-    Act::Compute { into, work }
-}
-
-fn constant(into: u32, value: i64) -> Act {
-    compute(into, Work::Constant(value))
-}
-
-fn binary(into: u32, op: BinaryOp, left: u32, right: u32) -> Act {
-    compute(into, Work::Binary { op, left, right })
-}
-
-// The address of the first global.
-fn address(into: u32, length: u16) -> Act {
-    compute(into, Work::Address(PtrWord::pack(1, 0, length, 0)))
-}
-
-fn load(into: u32, through: u32) -> Act {
-    Act::LoadCell { into, through }
-}
-
-fn store(through: u32, from: u32) -> Act {
-    Act::StoreCell { through, from }
-}
-
-fn call(alloc: Global, call: LibraryCall, arguments: &[u32]) -> Result<Act, AllocError> {
-    Ok(Act::Library {
-        call,
-        arguments: registers(alloc, arguments)?,
-        into: None,
-    })
-}
-
-// A list of instructions from the acts in turn.
-fn add(instrs: &mut List<Instr>, act: Act) -> Result<(), AllocError> {
-    instrs.push(Instr {
-        at: Position { line: 1, column: 1 },
-        act,
-    })
-}
-
-fn function(
+fn push_create(
     alloc: Global,
-    name: &[u8],
-    formals: u32,
-    pointers: &[bool],
-    instrs: List<Instr>,
-    regions: List<Region>,
-) -> Result<Function, AllocError> {
-    Ok(Function {
-        name: List::from_slice(alloc, name)?,
-        line: 1,
-        formals,
-        registers: pointers.len().min(64) as u32,
-        pointers: List::from_slice(alloc, pointers)?,
-        gives_pointer: formals == 1,
-        instrs,
-        loops: List::new(alloc),
-        regions,
-    })
+    instrs: &mut List<Instr>,
+    function: u32,
+    into: u32,
+) -> Result<(), AllocError> {
+    let create = call(alloc, LibraryCall::Create { function }, &[into, 2])?;
+    add(instrs, create)
 }
 
-fn cell(alloc: Global, register: u32) -> Result<Region, AllocError> {
-    Ok(Region::Cell {
-        base: Base::Register(register),
-        locks: List::from_slice(alloc, &[0])?,
-    })
-}
-
-fn whole(alloc: Global) -> Result<Region, AllocError> {
-    Ok(Region::Whole {
-        locks: List::from_slice(alloc, &[0])?,
-    })
+fn push_join(
+    alloc: Global,
+    instrs: &mut List<Instr>,
+    thread: u32,
+    through: u32,
+) -> Result<(), AllocError> {
+    add(instrs, load(thread, through))?;
+    let join = call(alloc, LibraryCall::Join, &[thread, 2])?;
+    add(instrs, join)
 }
 
 // `main` starts two threads and joins them. `sites` are those of its two locals.
-fn starts(alloc: Global, sites: [u16; 2], second: u32) -> Result<List<Instr>, AllocError> {
-    let mut instrs = List::new(alloc);
+fn push_starts(
+    alloc: Global,
+    instrs: &mut List<Instr>,
+    sites: [u16; 2],
+    second: u32,
+) -> Result<(), AllocError> {
     for (into, site) in [0, 1].into_iter().zip(sites) {
         add(
-            &mut instrs,
+            instrs,
             Act::Alloc {
                 into,
                 site,
@@ -125,20 +53,11 @@ fn starts(alloc: Global, sites: [u16; 2], second: u32) -> Result<List<Instr>, Al
             },
         )?;
     }
-    add(&mut instrs, constant(2, 0))?;
-    add(
-        &mut instrs,
-        call(alloc, LibraryCall::Create { function: 1 }, &[0, 2])?,
-    )?;
-    add(
-        &mut instrs,
-        call(alloc, LibraryCall::Create { function: second }, &[1, 2])?,
-    )?;
-    add(&mut instrs, load(3, 0))?;
-    add(&mut instrs, call(alloc, LibraryCall::Join, &[3, 2])?)?;
-    add(&mut instrs, load(4, 1))?;
-    add(&mut instrs, call(alloc, LibraryCall::Join, &[4, 2])?)?;
-    Ok(instrs)
+    add(instrs, constant(2, 0))?;
+    push_create(alloc, instrs, 1, 0)?;
+    push_create(alloc, instrs, second, 1)?;
+    push_join(alloc, instrs, 3, 0)?;
+    push_join(alloc, instrs, 4, 1)
 }
 
 const MAIN_POINTERS: [bool; 8] = [true, true, true, false, false, true, false, false];
@@ -154,26 +73,79 @@ fn returns(instrs: &mut List<Instr>, register: u32) -> Result<(), AllocError> {
 }
 
 fn plain_main(alloc: Global, sites: [u16; 2], second: u32) -> Result<Function, AllocError> {
-    let mut instrs = starts(alloc, sites, second)?;
+    let mut instrs = List::new(alloc);
+    push_starts(alloc, &mut instrs, sites, second)?;
     returns(&mut instrs, 7)?;
     function(alloc, b"main", 0, &MAIN_POINTERS, instrs, List::new(alloc))
 }
 
+fn push_printing(alloc: Global, instrs: &mut List<Instr>) -> Result<(), AllocError> {
+    push_starts(alloc, instrs, [2, 3], 1)?;
+    add(instrs, address(5, 1))?;
+    add(instrs, Act::Take(0))?;
+    add(instrs, load(6, 5))?;
+    add(instrs, Act::Give(0))?;
+    let format = List::from_slice(alloc, &[Piece::Number, Piece::Byte(b'\n')])?;
+    let print = call(alloc, LibraryCall::Print { format }, &[6])?;
+    add(instrs, print)?;
+    returns(instrs, 7)
+}
+
 // `main` that prints the first global at the end.
 fn printing_main(alloc: Global) -> Result<Function, AllocError> {
-    let mut instrs = starts(alloc, [2, 3], 1)?;
-    add(&mut instrs, address(5, 1))?;
-    add(&mut instrs, Act::Take(0))?;
-    add(&mut instrs, load(6, 5))?;
-    add(&mut instrs, Act::Give(0))?;
-    let format = List::from_slice(alloc, &[Piece::Number, Piece::Byte(b'\n')])?;
-    add(
-        &mut instrs,
-        call(alloc, LibraryCall::Print { format }, &[6])?,
-    )?;
-    returns(&mut instrs, 7)?;
+    let mut instrs = List::new(alloc);
+    push_printing(alloc, &mut instrs)?;
     let regions = lone(alloc, cell(alloc, 5)?)?;
     function(alloc, b"main", 0, &MAIN_POINTERS, instrs, regions)
+}
+
+fn sites_of(alloc: Global, kinds: &[CellKind], sizes: &[u32]) -> Result<List<Site>, AllocError> {
+    let mut sites = List::new(alloc);
+    for (kind, size) in kinds.iter().zip(sizes) {
+        sites.push(site(alloc, *kind, *size)?)?;
+    }
+    for _k in 0..2 {
+        sites.push(site(alloc, CellKind::Whole, 1)?)?;
+    }
+    Ok(sites)
+}
+
+// The objects lie one after another; the last two sites are no globals.
+fn bases_of(alloc: Global, sizes: &[u32]) -> Result<List<Option<u32>>, AllocError> {
+    let mut bases = List::new(alloc);
+    let mut next: u32 = 0;
+    for size in sizes {
+        bases.push(Some(next))?;
+        next = next.saturating_add(*size);
+    }
+    for _k in 0..2 {
+        bases.push(None)?;
+    }
+    Ok(bases)
+}
+
+fn cells_of(
+    alloc: Global,
+    kinds: &[CellKind],
+    sizes: &[u32],
+) -> Result<List<CellKind>, AllocError> {
+    let mut cells = List::new(alloc);
+    for (kind, size) in kinds.iter().zip(sizes) {
+        for _k in 0..*size {
+            cells.push(*kind)?;
+        }
+    }
+    Ok(cells)
+}
+
+fn zeros(alloc: Global, sizes: &[u32]) -> Result<List<u64>, AllocError> {
+    let mut zeros = List::new(alloc);
+    for size in sizes {
+        for _k in 0..*size {
+            zeros.push(0)?;
+        }
+    }
+    Ok(zeros)
 }
 
 fn code_of(
@@ -184,22 +156,6 @@ fn code_of(
     stripes: u8,
     guarded: u16,
 ) -> Result<Code, AllocError> {
-    let mut sites = List::new(alloc);
-    let mut globals = List::new(alloc);
-    let mut global_kinds = List::new(alloc);
-    let mut global_bases = List::new(alloc);
-    for (kind, size) in kinds.iter().zip(sizes) {
-        sites.push(site(alloc, *kind, *size)?)?;
-        global_bases.push(Some(globals.len().min(64) as u32))?;
-        for _k in 0..*size {
-            globals.push(0)?;
-            global_kinds.push(*kind)?;
-        }
-    }
-    for _k in 0..2 {
-        sites.push(site(alloc, CellKind::Whole, 1)?)?;
-        global_bases.push(None)?;
-    }
     let lock = LockInfo {
         site: guarded,
         class: 0,
@@ -207,25 +163,29 @@ fn code_of(
     };
     Ok(Code {
         functions,
-        sites,
-        globals,
-        global_kinds,
-        global_bases,
+        sites: sites_of(alloc, kinds, sizes)?,
+        globals: zeros(alloc, sizes)?,
+        global_kinds: cells_of(alloc, kinds, sizes)?,
+        global_bases: bases_of(alloc, sizes)?,
         locks: lone(alloc, lock)?,
     })
 }
 
 // `x = x + 1` in one region.
+fn push_block(instrs: &mut List<Instr>) -> Result<(), AllocError> {
+    add(instrs, address(1, 1))?;
+    add(instrs, Act::Take(0))?;
+    add(instrs, load(2, 1))?;
+    add(instrs, constant(3, 1))?;
+    add(instrs, binary(4, BinaryOp::Add, 2, 3))?;
+    add(instrs, store(1, 4))?;
+    add(instrs, Act::Give(0))?;
+    returns(instrs, 5)
+}
+
 fn block_code(alloc: Global) -> Result<Code, AllocError> {
     let mut instrs = List::new(alloc);
-    add(&mut instrs, address(1, 1))?;
-    add(&mut instrs, Act::Take(0))?;
-    add(&mut instrs, load(2, 1))?;
-    add(&mut instrs, constant(3, 1))?;
-    add(&mut instrs, binary(4, BinaryOp::Add, 2, 3))?;
-    add(&mut instrs, store(1, 4))?;
-    add(&mut instrs, Act::Give(0))?;
-    returns(&mut instrs, 5)?;
+    push_block(&mut instrs)?;
     let regions = lone(alloc, whole(alloc)?)?;
     let pointers = [true, true, false, false, false, true];
     let root = function(alloc, b"inc", 1, &pointers, instrs, regions)?;
@@ -235,29 +195,37 @@ fn block_code(alloc: Global) -> Result<Code, AllocError> {
 }
 
 // `int t = x; if (t >= 0) x = t + 1;` with a region round each access.
-fn instruction_code(alloc: Global) -> Result<Code, AllocError> {
-    let mut instrs = List::new(alloc);
-    add(&mut instrs, address(1, 1))?;
-    add(&mut instrs, Act::Take(0))?;
-    add(&mut instrs, load(2, 1))?;
-    add(&mut instrs, Act::Give(0))?;
-    add(&mut instrs, constant(3, 0))?;
-    add(&mut instrs, binary(4, BinaryOp::GreaterEqual, 2, 3))?;
+fn push_instructions(instrs: &mut List<Instr>) -> Result<(), AllocError> {
+    add(instrs, address(1, 1))?;
+    add(instrs, Act::Take(0))?;
+    add(instrs, load(2, 1))?;
+    add(instrs, Act::Give(0))?;
+    add(instrs, constant(3, 0))?;
+    add(instrs, binary(4, BinaryOp::GreaterEqual, 2, 3))?;
     add(
-        &mut instrs,
+        instrs,
         Act::Branch {
             on: 4,
             then_at: 7,
             else_at: 13,
         },
     )?;
-    add(&mut instrs, address(5, 1))?;
-    add(&mut instrs, constant(6, 1))?;
-    add(&mut instrs, binary(7, BinaryOp::Add, 2, 6))?;
-    add(&mut instrs, Act::Take(1))?;
-    add(&mut instrs, store(5, 7))?;
-    add(&mut instrs, Act::Give(1))?;
-    returns(&mut instrs, 8)?;
+    push_second(instrs)
+}
+
+fn push_second(instrs: &mut List<Instr>) -> Result<(), AllocError> {
+    add(instrs, address(5, 1))?;
+    add(instrs, constant(6, 1))?;
+    add(instrs, binary(7, BinaryOp::Add, 2, 6))?;
+    add(instrs, Act::Take(1))?;
+    add(instrs, store(5, 7))?;
+    add(instrs, Act::Give(1))?;
+    returns(instrs, 8)
+}
+
+fn instruction_code(alloc: Global) -> Result<Code, AllocError> {
+    let mut instrs = List::new(alloc);
+    push_instructions(&mut instrs)?;
     let mut regions = lone(alloc, cell(alloc, 1)?)?;
     regions.push(cell(alloc, 5)?)?;
     let pointers = [true, true, false, false, false, true, false, false, true];
@@ -268,24 +236,31 @@ fn instruction_code(alloc: Global) -> Result<Code, AllocError> {
 }
 
 // `for (int i = FROM; i < TO; i++) v[i] = i;` of an array of eight.
-fn half(alloc: Global, name: &[u8], from: i64, to: i64) -> Result<Function, AllocError> {
-    let mut instrs = List::new(alloc);
-    add(&mut instrs, constant(1, from))?;
-    add(&mut instrs, Act::Take(0))?;
-    add(&mut instrs, Act::Mark)?;
-    add(&mut instrs, constant(2, to))?;
-    add(&mut instrs, binary(3, BinaryOp::Less, 1, 2))?;
+fn push_half(instrs: &mut List<Instr>, from: i64, to: i64) -> Result<(), AllocError> {
+    add(instrs, constant(1, from))?;
+    add(instrs, Act::Take(0))?;
+    add(instrs, Act::Mark)?;
+    add(instrs, constant(2, to))?;
+    add(instrs, binary(3, BinaryOp::Less, 1, 2))?;
     add(
-        &mut instrs,
+        instrs,
         Act::Branch {
             on: 3,
             then_at: 6,
             else_at: 13,
         },
     )?;
-    add(&mut instrs, address(4, 8))?;
+    push_turn(instrs)?;
+    add(instrs, Act::Jump { to: 2 })?;
+    add(instrs, Act::Give(0))?;
+    returns(instrs, 8)
+}
+
+// `v[i] = i; i++`
+fn push_turn(instrs: &mut List<Instr>) -> Result<(), AllocError> {
+    add(instrs, address(4, 8))?;
     add(
-        &mut instrs,
+        instrs,
         compute(
             5,
             Work::Move {
@@ -296,13 +271,15 @@ fn half(alloc: Global, name: &[u8], from: i64, to: i64) -> Result<Function, Allo
             },
         ),
     )?;
-    add(&mut instrs, store(5, 1))?;
-    add(&mut instrs, constant(6, 1))?;
-    add(&mut instrs, binary(7, BinaryOp::Add, 1, 6))?;
-    add(&mut instrs, compute(1, Work::Copy(7)))?;
-    add(&mut instrs, Act::Jump { to: 2 })?;
-    add(&mut instrs, Act::Give(0))?;
-    returns(&mut instrs, 8)?;
+    add(instrs, store(5, 1))?;
+    add(instrs, constant(6, 1))?;
+    add(instrs, binary(7, BinaryOp::Add, 1, 6))?;
+    add(instrs, compute(1, Work::Copy(7)))
+}
+
+fn half(alloc: Global, name: &[u8], from: i64, to: i64) -> Result<Function, AllocError> {
+    let mut instrs = List::new(alloc);
+    push_half(&mut instrs, from, to)?;
     let span = Span {
         base: Base::Site(1),
         shift: 0,
@@ -341,45 +318,57 @@ fn stores(
 }
 
 // Holds its region over a mutex.
+fn push_holding(alloc: Global, instrs: &mut List<Instr>) -> Result<(), AllocError> {
+    stores(instrs, 1, 2, 1)?;
+    add(instrs, address(3, 1))?;
+    add(instrs, call(alloc, LibraryCall::MutexLock, &[3])?)?;
+    add(instrs, call(alloc, LibraryCall::MutexUnlock, &[3])?)?;
+    add(instrs, constant(4, 0))?;
+    add(instrs, Act::Give(0))?;
+    add(instrs, Act::Return { value: Some(4) })
+}
+
 fn holding(alloc: Global) -> Result<Function, AllocError> {
     let mut instrs = List::new(alloc);
-    stores(&mut instrs, 1, 2, 1)?;
-    add(&mut instrs, address(3, 1))?;
-    add(&mut instrs, call(alloc, LibraryCall::MutexLock, &[3])?)?;
-    add(&mut instrs, call(alloc, LibraryCall::MutexUnlock, &[3])?)?;
-    add(&mut instrs, constant(4, 0))?;
-    add(&mut instrs, Act::Give(0))?;
-    add(&mut instrs, Act::Return { value: Some(4) })?;
+    push_holding(alloc, &mut instrs)?;
     let regions = lone(alloc, whole(alloc)?)?;
     let pointers = [true, false, true, true, true];
     function(alloc, b"f", 1, &pointers, instrs, regions)
 }
 
 // Calls the fourth function under the mutex.
-fn calling(alloc: Global) -> Result<Function, AllocError> {
-    let mut instrs = List::new(alloc);
-    add(&mut instrs, address(1, 1))?;
-    add(&mut instrs, call(alloc, LibraryCall::MutexLock, &[1])?)?;
+fn push_calling(alloc: Global, instrs: &mut List<Instr>) -> Result<(), AllocError> {
+    add(instrs, address(1, 1))?;
+    add(instrs, call(alloc, LibraryCall::MutexLock, &[1])?)?;
     add(
-        &mut instrs,
+        instrs,
         Act::Call {
             function: 3,
             arguments: List::new(alloc),
             into: None,
         },
     )?;
-    add(&mut instrs, call(alloc, LibraryCall::MutexUnlock, &[1])?)?;
-    returns(&mut instrs, 2)?;
+    add(instrs, call(alloc, LibraryCall::MutexUnlock, &[1])?)?;
+    returns(instrs, 2)
+}
+
+fn calling(alloc: Global) -> Result<Function, AllocError> {
+    let mut instrs = List::new(alloc);
+    push_calling(alloc, &mut instrs)?;
     let pointers = [true, true, true];
     function(alloc, b"g", 1, &pointers, instrs, List::new(alloc))
 }
 
 // Stores in a region of its own.
+fn push_called(instrs: &mut List<Instr>) -> Result<(), AllocError> {
+    stores(instrs, 0, 1, 2)?;
+    add(instrs, Act::Give(0))?;
+    add(instrs, Act::Return { value: None })
+}
+
 fn called(alloc: Global) -> Result<Function, AllocError> {
     let mut instrs = List::new(alloc);
-    stores(&mut instrs, 0, 1, 2)?;
-    add(&mut instrs, Act::Give(0))?;
-    add(&mut instrs, Act::Return { value: None })?;
+    push_called(&mut instrs)?;
     let regions = lone(alloc, whole(alloc)?)?;
     function(alloc, b"h", 0, &[false, true], instrs, regions)
 }
@@ -401,12 +390,16 @@ fn revoked_code(alloc: Global) -> Result<Code, AllocError> {
 }
 
 // Each thread ends by pthread_exit within its region, of a lock with eight stripes.
+fn push_leaving(alloc: Global, instrs: &mut List<Instr>) -> Result<(), AllocError> {
+    add(instrs, address(1, 8))?;
+    add(instrs, Act::Take(0))?;
+    add(instrs, call(alloc, LibraryCall::Exit, &[0])?)?;
+    returns(instrs, 2)
+}
+
 fn exiting_code(alloc: Global) -> Result<Code, AllocError> {
     let mut instrs = List::new(alloc);
-    add(&mut instrs, address(1, 8))?;
-    add(&mut instrs, Act::Take(0))?;
-    add(&mut instrs, call(alloc, LibraryCall::Exit, &[0])?)?;
-    returns(&mut instrs, 2)?;
+    push_leaving(alloc, &mut instrs)?;
     let regions = lone(alloc, cell(alloc, 1)?)?;
     let root = function(alloc, b"leave", 1, &[true, true, true], instrs, regions)?;
     let mut functions = lone(alloc, plain_main(alloc, [2, 3], 1)?)?;
@@ -423,12 +416,7 @@ const NO_READS: Formula = Formula {
     value: None,
 };
 
-// What the walk of a log with three slots prints, or the first wrong position.
-fn walked(alloc: Global, code: &Code, rows: &[Row]) -> Result<Result<Bytes, u32>, AllocError> {
-    if !is_valid(code) {
-        return Ok(Err(u32::MAX));
-    }
-    let setup = Setup::new(3, 16_384, 16_777_216, Bytes::new(alloc));
+fn entries_of(alloc: Global, rows: &[Row]) -> Result<List<Entry>, AllocError> {
     let mut entries = List::new(alloc);
     for (thread, count, op, obj) in rows {
         entries.push(Entry {
@@ -438,6 +426,16 @@ fn walked(alloc: Global, code: &Code, rows: &[Row]) -> Result<Result<Bytes, u32>
             obj: *obj,
         })?;
     }
+    Ok(entries)
+}
+
+// What the walk of a log with three slots prints, or the first wrong position.
+fn walked(alloc: Global, code: &Code, rows: &[Row]) -> Result<Result<Bytes, u32>, AllocError> {
+    if !is_valid(code) {
+        return Ok(Err(u32::MAX));
+    }
+    let entries = entries_of(alloc, rows)?;
+    let setup = Setup::new(3, 16_384, 16_777_216, Bytes::new(alloc));
     if entries.len() > 1_000 {
         return Ok(Err(u32::MAX));
     }
@@ -454,201 +452,265 @@ fn shown(walk: Walk) -> Result<Bytes, u32> {
     }
 }
 
-const fn stripe(stripe: u8) -> ObjId {
-    ObjId::Weak { lock: 0, stripe }
+fn check(
+    rt: &impl Abort,
+    alloc: Global,
+    code: &Code,
+    rows: &[Row],
+    want: Result<&[u8], u32>,
+) -> Result<(), AllocError> {
+    let walked = walked(alloc, code, rows)?;
+    let found = match &walked {
+        Ok(out) => Ok(out.as_slice()),
+        Err(at) => Err(*at),
+    };
+    assert_eq!(rt; found, want);
+    Ok(())
 }
+
+// The same of a log in parts, so that no table is long: a function that names one pays for its rows.
+fn check_parts(
+    rt: &impl Abort,
+    alloc: Global,
+    code: &Code,
+    parts: &[&[Row]],
+    want: Result<&[u8], u32>,
+) -> Result<(), Fail> {
+    let mut rows = Vec::new(alloc);
+    for part in parts {
+        rows.extend_from_slice(part)?;
+    }
+    check(rt, alloc, code, rows.as_slice(), want)?;
+    Ok(())
+}
+
+// `main` starts two threads.
+static STARTS: [Row; 4] = [
+    (0, 1, OpName::Draw, ObjId::Threads),
+    (0, 4, OpName::Start, ObjId::Slot(1)),
+    (0, 5, OpName::Draw, ObjId::Threads),
+    (0, 8, OpName::Start, ObjId::Slot(2)),
+];
+
+// The first thread counts in its region, then the second.
+static FIRST_COUNTS: [Row; 4] = [
+    (1, 0, OpName::Begin, ObjId::Slot(1)),
+    (1, 3, OpName::Take, W),
+    (1, 5, OpName::Give, W),
+    (1, 6, OpName::End, ObjId::Slot(1)),
+];
+
+static SECOND_COUNTS: [Row; 4] = [
+    (2, 0, OpName::Begin, ObjId::Slot(2)),
+    (2, 3, OpName::Take, W),
+    (2, 5, OpName::Give, W),
+    (2, 6, OpName::End, ObjId::Slot(2)),
+];
+
+static JOINS_AND_PRINTS: [Row; 8] = [
+    (0, 10, OpName::Join, ObjId::Slot(1)),
+    (0, 12, OpName::Join, ObjId::Slot(2)),
+    (0, 13, OpName::Take, W),
+    (0, 14, OpName::Give, W),
+    (0, 14, OpName::Print, ObjId::Output),
+    (0, 15, OpName::HaltAll, ObjId::Halt),
+    (1, 7, OpName::Leave, ObjId::Threads),
+    (2, 7, OpName::Leave, ObjId::Threads),
+];
 
 #[test]
 fn counts_in_one_region(rt: HostRuntime) -> Result<(), Fail> {
-    let alloc = rt.alloc();
-    let rows = [
-        (0, 1, OpName::Draw, ObjId::Threads),
-        (0, 4, OpName::Start, ObjId::Slot(1)),
-        (0, 5, OpName::Draw, ObjId::Threads),
-        (0, 8, OpName::Start, ObjId::Slot(2)),
-        (1, 0, OpName::Begin, ObjId::Slot(1)),
-        (1, 3, OpName::Take, W),
-        (1, 5, OpName::Give, W),
-        (1, 6, OpName::End, ObjId::Slot(1)),
-        (2, 0, OpName::Begin, ObjId::Slot(2)),
-        (2, 3, OpName::Take, W),
-        (2, 5, OpName::Give, W),
-        (2, 6, OpName::End, ObjId::Slot(2)),
-        (0, 10, OpName::Join, ObjId::Slot(1)),
-        (0, 12, OpName::Join, ObjId::Slot(2)),
-        (0, 13, OpName::Take, W),
-        (0, 14, OpName::Give, W),
-        (0, 14, OpName::Print, ObjId::Output),
-        (0, 15, OpName::HaltAll, ObjId::Halt),
-        (1, 7, OpName::Leave, ObjId::Threads),
-        (2, 7, OpName::Leave, ObjId::Threads),
-    ];
-    let code = block_code(alloc)?;
-    assert_eq!(rt;
-        walked(alloc, &code, &rows)?,
-        Ok(Bytes::from_slice(alloc, b"2\n")?)
-    );
-    // Without its take the thread can't give.
-    assert_eq!(rt; walked(alloc, &code, &rows[..5])?, Err(5));
-    Ok(())
+    let code = block_code(rt.alloc())?;
+    check_parts(
+        &rt,
+        rt.alloc(),
+        &code,
+        &[&STARTS, &FIRST_COUNTS, &SECOND_COUNTS, &JOINS_AND_PRINTS],
+        Ok(b"2\n"),
+    )
 }
+
+// Without its take the thread can't give.
+#[test]
+fn gives_nothing_untaken(rt: HostRuntime) -> Result<(), Fail> {
+    let code = block_code(rt.alloc())?;
+    let parts: [&[Row]; 2] = [&STARTS, &FIRST_COUNTS[..1]];
+    check_parts(&rt, rt.alloc(), &code, &parts, Err(5))
+}
+
+// The parts of a count access by access.
+static FIRST_READS: [Row; 3] = [
+    (1, 0, OpName::Begin, ObjId::Slot(1)),
+    (1, 3, OpName::Take, W),
+    (1, 4, OpName::Give, W),
+];
+
+static SECOND_READS: [Row; 3] = [
+    (2, 0, OpName::Begin, ObjId::Slot(2)),
+    (2, 3, OpName::Take, W),
+    (2, 4, OpName::Give, W),
+];
+
+static FIRST_WRITES: [Row; 5] = [
+    (1, 4, OpName::Take, W),
+    (1, 5, OpName::Give, W),
+    (1, 6, OpName::End, ObjId::Slot(1)),
+    (0, 10, OpName::Join, ObjId::Slot(1)),
+    (1, 7, OpName::Leave, ObjId::Threads),
+];
+
+static SECOND_WRITES: [Row; 9] = [
+    (2, 4, OpName::Take, W),
+    (2, 5, OpName::Give, W),
+    (2, 6, OpName::End, ObjId::Slot(2)),
+    (0, 12, OpName::Join, ObjId::Slot(2)),
+    (0, 13, OpName::Take, W),
+    (0, 14, OpName::Give, W),
+    (0, 14, OpName::Print, ObjId::Output),
+    (0, 15, OpName::HaltAll, ObjId::Halt),
+    (2, 7, OpName::Leave, ObjId::Threads),
+];
 
 #[test]
 fn counts_access_by_access(rt: HostRuntime) -> Result<(), Fail> {
-    let alloc = rt.alloc();
-    let start = [
-        (0, 1, OpName::Draw, ObjId::Threads),
-        (0, 4, OpName::Start, ObjId::Slot(1)),
-        (0, 5, OpName::Draw, ObjId::Threads),
-        (0, 8, OpName::Start, ObjId::Slot(2)),
-        (1, 0, OpName::Begin, ObjId::Slot(1)),
-        (1, 3, OpName::Take, W),
-        (1, 4, OpName::Give, W),
-    ];
-    let second_reads = [
-        (2, 0, OpName::Begin, ObjId::Slot(2)),
-        (2, 3, OpName::Take, W),
-        (2, 4, OpName::Give, W),
-    ];
-    let first_writes = [
-        (1, 4, OpName::Take, W),
-        (1, 5, OpName::Give, W),
-        (1, 6, OpName::End, ObjId::Slot(1)),
-        (0, 10, OpName::Join, ObjId::Slot(1)),
-        (1, 7, OpName::Leave, ObjId::Threads),
-    ];
-    let end = [
-        (2, 4, OpName::Take, W),
-        (2, 5, OpName::Give, W),
-        (2, 6, OpName::End, ObjId::Slot(2)),
-        (0, 12, OpName::Join, ObjId::Slot(2)),
-        (0, 13, OpName::Take, W),
-        (0, 14, OpName::Give, W),
-        (0, 14, OpName::Print, ObjId::Output),
-        (0, 15, OpName::HaltAll, ObjId::Halt),
-        (2, 7, OpName::Leave, ObjId::Threads),
-    ];
-    let code = instruction_code(alloc)?;
-    let lost = [
-        start.as_slice(),
-        second_reads.as_slice(),
-        first_writes.as_slice(),
-        end.as_slice(),
-    ];
-    let kept = [
-        start.as_slice(),
-        first_writes.as_slice(),
-        second_reads.as_slice(),
-        end.as_slice(),
-    ];
-    for (parts, want) in [(lost, b"1\n".as_slice()), (kept, b"2\n".as_slice())] {
-        let mut rows = Vec::new(alloc);
-        for part in parts {
-            rows.extend_from_slice(part)?;
-        }
-        assert_eq!(rt;
-            walked(alloc, &code, rows.as_slice())?,
-            Ok(Bytes::from_slice(alloc, want)?)
-        );
-    }
-    Ok(())
+    let code = instruction_code(rt.alloc())?;
+    check_parts(
+        &rt,
+        rt.alloc(),
+        &code,
+        &[
+            &STARTS,
+            &FIRST_READS,
+            &FIRST_WRITES,
+            &SECOND_READS,
+            &SECOND_WRITES,
+        ],
+        Ok(b"2\n"),
+    )
 }
+
+#[test]
+fn loses_a_count(rt: HostRuntime) -> Result<(), Fail> {
+    let code = instruction_code(rt.alloc())?;
+    check_parts(
+        &rt,
+        rt.alloc(),
+        &code,
+        &[
+            &STARTS,
+            &FIRST_READS,
+            &SECOND_READS,
+            &FIRST_WRITES,
+            &SECOND_WRITES,
+        ],
+        Ok(b"1\n"),
+    )
+}
+
+// Each thread takes its half, and gives it back.
+static TAKES: [Row; 10] = [
+    (1, 0, OpName::Begin, ObjId::Slot(1)),
+    (1, 3, OpName::Take, ObjId::Weak { lock: 0, stripe: 0 }),
+    (1, 3, OpName::Take, ObjId::Weak { lock: 0, stripe: 1 }),
+    (1, 3, OpName::Take, ObjId::Weak { lock: 0, stripe: 2 }),
+    (1, 3, OpName::Take, ObjId::Weak { lock: 0, stripe: 3 }),
+    (2, 0, OpName::Begin, ObjId::Slot(2)),
+    (2, 3, OpName::Take, ObjId::Weak { lock: 0, stripe: 4 }),
+    (2, 3, OpName::Take, ObjId::Weak { lock: 0, stripe: 5 }),
+    (2, 3, OpName::Take, ObjId::Weak { lock: 0, stripe: 6 }),
+    (2, 3, OpName::Take, ObjId::Weak { lock: 0, stripe: 7 }),
+];
+
+static GIVES: [Row; 8] = [
+    (2, 12, OpName::Give, ObjId::Weak { lock: 0, stripe: 4 }),
+    (2, 12, OpName::Give, ObjId::Weak { lock: 0, stripe: 5 }),
+    (2, 12, OpName::Give, ObjId::Weak { lock: 0, stripe: 6 }),
+    (2, 12, OpName::Give, ObjId::Weak { lock: 0, stripe: 7 }),
+    (1, 12, OpName::Give, ObjId::Weak { lock: 0, stripe: 0 }),
+    (1, 12, OpName::Give, ObjId::Weak { lock: 0, stripe: 1 }),
+    (1, 12, OpName::Give, ObjId::Weak { lock: 0, stripe: 2 }),
+    (1, 12, OpName::Give, ObjId::Weak { lock: 0, stripe: 3 }),
+];
+
+static ENDS: [Row; 7] = [
+    (1, 13, OpName::End, ObjId::Slot(1)),
+    (2, 13, OpName::End, ObjId::Slot(2)),
+    (0, 10, OpName::Join, ObjId::Slot(1)),
+    (0, 12, OpName::Join, ObjId::Slot(2)),
+    (0, 13, OpName::HaltAll, ObjId::Halt),
+    (1, 14, OpName::Leave, ObjId::Threads),
+    (2, 14, OpName::Stop, ObjId::Halt),
+];
 
 #[test]
 fn takes_halves(rt: HostRuntime) -> Result<(), Fail> {
-    let alloc = rt.alloc();
-    let rows = [
-        (0, 1, OpName::Draw, ObjId::Threads),
-        (0, 4, OpName::Start, ObjId::Slot(1)),
-        (0, 5, OpName::Draw, ObjId::Threads),
-        (0, 8, OpName::Start, ObjId::Slot(2)),
-        (1, 0, OpName::Begin, ObjId::Slot(1)),
-        (1, 3, OpName::Take, stripe(0)),
-        (1, 3, OpName::Take, stripe(1)),
-        (1, 3, OpName::Take, stripe(2)),
-        (1, 3, OpName::Take, stripe(3)),
-        (2, 0, OpName::Begin, ObjId::Slot(2)),
-        (2, 3, OpName::Take, stripe(4)),
-        (2, 3, OpName::Take, stripe(5)),
-        (2, 3, OpName::Take, stripe(6)),
-        (2, 3, OpName::Take, stripe(7)),
-        (2, 12, OpName::Give, stripe(4)),
-        (2, 12, OpName::Give, stripe(5)),
-        (2, 12, OpName::Give, stripe(6)),
-        (2, 12, OpName::Give, stripe(7)),
-        (1, 12, OpName::Give, stripe(0)),
-        (1, 12, OpName::Give, stripe(1)),
-        (1, 12, OpName::Give, stripe(2)),
-        (1, 12, OpName::Give, stripe(3)),
-        (1, 13, OpName::End, ObjId::Slot(1)),
-        (2, 13, OpName::End, ObjId::Slot(2)),
-        (0, 10, OpName::Join, ObjId::Slot(1)),
-        (0, 12, OpName::Join, ObjId::Slot(2)),
-        (0, 13, OpName::HaltAll, ObjId::Halt),
-        (1, 14, OpName::Leave, ObjId::Threads),
-        (2, 14, OpName::Stop, ObjId::Halt),
-    ];
-    let code = halves_code(alloc)?;
-    assert_eq!(rt; walked(alloc, &code, &rows)?, Ok(Bytes::new(alloc)));
-    Ok(())
+    let code = halves_code(rt.alloc())?;
+    check_parts(
+        &rt,
+        rt.alloc(),
+        &code,
+        &[&STARTS, &TAKES, &GIVES, &ENDS],
+        Ok(b""),
+    )
 }
+
+// A stripe is revoked over a mutex, and taken again after it.
+static REVOKES: [Row; 8] = [
+    (1, 0, OpName::Begin, ObjId::Slot(1)),
+    (1, 3, OpName::Take, W),
+    (1, 4, OpName::Revoke, W),
+    (2, 0, OpName::Begin, ObjId::Slot(2)),
+    (2, 3, OpName::Lock, ObjId::Mutex(6)),
+    (2, 5, OpName::Take, W),
+    (2, 6, OpName::Give, W),
+    (2, 6, OpName::Unlock, ObjId::Mutex(6)),
+];
+
+static RETAKES: [Row; 11] = [
+    (1, 4, OpName::Lock, ObjId::Mutex(6)),
+    (1, 5, OpName::Unlock, ObjId::Mutex(6)),
+    (1, 6, OpName::Retake, W),
+    (1, 6, OpName::Give, W),
+    (1, 7, OpName::End, ObjId::Slot(1)),
+    (0, 10, OpName::Join, ObjId::Slot(1)),
+    (1, 8, OpName::Leave, ObjId::Threads),
+    (2, 8, OpName::End, ObjId::Slot(2)),
+    (0, 12, OpName::Join, ObjId::Slot(2)),
+    (0, 13, OpName::HaltAll, ObjId::Halt),
+    (2, 9, OpName::Leave, ObjId::Threads),
+];
 
 #[test]
 fn takes_revoked_stripes_again(rt: HostRuntime) -> Result<(), Fail> {
-    let alloc = rt.alloc();
-    let rows = [
-        (0, 1, OpName::Draw, ObjId::Threads),
-        (0, 4, OpName::Start, ObjId::Slot(1)),
-        (0, 5, OpName::Draw, ObjId::Threads),
-        (0, 8, OpName::Start, ObjId::Slot(2)),
-        (1, 0, OpName::Begin, ObjId::Slot(1)),
-        (1, 3, OpName::Take, W),
-        (1, 4, OpName::Revoke, W),
-        (2, 0, OpName::Begin, ObjId::Slot(2)),
-        (2, 3, OpName::Lock, ObjId::Mutex(6)),
-        (2, 5, OpName::Take, W),
-        (2, 6, OpName::Give, W),
-        (2, 6, OpName::Unlock, ObjId::Mutex(6)),
-        (1, 4, OpName::Lock, ObjId::Mutex(6)),
-        (1, 5, OpName::Unlock, ObjId::Mutex(6)),
-        (1, 6, OpName::Retake, W),
-        (1, 6, OpName::Give, W),
-        (1, 7, OpName::End, ObjId::Slot(1)),
-        (0, 10, OpName::Join, ObjId::Slot(1)),
-        (1, 8, OpName::Leave, ObjId::Threads),
-        (2, 8, OpName::End, ObjId::Slot(2)),
-        (0, 12, OpName::Join, ObjId::Slot(2)),
-        (0, 13, OpName::HaltAll, ObjId::Halt),
-        (2, 9, OpName::Leave, ObjId::Threads),
-    ];
-    let code = revoked_code(alloc)?;
-    assert_eq!(rt; walked(alloc, &code, &rows)?, Ok(Bytes::new(alloc)));
-    Ok(())
+    let code = revoked_code(rt.alloc())?;
+    check_parts(
+        &rt,
+        rt.alloc(),
+        &code,
+        &[&STARTS, &REVOKES, &RETAKES],
+        Ok(b""),
+    )
 }
+
+// One thread has given its stripe when it leaves, and from the other one it is revoked.
+static LEAVES: [Row; 13] = [
+    (1, 0, OpName::Begin, ObjId::Slot(1)),
+    (1, 3, OpName::Take, W),
+    (1, 3, OpName::Give, W),
+    (1, 4, OpName::End, ObjId::Slot(1)),
+    (1, 5, OpName::Leave, ObjId::Threads),
+    (2, 0, OpName::Begin, ObjId::Slot(2)),
+    (2, 3, OpName::Take, W),
+    (2, 3, OpName::Revoke, W),
+    (2, 4, OpName::End, ObjId::Slot(2)),
+    (2, 5, OpName::Leave, ObjId::Threads),
+    (0, 10, OpName::Join, ObjId::Slot(1)),
+    (0, 12, OpName::Join, ObjId::Slot(2)),
+    (0, 13, OpName::HaltAll, ObjId::Halt),
+];
 
 #[test]
 fn exits_without_stripes(rt: HostRuntime) -> Result<(), Fail> {
-    let alloc = rt.alloc();
-    let rows = [
-        (0, 1, OpName::Draw, ObjId::Threads),
-        (0, 4, OpName::Start, ObjId::Slot(1)),
-        (0, 5, OpName::Draw, ObjId::Threads),
-        (0, 8, OpName::Start, ObjId::Slot(2)),
-        (1, 0, OpName::Begin, ObjId::Slot(1)),
-        (1, 3, OpName::Take, W),
-        (1, 3, OpName::Give, W),
-        (1, 4, OpName::End, ObjId::Slot(1)),
-        (1, 5, OpName::Leave, ObjId::Threads),
-        (2, 0, OpName::Begin, ObjId::Slot(2)),
-        (2, 3, OpName::Take, W),
-        (2, 3, OpName::Revoke, W),
-        (2, 4, OpName::End, ObjId::Slot(2)),
-        (2, 5, OpName::Leave, ObjId::Threads),
-        (0, 10, OpName::Join, ObjId::Slot(1)),
-        (0, 12, OpName::Join, ObjId::Slot(2)),
-        (0, 13, OpName::HaltAll, ObjId::Halt),
-    ];
-    let code = exiting_code(alloc)?;
-    assert_eq!(rt; walked(alloc, &code, &rows)?, Ok(Bytes::new(alloc)));
-    Ok(())
+    let code = exiting_code(rt.alloc())?;
+    check_parts(&rt, rt.alloc(), &code, &[&STARTS, &LEAVES], Ok(b""))
 }

@@ -7,6 +7,7 @@ use crate::hands::round;
 use rr_base::List;
 use std::alloc::Global;
 use std::marker::Brand;
+use std::process::Abort;
 use std::sync::Wait;
 use std::sync::atomic::AtomicU64;
 use std::sync::atomic::Ordering::SeqCst;
@@ -54,6 +55,37 @@ fn job_of(clock: &AtomicU64, length: u64) -> Ticker<'_> {
     }
 }
 
+// Jobs of these lengths.
+fn jobs_of<'a>(
+    alloc: Global,
+    clock: &'a AtomicU64,
+    lengths: &[u64],
+) -> Result<Vec<Ticker<'a>>, Fail> {
+    let mut jobs = Vec::new(alloc);
+    for length in lengths {
+        jobs.push(job_of(clock, *length))?;
+    }
+    Ok(jobs)
+}
+
+// When each of two jobs of these lengths had its turns, or how the crew ended.
+fn ticks_of(
+    rt: &(impl Abort + Threads + Wait + Sync),
+    alloc: Global,
+    crew: &mut SchedCrew,
+    lengths: &[u64],
+) -> Result<Result<(u64, u64), CrewEnd>, Fail> {
+    let clock = AtomicU64::new(1);
+    let jobs = jobs_of(alloc, &clock, lengths)?;
+    match crew.run(rt, alloc, jobs) {
+        Ok(back) => {
+            assert_eq!(rt; back.len(), 2);
+            Ok(Ok((back[0].ticks, back[1].ticks)))
+        }
+        Err(end) => Ok(Err(end)),
+    }
+}
+
 #[test]
 fn turns_by_an_order(rt: HostRuntime) -> Result<(), Fail> {
     let alloc = rt.alloc();
@@ -68,20 +100,9 @@ fn turns_by_an_order(rt: HostRuntime) -> Result<(), Fail> {
         ([1, 0, 1, 0], 9, [4, 3], Ok((0x2457, 0x136))),
         ([0, 1, 0, 1], 0, [1, 1], Err(CrewEnd::Failed)),
     ];
-    for (order, most, lengths, want) in rows {
-        let clock = AtomicU64::new(1);
-        let mut jobs = Vec::with_capacity(alloc, 2)?;
-        for length in lengths {
-            jobs.push(job_of(&clock, length))?;
-        }
+    for &(order, most, lengths, want) in &rows {
         let mut crew = SchedCrew::new(List::from_slice(alloc, &order)?, most);
-        let found = match crew.run(&rt, alloc, jobs) {
-            Ok(back) => {
-                assert_eq!(rt; back.len(), 2);
-                Ok((back[0].ticks, back[1].ticks))
-            }
-            Err(end) => Err(end),
-        };
+        let found = ticks_of(&rt, alloc, &mut crew, &lengths)?;
         assert_eq!(rt; found, want, "at {most}");
         let counts = match want {
             Ok(_) => (0, 2, lengths[0].wrapping_add(lengths[1])),

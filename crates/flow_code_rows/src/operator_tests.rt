@@ -21,7 +21,7 @@ fn operators_give(rt: HostRuntime) {
         (BinaryOp::Less, -1, 0, Ok(1)),
         (BinaryOp::NotEqual, 4, 4, Ok(0)),
     ];
-    for (op, left, right, want) in rows {
+    for &(op, left, right, want) in &rows {
         assert_eq!(rt;
             binary(op, word(left), word(right)).map(|given| number(given)),
             want,

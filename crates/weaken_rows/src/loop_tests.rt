@@ -7,6 +7,7 @@ use flow_code::{Act, Bound, Code, Function, Instr, LoopInfo, Work};
 use loop_bounds::{counted_loops, ranges};
 use rr_base::{Layout, List, Place, Position, PtrWord, Site};
 use std::alloc::{AllocError, Global};
+use std::process::Abort;
 use std::test::Fail;
 use weak_facts::{LoopAt, Range};
 
@@ -235,13 +236,17 @@ fn push_condition(alloc: Global, row: Row, instrs: &mut List<Instr>) -> Result<(
     }
 }
 
+fn push_body(alloc: Global, row: Row, instrs: &mut List<Instr>) -> Result<(), AllocError> {
+    push_steps(alloc, &row.start, instrs)?;
+    push_condition(alloc, row, instrs)?;
+    push_steps(alloc, row.body, instrs)?;
+    push_steps(alloc, row.last_part, instrs)?;
+    push_steps(alloc, &[Jump(MARK), Return], instrs)
+}
+
 fn body(alloc: Global, row: Row) -> Result<List<Instr>, AllocError> {
     let mut instrs = List::new(alloc);
-    push_steps(alloc, &row.start, &mut instrs)?;
-    push_condition(alloc, row, &mut instrs)?;
-    push_steps(alloc, row.body, &mut instrs)?;
-    push_steps(alloc, row.last_part, &mut instrs)?;
-    push_steps(alloc, &[Jump(MARK), Return], &mut instrs)?;
+    push_body(alloc, row, &mut instrs)?;
     Ok(instrs)
 }
 
@@ -308,6 +313,13 @@ fn site(alloc: Global, element: u32) -> Result<Site, AllocError> {
     })
 }
 
+fn sites(alloc: Global) -> Result<List<Site>, AllocError> {
+    let mut sites = List::new(alloc);
+    sites.push(site(alloc, 1)?)?;
+    sites.push(site(alloc, 2)?)?;
+    Ok(sites)
+}
+
 fn three<T: Drop>(alloc: Global, items: [T; 3]) -> Result<List<T>, AllocError>
     ensures { IfOk result (λ list. list ≡ items) }
 {
@@ -319,12 +331,10 @@ fn code(alloc: Global, row: Row) -> Result<Code, AllocError>
     ensures long { IfOk result (λ code. length code.functions ≡ 3) }
     ensures each { IfOk result (λ code. (f : ℕ) (fn : Function) → slice_get code.functions f ≡ Some fn → fn.registers ≡ 40) }
 {
+    let sites = sites(alloc)?;
     let plain = function(alloc, b"plain", List::new(alloc), List::new(alloc))?;
     let low = looping(alloc, b"low", row)?;
     let high = looping(alloc, b"high", row)?;
-    let mut sites = List::new(alloc);
-    sites.push(site(alloc, 1)?)?;
-    sites.push(site(alloc, 2)?)?;
     Ok(Code {
         functions: three(alloc, [plain, low, high])?,
         sites,
@@ -397,7 +407,8 @@ fn wanted_loops(alloc: Global, row: Row) -> Result<List<LoopAt>, AllocError> {
     Ok(want)
 }
 
-static ROWS: [Row; 30] = [
+// Which loops are counted.
+static LOOPS: [Row; 10] = [
     PLAIN,
     // `++i` and `i += 2`, and `i = i + 1`
     Row {
@@ -454,6 +465,10 @@ static ROWS: [Row; 30] = [
         want: &[],
         ..PLAIN
     },
+];
+
+// Calls and sums. A function that names a table pays for its rows, so there are three.
+static SUMS: [Row; 10] = [
     // The body assigns the counter.
     Row {
         body: &[Copy(I, 2), Address(21), Move(20, 21, I, 1), Load(6, 20)],
@@ -554,6 +569,10 @@ static ROWS: [Row; 30] = [
         want: &[],
         ..PLAIN
     },
+];
+
+// Pointers, and loops in loops.
+static POINTERS: [Row; 10] = [
     // The least number has no negative.
     Row {
         body: &[
@@ -696,16 +715,40 @@ static ROWS: [Row; 30] = [
     },
 ];
 
-#[test]
-fn counted_loops_and_ranges_of_rows(rt: HostRuntime) -> Result<(), Fail> {
-    for (index, row) in ROWS.iter().enumerate() {
-        let code = code(rt.alloc(), *row)?;
-        let loops = counted_loops(rt.alloc(), &code)?;
-        let want = wanted_loops(rt.alloc(), *row)?;
-        assert_eq!(rt; loops.as_slice(), want.as_slice(), "loops of row {index}");
-        let found = ranges_of(rt.alloc(), *row)?;
-        let want = wanted_ranges(rt.alloc(), *row)?;
-        assert_eq!(rt; found.as_slice(), want.as_slice(), "ranges of row {index}");
+fn check_loops(rt: &impl Abort, alloc: Global, index: usize, row: Row) -> Result<(), AllocError> {
+    let code = code(alloc, row)?;
+    let loops = counted_loops(alloc, &code)?;
+    let want = wanted_loops(alloc, row)?;
+    assert_eq!(rt; loops.as_slice(), want.as_slice(), "loops of row {index}");
+    Ok(())
+}
+
+fn check_ranges(rt: &impl Abort, alloc: Global, index: usize, row: Row) -> Result<(), AllocError> {
+    let found = ranges_of(alloc, row)?;
+    let want = wanted_ranges(alloc, row)?;
+    assert_eq!(rt; found.as_slice(), want.as_slice(), "ranges of row {index}");
+    Ok(())
+}
+
+fn check_rows(rt: &impl Abort, alloc: Global, rows: &[Row]) -> Result<(), Fail> {
+    for (index, row) in rows.iter().enumerate() {
+        check_loops(rt, alloc, index, *row)?;
+        check_ranges(rt, alloc, index, *row)?;
     }
     Ok(())
+}
+
+#[test]
+fn counted_loops_of_rows(rt: HostRuntime) -> Result<(), Fail> {
+    check_rows(&rt, rt.alloc(), &LOOPS)
+}
+
+#[test]
+fn ranges_of_sums(rt: HostRuntime) -> Result<(), Fail> {
+    check_rows(&rt, rt.alloc(), &SUMS)
+}
+
+#[test]
+fn ranges_of_pointers(rt: HostRuntime) -> Result<(), Fail> {
+    check_rows(&rt, rt.alloc(), &POINTERS)
 }

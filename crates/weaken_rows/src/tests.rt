@@ -9,6 +9,7 @@ use flow_code::{Act, Base, Bound, Code, Function, Instr, LoopInfo, Region, Span,
 use rr_base::{CellKind, Layout, List, Place, Position, PtrWord, Site};
 use std::alloc::{AllocError, Global};
 use std::fmt::Write;
+use std::process::Abort;
 use std::test::Fail;
 use weak_facts::{Grain, Grained, Grains, Range};
 use weaken::weaken;
@@ -49,7 +50,7 @@ struct Row {
     stripes: u8,
 }
 
-const ROWS: [Row; 5] = [
+static ROWS: [Row; 5] = [
     // `int t = x; if (t) x = t;`, each access alone.
     Row {
         ops: &[
@@ -149,6 +150,14 @@ const ROWS: [Row; 5] = [
     },
 ];
 
+fn join_of(arguments: List<u32>) -> Act {
+    Act::Library {
+        call: LibraryCall::Join,
+        arguments,
+        into: None,
+    }
+}
+
 fn act_of(alloc: Global, op: Op) -> Result<Act, AllocError> {
     Ok(match op {
         Op::Object => Act::Alloc {
@@ -192,11 +201,7 @@ fn act_of(alloc: Global, op: Op) -> Result<Act, AllocError> {
         Op::Load(through) => Act::LoadCell { into: 1, through },
         Op::Store(through) => Act::StoreCell { through, from: 1 },
         Op::Mark => Act::Mark,
-        Op::Join => Act::Library {
-            call: LibraryCall::Join,
-            arguments: List::from_slice(alloc, &[0, 7])?,
-            into: None,
-        },
+        Op::Join => join_of(List::from_slice(alloc, &[0, 7])?),
         Op::Jump(to) => Act::Jump { to },
         Op::Branch(then_at, else_at) => Act::Branch {
             on: 1,
@@ -288,17 +293,20 @@ fn code_of(alloc: Global, row: Row) -> Result<Code, AllocError>
 fn registers(alloc: Global) -> Result<List<List<Place>>, AllocError>
     ensures { IfOk result (λ rows. length rows ≡ 8) }
 {
-    let none = [
+    let third = List::from_slice(alloc, &[X])?;
+    let fourth = List::from_slice(alloc, &[X])?;
+    let seventh = List::from_slice(alloc, &[X])?;
+    let rows = [
         List::new(alloc),
         List::new(alloc),
         List::new(alloc),
-        List::from_slice(alloc, &[X])?,
-        List::from_slice(alloc, &[X])?,
+        third,
+        fourth,
         List::new(alloc),
         List::new(alloc),
-        List::from_slice(alloc, &[X])?,
+        seventh,
     ];
-    Ok(List::from_vec(Vec::from_array(alloc, none)?))
+    Ok(List::from_vec(Vec::from_array(alloc, rows)?))
 }
 
 fn points(alloc: Global) -> Result<PointsTo, AllocError>
@@ -448,29 +456,56 @@ fn weakened(alloc: Global, row: Row, code: &Code) -> Result<Code, AllocError>
     weaken(alloc, code, &points, &pairs, &ranges, &grains)
 }
 
+fn check_texts(
+    rt: &impl Abort,
+    alloc: Global,
+    row: Row,
+    function: &Function,
+) -> Result<(), AllocError> {
+    let text = shown(alloc, function.instrs.as_slice())?;
+    assert_eq!(rt; text.as_str(), row.want);
+    let regions = shown_regions(alloc, function.regions.as_slice())?;
+    assert_eq!(rt; regions.as_str(), row.regions, "of {}", row.want);
+    Ok(())
+}
+
+fn check_moved(rt: &impl Abort, row: Row, function: &Function) {
+    for (found, want) in function.loops.as_slice().iter().zip(row.moved.iter()) {
+        assert_eq!(rt;
+            (found.at, found.first, found.last),
+            *want,
+            "of {}",
+            row.want
+        );
+    }
+}
+
+fn check_stripes(rt: &impl Abort, stripes: u8, want: u8, text: &str) {
+    assert_eq!(rt; stripes, want, "of {text}");
+}
+
+fn check_weak(rt: &impl Abort, alloc: Global, row: Row, weak: &Code) -> Result<(), AllocError> {
+    assert!(rt; is_valid(weak), "{} is valid", row.want);
+    assert_eq!(rt; weak.locks.len(), 1);
+    check_stripes(rt, weak.locks.as_slice()[0].stripes, row.stripes, row.want);
+    for function in weak.functions.as_slice() {
+        check_texts(rt, alloc, row, function)?;
+        check_moved(rt, row, function);
+    }
+    Ok(())
+}
+
+fn check_row(rt: &impl Abort, alloc: Global, row: Row) -> Result<(), AllocError> {
+    let code = code_of(alloc, row)?;
+    assert!(rt; is_valid(&code), "the code of {} is valid", row.want);
+    let weak = weakened(alloc, row, &code)?;
+    check_weak(rt, alloc, row, &weak)
+}
+
 #[test]
 fn weakened_rows(rt: HostRuntime) -> Result<(), Fail> {
-    let alloc = rt.alloc();
-    for (index, row) in ROWS.iter().enumerate() {
-        let code = code_of(alloc, *row)?;
-        assert!(rt; is_valid(&code), "row {index} is valid");
-        let weak = weakened(alloc, *row, &code)?;
-        assert!(rt; is_valid(&weak), "row {index} is valid weakened");
-        assert_eq!(rt; weak.locks.len(), 1);
-        assert_eq!(rt;
-            weak.locks.as_slice()[0].stripes,
-            row.stripes,
-            "row {index}"
-        );
-        for function in weak.functions.as_slice() {
-            let text = shown(alloc, function.instrs.as_slice())?;
-            assert_eq!(rt; text.as_str(), row.want, "row {index}");
-            let regions = shown_regions(alloc, function.regions.as_slice())?;
-            assert_eq!(rt; regions.as_str(), row.regions, "row {index}");
-            for (found, want) in function.loops.as_slice().iter().zip(row.moved.iter()) {
-                assert_eq!(rt; (found.at, found.first, found.last), *want, "row {index}");
-            }
-        }
+    for row in &ROWS {
+        check_row(&rt, rt.alloc(), *row)?;
     }
     Ok(())
 }
