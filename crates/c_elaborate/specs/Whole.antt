@@ -8,7 +8,8 @@ use Rattle.c_types.specs.Scopes.{Known, opened}
 use Rattle.c_names.specs.Sources.{listed_params, known_at_start}
 use Rattle.c_programs.specs.Programs.{signature_of, after_function, after_outer}
 use Rattle.c_locals.specs.Addresses.{count_of_outer, program_addressed}
-use Rattle.c_sites.specs.Spots.{known_after, kinds_of_structs, program_spots, program_sites}
+use Rattle.c_spots.specs.Spots.{known_after, program_spots}
+use Rattle.c_sites.specs.Sites.{kinds_of_structs, program_sites}
 use Rattle.c_core.specs.Core as core
 use Rattle.c_operators.specs.Context.{Source}
 use Rattle.c_elaborate.specs.Functions.{definition}

@@ -16,7 +16,7 @@ use Rattle.c_programs.specs.Declarators.{declared_type}
 use Rattle.c_programs.specs.Initials.{part_at, part_type}
 use Rattle.c_names.specs.Sources.{declared_by}
 use Rattle.c_programs.specs.Statements.{after_declared}
-use Rattle.c_sites.specs.Spots.{Holder, a_global, a_local, an_allocation, Spot}
+use Rattle.c_spots.specs.Spots.{Holder, a_global, a_local, an_allocation, Spot}
 use Rattle.c_operators.specs.Context.{Source, global_named}
 use Rattle.c_initials.specs.Initials.{kinds_of_some}
 

@@ -1,5 +1,5 @@
 //! The globals of a C source: the pointer to each, the kinds of their cells, and the words as which they start. It stands on
-//! `c_sites`, `c_operators` and `c_initials`.
+//! `c_spots`, `c_operators` and `c_initials`.
 #![tactic(auto)]
 
 mod globals;

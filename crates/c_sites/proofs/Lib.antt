@@ -3,5 +3,4 @@ pub mod Kept
 pub mod Programs
 pub mod SiteRows
 pub mod Sizing
-pub mod Spotted
 pub mod Typing

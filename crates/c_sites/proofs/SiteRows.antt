@@ -17,7 +17,8 @@ use Rattle.c_types.specs.Constants.{constant_named}
 use Rattle.c_types.specs.Library.{library_named}
 use Rattle.c_numbers.specs.Numbered.{following}
 use Rattle.c_locals.specs.Addresses.{program_addressed}
-use Rattle.c_sites.specs.Spots.{Holder, a_global, a_local, an_allocation, program_spots, kinds_of_structs, layout_by}
+use Rattle.c_spots.specs.Spots.{Holder, a_global, a_local, an_allocation, program_spots}
+use Rattle.c_sites.specs.Sites.{kinds_of_structs, layout_by}
 
 abbrev pub at : ℕ → Position
 at column = position_at 1 column

@@ -11,7 +11,7 @@ use Rattle.c_types.specs.declared.types.Layer.TheVariants as layer
 use Rattle.c_types.specs.declared.types.ObjectType.{ObjectType}
 use Rattle.c_types.specs.Scopes.{counted_cells}
 use Rattle.c_types.specs.Types.{kinds_of_type, layered_element, base_size, layered_size, size_of_type}
-use Rattle.c_sites.specs.Spots.{is_laid_out}
+use Rattle.c_sites.specs.Sites.{is_laid_out}
 use Rattle.c_types.proofs.Lengths.{sizes_are_lengths}
 
 abbrev counted : List (List CellKind) → List ℕ

@@ -5,7 +5,7 @@ use Rattle.std.proofs.lemmas.Option.{slice_get_within, slice_get-get_or, get_or_
 use Rattle.rr_base.proofs.Lists.{slice_get_outside}
 use Rattle.c_types.specs.declared.types.ObjectType.{ObjectType}
 use Rattle.c_types.specs.Scopes.{Members, members_of}
-use Rattle.c_sites.specs.Spots.{known_type, known_types, types_of_members}
+use Rattle.c_sites.specs.Sites.{known_type, known_types, types_of_members}
 
 module _ (xs : List (Option ObjectType)) (i : ℕ) where
   pub types_more : (j : ℕ) (ts more : List ObjectType) (t : Option ObjectType) →

@@ -8,7 +8,8 @@ use Rattle.c_types.specs.declared.types.ObjectType.{ObjectType}
 use Rattle.c_types.specs.Types.{layout_of_type, struct_kinds}
 use Rattle.c_types.specs.Scopes.{Known, type_named, is_complete}
 use Rattle.c_names.specs.Sources.{known_at_start}
-use Rattle.c_sites.specs.Spots.{known_after, types_of_members, is_laid_out}
+use Rattle.c_spots.specs.Spots.{known_after}
+use Rattle.c_sites.specs.Sites.{types_of_members, is_laid_out}
 
 -- an object has a layout if its type is complete and it has no more cells than an object may have
 abbrev pub layout_in : Known → List (List CellKind) → Option ObjectType → Option Layout

@@ -1,7 +1,6 @@
 pub mod Answers
 pub mod Functions
 pub mod Layouts
-pub mod SpotViews
-pub mod Spots
+pub mod Sites
 pub mod Typed
 pub mod Whole

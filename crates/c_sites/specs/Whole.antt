@@ -8,7 +8,7 @@ use Rattle.c_types.specs.Found.{first_among, found_at}
 use Rattle.c_types.specs.Scopes.{has_name}
 use Rattle.c_names.specs.Sources.{known_at_start}
 use Rattle.c_programs.specs.Programs.{program_faults}
-use Rattle.c_sites.specs.Spots.{Spot, program_spots}
+use Rattle.c_spots.specs.Spots.{Spot, program_spots}
 
 -- the greatest number of sites
 abbrev pub most_sites : ℕ

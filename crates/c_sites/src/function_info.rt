@@ -7,9 +7,9 @@ ghost use Rattle.c_names.specs.Sources.{listed_params, declared_by};
 ghost use Rattle.c_sites.specs.Functions as spec;
 ghost use Rattle.c_names.specs.Table.{texts_of};
 
-use crate::spots::advance;
 use c_locals::{Marks, Roots, addressed_in, is_kept, roots_of};
 use c_names::listed;
+use c_spots::advance;
 use c_tree::{
     Body, Declaration, Declarator, External, ForStart, Item, Name, Param, Params, Part, Program,
     Specifier, Stmt,

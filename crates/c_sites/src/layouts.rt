@@ -5,11 +5,10 @@ ghost use Rattle.c_sites.specs.Layouts as spec;
 ghost use Rattle.c_types.specs.Shown.{shown_maybe};
 ghost use Rattle.c_names.specs.Table.{known_of};
 
-use crate::program_spots::spots_in;
 use crate::sites::{is_laid_out, kinds_of_structs, sizes_of};
-use crate::spot::object_of;
 use c_locals::Marks;
 use c_names::Table;
+use c_spots::{object_of, spots_in};
 use c_tree::{CType, Program};
 use c_types::{TypeRef, is_complete, layout_of_type, type_named};
 use rr_base::{CellKind, Layout, List};

@@ -4,18 +4,17 @@ ghost use Rattle.c_tree.specs.View.{program_of};
 ghost use Rattle.c_types.specs.Found.{first_among};
 ghost use Rattle.c_types.specs.Scopes.{members_of, counted_cells};
 ghost use Rattle.c_types.specs.Shown.{shown_maybe};
-ghost use Rattle.c_sites.specs.Spots as spec;
-ghost use Rattle.c_sites.specs.SpotViews.{shown_holder, shown_spot};
+ghost use Rattle.c_spots.specs.Spots.{outers_spots, program_spots};
+ghost use Rattle.c_spots.specs.SpotViews.{shown_holder, shown_spot};
+ghost use Rattle.c_sites.specs.Sites as spec;
 ghost use Rattle.c_names.specs.Sources.{known_at_start};
 ghost use Rattle.c_names.specs.Table.{known_of};
 ghost use Rattle.c_types.specs.Types.{struct_kinds};
 ghost use Rattle.c_sites.specs.Whole as whole;
 
-use crate::program_spots::spots_in;
-use crate::spot::{Holder, Spot, object_of};
-use crate::spots::advance;
 use c_locals::{Marks, addressed_in};
 use c_names::Table;
+use c_spots::{Holder, Spot, advance, object_of, spots_in};
 use c_tree::Program;
 use c_types::{
     FaultKind, Found, MAX_CELLS, Names, ObjectType, TypeRef, cells_of, cells_of_structs,
@@ -208,7 +207,7 @@ pub fn note_sites(
     program: &Program,
     first: &mut Option<Found>,
 ) -> Result<(), AllocError>
-    ensures { OnOk result (first.new ≡ first_among first.old (whole.sites_faults (spec.program_spots (program_of program.now)))) }
+    ensures { OnOk result (first.new ≡ first_among first.old (whole.sites_faults (program_spots (program_of program.now)))) }
 {
     let marks = addressed_in(alloc, program)?;
     let (_, spots) = spots_in(alloc, &marks, program)?;
@@ -227,7 +226,7 @@ pub fn kinds_of_structs(alloc: Global, table: &Table) -> Result<List<List<CellKi
 
 // The sites of a source, where those are marked to which `&` is applied.
 fn marked_sites(alloc: Global, marks: &Marks, program: &Program) -> Result<List<Site>, AllocError>
-    ensures { IfOk result (λ sites. sites ≡ map (spec.site_of (spec.kinds_of_structs (program_of program.now))) (spec.outers_spots marks.now.numbers (known_at_start (program_of program.now)) 0 (program_of program.now))) }
+    ensures { IfOk result (λ sites. sites ≡ map (spec.site_of (spec.kinds_of_structs (program_of program.now))) (outers_spots marks.now.numbers (known_at_start (program_of program.now)) 0 (program_of program.now))) }
 {
     let (table, spots) = spots_in(alloc, marks, program)?;
     let kinds = kinds_of_structs(alloc, &table)?;

@@ -2,7 +2,7 @@
 ghost use Rattle.std.specs.Prelude.{◌≡◌, None, IfOk, IfErr};
 ghost use Rattle.c_tree.specs.View.{program_of};
 ghost use Rattle.c_sites.specs.Functions.{program_functions};
-ghost use Rattle.c_sites.specs.Spots.{program_sites};
+ghost use Rattle.c_sites.specs.Sites.{program_sites};
 ghost use Rattle.c_sites.specs.Whole.{first_fault};
 ghost use Rattle.c_sites.specs.Typed.{program_in};
 ghost use Rattle.c_sites.specs.Answers.{IsFault};

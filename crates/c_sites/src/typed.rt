@@ -2,7 +2,7 @@
 ghost use Rattle.std.specs.Prelude.{◌≡◌, None};
 ghost use Rattle.c_tree.specs.View.{program_of};
 ghost use Rattle.c_sites.specs.Functions.{program_functions};
-ghost use Rattle.c_sites.specs.Spots.{program_sites};
+ghost use Rattle.c_sites.specs.Sites.{program_sites};
 ghost use Rattle.c_sites.specs.Whole.{first_fault};
 
 use crate::function_info::FunctionInfo;

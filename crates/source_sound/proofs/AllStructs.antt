@@ -13,7 +13,7 @@ use Rattle.c_programs.specs.Declarators.{is_numbered_below, is_struct_defined, s
 use Rattle.c_names.specs.Sources.{declared_by, structs_with}
 use Rattle.c_programs.specs.Statements.{after_declared, after_objects}
 use Rattle.c_programs.specs.Programs.{signature_of, after_function, outer_faults, after_outer, outers_faults}
-use Rattle.c_sites.specs.Spots.{known_after}
+use Rattle.c_spots.specs.Spots.{known_after}
 use Rattle.source_sound.proofs.Environment.{IsFormed}
 use Rattle.source_sound.proofs.FileLists.{append_nil}
 use Rattle.source_sound.proofs.FileStructs.{IsMember, AreMembers, AllMembers, AreStructs, struct_known, struct_defined}

@@ -8,7 +8,7 @@ use Rattle.c_types.specs.Scopes.{Known, opened}
 use Rattle.c_programs.specs.Declarators.{params_faults, after_params}
 use Rattle.c_programs.specs.Statements.{parts_faults}
 use Rattle.c_locals.specs.Addresses.{numbered_from, parts_addressed}
-use Rattle.c_sites.specs.Spots.{in_function, definition_spots}
+use Rattle.c_spots.specs.Spots.{in_function, definition_spots}
 use Rattle.c_core.specs.Core.{Program}
 use Rattle.c_operators.specs.Context.{Source}
 use Rattle.c_elaborate.specs.Functions.{definition}

@@ -15,7 +15,8 @@ use Rattle.c_programs.specs.Initials.{value_target}
 use Rattle.c_programs.specs.Statements.{after_declared, after_declares, after_start}
 use Rattle.c_locals.specs.Addresses.{count_of_locals, count_of_start, count_of_declares}
 use Rattle.c_locals.specs.Kept.{is_kept, is_kept_declared}
-use Rattle.c_sites.specs.Spots.{Holder, a_global, a_local, an_allocation, Spot, spot_named, site_of, where_malloc, is_malloc, allocations, all_allocations, maybe_allocations, lengths_allocations, initial_allocations, initials_allocations, where_kept, Where, in_function, is_cell_in, declared_lengths, declared_spots, object_spots, objects_spots, declares_spots, start_spots, for_spots, statement_spots, parts_spots, members_allocations, fields_allocations, formal_spot, formals_spots, code_spots}
+use Rattle.c_spots.specs.Spots.{Holder, a_global, a_local, an_allocation, Spot, spot_named, where_malloc, is_malloc, allocations, all_allocations, maybe_allocations, lengths_allocations, initial_allocations, initials_allocations, where_kept, Where, in_function, is_cell_in, declared_lengths, declared_spots, object_spots, objects_spots, declares_spots, start_spots, for_spots, statement_spots, parts_spots, members_allocations, fields_allocations, formal_spot, formals_spots, code_spots}
+use Rattle.c_sites.specs.Sites.{site_of}
 use Rattle.c_globals.specs.Globals.{holder_kinds}
 use Rattle.source_sound.proofs.Homes.{kinds_in}
 

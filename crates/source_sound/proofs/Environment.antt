@@ -17,7 +17,7 @@ use Rattle.c_types.specs.Library.{starred_type}
 use Rattle.c_types.specs.Scopes.{Meaning, variable, function_of, seen, has_name, member_of, struct_numbered, function_numbered, cells_of_type}
 use Rattle.c_types.specs.Operands.{Standing, zero_literal, a_place, operand_of}
 use Rattle.c_types.specs.Standing.{Target, no_target, some_target, target_of, type_struct, is_main}
-use Rattle.c_sites.specs.Spots.{Spot}
+use Rattle.c_spots.specs.Spots.{Spot}
 use Rattle.rr_base.specs.declared.position.Position.{Position}
 use Rattle.c_core.specs.Core.{Function, Program}
 use Rattle.c_core.specs.Meaning.{is_pointer}

@@ -14,7 +14,7 @@ use Rattle.c_types.specs.Standing.{Target, no_target, assigned_target, cast_targ
 use Rattle.c_rules.specs.Faults.{mismatch, condition_takes, go_faults, step_faults, cast_faults, specifier_faults, assign_faults, prefix_faults, member_faults, callee_faults, format_faults, begins_with_text, count_of, place_of_first, call_faults, wants_of, one_argument_faults, faults, rest_faults, arguments_faults}
 use Rattle.c_types.specs.Constants.{is_address}
 use Rattle.c_locals.specs.Addresses.{where_address, number_of_operand, addressed, all_addressed}
-use Rattle.c_sites.specs.Spots.{is_malloc, where_malloc, allocations, all_allocations}
+use Rattle.c_spots.specs.Spots.{is_malloc, where_malloc, allocations, all_allocations}
 use Rattle.rr_base.specs.declared.position.Position.{Position}
 use Rattle.c_core.specs.Core as core
 use Rattle.c_core.specs.Core.{Function, Program}

@@ -6,7 +6,7 @@ use Rattle.c_types.specs.Found.{first_among}
 use Rattle.c_types.specs.Scopes.{has_name}
 use Rattle.c_names.specs.Sources.{known_at_start, functions_with}
 use Rattle.c_programs.specs.Programs.{program_faults}
-use Rattle.c_sites.specs.Spots.{Spot, program_spots}
+use Rattle.c_spots.specs.Spots.{Spot, program_spots}
 use Rattle.c_sites.specs.Whole.{first_fault, first_fault_by, spot_faults, sites_faults}
 use Rattle.source_sound.proofs.FileLists.{append_nil, none_among, short_list}
 

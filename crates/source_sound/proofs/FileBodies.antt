@@ -15,7 +15,7 @@ use Rattle.c_types.specs.Standing.{is_main as is_main_name}
 use Rattle.c_names.specs.Sources.{listed_params}
 use Rattle.c_programs.specs.Programs.{signature_of, after_function, after_outer}
 use Rattle.c_locals.specs.Addresses.{count_of_outer, code_addressed, outer_addressed, outers_addressed}
-use Rattle.c_sites.specs.Spots.{in_function, code_spots, outer_spots, outers_spots, known_after}
+use Rattle.c_spots.specs.Spots.{in_function, code_spots, outer_spots, outers_spots, known_after}
 use Rattle.c_core.specs.Core.{Program}
 use Rattle.c_operators.specs.Context.{Source, global_named, function_counted}
 use Rattle.c_values.specs.Calls.{gives_pointer}

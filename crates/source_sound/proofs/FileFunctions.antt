@@ -25,7 +25,7 @@ use Rattle.c_programs.specs.Declarators.{is_struct_defined, with_fields, struct_
 use Rattle.c_programs.specs.Statements.{after_declared, after_objects}
 use Rattle.c_programs.specs.Programs.{signature_of, result_of, after_function, after_outer, again_faults, is_main_signature, int_result, agree, agree_on_result, agree_on_params}
 use Rattle.c_locals.specs.Addresses.{count_of_outer}
-use Rattle.c_sites.specs.Spots.{known_after}
+use Rattle.c_spots.specs.Spots.{known_after}
 use Rattle.c_core.specs.Core.{Function}
 use Rattle.c_core.specs.Meaning.{is_main}
 use Rattle.c_statements.specs.declared.local.Local.{Local}

@@ -20,7 +20,8 @@ use Rattle.c_programs.specs.Declarators.{is_void_specifier, is_struct_specifier,
 use Rattle.c_programs.specs.Programs.{signature_of, after_function, body_faults, is_definition, after_outer}
 use Rattle.c_locals.specs.Addresses.{count_of_outer}
 use Rattle.c_locals.specs.Kept.{is_kept}
-use Rattle.c_sites.specs.Spots.{Spot, spot_named, file_level, in_function, holder_in, is_cell_in, declared_lengths, layout_by, lengths_allocations, parts_spots, members_allocations, fields_allocations, formal_spot, formals_spots, code_spots, outer_spots, outers_spots}
+use Rattle.c_spots.specs.Spots.{Spot, spot_named, file_level, in_function, holder_in, is_cell_in, declared_lengths, lengths_allocations, parts_spots, members_allocations, fields_allocations, formal_spot, formals_spots, code_spots, outer_spots, outers_spots}
+use Rattle.c_sites.specs.Sites.{layout_by}
 use Rattle.c_operators.specs.Context.{Source, global_named}
 use Rattle.source_sound.proofs.Environment.{IsFormed}
 use Rattle.source_sound.proofs.FileLists.{append_nil, nil3, nil4, where_nil}

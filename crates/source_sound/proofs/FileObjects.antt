@@ -19,7 +19,8 @@ use Rattle.c_rules.specs.Faults.{mismatch, name_place}
 use Rattle.c_types.specs.Found.{where_it_comes}
 use Rattle.c_types.specs.declared.fault.FaultKind.TheVariants as fault
 use Rattle.c_types.specs.Standing.{is_main}
-use Rattle.c_sites.specs.Spots.{types_of_members, layout_by, lengths_allocations, initial_allocations, file_level, declared_lengths, declared_spots, object_spots, objects_spots}
+use Rattle.c_spots.specs.Spots.{lengths_allocations, initial_allocations, file_level, declared_lengths, declared_spots, object_spots, objects_spots}
+use Rattle.c_sites.specs.Sites.{types_of_members, layout_by}
 use Rattle.c_operators.specs.Context.{Source, global_named}
 use Rattle.c_initials.specs.Initials.{kinds_of_some}
 use Rattle.c_globals.specs.Globals.{object_words, objects_words, start_words}

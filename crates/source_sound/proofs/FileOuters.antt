@@ -13,7 +13,7 @@ use Rattle.c_names.specs.Sources.{listed_params}
 use Rattle.c_programs.specs.Declarators.{struct_faults, after_struct}
 use Rattle.c_programs.specs.Programs.{signature_of, after_function, function_faults, outer_faults, after_outer, outers_faults}
 use Rattle.c_locals.specs.Addresses.{count_of_outer}
-use Rattle.c_sites.specs.Spots.{in_function, code_spots, fields_allocations, outer_spots, outers_spots, known_after}
+use Rattle.c_spots.specs.Spots.{in_function, code_spots, fields_allocations, outer_spots, outers_spots, known_after}
 use Rattle.c_operators.specs.Context.{Source, global_named}
 use Rattle.c_elaborate.specs.Whole.{outer_words, outers_words}
 use Rattle.source_sound.proofs.FileLists.{append_nil}

@@ -16,7 +16,7 @@ use Rattle.c_rules.specs.Faults.{name_place}
 use Rattle.c_types.specs.Scopes.{Known, Members, members_of, with_name, counted_cells, cells_of_type, cells_of_some}
 use Rattle.c_names.specs.Sources.{declared_name}
 use Rattle.c_programs.specs.Declarators.{declared_type, declarator_faults, has_member, one_member_faults, with_member, some_members_faults, with_members, fields_faults, with_fields, declared_cells, fields_cells, struct_cells, is_struct_defined, struct_faults, size_faults, is_too_large, after_struct}
-use Rattle.c_sites.specs.Spots.{types_of_members}
+use Rattle.c_sites.specs.Sites.{types_of_members}
 use Rattle.source_sound.proofs.Environment.{IsFormed}
 use Rattle.source_sound.proofs.FileLists.{append_nil, nil3, where_nil}
 use Rattle.source_sound.proofs.Structs.{IsWithin, small_parts, elements_of, after_parts, after_more, kinds_before, AreSized, cells_are, cells_of_all, all_exact}

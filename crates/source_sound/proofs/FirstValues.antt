@@ -19,7 +19,7 @@ use Rattle.c_programs.specs.Initials.{layered_part, part_at, part_type, starts_a
 use Rattle.c_names.specs.Sources.{declared_name, declared_by}
 use Rattle.c_programs.specs.Declarators.{declared_type}
 use Rattle.c_programs.specs.Statements.{after_declared, declared_faults, object_faults, objects_faults, declares_faults}
-use Rattle.c_sites.specs.Spots.{in_function, allocations, initial_allocations, initials_allocations, declared_spots, object_spots, objects_spots, declares_spots}
+use Rattle.c_spots.specs.Spots.{in_function, allocations, initial_allocations, initials_allocations, declared_spots, object_spots, objects_spots, declares_spots}
 use Rattle.c_locals.specs.Addresses.{addressed, initial_addressed, initials_addressed, declared_addressed, object_addressed, objects_addressed, declares_addressed, after_name}
 use Rattle.rr_base.specs.declared.position.Position.{Position}
 use Rattle.c_core.specs.Core as core

@@ -14,7 +14,7 @@ use Rattle.c_programs.specs.Declarators.{cannot_pass, param_place, param_name_fa
 use Rattle.c_programs.specs.Statements.{parts_faults}
 use Rattle.c_numbers.specs.Numbered.{Numbered}
 use Rattle.c_locals.specs.Addresses.{is_among, numbered_from, parts_addressed}
-use Rattle.c_sites.specs.Spots.{in_function, formals_spots, parts_spots, definition_spots}
+use Rattle.c_spots.specs.Spots.{in_function, formals_spots, parts_spots, definition_spots}
 use Rattle.c_core.specs.Core as core
 use Rattle.c_core.specs.Core.{Function, Program, Arrival}
 use Rattle.c_statements.specs.declared.local.Local.{Local}

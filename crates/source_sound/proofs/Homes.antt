@@ -10,7 +10,8 @@ use Rattle.abstract_machine.specs.Cells.{size_of, size_in}
 use Rattle.c_lexer.specs.Bytes.{Text}
 use Rattle.c_lexer.specs.Names.{entry_of}
 use Rattle.c_types.specs.Scopes.{with_name}
-use Rattle.c_sites.specs.Spots.{Holder, a_global, a_local, an_allocation, Spot, site_of, layout_by}
+use Rattle.c_spots.specs.Spots.{Holder, a_global, a_local, an_allocation, Spot}
+use Rattle.c_sites.specs.Sites.{site_of, layout_by}
 use Rattle.c_operators.specs.Context.{pointer_or_null}
 use Rattle.c_globals.specs.Globals.{with_global, holder_cells, globals_after, holder_kinds, global_kinds, holder_base, global_bases}
 use Rattle.source_sound.proofs.FileLists.{text_same}

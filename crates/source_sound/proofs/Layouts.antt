@@ -25,7 +25,8 @@ use Rattle.c_rules.specs.Faults.{mismatch, specifier_faults, member_faults, coun
 use Rattle.c_rules.specs.Sizes.{constant_faults, length_faults, is_short_length}
 use Rattle.c_programs.specs.Declarators.{lengths_faults}
 use Rattle.c_programs.specs.Initials.{starts_as, part_at, part_type, where_global, global_value_faults, initial_faults, inits_faults}
-use Rattle.c_sites.specs.Spots.{Spot, layout_by, type_of_target, is_malloc_call, is_malloc, where_malloc, allocations, all_allocations, lengths_allocations, initial_allocations, initials_allocations}
+use Rattle.c_spots.specs.Spots.{Spot, type_of_target, is_malloc_call, is_malloc, where_malloc, allocations, all_allocations, lengths_allocations, initial_allocations, initials_allocations}
+use Rattle.c_sites.specs.Sites.{layout_by}
 use Rattle.std.specs.Prelude.{is_none}
 use Rattle.source_sound.proofs.Environment.{IsFormed}
 use Rattle.source_sound.proofs.FileLists.{append_nil, nil3, nil4, where_nil}

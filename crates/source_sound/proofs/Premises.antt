@@ -6,7 +6,7 @@ use Rattle.c_types.specs.declared.types.ObjectType.{ObjectType}
 use Rattle.c_types.specs.Operands.{operand_of, type_operand, accepts}
 use Rattle.c_types.specs.Standing.{Target, no_target, standing}
 use Rattle.c_rules.specs.Faults.{faults, expression_faults}
-use Rattle.c_sites.specs.Spots.{Spot, allocations}
+use Rattle.c_spots.specs.Spots.{Spot, allocations}
 use Rattle.c_locals.specs.Addresses.{addressed}
 use Rattle.c_core.specs.Core.{Function, Program}
 use Rattle.c_core.specs.Meaning.{is_pointer}

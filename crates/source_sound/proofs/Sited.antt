@@ -5,7 +5,8 @@ use Rattle.std.proofs.lemmas.Bool.Decides.{nat_tests}
 use Rattle.rr_base.specs.declared.layout.CellKind.{CellKind}
 use Rattle.rr_base.specs.declared.layout.Site.{Site}
 use Rattle.rr_base.specs.declared.position.Position.{Position}
-use Rattle.c_sites.specs.Spots.{Spot, site_of}
+use Rattle.c_spots.specs.Spots.{Spot}
+use Rattle.c_sites.specs.Sites.{site_of}
 use Rattle.c_operators.specs.Context.{stands_at, site_counted, site_at}
 
 -- a site stands at the place

@@ -13,7 +13,7 @@ use Rattle.c_names.specs.Sources.{declared_by}
 use Rattle.c_programs.specs.Statements.{after_declared, after_declares, after_start}
 use Rattle.c_locals.specs.Addresses.{is_among, count_of_declares, count_of_start, count_of_locals}
 use Rattle.c_locals.specs.Kept.{is_kept}
-use Rattle.c_sites.specs.Spots.{Spot, spot_named, where_kept, in_function, holder_in, allocations, maybe_allocations, lengths_allocations, initial_allocations, declared_spots, object_spots, objects_spots, declares_spots, start_spots, for_spots, statement_spots, parts_spots, formal_spot, formals_spots}
+use Rattle.c_spots.specs.Spots.{Spot, spot_named, where_kept, in_function, holder_in, allocations, maybe_allocations, lengths_allocations, initial_allocations, declared_spots, object_spots, objects_spots, declares_spots, start_spots, for_spots, statement_spots, parts_spots, formal_spot, formals_spots}
 use Rattle.c_core.specs.Core.{Program}
 use Rattle.c_statements.specs.declared.local.Local.{Local}
 use Rattle.c_operators.specs.Context.{site_at}

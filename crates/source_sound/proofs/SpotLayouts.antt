@@ -16,7 +16,8 @@ use Rattle.c_programs.specs.Initials.{value_target, start_faults}
 use Rattle.c_programs.specs.Statements.{cells_of_declared, global_name_faults, after_declared, declared_faults, object_faults, objects_faults, after_objects, declares_faults, after_declares, computed_faults, condition_faults, test_faults, gives_fit, return_faults, start_of_for_faults, after_start, statement_faults, parts_faults}
 use Rattle.c_locals.specs.Addresses.{count_of_locals, count_of_start, count_of_declares}
 use Rattle.c_locals.specs.Kept.{is_kept_declared}
-use Rattle.c_sites.specs.Spots.{Spot, spot_named, where_kept, Where, in_function, holder_in, is_cell_in, is_global_level, declared_lengths, layout_by, allocations, maybe_allocations, lengths_allocations, initial_allocations, declared_spots, object_spots, objects_spots, declares_spots, start_spots, for_spots, statement_spots, parts_spots}
+use Rattle.c_spots.specs.Spots.{Spot, spot_named, where_kept, Where, in_function, holder_in, is_cell_in, is_global_level, declared_lengths, allocations, maybe_allocations, lengths_allocations, initial_allocations, declared_spots, object_spots, objects_spots, declares_spots, start_spots, for_spots, statement_spots, parts_spots}
+use Rattle.c_sites.specs.Sites.{layout_by}
 use Rattle.c_operators.specs.Context.{Source}
 use Rattle.source_sound.proofs.Environment.{IsFormed}
 use Rattle.source_sound.proofs.FileLists.{append_nil, nil3, nil4}

@@ -11,7 +11,7 @@ use Rattle.c_types.specs.Standing.{no_target, standing}
 use Rattle.c_rules.specs.Faults.{mismatch, expression_faults, go_faults}
 use Rattle.c_names.specs.Sources.{declared_by}
 use Rattle.c_programs.specs.Statements.{after_declares, declares_faults, computed_faults, condition_faults, test_faults, gives_fit, return_faults, start_of_for_faults, after_start, statement_faults, parts_faults}
-use Rattle.c_sites.specs.Spots.{in_function, allocations, maybe_allocations, declares_spots, start_spots, for_spots, statement_spots, parts_spots}
+use Rattle.c_spots.specs.Spots.{in_function, allocations, maybe_allocations, declares_spots, start_spots, for_spots, statement_spots, parts_spots}
 use Rattle.c_numbers.specs.Numbered.{Numbered, inside}
 use Rattle.c_locals.specs.Addresses.{addressed, maybe_addressed, start_addressed, for_addressed, declares_addressed, statement_addressed, parts_addressed, after_names, after_name, after_declaration, after_for_start, past_statement, count_of_declares, count_of_start, count_of_locals}
 use Rattle.c_core.specs.Core.{Function, Program}

@@ -12,7 +12,7 @@ use Rattle.c_types.specs.declared.types.Layer.TheVariants as layer
 use Rattle.c_types.specs.declared.types.ObjectType.{ObjectType}
 use Rattle.c_types.specs.Types.{repeated, base_kinds, layered_kinds, kinds_of_type, layered_element, layout_of_type, members_kinds, kinds_after, base_size, layered_size, size_of_type}
 use Rattle.c_types.specs.Scopes.{Known, cells_of_type, cells_of_some}
-use Rattle.c_sites.specs.Spots.{known_types, is_laid_out, layout_by, empty_layout}
+use Rattle.c_sites.specs.Sites.{known_types, is_laid_out, layout_by, empty_layout}
 use Rattle.source_sound.proofs.Environment.{IsFormedBase, IsFormedLayered}
 
 -- ---- types that have a size

@@ -15,7 +15,7 @@ use Rattle.c_types.specs.Scopes.{seen}
 use Rattle.c_types.specs.Operands.{Standing, no_type, zero_literal, null_literal, a_value, a_place, is_void}
 use Rattle.c_types.specs.Standing.{Target, no_target, target_of, layered_target, type_target, assigned_target, cast_target}
 use Rattle.c_programs.specs.Initials.{value_target}
-use Rattle.c_sites.specs.Spots.{Spot, is_malloc_call, is_malloc, where_malloc}
+use Rattle.c_spots.specs.Spots.{Spot, is_malloc_call, is_malloc, where_malloc}
 use Rattle.c_core.specs.Core.{Function, Program}
 use Rattle.c_operators.specs.Denoted.{Denoted, denoted_register, denoted_cells, denoted_zero, denoted_value}
 use Rattle.c_operators.specs.Context.{Context, site_at}

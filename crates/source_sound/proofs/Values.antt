@@ -12,7 +12,7 @@ use Rattle.c_types.specs.Types.{layered_is_array}
 use Rattle.c_types.specs.Standing.{Target, no_target, standing}
 use Rattle.c_rules.specs.Faults.{faults}
 use Rattle.c_locals.specs.Addresses.{addressed}
-use Rattle.c_sites.specs.Spots.{allocations}
+use Rattle.c_spots.specs.Spots.{allocations}
 use Rattle.rr_base.specs.declared.position.Position.{Position}
 use Rattle.c_core.specs.Core as core
 use Rattle.c_core.specs.Core.{Function, Program}

@@ -14,7 +14,8 @@ use Rattle.c_tree.specs.Tree.{Outer}
 use Rattle.c_types.specs.Scopes.{Known}
 use Rattle.c_names.specs.Sources.{known_at_start}
 use Rattle.c_locals.specs.Addresses.{program_addressed}
-use Rattle.c_sites.specs.Spots.{Spot, site_of, known_after, kinds_of_structs, program_spots, program_sites}
+use Rattle.c_spots.specs.Spots.{Spot, known_after, program_spots}
+use Rattle.c_sites.specs.Sites.{site_of, kinds_of_structs, program_sites}
 use Rattle.c_sites.specs.Whole.{first_fault}
 use Rattle.c_core.specs.Core.{Program}
 use Rattle.c_operators.specs.Context.{Source, global_named}

@@ -26,7 +26,7 @@ use Rattle.c_types.specs.Scopes.{Known, Meaning, variable, function_of, seen, Me
 use Rattle.c_types.specs.Operands.{Operand, operand_of, accepts, layered_accepts, same_base}
 use Rattle.c_types.specs.Standing.{Target, no_target, standing}
 use Rattle.c_programs.specs.Initials.{alike_part, part_at, part_type, is_array_meaning, is_variable, is_variable_name, is_constant_address, layered_is_pointer, global_value_faults, starts_as, layered_is_base, may_be_base, where_global, value_faults, initial_faults, inits_faults}
-use Rattle.c_sites.specs.Spots.{types_of_members}
+use Rattle.c_sites.specs.Sites.{types_of_members}
 use Rattle.c_operators.specs.Context.{Source, global_named}
 use Rattle.c_globals.specs.Globals.{address_word, computed_word, constant_word, start_words, parts_words}
 use Rattle.source_sound.proofs.FileLists.{nil3, where_nil, not_nil}

@@ -1,5 +1,5 @@
 use Rattle.std.proofs.Common.{◌≡◌, ◌++◌, length}
-use Rattle.c_sites.specs.SpotViews.{shown_spots}
+use Rattle.c_spots.specs.SpotViews.{shown_spots}
 use Rattle.c_globals.specs.Globals as spec
 use Rattle.c_globals.proofs.globals.global_kinds.Given as goal
 

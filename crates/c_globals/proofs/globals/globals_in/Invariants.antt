@@ -1,5 +1,5 @@
 use Rattle.std.proofs.Common.{◌≡◌, length, []}
-use Rattle.c_sites.specs.SpotViews.{shown_spots}
+use Rattle.c_spots.specs.SpotViews.{shown_spots}
 use Rattle.c_globals.specs.Globals.{globals_after}
 use Rattle.c_operators.specs.Views.{globals_of}
 use Rattle.c_globals.proofs.globals.globals_in.Given as goal

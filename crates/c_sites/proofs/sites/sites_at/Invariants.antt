@@ -1,6 +1,6 @@
 use Rattle.std.proofs.Common.{◌≡◌, map, take}
-use Rattle.c_sites.specs.Spots.{site_of}
-use Rattle.c_sites.specs.SpotViews.{shown_spot}
+use Rattle.c_sites.specs.Sites.{site_of}
+use Rattle.c_spots.specs.SpotViews.{shown_spot}
 use Rattle.c_sites.proofs.sites.sites_at.Given as goal
 
 abbrev pub invariant-loop-spot : goal.invariant-loop-spot

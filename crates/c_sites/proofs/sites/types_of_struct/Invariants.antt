@@ -1,6 +1,6 @@
 use Rattle.std.proofs.Common.{◌≡◌, ◌-◌, ◌++◌, drop, length, slice_get}
 use Rattle.c_types.specs.Scopes.{members_of}
-use Rattle.c_sites.specs.Spots.{known_types}
+use Rattle.c_sites.specs.Sites.{known_types}
 use Rattle.c_sites.proofs.sites.types_of_struct.Given as goal
 
 -- the types that were read, and those of the members that are left

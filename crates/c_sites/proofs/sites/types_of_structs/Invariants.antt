@@ -1,5 +1,5 @@
 use Rattle.std.proofs.Common.{◌≡◌, map, take}
-use Rattle.c_sites.specs.Spots.{types_of_members}
+use Rattle.c_sites.specs.Sites.{types_of_members}
 use Rattle.c_names.specs.Table.{known_of}
 use Rattle.c_sites.proofs.sites.types_of_structs.Given as goal
 

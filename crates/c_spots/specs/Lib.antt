@@ -1,0 +1,2 @@
+pub mod SpotViews
+pub mod Spots
