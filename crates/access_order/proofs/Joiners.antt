@@ -27,7 +27,8 @@ use Rattle.flow_code.specs.Threads.{Thread}
 use Rattle.flow_code.proofs.Counts.{IsAccessAction}
 use Rattle.flow_code.proofs.Settle.{action_is}
 use Rattle.core_run.specs.Histories.{IsReachable}
-use Rattle.core_run.specs.Machine.{Told, machine, start_state, start_thread}
+use Rattle.core_run.specs.Machine.{Told, machine, start_state}
+use Rattle.thread_flow.specs.Starts.{start_thread}
 use Rattle.core_run.specs.Words.{has_object}
 use Rattle.core_run.proofs.ThreadRanges.{start_thread_is}
 use Rattle.held_locks.specs.Holders.{word_of_object}

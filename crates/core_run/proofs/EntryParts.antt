@@ -8,9 +8,9 @@ use Rattle.sync_objects.specs.Setup.{SetupView}
 use Rattle.sync_objects.specs.declared.entry.Entry.{Entry}
 use Rattle.flow_code.specs.declared.code.Code.{Code}
 use Rattle.core_run.specs.Words.{cells_of, place_of}
-use Rattle.core_run.specs.declared.access.Access.{Access}
-use Rattle.core_run.specs.declared.access.Formula.{Formula}
-use Rattle.core_run.specs.Flows.{Running}
+use Rattle.thread_flow.specs.declared.access.Access.{Access}
+use Rattle.thread_flow.specs.declared.access.Formula.{Formula}
+use Rattle.thread_flow.specs.Flows.{Running}
 use Rattle.core_run.specs.Kept.{AreSound}
 use Rattle.core_run.specs.Machine.{Told, machine}
 use Rattle.core_run.specs.Parts.{KeepsObjects}

@@ -24,7 +24,7 @@ use Rattle.abstract_machine.proofs.Calls.{is_from_outside}
 use Rattle.flow_code.proofs.Counts.{Counts, action_counts, step_grows, settled_count}
 use Rattle.flow_code.proofs.Asked.{own_action}
 use Rattle.core_run.specs.Words.{cells_of, has_object}
-use Rattle.core_run.specs.Pieces.{piece_next}
+use Rattle.thread_flow.specs.Pieces.{piece_next}
 use Rattle.core_run.specs.Machine.{Told, operated, change_of, entry_of, operation, action_effect, may_revoke, may_stop, may_close, effect_of, machine}
 use Rattle.core_run.proofs.Places.{place_past, place_apart}
 use Rattle.runs.specs.Labels.{Label, Go, Revoke, Stop, Close, operation_label}

@@ -3,9 +3,9 @@ use Rattle.std.proofs.Common.{◌≡◌, arith, ◌<◌, ◌-◌, ap, ℕ, zero,
 use Rattle.std.specs.Prelude.{slice_get}
 use Rattle.sync_objects.specs.Setup.{SetupView}
 use Rattle.flow_code.specs.declared.code.Code.{Code}
-use Rattle.core_run.specs.declared.access.Access.{Access}
-use Rattle.core_run.specs.declared.access.Formula.{Formula}
-use Rattle.core_run.specs.Flows.{Running}
+use Rattle.thread_flow.specs.declared.access.Access.{Access}
+use Rattle.thread_flow.specs.declared.access.Formula.{Formula}
+use Rattle.thread_flow.specs.Flows.{Running}
 use Rattle.core_run.specs.Machine.{Told, machine}
 use Rattle.core_run.specs.Walks.{pieces_of}
 use Rattle.core_run.specs.Shown.{IsShown, StepsTo, GoesTo}

@@ -1,17 +1,12 @@
-pub mod StepsAlone
 pub mod Beginnings
-pub mod Changing
-pub mod FlowFacts
 pub mod Lawful
 pub mod Listed
 pub mod Places
 pub mod Reached
-pub mod Retakes
 pub mod SoundWords
 pub mod ThreadRanges
 pub mod Told
 pub mod WholeRuns
-pub mod PairSteps
 pub mod PartFacts
 pub mod Performed
 pub mod Outside

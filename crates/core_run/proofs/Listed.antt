@@ -27,7 +27,7 @@ use Rattle.flow_code.proofs.Ranges.{operation_count, not_ended, settled_in_range
 use Rattle.flow_code.proofs.Counts.{action_counts, settled_keeps_all}
 use Rattle.flow_code.proofs.Endings.{ending_more, other_more, EndsSo, none_yet, Ends, settled_ends, access_ends, operate_ends, gave_up_ends, stopped_ends, shut_ends}
 use Rattle.core_run.specs.Words.{cells_of, has_object}
-use Rattle.core_run.specs.Pieces.{piece_next}
+use Rattle.thread_flow.specs.Pieces.{piece_next}
 use Rattle.core_run.specs.Machine.{Told, entry_of, operation, action_effect, may_revoke, may_stop, may_close, effect_of, machine, start_state}
 use Rattle.core_run.specs.Kept.{AreInRange, endings_in, IsAllowed}
 use Rattle.core_run.proofs.Lawful.{effect_go, effect_revoke, effect_stop, effect_close, change_is}

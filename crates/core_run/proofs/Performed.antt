@@ -18,7 +18,7 @@ use Rattle.flow_code.specs.Settle.{IsRunnable}
 use Rattle.flow_code.proofs.Asked.{own_action}
 use Rattle.core_run.specs.Machine.{Told, effect_of, action_effect, change_of, operated, entry_of}
 use Rattle.core_run.specs.Words.{cells_of, has_object, place_of}
-use Rattle.core_run.specs.Pieces.{piece_next, piece_at}
+use Rattle.thread_flow.specs.Pieces.{piece_next, piece_at}
 use Rattle.core_run.specs.Parts.{made_outcome, MadeOutcome, MadeIs, is_print, PerformedIs, AreUsable, noted}
 use Rattle.core_run.specs.declared.parts.Made.{Made}
 use Rattle.core_run.proofs.PartFacts.{effect_here}

@@ -23,7 +23,7 @@ use Rattle.flow_code.specs.Next.{stepped as thread_stepped, action_at, gave_up, 
 use Rattle.flow_code.specs.Settle.{settled, IsRunnable}
 use Rattle.flow_code.proofs.Asked.{own_action}
 use Rattle.core_run.specs.Words.{cells_of, has_object, place_of, start_words}
-use Rattle.core_run.specs.Pieces.{piece_next}
+use Rattle.thread_flow.specs.Pieces.{piece_next}
 use Rattle.core_run.specs.Machine.{Told, entry_of, operation, action_effect, may_revoke, may_stop, may_close, effect_of, machine}
 use Rattle.core_run.specs.Kept.{AreSound}
 use Rattle.core_run.proofs.Places.{place_past, place_apart}

@@ -19,29 +19,17 @@ use Rattle.flow_code.specs.Threads.{Thread}
 use Rattle.flow_code.specs.Next.{holds, stepped as thread_stepped, action_at, gave_up, stopped, slot_closed, has_ended, has_begun}
 use Rattle.abstract_machine.specs.Limits.{most_entries, most_revokes}
 use Rattle.flow_code.specs.Settle.{settled}
-use Rattle.flow_code.specs.Ranges.{InRange, within}
+use Rattle.flow_code.specs.Ranges.{InRange}
 use Rattle.flow_code.proofs.Ranges.{stepped_in_range, settled_in_range, gave_up_in_range, stopped_in_range, shut_in_range}
 use Rattle.core_run.specs.Words.{cells_of, has_object}
-use Rattle.core_run.specs.Pieces.{piece_next}
-use Rattle.core_run.specs.Machine.{Told, entry_of, operation, action_effect, may_revoke, may_stop, may_close, effect_of, machine, start_thread, start_told, start_threads_from, start_state}
+use Rattle.thread_flow.specs.Pieces.{piece_next}
+use Rattle.core_run.specs.Machine.{Told, entry_of, operation, action_effect, may_revoke, may_stop, may_close, effect_of, machine, start_told, start_threads_from, start_state}
 use Rattle.core_run.specs.Kept.{AreInRange}
+use Rattle.thread_flow.proofs.StartRanges.{start_in_range}
 use Rattle.core_run.proofs.Lawful.{effect_go, effect_revoke, effect_stop, effect_close, change_is}
 use Rattle.runs.specs.Labels.{Label, Go, Revoke, Stop, Close, label_thread}
 use Rattle.runs.specs.Steps.{Becomes, Leaves, Effect, Refused, Marks, Loads, Stores, Operates, State, outcome, stepped}
 use Rattle.runs.proofs.Swap.{load_inv, change_inv, steps_of}
-
--- a thread at the start
-pub start_in_range : (code : Code) (s : SetupView) (extra k : ℕ) → InRange code s extra k (start_thread code s k)
-start_in_range code s extra k = record {
-  counted = within (omega arith);
-  few_entries = omega arith;
-  few_revokes = omega arith;
-  few_printed = omega arith;
-  few_made = omega arith;
-  few_frames = omega arith;
-  room = omega arith;
-  callers = λ j f e. cc;
-}
 
 -- the thread with this number in the list from another one on
 start_threads : (code : Code) (s : SetupView) (k n t : ℕ) (told : Told) → slice_get (start_threads_from code s k n) t ≡ Some told → told ≡ start_told code s (k + t)

@@ -20,7 +20,7 @@ use Rattle.flow_code.specs.Threads.{Thread}
 use Rattle.flow_code.specs.Next.{stepped as thread_stepped, action_at, gave_up, stopped, slot_closed}
 use Rattle.flow_code.specs.Settle.{settled}
 use Rattle.core_run.specs.Words.{cells_of, has_object}
-use Rattle.core_run.specs.Pieces.{piece_next}
+use Rattle.thread_flow.specs.Pieces.{piece_next}
 use Rattle.core_run.specs.Machine.{Told, entry_of, operation, action_effect, may_revoke, may_stop, may_close, effect_of, machine, start_state}
 use Rattle.core_run.specs.Histories.{run_of, list_in, list_of, lists_of}
 use Rattle.core_run.proofs.Lawful.{effect_go, effect_revoke, effect_stop, effect_close, change_is}

@@ -10,13 +10,13 @@ use Rattle.sync_objects.specs.declared.entry.Entry.{Entry}
 use Rattle.flow_code.specs.declared.code.Code.{Code}
 use Rattle.flow_code.specs.Settle.{IsRunnable}
 use Rattle.flow_code.specs.Next.{has_ended}
-use Rattle.core_run.specs.declared.access.Access.{Access}
-use Rattle.core_run.specs.declared.access.Formula.{Formula}
-use Rattle.core_run.specs.declared.outcome.Ending.{Ending}
+use Rattle.thread_flow.specs.declared.access.Access.{Access}
+use Rattle.thread_flow.specs.declared.access.Formula.{Formula}
+use Rattle.thread_flow.specs.declared.outcome.Ending.{Ending}
 use Rattle.core_run.specs.declared.outcome.Walk.{Walk}
 use Rattle.core_run.specs.declared.outcome.Walk.TheVariants as walk_case
-use Rattle.core_run.specs.Endings.{ending_of, trap_of}
-use Rattle.core_run.specs.Flows.{Running}
+use Rattle.thread_flow.specs.Endings.{ending_of, trap_of}
+use Rattle.thread_flow.specs.Flows.{Running}
 use Rattle.core_run.specs.Kept.{IsKept}
 use Rattle.core_run.specs.Machine.{Told, machine, start_state, start_threads_from}
 use Rattle.core_run.specs.Parts.{AreUsable}

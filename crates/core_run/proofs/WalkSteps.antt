@@ -6,9 +6,9 @@ use Rattle.std.proofs.lemmas.List.{append-nil}
 use Rattle.sync_objects.specs.Setup.{SetupView}
 use Rattle.sync_objects.specs.declared.entry.Entry.{Entry}
 use Rattle.flow_code.specs.declared.code.Code.{Code}
-use Rattle.core_run.specs.declared.access.Access.{Access}
-use Rattle.core_run.specs.declared.access.Formula.{Formula}
-use Rattle.core_run.specs.Flows.{Running}
+use Rattle.thread_flow.specs.declared.access.Access.{Access}
+use Rattle.thread_flow.specs.declared.access.Formula.{Formula}
+use Rattle.thread_flow.specs.Flows.{Running}
 use Rattle.core_run.specs.Machine.{Told, machine}
 use Rattle.core_run.specs.Parts.{OwnIs, MadeIs}
 use Rattle.core_run.specs.declared.parts.Own.{Own}

@@ -11,12 +11,13 @@ use Rattle.sync_objects.specs.declared.entry.Entry.{Entry}
 use Rattle.sync_objects.specs.declared.entry.Noted.{Noted}
 use Rattle.flow_code.specs.declared.code.Code.{Code}
 use Rattle.flow_code.specs.Threads.{Thread}
-use Rattle.core_run.specs.declared.access.Access.{Access}
-use Rattle.core_run.specs.declared.access.Formula.{Formula}
-use Rattle.core_run.specs.Flows.{Running}
+use Rattle.thread_flow.specs.declared.access.Access.{Access}
+use Rattle.thread_flow.specs.declared.access.Formula.{Formula}
+use Rattle.thread_flow.specs.Flows.{Running}
 use Rattle.core_run.specs.Machine.{Told, machine, effect_of, marked, accessed, operated}
 use Rattle.core_run.specs.Words.{cells_of, place_of}
-use Rattle.core_run.specs.Walks.{meets, most_reads, kept_reads, pieces_of, joined}
+use Rattle.core_run.specs.Walks.{most_reads, kept_reads, pieces_of, joined}
+use Rattle.thread_flow.specs.Formulas.{meets}
 use Rattle.core_run.specs.Parts.{own_outcome, made_outcome, OwnIs, MadeIs}
 use Rattle.core_run.specs.declared.parts.Own.TheVariants as own
 use Rattle.core_run.specs.declared.parts.Made.TheVariants as made_case

@@ -1,12 +1,7 @@
-pub mod Endings
-pub mod Flows
 pub mod Histories
 pub mod Kept
 pub mod Machine
 pub mod Parts
-pub mod Passing
-pub mod Pieces
 pub mod Shown
-pub mod Stacks
 pub mod Walks
 pub mod Words

@@ -1,5 +1,5 @@
 -- The machine of a code and a setup: what each label does with a thread, and the state at the start.
-use Rattle.std.specs.Prelude.{ℕ, zero, suc, ◌+◌, nat_lt, ◌&&◌, Bool, true, false, not, if◌then◌else◌, ℤ, pos, List, [], ◌∷◌, ◌++◌, position, unwrap_or, Some}
+use Rattle.std.specs.Prelude.{ℕ, zero, suc, ◌+◌, nat_lt, ◌&&◌, Bool, true, false, not, if◌then◌else◌, ℤ, pos, List, [], ◌∷◌, ◌++◌}
 use Rattle.sync_objects.specs.Setup.{SetupView}
 use Rattle.sync_objects.specs.Words.{number_of}
 use Rattle.sync_objects.specs.Names.{name_of}
@@ -12,18 +12,17 @@ use Rattle.sync_objects.specs.declared.operation.Op.{Op}
 use Rattle.sync_objects.specs.declared.operation.Op.TheVariants as op
 use Rattle.sync_objects.specs.declared.operation.OpName.{OpName}
 use Rattle.flow_code.specs.declared.code.Code.{Code}
-use Rattle.flow_code.specs.declared.thread.Phase.{Phase}
-use Rattle.flow_code.specs.declared.thread.Phase.TheVariants as phase
 use Rattle.abstract_machine.specs.declared.event.Action.{Action}
 use Rattle.abstract_machine.specs.declared.event.Action.TheVariants as action
 use Rattle.abstract_machine.specs.Values.{number}
-use Rattle.flow_code.specs.Threads.{Frame, Thread, arena_start, is_main_in}
+use Rattle.flow_code.specs.Threads.{Thread}
 use Rattle.flow_code.specs.Next.{stepped, action_at, holds, gave_up, stopped, slot_closed, has_ended, has_begun}
 use Rattle.abstract_machine.specs.Limits.{most_entries, most_revokes}
 use Rattle.flow_code.specs.Settle.{settled}
-use Rattle.core_run.specs.declared.access.Access.{Access}
+use Rattle.thread_flow.specs.declared.access.Access.{Access}
 use Rattle.core_run.specs.Words.{cells_of, has_object, place_of, start_words}
-use Rattle.core_run.specs.Pieces.{piece_next}
+use Rattle.thread_flow.specs.Pieces.{piece_next}
+use Rattle.thread_flow.specs.Starts.{start_thread}
 use Rattle.runs.specs.Labels.{Label, Go, Revoke, Stop, Close}
 use Rattle.runs.specs.Steps.{Change, NotAllowed, Becomes, Effect, Refused, Marks, Loads, Stores, Operates, Machine, State}
 
@@ -107,23 +106,6 @@ machine code s = record {
 }
 
 -- ---- the start
-
--- the function `main`
-abbrev pub main_of : Code → ℕ
-main_of code = unwrap_or (position (λ f. is_main_in (Some f)) code.functions) 0
-
--- what stands on top before a thread enters its first function
-abbrev pub no_frame : Frame
-no_frame = record { function = 0; instr = 0; made = 0; kept = pos 0; registers = [] }
-
--- thread 0 has begun, all others are fresh
-abbrev pub start_phase : Code → ℕ → Phase
-start_phase code zero = phase.Begun (main_of code)
-start_phase code (suc k) = phase.Fresh
-
--- thread 0 is to enter `main`; the others wait to be started
-abbrev pub start_thread : Code → SetupView → ℕ → Thread
-start_thread code s k = record { count = 0; arena = arena_start code s k; entries = 0; revokes = 0; printed = 0; phase = start_phase code k; top = no_frame; below = []; stripes = []; regions = [] }
 
 -- a thread that has left no entries, accesses or printed pieces yet
 abbrev pub start_told : Code → SetupView → ℕ → Told

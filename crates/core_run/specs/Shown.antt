@@ -3,14 +3,15 @@ use Rattle.std.specs.Prelude.{◌≡◌, ℕ, suc, ◌+◌, nat_lt, ◌&&◌, Bo
 use Rattle.sync_objects.specs.Setup.{SetupView}
 use Rattle.flow_code.specs.declared.code.Code.{Code}
 use Rattle.flow_code.specs.Threads.{Thread}
-use Rattle.core_run.specs.declared.access.Access.{Access}
-use Rattle.core_run.specs.declared.access.Formula.{Formula}
-use Rattle.core_run.specs.Flows.{Running}
+use Rattle.thread_flow.specs.declared.access.Access.{Access}
+use Rattle.thread_flow.specs.declared.access.Formula.{Formula}
+use Rattle.thread_flow.specs.Flows.{Running}
 use Rattle.sync_objects.specs.declared.entry.Entry.{Entry}
 use Rattle.core_run.specs.Machine.{Told, machine, start_state}
-use Rattle.core_run.specs.Walks.{meets, most_reads, kept_reads, pieces_of, printed_between, Trapping, NoTrap, TrapOf, trap_or}
-use Rattle.core_run.specs.Endings.{ending_of, trap_of}
-use Rattle.core_run.specs.declared.outcome.Ending.{Ending}
+use Rattle.core_run.specs.Walks.{most_reads, kept_reads, pieces_of, printed_between, Trapping, NoTrap, TrapOf, trap_or}
+use Rattle.thread_flow.specs.Formulas.{meets}
+use Rattle.thread_flow.specs.Endings.{ending_of, trap_of}
+use Rattle.thread_flow.specs.declared.outcome.Ending.{Ending}
 use Rattle.flow_code.specs.Next.{has_ended}
 use Rattle.std.specs.List.{filter_map, flat_map}
 use Rattle.core_run.specs.declared.outcome.Walk.{Walk}

@@ -1,43 +1,23 @@
 -- The walk of a list of entries: one thread goes at a time, up to each entry in turn; and what it comes to.
-use Rattle.std.specs.Prelude.{◌≡◌, ℕ, ◌+◌, ◌<◌, ◌==◌, nat_le, ◌&&◌, Bool, true, false, if◌then◌else◌, ℤ, pos, negsuc, List, [], ◌∷◌, ◌++◌, length, take, drop, filter, ◌⊎◌, Option, Some, None, slice_get}
+use Rattle.std.specs.Prelude.{◌≡◌, ℕ, ◌+◌, ◌<◌, List, [], ◌∷◌, ◌++◌, length, take, drop, filter, ◌⊎◌, Option, Some, None, slice_get}
 use Rattle.std.specs.List.{filter_map, flat_map}
 use Rattle.sync_objects.specs.Setup.{SetupView}
 use Rattle.sync_objects.specs.declared.entry.Entry.{Entry}
 use Rattle.rr_base.specs.declared.trap.Trap.{Trap}
 use Rattle.flow_code.specs.declared.code.Code.{Code}
-use Rattle.abstract_machine.specs.Values.{number}
-use Rattle.core_run.specs.declared.access.Access.{Access}
-use Rattle.core_run.specs.declared.access.Formula.{Formula}
-use Rattle.core_run.specs.declared.outcome.Ending.{Ending}
+use Rattle.thread_flow.specs.declared.access.Access.{Access}
+use Rattle.thread_flow.specs.declared.access.Formula.{Formula}
+use Rattle.thread_flow.specs.declared.outcome.Ending.{Ending}
 use Rattle.core_run.specs.declared.outcome.Walk.{Walk}
 use Rattle.core_run.specs.declared.outcome.Walk.TheVariants as walk
-use Rattle.core_run.specs.Endings.{ending_of, trap_of}
+use Rattle.thread_flow.specs.Endings.{ending_of, trap_of}
+use Rattle.thread_flow.specs.Formulas.{meets}
 use Rattle.core_run.specs.Machine.{Told, machine, start_state}
 use Rattle.runs.specs.Steps.{State, AllEnded}
 use Rattle.runs.specs.Walk.{part}
 use Rattle.runs.specs.Walk as solo
 
 -- ---- what is kept of accesses
-
--- equal whole numbers, with their signs
-abbrev pub same_number : ℤ → ℤ → Bool
-same_number (pos a) (pos b) = a == b
-same_number (negsuc a) (negsuc b) = a == b
-same_number _ _ = false
-
--- a formula that names no thread asks for all
-abbrev pub is_of_thread : Option ℕ → ℕ → Bool
-is_of_thread None t = true
-is_of_thread (Some u) t = u == t
-
--- a formula without a value asks for all; words are read with signs
-abbrev pub has_value : Option ℤ → ℕ → Bool
-has_value None w = true
-has_value (Some z) w = same_number z (number w)
-
--- the access is of the kind, the thread, the cells and the value that the formula asks for
-abbrev pub meets : Formula → Access → Bool
-meets f a = (if a.store then f.stores else f.loads) && is_of_thread f.thread a.thread && nat_le f.low a.cell && nat_le a.cell f.high && has_value f.value a.value
 
 -- the most accesses that are kept of one thread
 abbrev pub most_reads : ℕ

@@ -4,11 +4,10 @@ ghost use Rattle.std.specs.List.{flat_map};
 ghost use Rattle.core_run.specs.Walks.{NoTrap, TrapOf, Trapping};
 ghost use Rattle.core_run.specs.Shown.{all_ended, endings, trap_from, ShownAs};
 
-use crate::access::Access;
-use crate::flow::Flow;
-use crate::outcome::{Ending, Walk};
+use crate::outcome::Walk;
 use rr_base::{Bytes, List, Trap};
 use std::alloc::{AllocError, Global};
+use thread_flow::{Access, Ending, Flow};
 
 // Whether all threads have ended.
 pub(crate) fn have_ended(flows: &[Flow]) -> bool

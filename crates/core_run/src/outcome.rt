@@ -1,20 +1,5 @@
-use crate::access::Access;
 use rr_base::{Bytes, List, Trap};
-
-/// How a thread has ended.
-#[derive(Clone, Copy, Debug, PartialEq, Eq)]
-pub enum Ending {
-    /// Its function has ended.
-    Ended,
-    /// `main` has returned in it.
-    Halted,
-    /// It has trapped.
-    Trapped,
-    /// It was stopped, since the program had ended.
-    Stopped,
-    /// Its slot was closed before it began.
-    Closed,
-}
+use thread_flow::{Access, Ending};
 
 /// What the walk of a list of entries comes to.
 #[derive(Debug, Drop)]

@@ -9,13 +9,12 @@ ghost use Rattle.core_run.specs.Machine.{Told};
 ghost use Rattle.core_run.specs.Words.{cells_of, has_object as has_object_of, place_of as place_of_object};
 ghost use Rattle.core_run.specs.Parts.{OwnOf, OwnIs, KeepsObjects, is_print as is_print_of, PerformedIs, AreUsable};
 
-use crate::access::Access;
-use crate::flow::Flow;
 use abstract_machine::Action;
 use flow_code::Code;
 use rr_base::Bytes;
 use std::alloc::AllocError;
 use sync_objects::{ObjId, Op, Setup, advance};
+use thread_flow::{Access, Flow};
 
 /// What a thread's own step has come to.
 #[derive(Clone, Copy)]

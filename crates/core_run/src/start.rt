@@ -4,11 +4,11 @@ ghost use Rattle.flow_code.specs.Settle.{IsRunnable};
 ghost use Rattle.core_run.specs.Words.{start_global as start_global_of, start_globals, start_words as start_words_of, objects_from};
 ghost use Rattle.core_run.specs.Shown.{AreStarted};
 
-use crate::flow::Flow;
 use flow_code::Code;
 use rr_base::CellKind;
 use std::alloc::{AllocError, Global};
 use sync_objects::{ObjId, Setup, start_word};
+use thread_flow::Flow;
 
 fn push_zeros(words: &mut Vec<u64>, count: usize) -> Result<(), AllocError>
     ensures { OnOk result (words.new.items ≡ words.old.items ++ replicate count 0) }

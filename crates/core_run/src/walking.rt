@@ -3,7 +3,6 @@ ghost use Rattle.std.specs.Prelude.{◌≡◌, ◌<◌, ◌^◌, ◌-◌, length
 ghost use Rattle.flow_code.specs.Settle.{IsRunnable};
 ghost use Rattle.core_run.specs.Walks.{WalkIs};
 
-use crate::access::{Access, Formula};
 use crate::finish::{have_ended, shown};
 use crate::outcome::Walk;
 use crate::start::{start_flows, start_words};
@@ -12,6 +11,7 @@ use flow_code::Code;
 use rr_base::{Bytes, List};
 use std::alloc::{AllocError, Global};
 use sync_objects::{Entry, Setup};
+use thread_flow::{Access, Formula};
 
 // No accesses yet, for each thread.
 fn start_reads(alloc: Global, slots: u8) -> Result<Vec<List<Access>>, AllocError>

@@ -3,13 +3,14 @@ use crate::instructions::{
     add, address, binary, call, cell, compute, constant, function, load, lone, site, store, whole,
 };
 use abstract_machine::{BinaryOp, LibraryCall, Piece};
-use core_run::{Entry, Formula, Walk, walk};
+use core_run::{Entry, Walk, walk};
 use flow_code::{Act, Base, Bound, Code, Function, Instr, LockInfo, Region, Span, Work, is_valid};
 use rr_base::{Bytes, CellKind, List, PtrWord, Site};
 use std::alloc::{AllocError, Global};
 use std::process::Abort;
 use std::test::Fail;
 use sync_objects::{ObjId, OpName, Setup};
+use thread_flow::Formula;
 
 type Row = (u8, u32, OpName, ObjId);
 

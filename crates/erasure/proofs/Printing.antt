@@ -27,7 +27,7 @@ use Rattle.weak_code.specs.Weakened.{retarget}
 use Rattle.weak_code.specs.Stripped.{plain_of, strip}
 use Rattle.c_core.specs.Runs.{printed_in}
 use Rattle.lower_sound.specs.Follows.{Prints}
-use Rattle.core_run.specs.Pieces.{piece_at, piece_next}
+use Rattle.thread_flow.specs.Pieces.{piece_at, piece_next}
 use Rattle.core_run.specs.Machine.{Told, machine, start_state}
 use Rattle.core_run.specs.Walks.{joined, walk_of, out_of}
 use Rattle.runs.specs.Labels.{Label, Go, Revoke, Stop, Close, label_thread}

@@ -16,7 +16,8 @@ use Rattle.c_core.specs.Core.{Program}
 use Rattle.c_core.specs.Meaning as meaning
 use Rattle.lower_sound.specs.Follows.{Follows}
 use Rattle.core_run.specs.Histories.{run_of}
-use Rattle.core_run.specs.Machine.{Told, start_thread, main_of, start_state}
+use Rattle.core_run.specs.Machine.{Told, start_state}
+use Rattle.thread_flow.specs.Starts.{start_thread, main_of}
 use Rattle.core_run.specs.Walks.{walk_of}
 use Rattle.runs.specs.Labels.{Label}
 use Rattle.runs.specs.Steps.{State}

@@ -22,7 +22,8 @@ use Rattle.lower_sound.specs.Follows.{Follows}
 use Rattle.lower_sound.proofs.SoundWithin.{sound_within}
 use Rattle.lower_sound.proofs.Valid.{valid}
 use Rattle.core_run.specs.Histories.{run_of}
-use Rattle.core_run.specs.Machine.{Told, start_thread, start_state}
+use Rattle.core_run.specs.Machine.{Told, start_state}
+use Rattle.thread_flow.specs.Starts.{start_thread}
 use Rattle.core_run.specs.Walks.{walk_of, out_of}
 use Rattle.runs.specs.Labels.{Label}
 use Rattle.runs.specs.Steps.{State}

@@ -20,7 +20,8 @@ use Rattle.flow_code.specs.Settle.{settled, IsRunnable}
 use Rattle.flow_code.proofs.Asked.{own_action}
 use Rattle.flow_code.proofs.Counts.{IsAccessAction, ended_due, ended_action}
 use Rattle.flow_code.proofs.Settle.{settled_none}
-use Rattle.core_run.specs.Machine.{may_revoke, may_stop, start_thread}
+use Rattle.core_run.specs.Machine.{may_revoke, may_stop}
+use Rattle.thread_flow.specs.Starts.{start_thread}
 use Rattle.core_run.proofs.ThreadRanges.{revoke_lives, stop_lives, close_lives}
 use Rattle.runs.specs.Labels.{Label, label_thread}
 use Rattle.held_locks.proofs.PlainDues.{OfSlot}

@@ -20,7 +20,8 @@ use Rattle.flow_code.specs.Next.{has_ended}
 use Rattle.flow_code.specs.Settle.{IsRunnable}
 use Rattle.core_run.specs.Histories.{IsReachable}
 use Rattle.core_run.specs.Words.{cells_of, has_object, place_of, start_words}
-use Rattle.core_run.specs.Machine.{Told, machine, start_thread, start_told, start_state}
+use Rattle.core_run.specs.Machine.{Told, machine, start_told, start_state}
+use Rattle.thread_flow.specs.Starts.{start_thread}
 use Rattle.core_run.proofs.Beginnings.{start_word_at}
 use Rattle.core_run.proofs.Reached.{kept}
 use Rattle.core_run.proofs.ThreadRanges.{start_thread_is}

@@ -31,7 +31,7 @@ use Rattle.flow_code.specs.Settle.{settled}
 use Rattle.flow_code.proofs.Counts.{IsAccessAction, ended_action}
 use Rattle.flow_code.proofs.Endings.{EndsSo, none_yet, leaves_next, all_over, ending_more, settled_ends, operate_ends, gave_up_ends}
 use Rattle.flow_code.proofs.Settle.{action_is, settled_none}
-use Rattle.core_run.specs.Machine.{start_thread}
+use Rattle.thread_flow.specs.Starts.{start_thread}
 use Rattle.held_locks.proofs.PlainDues.{OfSlot, IsPlain, quiet_plain, load_plain, store_plain, malloc_plain, enter_plain, return_plain, begun_plain, library_plain}
 use Rattle.held_locks.proofs.DueSteps.{Retakes, operate_from}
 

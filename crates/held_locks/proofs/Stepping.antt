@@ -22,7 +22,7 @@ use Rattle.flow_code.specs.Next.{stepped as thread_stepped, action_at, gave_up, 
 use Rattle.flow_code.specs.Settle.{settled}
 use Rattle.flow_code.proofs.Counts.{IsAccessAction}
 use Rattle.core_run.specs.Words.{cells_of, has_object, place_of}
-use Rattle.core_run.specs.Pieces.{piece_next}
+use Rattle.thread_flow.specs.Pieces.{piece_next}
 use Rattle.core_run.specs.Machine.{Told, entry_of, operation, action_effect, may_revoke, may_stop, may_close, effect_of, machine}
 use Rattle.core_run.proofs.Lawful.{effect_go, effect_revoke, effect_stop, effect_close, change_is}
 use Rattle.runs.specs.Labels.{Label, Go, Revoke, Stop, Close, label_thread}

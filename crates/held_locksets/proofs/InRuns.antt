@@ -21,7 +21,8 @@ use Rattle.flow_code.proofs.Counts.{IsAccessAction, settled_keeps_all}
 use Rattle.flow_code.proofs.Runnable.{valid_runnable}
 use Rattle.flow_code.proofs.Settle.{action_is}
 use Rattle.core_run.specs.Histories.{IsReachable}
-use Rattle.core_run.specs.Machine.{Told, machine, start_state, start_threads_from, start_phase}
+use Rattle.core_run.specs.Machine.{Told, machine, start_state, start_threads_from}
+use Rattle.thread_flow.specs.Starts.{start_phase}
 use Rattle.runs.specs.Labels.{Label, label_thread}
 use Rattle.runs.specs.Ordered.{event_of}
 use Rattle.runs.specs.Steps.{State}

@@ -34,7 +34,7 @@ use Rattle.flow_code.proofs.Dues.{quiet_by_code, access_by_code, operate_by_code
 use Rattle.flow_code.proofs.Goings.{thread_goes}
 use Rattle.flow_code.proofs.Settle.{settled_keeps}
 use Rattle.flow_code.proofs.ValidParts.{one_is_main}
-use Rattle.core_run.specs.Machine.{main_of}
+use Rattle.thread_flow.specs.Starts.{main_of}
 use Rattle.held_locksets.proofs.Roots.{root_of, KeepsRoot, act_keeps, IsThread}
 
 -- ---- `main`

@@ -32,7 +32,8 @@ use Rattle.flow_code.proofs.Dues.{operate_by_code}
 use Rattle.flow_code.proofs.Runnable.{valid_runnable}
 use Rattle.flow_code.proofs.Settle.{action_is}
 use Rattle.core_run.specs.Histories.{IsReachable}
-use Rattle.core_run.specs.Machine.{Told, machine, start_state, start_threads_from, start_told, main_of}
+use Rattle.core_run.specs.Machine.{Told, machine, start_state, start_threads_from, start_told}
+use Rattle.thread_flow.specs.Starts.{main_of}
 use Rattle.core_run.specs.Words.{cells_of, has_object, place_of, start_words}
 use Rattle.core_run.proofs.Beginnings.{start_word_at}
 use Rattle.runs.specs.Labels.{Label, label_thread}

@@ -5,7 +5,7 @@ use Rattle.answers.specs.Jobs.{RecordAsked, HasRecordLimits}
 use Rattle.answers.specs.declared.answer.Answer.{Answer}
 use Rattle.answers.specs.declared.answer.Part.TheVariants as part
 use Rattle.c_tree.specs.Tree.{Outer}
-use Rattle.core_run.specs.declared.access.Formula.{Formula}
+use Rattle.thread_flow.specs.declared.access.Formula.{Formula}
 use Rattle.core_run.specs.Histories.{run_of, HaveEnded, lists_of, entries_in}
 use Rattle.core_run.specs.Machine.{Told}
 use Rattle.profiles.specs.declared.profile.Profile.{Profile}

@@ -8,7 +8,7 @@ use Rattle.answers.specs.declared.answer.Answer.TheVariants as answer
 use Rattle.answers.specs.declared.answer.Part.TheVariants as part
 use Rattle.c_tree.specs.Tree.{Outer}
 use Rattle.core_run.specs.Walks.{WalkIs}
-use Rattle.core_run.specs.declared.access.Formula.{Formula}
+use Rattle.thread_flow.specs.declared.access.Formula.{Formula}
 use Rattle.core_run.specs.declared.outcome.Walk.{Walk}
 use Rattle.profiles.specs.declared.profile.Profile.{Profile as ProfileOf}
 use Rattle.job_profiles.specs.Profiles.{IsProfile}

@@ -3,7 +3,7 @@ use Rattle.std.specs.Prelude.{◌≡◌, ℕ, List, [], ◌∷◌, length}
 use Rattle.std.specs.List.{AllByRecursion}
 use Rattle.answers.specs.Jobs.{RecordAsked}
 use Rattle.c_tree.specs.Tree.{Outer}
-use Rattle.core_run.specs.declared.access.Formula.{Formula}
+use Rattle.thread_flow.specs.declared.access.Formula.{Formula}
 use Rattle.core_run.specs.declared.outcome.Walk.{Walk}
 use Rattle.profiles.specs.declared.profile.Profile.{Profile}
 use Rattle.lock_sound.specs.Weakened.{Analysed}

@@ -20,7 +20,6 @@ ghost use Rattle.sync_objects.specs.Names.{Fits};
 use crate::sources::{SOURCE_BYTES, compiled};
 use access_order::law_ordered;
 use answers::{Part, RecordJob};
-use core_run::Formula;
 use crew::{Crew, CrewEnd};
 use job_profiles::{named, profile_of};
 use lock_sound::{Weakened, law_weakened_runs};
@@ -36,6 +35,7 @@ use std::sync::Wait;
 use std::thread::Threads;
 use sync_objects::Setup;
 use text_runs::law_text_log;
+use thread_flow::Formula;
 use walk_answers::{formula_of, outcome_of};
 
 /// The most bytes of an input.

@@ -15,7 +15,7 @@ ghost use Rattle.replayer.specs.Replays.{entries_taken};
 
 use crate::sources::{SOURCE_BYTES, compiled, or_stop};
 use answers::{Answer, Part};
-use core_run::{Formula, Walk};
+use core_run::Walk;
 use crew::{Crew, CrewEnd};
 use lock_sound::{Weakened, law_weakened_runs};
 use order_log::{Log, LogFault, read_log};
@@ -27,6 +27,7 @@ use std::alloc::Global;
 use std::sync::Wait;
 use std::thread::Threads;
 use text_runs::law_text_erased_walk;
+use thread_flow::Formula;
 use walk_answers::{formula_of, outcome_of};
 
 /// The most bytes of a log.

@@ -20,7 +20,7 @@ use Rattle.flow_code.specs.Threads.{Thread}
 use Rattle.flow_code.proofs.Counts.{after_operate, ended_action, phase_keeps, settled_keeps_all, stepped_is}
 use Rattle.flow_code.proofs.Settle.{action_is}
 use Rattle.core_run.specs.Words.{cells_of, has_object}
-use Rattle.core_run.specs.Pieces.{piece_next}
+use Rattle.thread_flow.specs.Pieces.{piece_next}
 use Rattle.core_run.specs.Machine.{Told, change_of, entry_of, operation, action_effect, may_revoke, may_stop, may_close, effect_of}
 use Rattle.core_run.proofs.Lawful.{effect_go, effect_revoke, effect_stop, effect_close, change_is}
 use Rattle.runs.specs.Labels.{Label, Go, Revoke, Stop, Close}

@@ -23,7 +23,8 @@ use Rattle.flow_code.proofs.Dues.{quiet_by_code, access_by_code, operate_by_code
 use Rattle.flow_code.proofs.Goings.{thread_goes}
 use Rattle.flow_code.proofs.Settle.{settled_keeps, action_is}
 use Rattle.core_run.specs.Histories.{IsReachable}
-use Rattle.core_run.specs.Machine.{Told, machine, start_state, start_thread}
+use Rattle.core_run.specs.Machine.{Told, machine, start_state}
+use Rattle.thread_flow.specs.Starts.{start_thread}
 use Rattle.core_run.specs.Words.{has_object}
 use Rattle.core_run.proofs.ThreadRanges.{start_thread_is}
 use Rattle.runs.specs.Labels.{Label, label_thread}

@@ -13,7 +13,8 @@ use Rattle.flow_code.specs.Settle.{settled}
 use Rattle.flow_code.specs.Threads.{Thread}
 use Rattle.flow_code.proofs.Settle.{settled_keeps}
 use Rattle.core_run.specs.Histories.{IsReachable}
-use Rattle.core_run.specs.Machine.{Told, machine, start_phase, start_thread, start_state}
+use Rattle.core_run.specs.Machine.{Told, machine, start_state}
+use Rattle.thread_flow.specs.Starts.{start_phase, start_thread}
 use Rattle.core_run.proofs.ThreadRanges.{start_thread_is}
 use Rattle.runs.specs.Labels.{Label, label_thread}
 use Rattle.runs.specs.Steps.{State}

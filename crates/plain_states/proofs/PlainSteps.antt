@@ -29,7 +29,7 @@ use Rattle.flow_code.proofs.Counts.{stepped_is, settled_keeps_all, ended_action}
 use Rattle.flow_code.proofs.Settle.{action_is, settled_quiet}
 use Rattle.weak_code.specs.Stripped.{strip}
 use Rattle.core_run.specs.Machine.{Told, accessed, access_of, marked, operated, entry_of, operation, action_effect, may_revoke, may_stop, may_close, effect_of, machine}
-use Rattle.core_run.specs.Pieces.{piece_next}
+use Rattle.thread_flow.specs.Pieces.{piece_next}
 use Rattle.core_run.specs.Words.{cells_of, has_object, place_of}
 use Rattle.core_run.proofs.Lawful.{effect_go, effect_revoke, effect_stop, effect_close}
 use Rattle.runs.specs.Labels.{Label, Go, Revoke, Stop, Close, label_thread}

@@ -3,11 +3,11 @@
 ghost use Rattle.std.specs.Prelude.{◌≡◌, ◌∷◌, [], ◌++◌, decimal, IfOk, OnOk};
 ghost use Rattle.reads_text.specs.Text as spec;
 
-use core_run::Access;
 use itoa::Buffer;
 use number_text::push_numbered;
 use rr_base::{Bytes, List};
 use std::alloc::{AllocError, Global};
+use thread_flow::Access;
 
 // A number, and a blank after it.
 fn push_number(out: &mut Bytes, number: u32) -> Result<(), AllocError>

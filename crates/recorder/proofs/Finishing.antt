@@ -14,7 +14,7 @@ use Rattle.flow_code.specs.declared.code.Code.{Code}
 use Rattle.flow_code.specs.Next.{has_ended}
 use Rattle.flow_code.specs.Settle.{IsRunnable, settled}
 use Rattle.flow_code.proofs.Counts.{action_counts}
-use Rattle.core_run.specs.declared.access.Formula.{Formula}
+use Rattle.thread_flow.specs.declared.access.Formula.{Formula}
 use Rattle.core_run.specs.declared.outcome.Walk.{Walk}
 use Rattle.core_run.specs.Histories.{HasNoRace, lists_of, entries_in}
 use Rattle.core_run.specs.Machine.{Told, start_state}

@@ -11,7 +11,7 @@ ghost use Rattle.shared_cells.specs.Seats.{AreAtStart, AreSeats};
 ghost use Rattle.sync_objects.specs.Setup.{IsWithinLimits};
 
 use crate::record::Recorded;
-use core_run::{Formula, Noted};
+use core_run::Noted;
 use crew::{Crew, CrewEnd};
 use entry_merge::merge;
 use flow_code::Code;
@@ -21,6 +21,7 @@ use std::alloc::{AllocError, Global};
 use std::sync::Wait;
 use std::thread::Threads;
 use sync_objects::Setup;
+use thread_flow::Formula;
 use thread_step::ThreadRun;
 use walk_pieces::{Remains, into_remains, whole_walk};
 use weak_turns::Carrier;

@@ -22,7 +22,7 @@ use Rattle.flow_code.specs.Threads.{Thread}
 use Rattle.flow_code.proofs.Asked.{own_action}
 use Rattle.flow_code.proofs.Counts.{settled_count}
 use Rattle.core_run.specs.Machine.{Told, effect_of, operation, change_of, entry_of, may_revoke, may_stop, may_close}
-use Rattle.core_run.specs.Pieces.{piece_next}
+use Rattle.thread_flow.specs.Pieces.{piece_next}
 use Rattle.core_run.specs.Words.{has_object}
 use Rattle.core_run.proofs.Lawful.{effect_revoke, effect_stop, effect_close}
 use Rattle.log_walks.proofs.Floors.{leaves_floor}

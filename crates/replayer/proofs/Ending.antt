@@ -16,7 +16,7 @@ use Rattle.flow_code.specs.Settle.{IsRunnable}
 use Rattle.core_run.specs.Histories.{HasNoRace, HaveEnded, IsReachable}
 use Rattle.core_run.specs.Machine.{Told, machine, start_state}
 use Rattle.core_run.specs.Walks.{IsRefusedAt, IsUnfinished, WalkIs, walk_of}
-use Rattle.core_run.specs.declared.access.Formula.{Formula}
+use Rattle.thread_flow.specs.declared.access.Formula.{Formula}
 use Rattle.core_run.specs.declared.outcome.Walk.{Walk}
 use Rattle.core_run.specs.declared.outcome.Walk.TheVariants as walk
 use Rattle.core_run.proofs.Reached.{kept}

@@ -14,7 +14,7 @@ ghost use Rattle.walk_pieces.specs.Remains.{remains_in};
 
 use crate::follower::Follower;
 use crate::numbering::{number_all, own_entries};
-use core_run::{Formula, Walk};
+use core_run::Walk;
 use crew::{Crew, CrewEnd};
 use flow_code::Code;
 use log_walks::{law_unfinished, law_whole, law_wrong};
@@ -24,6 +24,7 @@ use std::alloc::{AllocError, Global};
 use std::sync::Wait;
 use std::thread::Threads;
 use sync_objects::{Entry, Setup};
+use thread_flow::Formula;
 use thread_step::ThreadRun;
 use walk_pieces::{Remains, into_remains, whole_walk};
 

@@ -6,7 +6,7 @@ use Rattle.flow_code.specs.declared.code.Code.{Code}
 use Rattle.flow_code.specs.declared.code.Function.{Function}
 use Rattle.profiles.specs.Profile.{Text, Pair, ordered, AreAscending}
 use Rattle.core_run.specs.Machine.{Told, start_state}
-use Rattle.core_run.specs.Stacks.{stack_of}
+use Rattle.thread_flow.specs.Stacks.{stack_of}
 use Rattle.core_run.specs.Walks.{walk_of}
 use Rattle.runs.specs.Steps.{State}
 

@@ -4,11 +4,12 @@ ghost use Rattle.flow_code.specs.Settle.{IsRunnable};
 ghost use Rattle.seen_pairs.specs.Pairings.{NotedIs, no_reads as spec_no_reads};
 
 use crate::noting::{Pairs, note_change};
-use core_run::{Access, Formula, make_part, start_flows, start_words};
+use core_run::{make_part, start_flows, start_words};
 use flow_code::Code;
 use rr_base::{Bytes, List};
 use std::alloc::{AllocError, Global};
 use sync_objects::{Entry, Setup};
+use thread_flow::{Access, Formula};
 
 // No access is asked for.
 fn no_reads() -> Formula

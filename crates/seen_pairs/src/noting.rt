@@ -1,13 +1,13 @@
 // Pairs of functions that are at work at once, as a set.
 ghost use Rattle.std.specs.Prelude.{◌≡◌, ◌<◌, ℕ, false, OnOk, IfOk, Some, length, slice_get, slice_set, Contains};
-ghost use Rattle.core_run.specs.Flows.{Running};
-ghost use Rattle.core_run.specs.Stacks.{stack_of};
+ghost use Rattle.thread_flow.specs.Flows.{Running};
+ghost use Rattle.thread_flow.specs.Stacks.{stack_of};
 ghost use Rattle.seen_pairs.specs.Pairings.{Follows, IsElsewhere, Notes};
 
-use core_run::Flow;
 use rr_base::List;
 use std::alloc::AllocError;
 use std::collections::BTreeSet;
+use thread_flow::Flow;
 
 /// Pairs of functions, by their numbers.
 pub(crate) type Pairs = BTreeSet<(u32, u32)>;

@@ -18,7 +18,7 @@ use Rattle.flow_code.specs.Settle.{settled, next}
 use Rattle.flow_code.specs.Threads.{Thread}
 use Rattle.core_run.specs.Histories.{IsReachable}
 use Rattle.core_run.specs.Machine.{Told, effect_of, action_effect, operation, change_of, entry_of, operated, machine, start_state}
-use Rattle.core_run.specs.Pieces.{piece_next}
+use Rattle.thread_flow.specs.Pieces.{piece_next}
 use Rattle.core_run.specs.Words.{cells_of, has_object, place_of}
 use Rattle.core_run.proofs.Lawful.{effect_go, effect_revoke, effect_stop, effect_close}
 use Rattle.runs.specs.Labels.{Label, Go, Revoke, Stop, Close, label_thread}

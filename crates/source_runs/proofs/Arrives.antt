@@ -13,7 +13,7 @@ use Rattle.flow_code.specs.Settle.{settled, IsRunnable}
 use Rattle.flow_code.proofs.Settle.{settled_step, settled_none, quiet_action_at}
 use Rattle.c_core.specs.Runs.{Run, does, traps, ends}
 use Rattle.lower_sound.specs.Follows.{Comes, here, quietly, IsFull, Prints, Follows}
-use Rattle.core_run.specs.Pieces.{piece_at}
+use Rattle.thread_flow.specs.Pieces.{piece_at}
 use Rattle.source_runs.specs.RunEvents.{printed_at}
 use Rattle.c_core.specs.SourceRuns.{IsBeforeEntry}
 use Rattle.source_runs.proofs.Makings.{IsAt, event, full}

@@ -14,7 +14,7 @@ use Rattle.flow_code.specs.Threads.{Thread}
 use Rattle.flow_code.specs.Next.{due_of, action_of, stepped as thread_stepped, gave_up}
 use Rattle.flow_code.specs.Settle.{settled}
 use Rattle.flow_code.proofs.Settle.{action_is}
-use Rattle.core_run.specs.Pieces.{piece_next}
+use Rattle.thread_flow.specs.Pieces.{piece_next}
 use Rattle.core_run.specs.Words.{has_object}
 use Rattle.core_run.specs.Machine.{Told, operation, action_effect, may_revoke, effect_of, machine}
 use Rattle.core_run.proofs.Lawful.{effect_go, effect_revoke}

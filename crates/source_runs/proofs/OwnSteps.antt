@@ -27,7 +27,7 @@ use Rattle.flow_code.proofs.Settle.{action_is}
 use Rattle.c_core.specs.Core.{Program}
 use Rattle.c_core.specs.Runs.{Run, does, traps, ends, Event, done, trapped}
 use Rattle.core_run.specs.Words.{cells_of, place_of}
-use Rattle.core_run.specs.Pieces.{piece_next}
+use Rattle.thread_flow.specs.Pieces.{piece_next}
 use Rattle.core_run.specs.Machine.{Told, accessed, access_of, marked, action_effect, machine}
 use Rattle.runs.specs.Steps.{Leaves, outcome}
 use Rattle.source_runs.specs.RunEvents.{answer_in, answer_of, printed_at, event_of, is_stripe, is_of_stripe}

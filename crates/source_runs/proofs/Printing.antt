@@ -24,7 +24,7 @@ use Rattle.flow_code.specs.Settle.{settled}
 use Rattle.flow_code.proofs.Settle.{action_is}
 use Rattle.c_core.specs.Runs.{printed_in}
 use Rattle.core_run.specs.Words.{cells_of, has_object}
-use Rattle.core_run.specs.Pieces.{piece_next}
+use Rattle.thread_flow.specs.Pieces.{piece_next}
 use Rattle.core_run.specs.Machine.{Told, entry_of, operation, action_effect, may_revoke, may_stop, may_close, effect_of, machine, start_state}
 use Rattle.core_run.specs.Walks.{pieces_of, joined, printed_between, walk_of, out_of, out_on}
 use Rattle.core_run.proofs.Lawful.{effect_go, effect_revoke, effect_stop, effect_close, change_is}

@@ -15,7 +15,8 @@ use Rattle.c_core.specs.Runs.{Run}
 use Rattle.c_core.specs.Meaning.{run_of}
 use Rattle.core_run.specs.Histories as histories
 use Rattle.core_run.specs.Words.{cells_of, start_global, start_globals, start_cells, start_objects, start_words}
-use Rattle.core_run.specs.Machine.{Told, start_thread, start_state}
+use Rattle.core_run.specs.Machine.{Told, start_state}
+use Rattle.thread_flow.specs.Starts.{start_thread}
 use Rattle.core_run.proofs.Beginnings.{length-start_cells, start_word_at}
 use Rattle.core_run.proofs.Reached.{start_length}
 use Rattle.core_run.proofs.ThreadRanges.{start_thread_is}

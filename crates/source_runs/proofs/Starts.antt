@@ -13,8 +13,9 @@ use Rattle.flow_lower.specs.Lowered.{lowered, function_code}
 use Rattle.lower_sound.specs.Follows.{IsAtStart}
 use Rattle.c_core.specs.Within.{IsWithin}
 use Rattle.lower_sound.proofs.Threads.{follows}
-use Rattle.core_run.specs.Machine.{Told, start_thread, start_state}
-use Rattle.core_run.specs.Machine as core_machine
+use Rattle.core_run.specs.Machine.{Told, start_state}
+use Rattle.thread_flow.specs.Starts.{start_thread}
+use Rattle.thread_flow.specs.Starts as flow_starts
 use Rattle.core_run.proofs.ThreadRanges.{start_thread_is}
 use Rattle.c_core.specs.SourceRuns.{IsBeforeEntry}
 use Rattle.source_runs.proofs.Arrives.{MakesRun, arrives_at}
@@ -28,7 +29,7 @@ module _ (p : Program) (s : SetupView) where
   same_place (f ∷ fs) = ap (λ n. cond (not (meaning.is_main f)) (1 + n) 0) (same_place fs)
 
   -- the code's `main` has the number of the source's
-  same_main : core_machine.main_of (lowered p) ≡ meaning.main_of p
+  same_main : flow_starts.main_of (lowered p) ≡ meaning.main_of p
   same_main =
       let at = position_or_len meaning.is_main p.functions in
       ap (λ n. unwrap_or (cond (nat_lt n (length (map function_code p.functions))) (Some n) None) 0) (same_place p.functions)

@@ -16,7 +16,7 @@ use Rattle.flow_code.specs.Settle.{settled}
 use Rattle.c_core.specs.Runs.{Event, done, trapped}
 use Rattle.core_run.specs.Words.{cells_of, place_of}
 use Rattle.core_run.specs.Machine.{Told, machine, start_state}
-use Rattle.core_run.specs.Pieces.{piece_next}
+use Rattle.thread_flow.specs.Pieces.{piece_next}
 use Rattle.core_run.specs.Walks.{joined}
 use Rattle.runs.specs.Labels.{Label, Go, Revoke, Stop, Close, label_thread}
 use Rattle.runs.specs.Steps.{State, stepped}

@@ -10,7 +10,7 @@ use Rattle.flow_code.specs.declared.code.Code.{Code}
 use Rattle.flow_code.specs.Next.{action_at, stepped}
 use Rattle.flow_code.specs.Settle.{settled}
 use Rattle.core_run.specs.Machine.{Told, entry_of, action_effect, change_of}
-use Rattle.core_run.specs.Pieces.{piece_next}
+use Rattle.thread_flow.specs.Pieces.{piece_next}
 use Rattle.core_run.specs.Words.{has_object}
 use Rattle.core_run.proofs.Lawful.{effect_go}
 use Rattle.runs.specs.Steps.{Change, Operates, Refused}

@@ -5,23 +5,25 @@ ghost use Rattle.sync_objects.specs.Names.{name_of};
 ghost use Rattle.flow_code.specs.Next.{gave_up, stopped, slot_closed, has_ended, has_begun, holds as holds_stripe};
 ghost use Rattle.flow_code.specs.Settle.{IsRunnable, settled};
 ghost use Rattle.abstract_machine.specs.Limits.{most_entries, most_revokes};
-ghost use Rattle.core_run.specs.Endings.{ending_of, trap_of};
-ghost use Rattle.core_run.specs.Flows.{is_ready};
-ghost use Rattle.core_run.specs.Machine.{access_of, start_thread, entry_of, operated, marked};
-ghost use Rattle.core_run.specs.Pieces.{piece_at};
+ghost use Rattle.thread_flow.specs.Endings.{ending_of, trap_of};
+ghost use Rattle.thread_flow.specs.Flows.{is_ready};
+ghost use Rattle.core_run.specs.Machine.{access_of, entry_of, operated, marked};
+ghost use Rattle.thread_flow.specs.Starts.{start_thread};
+ghost use Rattle.thread_flow.specs.Pieces.{piece_at};
 ghost use Rattle.core_run.specs.Shown.{with_read};
 ghost use Rattle.flow_code.specs.Next.{act_at};
 ghost use Rattle.sync_objects.specs.declared.operation.OpName.TheVariants as name;
 ghost use Rattle.sync_objects.specs.declared.object.ObjId.TheVariants as object;
 ghost use Rattle.thread_step.specs.Steps.{Stepping, IsReady, IsPiece, IsSameRun, told_of, next_of, after, reads_after};
 
-use core_run::{Access, Action, Ending, Entry, Flow, Formula, Noted, Setup};
+use core_run::{Action, Entry, Noted, Setup};
 use flow_code::Code;
 use rr_base::{Bytes, Trap};
 use std::alloc::{AllocError, Global};
 use std::marker::Model;
 use std::mem;
 use sync_objects::{ObjId, Op, OpName};
+use thread_flow::{Access, Ending, Flow, Formula};
 use watch_calls::AccessTest;
 
 /// The most accesses that are kept of a thread.

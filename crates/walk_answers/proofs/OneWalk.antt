@@ -7,7 +7,7 @@ use Rattle.sync_objects.specs.Setup.{SetupView}
 use Rattle.sync_objects.specs.declared.entry.Entry.{Entry}
 use Rattle.runs.specs.Steps.{State, AllEnded}
 use Rattle.runs.specs.Walk.{part}
-use Rattle.core_run.specs.declared.access.Formula.{Formula}
+use Rattle.thread_flow.specs.declared.access.Formula.{Formula}
 use Rattle.core_run.specs.declared.outcome.Walk.{Walk}
 use Rattle.core_run.specs.declared.outcome.Walk.TheVariants as walk
 use Rattle.core_run.specs.Machine.{Told, machine, start_state}

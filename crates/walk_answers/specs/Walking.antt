@@ -2,8 +2,8 @@
 use Rattle.std.specs.Prelude.{◌≡◌, ℕ, true, false, List, [], ◌∷◌, ◌++◌, Option, Some, None}
 use Rattle.answers.specs.declared.answer.Answer.{Answer}
 use Rattle.answers.specs.declared.answer.Answer.TheVariants as answer
-use Rattle.core_run.specs.declared.access.Access.{Access}
-use Rattle.core_run.specs.declared.access.Formula.{Formula}
+use Rattle.thread_flow.specs.declared.access.Access.{Access}
+use Rattle.thread_flow.specs.declared.access.Formula.{Formula}
 use Rattle.core_run.specs.declared.outcome.Walk.{Walk}
 use Rattle.core_run.specs.declared.outcome.Walk.TheVariants as walk
 use Rattle.core_run.specs.Walks.{WalkIs}

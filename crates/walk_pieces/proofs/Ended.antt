@@ -4,10 +4,10 @@ use Rattle.std.specs.List.{AllZip, cons_option, filter_map, flat_map}
 use Rattle.sync_objects.specs.Setup.{SetupView}
 use Rattle.sync_objects.specs.declared.entry.Entry.{Entry}
 use Rattle.flow_code.specs.declared.code.Code.{Code}
-use Rattle.core_run.specs.declared.access.Access.{Access}
-use Rattle.core_run.specs.declared.access.Formula.{Formula}
-use Rattle.core_run.specs.declared.outcome.Ending.{Ending}
-use Rattle.core_run.specs.Endings.{ending_of, trap_of}
+use Rattle.thread_flow.specs.declared.access.Access.{Access}
+use Rattle.thread_flow.specs.declared.access.Formula.{Formula}
+use Rattle.thread_flow.specs.declared.outcome.Ending.{Ending}
+use Rattle.thread_flow.specs.Endings.{ending_of, trap_of}
 use Rattle.core_run.specs.Machine.{Told, start_state}
 use Rattle.core_run.specs.Walks.{Shows, Trapping, first_trap, kept_reads, trap_or}
 use Rattle.walk_pieces.specs.declared.remains.Remains.{Remains}

@@ -2,7 +2,7 @@
 use Rattle.std.proofs.Common.{◌≡◌, ℕ, suc, List, [], ◌∷◌, length, Some, refl, ap, ◌∙◌, arith}
 use Rattle.std.specs.List.{AllZip}
 use Rattle.std.specs.Prelude.{slice_get}
-use Rattle.core_run.specs.Endings.{ending_of, trap_of}
+use Rattle.thread_flow.specs.Endings.{ending_of, trap_of}
 use Rattle.core_run.specs.Machine.{Told}
 use Rattle.core_run.specs.Walks.{kept_reads}
 use Rattle.thread_step.specs.Steps.{Stepping}

@@ -2,8 +2,9 @@
 ghost use Rattle.std.specs.Prelude.{◌≡◌};
 ghost use Rattle.walk_pieces.specs.Remains.{remains_in};
 
-use core_run::{Access, Ending, Formula, Noted};
+use core_run::Noted;
 use rr_base::{Bytes, List, Trap};
+use thread_flow::{Access, Ending, Formula};
 use thread_step::ThreadRun;
 
 /// What remains of a thread's run.

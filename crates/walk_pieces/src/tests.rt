@@ -1,10 +1,11 @@
 use crate::Remains;
 use crate::whole::from_remains;
-use core_run::{Ending, Formula, Walk};
+use core_run::Walk;
 use rr_base::{Bytes, List, Trap};
 use std::alloc::Global;
 use std::test::Fail;
 use sync_objects::{Entry, ObjId, OpName};
+use thread_flow::{Ending, Formula};
 
 const NONE: Formula = Formula {
     loads: false,

@@ -1,7 +1,7 @@
 // What a walk comes to that takes all entries of a run's log.
 ghost use Rattle.std.specs.Prelude.{◌≡◌, ◌≤◌, ◌<◌, ◌^◌, ◌-◌, ◌+◌, [], length, IfOk, MatchOption, true};
 ghost use Rattle.core_run.specs.Walks.{NoTrap, TrapOf, WalkIs};
-ghost use Rattle.core_run.specs.declared.access.Formula.{Formula as FormulaOf};
+ghost use Rattle.thread_flow.specs.declared.access.Formula.{Formula as FormulaOf};
 ghost use Rattle.flow_code.specs.Settle.{IsRunnable};
 ghost use Rattle.flow_code.specs.declared.code.Code.{Code as CodeOf};
 ghost use Rattle.sync_objects.specs.Setup.{SetupView};
@@ -9,10 +9,11 @@ ghost use Rattle.walk_pieces.specs.Remains.{HaveKept, IsWalked, endings_in, read
 
 use crate::printed::bytes_of;
 use crate::remains::Remains;
-use core_run::{Access, Ending, Entry, Formula, Setup, Walk, walk};
+use core_run::{Entry, Setup, Walk, walk};
 use flow_code::Code;
 use rr_base::{List, Trap};
 use std::alloc::{AllocError, Global};
+use thread_flow::{Access, Ending, Formula};
 
 // How the threads have ended, in their order.
 fn endings_of(alloc: Global, remains: &[Remains]) -> Result<List<Ending>, AllocError>

@@ -1,9 +1,9 @@
 // What may stand in a watch for a formula.
 ghost use Rattle.std.specs.Prelude.{◌≡◌};
-ghost use Rattle.core_run.specs.Walks.{meets, is_of_thread as is_of, has_value as has_value_of};
-ghost use Rattle.core_run.specs.declared.access.Formula.{Formula as FormulaOf};
+ghost use Rattle.thread_flow.specs.Formulas.{meets, is_of_thread as is_of, has_value as has_value_of};
+ghost use Rattle.thread_flow.specs.declared.access.Formula.{Formula as FormulaOf};
 
-use core_run::{Access, Formula};
+use thread_flow::{Access, Formula};
 
 /// A test of accesses. It may be called on every access.
 pub trait AccessTest {

@@ -1,11 +1,11 @@
 // The first access that meets a watch.
 ghost use Rattle.std.specs.Prelude.{◌≡◌, ◌<◌, ◌^◌, length, position};
-ghost use Rattle.core_run.specs.Walks.{meets};
+ghost use Rattle.thread_flow.specs.Formulas.{meets};
 
 use crate::access_test::AccessTest;
 use crate::watch::Watch;
-use core_run::Access;
 use rr_base::List;
+use thread_flow::Access;
 
 /// The position of the first of the accesses that meets the formula of the watch.
 pub fn first_hit<T: AccessTest + Sync>(accesses: &List<Access>, watch: &Watch<T>) -> Option<u32>

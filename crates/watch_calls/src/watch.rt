@@ -1,10 +1,10 @@
 // A formula, with a test that answers it.
 ghost use Rattle.std.specs.Prelude.{◌≡◌};
-ghost use Rattle.core_run.specs.Walks.{meets as meets_of};
+ghost use Rattle.thread_flow.specs.Formulas.{meets as meets_of};
 
 use crate::access_test::AccessTest;
-use core_run::{Access, Formula};
 use std::marker::Model;
+use thread_flow::{Access, Formula};
 
 /// A formula, with a test that answers at every access exactly whether this meets it.
 #[derive(Drop)]
@@ -14,7 +14,7 @@ pub struct Watch<T: AccessTest + Sync> {
 }
 
 impl<T: AccessTest + Sync> Model for Watch<T> {
-    ghost use Rattle.core_run.specs.declared.access.Formula.{Formula};
+    ghost use Rattle.thread_flow.specs.declared.access.Formula.{Formula};
 
     ghost Value = { Formula };
 

@@ -26,7 +26,7 @@ use Rattle.core_run.specs.Machine.{Told, access_of, marked, operated, entry_of}
 use Rattle.core_run.specs.Shown.{with_read}
 use Rattle.core_run.specs.Walks.{kept_reads}
 use Rattle.core_run.proofs.Walked.{kept_more}
-use Rattle.core_run.specs.Pieces.{piece_next}
+use Rattle.thread_flow.specs.Pieces.{piece_next}
 use Rattle.thread_step.specs.Steps.{Stepping, IsSameRun, told_of, next_of, after, reads_after}
 use Rattle.held_locks.specs.ThreadStripes.{HasItsStripes}
 use Rattle.shared_cells.specs.Seats.{view_of, place_in, AttemptIs, IsRefused, HasMoved}

@@ -28,7 +28,8 @@ use Rattle.flow_code.specs.Threads.{Thread}
 use Rattle.flow_code.proofs.Counts.{IsAccessAction, settled_keeps_all}
 use Rattle.flow_code.proofs.Settle.{action_is}
 use Rattle.core_run.specs.Histories.{IsReachable}
-use Rattle.core_run.specs.Machine.{Told, machine, start_state, start_phase, start_thread}
+use Rattle.core_run.specs.Machine.{Told, machine, start_state}
+use Rattle.thread_flow.specs.Starts.{start_phase, start_thread}
 use Rattle.core_run.specs.Words.{cells_of, has_object, place_of, start_words}
 use Rattle.core_run.proofs.Beginnings.{start_word_at}
 use Rattle.core_run.proofs.Reached.{kept}

@@ -9,7 +9,7 @@ use Rattle.flow_code.specs.declared.code.Function.{Function}
 use Rattle.flow_code.specs.Threads.{is_main_in, is_main}
 use Rattle.flow_code.specs.Valid.{is_valid, is_main_function, mains_in, mains_have_no_formals}
 use Rattle.flow_code.proofs.ValidParts.{left, one_is_main}
-use Rattle.core_run.specs.Machine.{main_of}
+use Rattle.thread_flow.specs.Starts.{main_of}
 
 record IsFirst (p : Function → Bool) (xs : List Function) : Type 0 where
   function : Function

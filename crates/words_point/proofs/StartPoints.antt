@@ -12,7 +12,8 @@ use Rattle.flow_code.specs.Threads.{is_main}
 use Rattle.flow_code.specs.Valid.{is_valid}
 use Rattle.flow_code.proofs.Runnable.{valid_runnable}
 use Rattle.core_run.specs.Histories.{IsReachable}
-use Rattle.core_run.specs.Machine.{Told, main_of, start_state, start_thread, start_phase}
+use Rattle.core_run.specs.Machine.{Told, start_state}
+use Rattle.thread_flow.specs.Starts.{main_of, start_thread, start_phase}
 use Rattle.core_run.specs.Words.{start_words}
 use Rattle.core_run.proofs.ThreadRanges.{start_thread_is}
 use Rattle.runs.specs.Steps.{State}

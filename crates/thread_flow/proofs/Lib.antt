@@ -1,0 +1,6 @@
+pub mod StepsAlone
+pub mod Changing
+pub mod FlowFacts
+pub mod Retakes
+pub mod PairSteps
+pub mod StartRanges
