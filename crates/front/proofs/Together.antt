@@ -9,6 +9,7 @@ use Rattle.facts.specs.Summaries.{AreSummaries}
 use Rattle.flow_code.specs.declared.code.Code.{Code}
 use Rattle.flow_code.specs.Constants.{constants_fit}
 use Rattle.flow_code.specs.Valid.{is_valid}
+use Rattle.weak_facts.specs.declared.grain.Grained.{Grained}
 use Rattle.weak_facts.specs.declared.grain.Grains.{Grains}
 use Rattle.weak_facts.specs.declared.range.Range.{Range}
 use Rattle.weak_facts.specs.Grains.{AreGrains}
@@ -25,8 +26,14 @@ has_registers code t h = record { functions = h.functions; registers = h.registe
 pub ascending : (code : Code) (t : Tables) (ss : List Summary) (vs : List Pair) → ArePairs code t ss vs → pairs_ascend vs ≡ true
 ascending code t ss vs h = h.ascending
 
-pub analysed : (code : Code) (t : Tables) (ss : List Summary) (vs : List Pair) (profile : Profile) (rs : List Range) (grains : Grains) (weak : Code) → is_valid code ≡ true → is_plain code ≡ true → constants_fit code ≡ true → loops_are_apart code ≡ true → loops_are_closed code ≡ true → IsPointsTo code t → AreSummaries code ss → ArePairs code t ss vs → rs ≡ ranges_of code t → AreGrains code vs rs profile grains.rows → weak ≡ weakened code t vs rs grains.rows → IsAnalysed (record { plain = code; points = t; summaries = ss; pairs = vs; profile = profile; grains = grains; weak = weak })
-analysed code t ss vs profile rs grains weak valid plain constants apart closed points sums pairs r g w = record {
+pub grains_by : (code : Code) (t : Tables) (vs : List Pair) (profile : Profile) (rs : List Range) (rows : List Grained) → rs ≡ ranges_of code t → AreGrains code vs rs profile rows → AreGrains code vs (ranges_of code t) profile rows
+grains_by code t vs profile rs rows r g = subst (λ (xs : List Range). AreGrains code vs xs profile rows) r g
+
+pub weak_by : (code : Code) (t : Tables) (vs : List Pair) (rs : List Range) (rows : List Grained) (weak : Code) → rs ≡ ranges_of code t → weak ≡ weakened code t vs rs rows → weak ≡ weakened code t vs (ranges_of code t) rows
+weak_by code t vs rs rows weak r w = subst (λ (xs : List Range). weak ≡ weakened code t vs xs rows) r w
+
+pub analysed : (code : Code) (t : Tables) (ss : List Summary) (vs : List Pair) (profile : Profile) (grains : Grains) (weak : Code) → is_valid code ≡ true → is_plain code ≡ true → constants_fit code ≡ true → loops_are_apart code ≡ true → loops_are_closed code ≡ true → IsPointsTo code t → AreSummaries code ss → ArePairs code t ss vs → AreGrains code vs (ranges_of code t) profile grains.rows → weak ≡ weakened code t vs (ranges_of code t) grains.rows → IsAnalysed (record { plain = code; points = t; summaries = ss; pairs = vs; profile = profile; grains = grains; weak = weak })
+analysed code t ss vs profile grains weak valid plain constants apart closed points sums pairs g w = record {
   valid = valid;
   without_locks = plain;
   constants = constants;
@@ -35,6 +42,6 @@ analysed code t ss vs profile rs grains weak valid plain constants apart closed 
   points = points;
   summaries = sums;
   pairs = pairs;
-  grains = subst (λ (xs : List Range). AreGrains code vs xs profile grains.rows) r g;
-  weak = subst (λ (xs : List Range). weak ≡ weakened code t vs xs grains.rows) r w;
+  grains = g;
+  weak = w;
 }
