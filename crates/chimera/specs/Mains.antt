@@ -3,7 +3,7 @@ use Rattle.std.specs.Prelude.{ℕ, List, None}
 use Rattle.answers.specs.Jobs.{job_of}
 use Rattle.outcomes.specs.Endings.{Ends, Outside}
 use Rattle.jobs.specs.Jobs.{IsOutcome, PutsBefore, ReadsInput, RunsThreads, UsesShelf}
-use Rattle.jobs.specs.Works.{Work}
+use Rattle.job_runs.specs.Works.{Work}
 
 -- A call with these words ends with this status, on files and streams that don't tell what they hold: on some files and some input
 -- the words have the outcome that is told, or a fault or want of memory is.

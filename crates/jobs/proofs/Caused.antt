@@ -39,12 +39,14 @@ use Rattle.jobs.specs.Causes.Refuses.{AtSource, AtProfile, AtLog, AtTree, AtInpu
 use Rattle.jobs.specs.Jobs.{IsOutcome, IsOutcomeOf, PutsBefore, ReadsInput, RunsThreads, UsesShelf}
 use Rattle.jobs.specs.Laws.{StatusesHaveCauses}
 use Rattle.jobs.specs.Listings.{ListsRaces, ListsWeakLocks}
-use Rattle.jobs.specs.Makings.{IsMade, IsMaking, source_put, summary_told}
+use Rattle.job_runs.specs.Retold.{summary_told}
+use Rattle.jobs.specs.Makings.{IsMade, IsMaking, source_put}
 use Rattle.jobs.specs.Recordings.{IsRecording}
-use Rattle.jobs.specs.Replays.{IsLogIn, IsRefusal, Replays}
+use Rattle.job_runs.specs.Logs.{IsLogIn, IsRefusal}
+use Rattle.jobs.specs.Replays.{Replays}
 use Rattle.jobs.specs.Profilings.{ShowsLog}
 use Rattle.jobs.specs.Sources.{IsFound, IsTree}
-use Rattle.jobs.specs.Works.{IsOfRun, Work}
+use Rattle.job_runs.specs.Works.{IsOfRun, Work}
 use Rattle.jobs.proofs.Unique.{file_once, found_once, input_once, log_once, one_refusal, profile_once, tree_once}
 
 -- some log, where none is read

@@ -22,7 +22,7 @@ use Rattle.jobs.specs.Jobs.{IsOutcome, PutsBefore, ReadsInput, RunsThreads, Uses
 use Rattle.jobs.specs.Makings.{source_put}
 use Rattle.jobs.specs.Makings.IsPutInMaking.{Source}
 use Rattle.jobs.specs.Wants.{LacksFile}
-use Rattle.jobs.specs.Works.{Work}
+use Rattle.job_runs.specs.Works.{Work}
 
 -- files that a job may put before it has an outcome
 puts_before : (job : Option Asked) → (puts : List Put) × PutsBefore job puts

@@ -35,14 +35,17 @@ use Rattle.sync_objects.specs.Setup.{IsWithinLimits, SetupView}
 use Rattle.sync_objects.specs.declared.entry.Entry.{Entry}
 use Rattle.walk_answers.specs.Walking.{answer_of, no_reads, outcome_of}
 use Rattle.workload.specs.Program.{numbers_below, program_text}
-use Rattle.jobs.proofs.Recorded.{LogsWalk, recording, recording_entries, setup_within}
-use Rattle.jobs.specs.Makings.{IsMade, IsMaking, IsPutInMaking, IsReplayed, made_log, recording_of, source_put, summary_told}
+use Rattle.job_runs.proofs.Recorded.{setup_within}
+use Rattle.jobs.proofs.Recorded.{LogsWalk, recording, recording_entries}
+use Rattle.job_runs.specs.Retold.{IsReplayed, summary_told}
+use Rattle.jobs.specs.Makings.{IsMade, IsMaking, IsPutInMaking, made_log, recording_of, source_put}
 use Rattle.jobs.specs.Makings.IsPutInMaking.{Source, SourceAndLog}
-use Rattle.jobs.specs.Recordings.{IsLogged, IsRecording, setup_of}
+use Rattle.job_runs.specs.Recordings.{IsLogged, setup_of}
+use Rattle.jobs.specs.Recordings.{IsRecording}
 use Rattle.jobs.specs.Replays.{Replays}
 use Rattle.jobs.specs.Sources.{Compiles, IsSourceWalk, RunsAsSource, WalksAsSource}
-use Rattle.jobs.specs.Works.{HasRun, IsIdle, IsOfRun, Work}
-use Rattle.jobs.proofs.Worked.{ran, summary_is_of_run, told_of_run}
+use Rattle.job_runs.specs.Works.{HasRun, IsIdle, IsOfRun, Work}
+use Rattle.job_runs.proofs.Worked.{ran, summary_is_of_run, told_of_run}
 
 -- ---- how long it is
 

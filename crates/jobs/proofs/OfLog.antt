@@ -8,7 +8,7 @@ use Rattle.outcomes.specs.Steps.{Comes, Finds, Gives, IsFile}
 use Rattle.outcomes.specs.declared.outcome.Outcome.{Outcome}
 use Rattle.outcomes.specs.declared.stop.Stop.{Stop}
 use Rattle.rr_base.specs.Files.{Files}
-use Rattle.jobs.specs.Replays.{IsLogIn}
+use Rattle.job_runs.specs.Logs.{IsLogIn}
 use Rattle.jobs.specs.Sources.{IsTree}
 
 module _ (files : Option Files) (source log : List ℕ) (Next : LogView → List Outer → Outcome → Type 0) where

@@ -27,8 +27,8 @@ use Rattle.weak_facts.specs.Ranges.{ranges_of}
 use Rattle.walk_answers.specs.Walking.{formula_of, outcome_of}
 use Rattle.jobs.specs.Replays.{Replays}
 use Rattle.jobs.specs.Sources.{Compiles, IsSourceWalk, IsTree, WalksAsSource}
-use Rattle.jobs.specs.Works.{HasRun, IsIdle, Work}
-use Rattle.jobs.proofs.Worked.{crew_is_idle, ran, told_of_run}
+use Rattle.job_runs.specs.Works.{HasRun, IsIdle, Work}
+use Rattle.job_runs.proofs.Worked.{crew_is_idle, ran, told_of_run}
 
 -- ---- the source
 

@@ -36,10 +36,12 @@ use Rattle.job_profiles.specs.Profiles.{IsProfile, IsSpelled, named}
 use Rattle.jobs.specs.Makings.{IsMade, IsMaking, source_put}
 use Rattle.jobs.specs.Profilings.{ShowsLog}
 use Rattle.jobs.specs.Recordings.{IsRecording}
-use Rattle.jobs.specs.Replays.{IsLogIn, IsRefusal, Replays}
+use Rattle.job_runs.specs.Logs.{IsLogIn, IsRefusal}
+use Rattle.jobs.specs.Replays.{Replays}
 use Rattle.jobs.specs.Sources.{IsFound, IsTree}
-use Rattle.jobs.specs.Works.{IsOfRun, Work}
-use Rattle.jobs.proofs.Worked.{made_is_of_run, told_of_run}
+use Rattle.job_runs.specs.Works.{IsOfRun, Work}
+use Rattle.job_runs.proofs.Worked.{told_of_run}
+use Rattle.jobs.proofs.Worked.{made_is_of_run}
 use Rattle.walk_answers.specs.Walking.{formula_of, put_of}
 use Rattle.workload.specs.Program.{program_text}
 

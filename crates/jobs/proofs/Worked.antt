@@ -1,14 +1,10 @@
 -- When the crew has done nothing.
-use Rattle.std.proofs.Common.{◌≡◌, ◌⊎◌, inl, inr, refl, sym, ◌∙◌, ap, subst, ℕ, List, [], length, Option, Some, Result, Ok, Err}
+use Rattle.std.proofs.Common.{◌≡◌, ◌⊎◌, inl, inr, refl, sym, ap, subst, ℕ, List, [], length, Option, Some, Result, Ok, Err}
 use Rattle.answers.specs.declared.answer.Answer.{Answer}
-use Rattle.answers.specs.declared.answer.Answer.TheVariants as answer
 use Rattle.answers.specs.Jobs.{Asked}
 use Rattle.c_tree.specs.Tree.{Outer}
-use Rattle.core_run.specs.declared.outcome.Walk.{Walk}
-use Rattle.core_run.specs.declared.outcome.Walk.TheVariants as walk
 use Rattle.outcomes.proofs.Endings.{comes_at_once}
 use Rattle.outcomes.specs.Endings.{ComesTo, IsFoundSo}
-use Rattle.outcomes.specs.Faults.{CrewStops}
 use Rattle.outcomes.specs.Outcomes.{answers}
 use Rattle.outcomes.specs.Puts.{Put}
 use Rattle.outcomes.specs.Steps.{Gives}
@@ -16,56 +12,14 @@ use Rattle.outcomes.specs.declared.outcome.Outcome.{Outcome}
 use Rattle.outcomes.specs.declared.stop.Stop.{Stop}
 use Rattle.outcomes.specs.declared.stop.Stop.TheVariants as stop
 use Rattle.rr_base.specs.Files.{Files}
-use Rattle.walk_answers.specs.Walking.{answer_of}
 use Rattle.workload.specs.Program.{program_text}
 use Rattle.jobs.specs.Jobs.{IsOutcome, IsOutcomeOf, PutsBefore, RunsThreads}
-use Rattle.jobs.specs.Makings.{IsMade, summary_told}
-use Rattle.jobs.specs.Works.{IsIdle, IsOfRun, Work}
-
--- ---- answers of a run
-
-walk_is_of_run : (w : Walk) → IsOfRun (answer_of w)
-walk_is_of_run (walk.Done out reads ends) = tt
-walk_is_of_run (walk.Trapped kind thread line out reads ends) = tt
-walk_is_of_run (walk.Wrong at) = tt
-
-pub told_of_run : (o x : Outcome) (w : Walk) → o ≡ x → x.answer ≡ answer_of w → IsOfRun o.answer
-told_of_run o x w e is = subst IsOfRun (sym (ap (λ (y : Outcome). y.answer) e ∙ is)) (walk_is_of_run w)
-
-pub summary_is_of_run : (count bytes : ℕ) (a b : Answer) → IsOfRun a → IsOfRun (summary_told count bytes a b)
-summary_is_of_run count bytes (answer.Done out) b h = tt
-summary_is_of_run count bytes (answer.Trapped out kind thread line) b h = tt
-summary_is_of_run count bytes (answer.WrongEntry at) b h = tt
-summary_is_of_run count bytes answer.Usage b h = absurd h
-summary_is_of_run count bytes (answer.SourceRefused number line column) b h = absurd h
-summary_is_of_run count bytes (answer.LogRefused number line) b h = absurd h
-summary_is_of_run count bytes (answer.ProfileRefused number) b h = absurd h
-summary_is_of_run count bytes (answer.TooLarge what) b h = absurd h
+use Rattle.job_runs.proofs.Worked.{summary_is_of_run, told_of_run}
+use Rattle.job_runs.specs.Works.{IsIdle, IsOfRun, Work}
+use Rattle.jobs.specs.Makings.{IsMade}
 
 pub made_is_of_run : (old new : Work) (count : ℕ) (name : List ℕ) (os : List Outer) (o : Outcome) → IsMade old new count name os o → IsOfRun o.answer
 made_is_of_run old new count name os o h = subst IsOfRun (sym (ap (λ (x : Outcome). x.answer) h.told)) (summary_is_of_run count (length (program_text count)) h.recorded.answer h.replayed.answer (told_of_run h.recorded _ h.recording.walk h.recording.told refl))
-
--- ---- results
-
-module _ (old new : Work) where
-  pub ran : (o : Outcome) → IsOfRun o.answer → IsIdle (Ok o) old new
-  ran o h none = absurd (none h)
-
-  -- a crew refuses nothing
-  pub crew_is_idle : (s : Stop) (faults_old faults_new : ℕ) → CrewStops s faults_old faults_new → IsIdle (Err s) old new
-  crew_is_idle (stop.Refused a) faults_old faults_new h = absurd h
-  crew_is_idle stop.ShelfFailed faults_old faults_new h = tt
-  crew_is_idle stop.InputFailed faults_old faults_new h = tt
-  crew_is_idle stop.CrewFailed faults_old faults_new h = tt
-  crew_is_idle stop.OutOfMemory faults_old faults_new h = tt
-
-  pub all_is_idle : (r : Result Outcome Stop) → new ≡ old → IsIdle r old new
-  all_is_idle (Ok o) e = λ none. e
-  all_is_idle (Err (stop.Refused a)) e = λ none. e
-  all_is_idle (Err stop.ShelfFailed) e = tt
-  all_is_idle (Err stop.InputFailed) e = tt
-  all_is_idle (Err stop.CrewFailed) e = tt
-  all_is_idle (Err stop.OutOfMemory) e = tt
 
 -- ---- the outcome of a job
 

@@ -21,7 +21,7 @@ use Rattle.rr_base.specs.Files.{Files}
 use Rattle.walk_answers.specs.Walking.{answer_of, formula_of, no_reads}
 use Rattle.workload.specs.Program.{program_text}
 use Rattle.jobs.specs.Jobs.{ReadsInput, RunsThreads, UsesShelf}
-use Rattle.jobs.specs.Replays.{IsLogIn}
+use Rattle.job_runs.specs.Logs.{IsLogIn}
 use Rattle.jobs.specs.Sources.{IsFound, IsTree}
 
 -- ---- what a job reads, in the order of work

@@ -15,9 +15,10 @@ use Rattle.job_profiles.specs.Profiles.{IsProfile, named}
 use Rattle.jobs.specs.Makings.{IsMaking, IsPutInMaking}
 use Rattle.jobs.specs.Profilings.{ShowsLog}
 use Rattle.jobs.specs.Recordings.{IsRecording}
-use Rattle.jobs.specs.Replays.{IsLogIn, Replays}
+use Rattle.job_runs.specs.Logs.{IsLogIn}
+use Rattle.jobs.specs.Replays.{Replays}
 use Rattle.jobs.specs.Sources.{IsTree}
-use Rattle.jobs.specs.Works.{IsOfRun, Work}
+use Rattle.job_runs.specs.Works.{IsOfRun, Work}
 
 -- the source of this name
 abbrev pub IsSource : Option Files → List ℕ → (List ℕ → Outcome → Type 0) → Outcome → Type 0

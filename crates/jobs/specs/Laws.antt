@@ -6,7 +6,7 @@ use Rattle.outcomes.specs.declared.outcome.Outcome.{Outcome}
 use Rattle.rr_base.specs.Files.{Files}
 use Rattle.jobs.specs.Causes.{CauseOf, IsDecided, WentWell}
 use Rattle.jobs.specs.Jobs.{IsOutcome, PutsBefore, ReadsInput, RecordsRun, RunsThreads, UsesShelf}
-use Rattle.jobs.specs.Works.{IsOfRun, Work}
+use Rattle.job_runs.specs.Works.{IsOfRun, Work}
 
 -- where the shelf tells its files, a job that records no run has one outcome, whatever its crew did before
 abbrev pub OneOutcome : Type 0

@@ -1,5 +1,4 @@
 pub mod Wants
-pub mod Works
 pub mod Sources
 pub mod Listings
 pub mod Replays

@@ -1,31 +1,15 @@
 -- A run of a source by a log: the walk of the log's entries on the source's weakened code.
-use Rattle.std.specs.Prelude.{◌≡◌, ℕ, List, [], Option, Result, Ok, Err}
-use Rattle.answers.specs.declared.answer.Answer.{Answer}
-use Rattle.answers.specs.declared.answer.Answer.TheVariants as answer
+use Rattle.std.specs.Prelude.{◌≡◌, ℕ, List, [], Option}
 use Rattle.c_tree.specs.Tree.{Outer}
 use Rattle.core_run.specs.declared.outcome.Walk.{Walk}
 use Rattle.core_run.specs.Walks.{WalkIs}
 use Rattle.lock_sound.specs.Weakened.{Analysed}
 use Rattle.order_log.specs.Log.{LogView}
-use Rattle.order_log.specs.Reading as log_text
-use Rattle.order_log.specs.declared.fault.LogFault.{LogFault}
-use Rattle.order_log.specs.declared.fault.LogFault.TheVariants.{LogSyntax, LogLimit, OutOfMemory}
 use Rattle.outcomes.specs.declared.outcome.Outcome.{Outcome}
 use Rattle.replayer.specs.Replays.{entries_taken}
+use Rattle.job_runs.specs.Works.{HasRun, Work}
 use Rattle.jobs.specs.Sources.{IsFound, WalksAsSource}
-use Rattle.jobs.specs.Works.{HasRun, Work}
 use Rattle.walk_answers.specs.Walking.{formula_of, outcome_of}
-
--- how a log is refused
-abbrev pub IsRefusal : LogFault → Answer → Type 0
-IsRefusal (LogSyntax line) a = a ≡ answer.LogRefused 23 line
-IsRefusal (LogLimit line) a = a ≡ answer.LogRefused 24 line
-IsRefusal OutOfMemory a = ⊥
-
--- reading a log
-abbrev pub IsLogIn : (bytes : List ℕ) → Result LogView Answer → Type 0
-IsLogIn bytes (Ok log) = log_text.IsAnswer bytes (Ok log)
-IsLogIn bytes (Err a) = (fault : LogFault) × log_text.IsAnswer bytes (Err fault) × IsRefusal fault a
 
 -- the walk of the log on the code with the weak locks that it has for the log's profile. As far as the entries have a walk it is a
 -- run of the source. The crew has run a job for each slot, with a turn for each entry that the walk takes or more

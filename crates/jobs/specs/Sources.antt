@@ -1,11 +1,11 @@
 -- Reading a source, and what its code is.
-use Rattle.std.specs.Prelude.{◌≡◌, ◌<◌, ◌≢◌, ℕ, List, Result, Ok, Err, Some}
+use Rattle.std.specs.Prelude.{◌≡◌, ℕ, List, Result, Ok, Err, Some}
 use Rattle.answers.specs.declared.answer.Answer.{Answer}
 use Rattle.answers.specs.declared.answer.Answer.TheVariants as answer
 use Rattle.c_elaborate.specs.Whole.{core_of_source}
 use Rattle.c_tree.specs.Tree.{Outer}
 use Rattle.core_run.specs.Histories.{HaveEnded, entries_in, lists_of, run_of}
-use Rattle.core_run.specs.Machine.{Told, machine, start_state}
+use Rattle.core_run.specs.Machine.{Told, start_state}
 use Rattle.core_run.specs.Walks.{out_of, walk_of}
 use Rattle.erasure.specs.Erased.{erased_walk, IsAnywhere}
 use Rattle.profiles.specs.declared.profile.Profile.{Profile}
@@ -18,9 +18,7 @@ use Rattle.lock_sound.specs.Weakened.{Analysed, IsAnalysed}
 use Rattle.outcomes.specs.declared.stop.Stop.{Stop}
 use Rattle.outcomes.specs.declared.stop.Stop.TheVariants as stop
 use Rattle.runs.specs.Labels.{Label}
-use Rattle.runs.specs.Laws.{Conflict}
 use Rattle.runs.specs.Merge.{written_merge}
-use Rattle.runs.specs.Ordered.{Event, event_access, event_at, event_thread, Ordered}
 use Rattle.runs.specs.Steps.{State}
 use Rattle.c_core.specs.SourceRuns.{IsSourceRun, bytes_of}
 use Rattle.sync_objects.specs.Setup.{IsWithinLimits, SetupView}
@@ -49,12 +47,6 @@ pub record IsSourceWalk (os : List Outer) (code : Code) (s : SetupView) (entries
 -- .. where they have a walk
 abbrev pub WalksAsSource : List Outer → Code → SetupView → List Entry → Type 0
 WalksAsSource os code s entries = (end : State Told) → walk_of code s entries (start_state code s) ≡ Some end → IsSourceWalk os code s entries
-
--- each two conflicting accesses of two threads in the run are ordered by operations, each of which passes its object on
-abbrev pub AreOrdered : Code → SetupView → List Label → Type 0
-AreOrdered code s labels =
-    let events = event_at (machine code s) labels (start_state code s) in
-    (i j : ℕ) (first second : Event) → i < j → events i ≡ Some first → events j ≡ Some second → event_thread first ≢ event_thread second → Conflict (event_access first) (event_access second) → Ordered events i j
 
 -- ---- for private clauses
 

@@ -5,22 +5,21 @@ ghost use Rattle.answers.specs.Jobs.{record_told};
 ghost use Rattle.jobs.specs.Makings as spec;
 ghost use Rattle.profiles.specs.declared.profile.Profile.TheVariants as profile;
 ghost use Rattle.jobs.specs.Sources.{Compiles, RunsAsSource};
-ghost use Rattle.jobs.specs.Works.{IsIdle, work_of};
+ghost use Rattle.job_runs.specs.Works.{IsIdle, work_of};
 ghost use Rattle.outcomes.specs.Endings.{ComesTo};
 ghost use Rattle.outcomes.specs.Faults.{CrewShelfStops};
 ghost use Rattle.outcomes.specs.Puts.{ArePut};
 ghost use Rattle.rr_base.specs.Files.{Files};
 ghost use Rattle.workload.specs.Program.{program_text};
 
-use crate::recording::{Recording, recorded_on};
-use crate::replaying::told_walk;
 use crate::sources::compiled;
-use answers::{Answer, RecordJob, summary_text};
+use answers::RecordJob;
 use crew::Crew;
+use job_runs::{recorded_on, replayed_log};
 use lock_sound::Weakened;
-use outcomes::{Keeper, Outcome, Stop, put_all};
+use outcomes::{Keeper, Outcome, Stop};
 use profiles::Profile;
-use rr_base::{Bytes, List};
+use rr_base::List;
 use std::alloc::{AllocError, Global};
 use std::sync::Wait;
 use std::thread::Threads;
@@ -49,75 +48,6 @@ fn recording_job<'a>(source: &'a str, log: &'a str) -> RecordJob<'a>
         budget: 1_000,
         reads: None,
     }
-}
-
-// What was printed.
-fn printed(answer: &Answer) -> &[u8]
-    ensures { result.now ≡ spec.printed answer.now }
-{
-    match answer {
-        Answer::Done { out } | Answer::Trapped { out, .. } => out.as_slice(),
-        _ => &[],
-    }
-}
-
-// The same answer, where these bytes were printed.
-fn with_printed(out: Bytes, answer: Answer) -> Answer
-    ensures { result ≡ spec.with_printed out answer }
-{
-    match answer {
-        Answer::Done { .. } => Answer::Done { out },
-        Answer::Trapped {
-            kind,
-            thread,
-            line,
-            ..
-        } => Answer::Trapped {
-            out,
-            kind,
-            thread,
-            line,
-        },
-        other => other,
-    }
-}
-
-// What is told of a source with so many functions and bytes, its recording and its replay.
-fn summary(
-    alloc: Global,
-    count: u32,
-    bytes: u32,
-    recorded: Answer,
-    replayed: &Answer,
-) -> Result<Answer, AllocError>
-    ensures { IfOk result (λ answer. answer ≡ spec.summary_told count bytes recorded replayed.now) }
-{
-    let text = summary_text(alloc, count, bytes, printed(&recorded), printed(replayed))?;
-    Ok(with_printed(text, recorded))
-}
-
-// The log of a recording is put and replayed, and both are told.
-fn replayed_log<'a, R: Threads + Wait + Sync, S: Keeper, C: Crew>(
-    rt: &R,
-    alloc: Global,
-    weakened: &Weakened,
-    count: u32,
-    bytes: u32,
-    recording: Recording<'_>,
-    shelf: &mut S,
-    crew: &mut C,
-) -> Result<Outcome<'a>, Stop>
-    ensures outcome { ComesTo (spec.IsReplayed (work_of C.Crew crew.old) (work_of C.Crew crew.new) count bytes weakened.now recording.entry.log recording.entry.outcome) (λ puts. puts ≡ recording.entry.outcome.puts) (S.files shelf.old) (S.files shelf.new) result }
-    ensures faults { MatchResult result (λ _. (S.faults shelf.new ≡ S.faults shelf.old) × (C.faults crew.new ≡ C.faults crew.old)) (λ stop. CrewShelfStops stop (S.faults shelf.old) (S.faults shelf.new) (C.faults crew.old) (C.faults crew.new)) }
-    ensures sound { S.IsSound shelf.old → S.IsSound shelf.new }
-    ensures kept { S.IsSound shelf.old → result ≢ Err Stop.ShelfFailed }
-{
-    let Recording { log, outcome } = recording;
-    let Outcome { puts, answer } = outcome;
-    put_all(alloc, shelf, puts.as_slice())?;
-    let replayed = told_walk(rt, alloc, weakened, &log, None, crew)?;
-    let answer = summary(alloc, count, bytes, answer, &replayed.answer)?;
-    Ok(Outcome::answers(alloc, answer))
 }
 
 // The code of a made source, of which each run and each log's walk is one of the source.

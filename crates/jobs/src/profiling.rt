@@ -10,9 +10,10 @@ ghost use Rattle.outcomes.specs.Steps.{Comes, Gives, Lacks};
 ghost use Rattle.source_names.specs.Spelled.{HaveTexts};
 ghost use Rattle.walk_profiles.specs.Profiling.{ShowsProfile};
 
-use crate::replaying::{LOG_BYTES, log_in};
-use crate::sources::{SOURCE_BYTES, compiled, or_stop};
+use crate::replaying::LOG_BYTES;
+use crate::sources::{SOURCE_BYTES, compiled};
 use answers::Part;
+use job_runs::{log_in, or_stop};
 use lock_sound::{Weakened, law_weakened_runs};
 use order_log::Log;
 use outcomes::{Keeper, Outcome, Stop, file};

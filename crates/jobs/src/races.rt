@@ -10,8 +10,9 @@ ghost use Rattle.listing.specs.Text.{races_text_of};
 ghost use Rattle.outcomes.specs.Outcomes.{answers};
 ghost use Rattle.outcomes.specs.Steps.{Comes, Gives, Lacks};
 
-use crate::sources::{SOURCE_BYTES, compiled, or_stop};
+use crate::sources::{SOURCE_BYTES, compiled};
 use answers::{Answer, Part};
+use job_runs::or_stop;
 use listing::races_text;
 use lock_sound::Weakened;
 use outcomes::{Keeper, Outcome, Stop, file};

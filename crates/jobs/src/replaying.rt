@@ -1,100 +1,28 @@
 // A run of a source by a log.
 
-ghost use Rattle.std.specs.Prelude.{◌≡◌, ◌≤◌, ◌^◌, length, [], ℕ, IfErr, IfOk, MatchResult, option_map};
-ghost use Rattle.core_run.specs.declared.outcome.Walk.{Walk as WalkOf};
-ghost use Rattle.core_run.specs.Walks.{WalkIs};
+ghost use Rattle.std.specs.Prelude.{◌≡◌, ◌≤◌, ◌^◌, length, MatchResult, option_map};
+ghost use Rattle.job_runs.specs.Works.{IsIdle, work_of};
 ghost use Rattle.jobs.specs.Jobs.{IsReplay};
-ghost use Rattle.jobs.specs.Replays.{IsLogIn, Replays};
+ghost use Rattle.jobs.specs.Replays.{Replays};
 ghost use Rattle.jobs.specs.Sources.{IsTree};
-ghost use Rattle.jobs.specs.Works.{HasRun, IsIdle, work_of};
-ghost use Rattle.walk_answers.specs.Walking.{formula_of as formula_by, outcome_of as outcome_by};
-ghost use Rattle.outcomes.specs.Faults.{CrewShelfStops, CrewStops, IsPure, RefusingCrewStops};
+ghost use Rattle.outcomes.specs.Faults.{CrewShelfStops, RefusingCrewStops};
 ghost use Rattle.jobs.specs.Wants.{LacksEither};
-ghost use Rattle.outcomes.specs.Steps.{Comes, Finds, Gives, Lacks};
-ghost use Rattle.replayer.specs.Replays.{entries_taken};
+ghost use Rattle.outcomes.specs.Steps.{Comes, Gives, Lacks};
 
-use crate::sources::{SOURCE_BYTES, compiled, or_stop};
-use answers::{Answer, Part};
-use core_run::Walk;
-use crew::{Crew, CrewEnd};
-use lock_sound::{Weakened, law_weakened_runs};
-use order_log::{Log, LogFault, read_log};
+use crate::sources::{SOURCE_BYTES, compiled};
+use answers::Part;
+use crew::Crew;
+use job_runs::{log_in, told_walk};
+use order_log::Log;
 use outcomes::{Keeper, Outcome, Stop, file};
-use race_free::law_no_race;
-use replayer::replay as follow;
-use rr_base::{Bytes, List};
+use rr_base::Bytes;
 use std::alloc::Global;
 use std::sync::Wait;
 use std::thread::Threads;
 use text_runs::law_text_erased_walk;
-use thread_flow::Formula;
-use walk_answers::{formula_of, outcome_of};
 
 /// The most bytes of a log.
 pub(crate) const LOG_BYTES: u32 = 536_870_912;
-
-/// The log that bytes are.
-pub(crate) fn log_in(alloc: Global, bytes: &[u8]) -> Result<Log, Stop>
-    ensures log { Finds (IsLogIn bytes.now) result }
-    ensures pure { IfErr result IsPure }
-{
-    match read_log(alloc, bytes) {
-        Ok(log) => Ok(log),
-        Err(LogFault::LogSyntax(line)) => Err(Stop::Refused(Answer::LogRefused {
-            number: 23,
-            line,
-        })),
-        Err(LogFault::LogLimit(line)) => Err(Stop::Refused(Answer::LogRefused {
-            number: 24,
-            line,
-        })),
-        Err(LogFault::OutOfMemory) => Err(Stop::OutOfMemory),
-    }
-}
-
-// The walk of the log on the weakened code, whose threads follow it side by side.
-fn walked<R: Threads + Wait + Sync, C: Crew>(
-    rt: &R,
-    alloc: Global,
-    weakened: &Weakened,
-    log: &Log,
-    formula: &Formula,
-    crew: &mut C,
-) -> Result<Walk, Stop>
-    ensures walk { IfOk result (WalkIs weakened.now.weak log.now.setup log.now.entries formula.now) }
-    ensures crew { IfOk result (λ it. HasRun log.now.setup.slots (entries_taken log.now.entries it) (work_of C.Crew crew.old) (work_of C.Crew crew.new)) }
-    ensures faults { MatchResult result (λ _. C.faults crew.new ≡ C.faults crew.old) (λ stop. CrewStops stop (C.faults crew.old) (C.faults crew.new)) }
-{
-    let code = weakened.code();
-    let setup = log.setup();
-    let _slots = setup.slots();
-    law_weakened_runs();
-    law_no_race();
-    match follow(rt, alloc, code, setup, log.entries(), formula, crew) {
-        Ok(walk) => Ok(walk),
-        Err(CrewEnd::Failed) => Err(Stop::CrewFailed),
-        Err(CrewEnd::OutOfMemory) => Err(Stop::OutOfMemory),
-    }
-}
-
-/// What is told of that walk.
-pub(crate) fn told_walk<'a, R: Threads + Wait + Sync, C: Crew>(
-    rt: &R,
-    alloc: Global,
-    weakened: &Weakened,
-    log: &Log,
-    reads: Option<&'a str>,
-    crew: &mut C,
-) -> Result<Outcome<'a>, Stop>
-    ensures outcome { IfOk result (λ o. (walk : WalkOf) × WalkIs weakened.now.weak log.now.setup log.now.entries (formula_by (option_map (λ n. n.now) reads.entry)) walk × HasRun log.now.setup.slots (entries_taken log.now.entries walk) (work_of C.Crew crew.old) (work_of C.Crew crew.new) × (o ≡ outcome_by [] (option_map (λ n. n.now) reads.entry) walk)) }
-    ensures faults { MatchResult result (λ _. C.faults crew.new ≡ C.faults crew.old) (λ stop. CrewStops stop (C.faults crew.old) (C.faults crew.new)) }
-{
-    let formula = formula_of(reads);
-    match walked(rt, alloc, weakened, log, &formula, crew) {
-        Ok(walk) => or_stop(outcome_of(alloc, List::new(alloc), reads, walk)),
-        Err(stop) => Err(stop),
-    }
-}
 
 // The outcome of a source's bytes and a log.
 fn replayed<'a, R: Threads + Wait + Sync, C: Crew>(

@@ -4,7 +4,7 @@ ghost use Rattle.std.specs.Prelude.{◌≡◌, map, string_bytes, option_map, If
 ghost use Rattle.answers.specs.Jobs.{HasLimits, job_of as job_by, told};
 ghost use Rattle.jobs.specs.Jobs.{IsOutcome, PutsBefore, ReadsInput, RunsThreads, UsesShelf, is_status};
 ghost use Rattle.jobs.specs.Wants.{LacksFile};
-ghost use Rattle.jobs.specs.Works.{work_of};
+ghost use Rattle.job_runs.specs.Works.{work_of};
 ghost use Rattle.outcomes.specs.Endings.{ComesTo, Ends, MayStop};
 ghost use Rattle.outcomes.specs.Faults.{StopCounts};
 ghost use Rattle.rr_base.specs.Faults.{Rose};

@@ -12,9 +12,10 @@ ghost use Rattle.listing.specs.WeakText.{weak_text_of};
 ghost use Rattle.outcomes.specs.Outcomes.{answers};
 ghost use Rattle.outcomes.specs.Steps.{Comes, Gives};
 
-use crate::sources::{SOURCE_BYTES, compiled, or_stop};
+use crate::sources::{SOURCE_BYTES, compiled};
 use answers::{Answer, Part};
 use job_profiles::profile_of;
+use job_runs::or_stop;
 use listing::weak_text;
 use lock_sound::Weakened;
 use outcomes::{Keeper, Outcome, Stop, file};

@@ -3,7 +3,7 @@ use Rattle.std.proofs.lemmas.Result.{err_from_is_err_and}
 use Rattle.answers.specs.declared.answer.Part.TheVariants as part
 use Rattle.outcomes.specs.Steps.{Finds, IsFile}
 use Rattle.jobs.specs.Profilings.{ShowsLog}
-use Rattle.jobs.specs.Replays.{IsLogIn}
+use Rattle.job_runs.specs.Logs.{IsLogIn}
 use Rattle.jobs.proofs.OfLog.{log_gives, log_stops}
 use Rattle.jobs.proofs.profiling.profile_log.Goals as goal
 

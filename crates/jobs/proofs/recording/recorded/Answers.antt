@@ -2,7 +2,7 @@ use Rattle.answers.specs.Jobs.{record_told}
 use Rattle.jobs.proofs.Found.{not_compiled}
 use Rattle.std.proofs.Common.{refl, Err}
 use Rattle.jobs.proofs.Recorded.{recorded_gives, runs_nothing}
-use Rattle.jobs.proofs.Worked.{all_is_idle}
+use Rattle.job_runs.proofs.Worked.{all_is_idle}
 use Rattle.jobs.proofs.recording.recorded.Goals as goal
 
 pub returns-in-Ok-clause-outcome : goal.returns-in-Ok-clause-outcome

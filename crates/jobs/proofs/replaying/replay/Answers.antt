@@ -2,7 +2,8 @@ use Rattle.std.proofs.Common.{Ok, Err, subst}
 use Rattle.std.proofs.lemmas.Result.{err_from_is_err_and}
 use Rattle.answers.specs.declared.answer.Part.TheVariants as part
 use Rattle.outcomes.specs.Steps.{Finds, IsFile}
-use Rattle.jobs.specs.Replays.{IsLogIn, Replays}
+use Rattle.job_runs.specs.Logs.{IsLogIn}
+use Rattle.jobs.specs.Replays.{Replays}
 use Rattle.jobs.proofs.OfLog.{log_gives, log_stops}
 use Rattle.jobs.proofs.replaying.replay.Goals as goal
 

@@ -4,7 +4,7 @@ use Rattle.weak_facts.specs.Ranges.{ranges_of}
 use Rattle.jobs.specs.Sources.{Compiles}
 use Rattle.jobs.proofs.Found.{not_compiled, compile_is_pure, same_compile}
 use Rattle.jobs.proofs.Replayed.{may_refuse, refused_before, replayed_gives, replayed_is_idle, walks_as_source}
-use Rattle.jobs.proofs.Worked.{all_is_idle}
+use Rattle.job_runs.proofs.Worked.{all_is_idle}
 use Rattle.jobs.proofs.replaying.replayed.Goals as goal
 
 pub compiled-requires : goal.compiled-requires

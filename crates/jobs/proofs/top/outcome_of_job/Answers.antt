@@ -2,9 +2,10 @@ use Rattle.std.proofs.Common.{inl, inr, refl, sym, subst, Some}
 use Rattle.answers.specs.Jobs.{told}
 use Rattle.answers.specs.declared.job.Job.{Job}
 use Rattle.jobs.specs.Jobs.{IsOutcome, PutsBefore}
-use Rattle.jobs.specs.Works.{work_of}
+use Rattle.job_runs.specs.Works.{work_of}
 use Rattle.outcomes.specs.Endings.{ComesTo}
-use Rattle.jobs.proofs.Worked.{all_is_idle, at_once, with_work}
+use Rattle.job_runs.proofs.Worked.{all_is_idle}
+use Rattle.jobs.proofs.Worked.{at_once, with_work}
 use Rattle.jobs.proofs.top.outcome_of_job.Goals as goal
 
 pub returns-in-Races-clause-outcome : goal.returns-in-Races-clause-outcome

@@ -1,8 +1,8 @@
 use Rattle.std.proofs.Common.{sym, subst}
 use Rattle.core_run.specs.Histories.{HasNoRace}
 use Rattle.flow_code.specs.Settle.{IsRunnable}
-use Rattle.jobs.proofs.Recorded.{left_of_run}
-use Rattle.jobs.proofs.recording.run.Goals as goal
+use Rattle.job_runs.proofs.Recorded.{left_of_run}
+use Rattle.job_runs.proofs.recording.run.Goals as goal
 
 pub record_threads-requires-clause-runnable : goal.record_threads-requires-clause-runnable
 record_threads-requires-clause-runnable g c = λ lifetimes bounds. subst IsRunnable (sym c.code-code.ensures.value) (c.law_weakened_runs.ensures c.args.weakened.now c.code-code.ensures.kept)

@@ -4,10 +4,10 @@ use Rattle.answers.specs.Jobs.{record_told}
 use Rattle.answers.specs.declared.answer.Part.TheVariants as part
 use Rattle.outcomes.proofs.InRow.{gives_stop}
 use Rattle.outcomes.specs.Steps.{Comes, IsInput}
-use Rattle.jobs.specs.Recordings.{IsRecorded}
-use Rattle.jobs.proofs.Recorded.{crew_gives, crew_stops, input_stops}
-use Rattle.jobs.proofs.Worked.{all_is_idle, crew_is_idle, ran, told_of_run}
-use Rattle.jobs.proofs.recording.recorded_code.Goals as goal
+use Rattle.job_runs.specs.Recordings.{IsRecorded}
+use Rattle.job_runs.proofs.Recorded.{crew_gives, crew_stops, input_stops}
+use Rattle.job_runs.proofs.Worked.{all_is_idle, crew_is_idle, ran, told_of_run}
+use Rattle.job_runs.proofs.recording.recorded_code.Goals as goal
 
 pub returns-in_err-bytes-clause-outcome : goal.returns-in_err-bytes-clause-outcome
 returns-in_err-bytes-clause-outcome g c =

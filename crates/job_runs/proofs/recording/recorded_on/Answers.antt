@@ -1,6 +1,6 @@
 use Rattle.answers.specs.Jobs.{record_told}
-use Rattle.jobs.proofs.Recorded.{logged_of, setup_within}
-use Rattle.jobs.proofs.recording.recorded_on.Goals as goal
+use Rattle.job_runs.proofs.Recorded.{logged_of, setup_within}
+use Rattle.job_runs.proofs.recording.recorded_on.Goals as goal
 
 pub new-setup-requires : goal.new-setup-requires
 new-setup-requires g c = setup_within (record_told c.args.job.now) c.args.input c.requires.limits c.requires.short

@@ -1,0 +1,4 @@
+pub mod Works
+pub mod Logs
+pub mod Recordings
+pub mod Retold

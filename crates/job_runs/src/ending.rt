@@ -1,0 +1,17 @@
+// An outcome where memory may be wanting.
+
+ghost use Rattle.std.specs.Prelude.{◌≡◌, MatchResult, Ok};
+ghost use Rattle.outcomes.specs.declared.stop.Stop.TheVariants as stop;
+
+use outcomes::{Outcome, Stop};
+use std::alloc::AllocError;
+
+/// An outcome, or else that memory was wanting.
+pub fn or_stop<'a>(found: Result<Outcome<'a>, AllocError>) -> Result<Outcome<'a>, Stop>
+    ensures { MatchResult result (λ o. found.entry ≡ Ok o) (λ end. end ≡ stop.OutOfMemory) }
+{
+    match found {
+        Ok(outcome) => Ok(outcome),
+        Err(error) => Err(Stop::from(error)),
+    }
+}
