@@ -1,3 +1,3 @@
-pub mod Locals
+pub mod Defined
 pub mod Made
 pub mod Rows

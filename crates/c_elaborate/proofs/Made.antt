@@ -1,7 +1,6 @@
--- What is made in steps: the sites of a function's objects, its body, and a list of functions.
-use Rattle.std.proofs.Common.{◌≡◌, ℕ, if◌then◌else◌, List, [], ◌∷◌, ◌++◌, map, refl, ap, sym, ◌∙◌, append_assoc}
+-- What is made in steps: the body of a function, and a list of functions.
+use Rattle.std.proofs.Common.{◌≡◌, List, [], ◌∷◌, ◌++◌, map, ap, ◌∙◌}
 use Rattle.std.proofs.lemmas.List.{map-append}
-use Rattle.rr_base.specs.declared.layout.Site.{Site}
 use Rattle.c_tree.specs.declared.program.Param.{Param}
 use Rattle.c_tree.specs.Tree.{Parts}
 use Rattle.c_numbers.specs.Numbered.{Numbered}
@@ -12,25 +11,8 @@ use Rattle.c_core.specs.declared.program.CoreFunction.{CoreFunction}
 use Rattle.c_core.specs.declared.statement.Statement.{Statement as RustStatement}
 use Rattle.c_core.specs.Core as core
 use Rattle.c_core.specs.View.{function_of, stmt_of}
-use Rattle.c_statements.specs.declared.local.Local.{Local}
-use Rattle.c_operators.specs.Context.{Source, Frame, context_in, site_at}
+use Rattle.c_operators.specs.Context.{Source, Frame, context_in}
 use Rattle.c_statements.specs.Statements.{block_of, all_elaborated}
-use Rattle.c_elaborate.specs.Functions.{sites_of}
-
--- ---- sites
-
-sites_append : (sites : List Site) (fs ls : List Local) → sites_of sites (fs ++ ls) ≡ sites_of sites fs ++ sites_of sites ls
-sites_append sites [] ls = refl
-sites_append sites (f ∷ fs) ls =
-    ap (λ (z : List ℕ). (if f.is_kept then site_at sites f.at ∷ [] else []) ++ z) (sites_append sites fs ls)
-    ∙ sym (append_assoc (if f.is_kept then site_at sites f.at ∷ [] else []) (sites_of sites fs) (sites_of sites ls))
-
-pub objects_made : (sites : List Site) (fs ls : List Local) (start middle end : List ℕ) →
-    start ≡ [] → middle ≡ start ++ sites_of sites fs → end ≡ middle ++ sites_of sites ls → end ≡ sites_of sites (fs ++ ls)
-objects_made sites fs ls start middle end s m e =
-    e
-    ∙ ap (λ (z : List ℕ). z ++ sites_of sites ls) (m ∙ ap (λ (z : List ℕ). z ++ sites_of sites fs) s)
-    ∙ sym (sites_append sites fs ls)
 
 -- ---- a body
 

@@ -25,12 +25,12 @@ use Rattle.rr_base.specs.declared.position.Position.{Position}
 use Rattle.c_core.specs.Core.{Function, Program}
 use Rattle.c_operators.specs.declared.home.Home.{Home}
 use Rattle.c_operators.specs.declared.home.Home.TheVariants as kept_in
-use Rattle.c_statements.specs.declared.local.Local.{Local}
+use Rattle.c_frames.specs.declared.local.Local.{Local}
 use Rattle.c_operators.specs.Denoted.{is_pointing}
 use Rattle.c_operators.specs.Context.{Source, Frame, Context, home_numbered, home_of}
 use Rattle.c_values.specs.Expressions.{denoted_in}
-use Rattle.c_statements.specs.Locals.{local_declared, local_of, declares_locals, start_locals}
-use Rattle.c_elaborate.specs.Functions.{formal_of}
+use Rattle.c_frames.specs.Locals.{local_declared, local_of, declares_locals, start_locals}
+use Rattle.c_frames.specs.Frames.{formal_of}
 use Rattle.c_statements.specs.Statements.{context_inside, here_after_object, here_after_declares, here_after_start, context_after}
 use Rattle.c_core.specs.Sound.{HasRegister}
 use Rattle.source_sound.proofs.Environment.{IsFormed, DenotedFits}

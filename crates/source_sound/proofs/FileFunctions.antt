@@ -28,11 +28,12 @@ use Rattle.c_locals.specs.Addresses.{count_of_outer}
 use Rattle.c_spots.specs.Spots.{known_after}
 use Rattle.c_core.specs.Core.{Function}
 use Rattle.c_core.specs.Meaning.{is_main}
-use Rattle.c_statements.specs.declared.local.Local.{Local}
+use Rattle.c_frames.specs.declared.local.Local.{Local}
 use Rattle.c_operators.specs.Context.{Source, global_named}
 use Rattle.c_values.specs.Calls.{gives_pointer}
-use Rattle.c_elaborate.specs.Functions.{formal_at, formal_of, marked, local_pointers, definition}
-use Rattle.c_statements.specs.Locals.{parts_locals}
+use Rattle.c_frames.specs.Frames.{formal_at, formal_of, marked, local_pointers}
+use Rattle.c_elaborate.specs.Functions.{definition}
+use Rattle.c_frames.specs.Locals.{parts_locals}
 use Rattle.c_elaborate.specs.Whole.{code_functions, outer_functions, outers_functions}
 use Rattle.c_core.specs.Sound.{formal_kinds}
 use Rattle.source_sound.proofs.FileLists.{append_nil, where_nil, same_text, text_same}

@@ -31,7 +31,7 @@ use Rattle.c_operators.specs.Denoted.{position_of, is_pointing}
 use Rattle.c_operators.specs.Context.{Context, home_numbered, home_of}
 use Rattle.c_values.specs.Expressions.{is_pointer_type, wanted_of}
 use Rattle.c_initials.specs.Initials.{kinds_of_some, cell_stored, cell_cleared, cleared, type_of_part, started, parts_started, zero_word, first_word, first_of_braces, object_begun, begun}
-use Rattle.c_statements.specs.Locals.{local_of, declares_locals}
+use Rattle.c_frames.specs.Locals.{local_of, declares_locals}
 use Rattle.c_statements.specs.Statements.{here_after_object, object_elaborated, objects_elaborated, declares_elaborated}
 use Rattle.c_core.specs.Sound.{IsSoundExp, IsSoundStatement, AreSoundStatements}
 use Rattle.source_sound.proofs.Environment.{IsFormed, IsFormedTarget, Suits}

@@ -7,10 +7,10 @@ use Rattle.c_tree.specs.Tree.{Declares, declares, Start, start_declares, start_c
 use Rattle.c_locals.specs.Addresses.{is_among, count_of_declares, count_of_start, count_of_locals, count_of_parts}
 use Rattle.c_operators.specs.declared.home.Home.{Home}
 use Rattle.c_operators.specs.declared.home.Home.TheVariants as kept_in
-use Rattle.c_statements.specs.declared.local.Local.{Local}
+use Rattle.c_frames.specs.declared.local.Local.{Local}
 use Rattle.c_operators.specs.Context.{Frame, home_numbered, site_at}
-use Rattle.c_statements.specs.Locals.{local_of, declares_locals, start_locals, statement_locals, parts_locals}
-use Rattle.c_elaborate.specs.Functions.{marked, one_if, kept_count, formal_homes, local_homes, homes_of, local_pointers, pointers_of, sites_of}
+use Rattle.c_frames.specs.Locals.{local_of, declares_locals, start_locals, statement_locals, parts_locals}
+use Rattle.c_frames.specs.Frames.{marked, one_if, kept_count, formal_homes, local_homes, homes_of, local_pointers, pointers_of, sites_of}
 use Rattle.source_sound.proofs.Environment.{IsKept}
 use Rattle.source_sound.proofs.NoFaults.{neither}
 

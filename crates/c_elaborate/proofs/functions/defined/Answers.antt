@@ -6,7 +6,7 @@ use Rattle.c_names.specs.Table.{known_of}
 use Rattle.c_core.specs.Core as core
 use Rattle.c_core.specs.View.{function_of, stmt_of}
 use Rattle.c_operators.specs.Views.{frame_in, source_in}
-use Rattle.c_elaborate.proofs.Locals.{defined_made}
+use Rattle.c_elaborate.proofs.Defined.{defined_made}
 use Rattle.c_elaborate.proofs.functions.defined.Goals as goal
 
 pub returns-clause-function : goal.returns-clause-function

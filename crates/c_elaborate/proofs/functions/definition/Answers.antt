@@ -3,7 +3,7 @@ use Rattle.c_tree.specs.Tree.{listed_parts}
 use Rattle.c_tree.specs.View.{part_of}
 use Rattle.c_names.specs.Table.{known_of}
 use Rattle.c_operators.specs.Views.{source_in}
-use Rattle.c_elaborate.proofs.Locals.{definition_of}
+use Rattle.c_elaborate.proofs.Defined.{definition_of}
 use Rattle.c_elaborate.proofs.functions.definition.Goals as goal
 
 pub returns-clause-function : goal.returns-clause-function

@@ -1,7 +1,0 @@
-use Rattle.std.proofs.Common.{◌≡◌, ◌++◌, drop}
-use Rattle.c_elaborate.specs.Functions.{sites_of}
-use Rattle.c_elaborate.proofs.functions.push_sites.Given as goal
-
--- what is pushed and the rest make the whole
-abbrev pub invariant-loop-local : goal.invariant-loop-local
-invariant-loop-local l = l.out ++ sites_of l.sites (drop l.local-index l.locals) ≡ l.fn.out ++ sites_of l.fn.sites l.fn.locals
