@@ -3,7 +3,7 @@ use Rattle.std.proofs.Common.{◌≡◌, ◌≢◌, inl, inr, ℕ, zero, suc, �
 use Rattle.c_lexer.specs.declared.token.Kind.TheVariants as kind
 use Rattle.c_lexer.specs.declared.token.Punct.TheVariants as punct
 use Rattle.rr_base.specs.declared.position.Position.{Position}
-use Rattle.c_tree.specs.Kinds.{p}
+use Rattle.c_print.specs.Kinds.{p}
 use Rattle.c_grammar.specs.Marks.{Lexeme, lexeme, Mark, mark, erase, AllLow}
 use Rattle.c_grammar.specs.Grammar.{OfStars, OfRaisingStars}
 use Rattle.c_grammar.specs.Phrase.{Phrase, TreeOf, Head, function_head, object_head}

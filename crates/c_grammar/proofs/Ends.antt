@@ -14,7 +14,7 @@ use Rattle.c_tree.specs.declared.expr.AssignOp.{AssignOp}
 use Rattle.c_tree.specs.declared.expr.AssignOp.TheVariants as assign_op
 use Rattle.c_tree.specs.Tree.{Exp, comma, assign, conditional, binary, prefix, sizeof_exp, sizeof_type, cast, index, member, arrow, post_increment, post_decrement, named, call, number, letter, text, null, paren}
 use Rattle.rr_base.specs.declared.position.Position.{Position}
-use Rattle.c_tree.specs.Kinds.{p, w}
+use Rattle.c_print.specs.Kinds.{p, w}
 use Rattle.c_grammar.specs.Marks.{Mark, mark, erase}
 use Rattle.c_grammar.specs.Grammar.{ends_open, OfExp}
 use Rattle.c_grammar.specs.Phrase as phrase

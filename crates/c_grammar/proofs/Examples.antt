@@ -11,7 +11,7 @@ use Rattle.c_tree.specs.declared.program.Params.TheVariants as params
 use Rattle.c_tree.specs.Tree.{Exp, number, paren, declared, mutex_start, plain, Declared, declares, start_computes, compute, prototype, fields, objects}
 use Rattle.rr_base.specs.declared.position.Position.{Position}
 use Rattle.rr_base.specs.Positions.{position_at}
-use Rattle.c_tree.specs.Kinds.{p, w}
+use Rattle.c_print.specs.Kinds.{p, w}
 use Rattle.c_grammar.specs.Grammar.{specifier_place}
 use Rattle.c_grammar.specs.Marks.{Mark, mark}
 use Rattle.c_grammar.specs.Phrase as phrase

@@ -11,7 +11,7 @@ use Rattle.c_tree.specs.declared.expr.PrefixOp.{PrefixOp}
 use Rattle.c_tree.specs.declared.expr.PrefixOp.TheVariants as prefix_op
 use Rattle.c_tree.specs.Tree.{Exp, comma, assign, conditional, binary, prefix, sizeof_exp, sizeof_type, cast, named, call, number, letter, text, null, paren, Exps, no_exp, and_exp, listed}
 use Rattle.rr_base.specs.declared.position.Position.{Position}
-use Rattle.c_tree.specs.Kinds.{p, w}
+use Rattle.c_print.specs.Kinds.{p, w}
 use Rattle.c_grammar.specs.Marks.{Mark, mark}
 use Rattle.c_grammar.specs.Grammar.{binds, is_cast, OfSpecifier, OfStars, OfType, OfExp, OfExps, OfMore}
 use Rattle.c_grammar.specs.Phrase as phrase

@@ -5,7 +5,7 @@ use Rattle.c_tree.specs.declared.expr.BinaryOp.{BinaryOp}
 use Rattle.c_tree.specs.declared.expr.BinaryOp.TheVariants as binary_op
 use Rattle.c_tree.specs.Tree.{Exp, comma, assign, conditional, binary, prefix, sizeof_exp, sizeof_type, cast, index, member, arrow, post_increment, post_decrement, named, call, number, letter, text, null, paren}
 use Rattle.rr_base.specs.declared.position.Position.{Position}
-use Rattle.c_tree.specs.Kinds.{p, binary_punct}
+use Rattle.c_print.specs.Kinds.{p, binary_punct}
 use Rattle.c_grammar.specs.Marks.{Mark, mark, own}
 use Rattle.c_grammar.specs.Grammar.{tightness, binds, operators_in, postfixes_in, is_cast, OfExp}
 use Rattle.c_grammar.specs.Rules.{push}

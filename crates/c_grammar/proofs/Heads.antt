@@ -6,7 +6,7 @@ use Rattle.c_lexer.specs.declared.token.Kind.TheVariants as kind
 use Rattle.c_lexer.specs.declared.token.Punct.TheVariants as punct
 use Rattle.rr_base.specs.declared.position.Position.{Position}
 use Rattle.rr_base.specs.Positions.{position_at}
-use Rattle.c_tree.specs.Kinds.{p}
+use Rattle.c_print.specs.Kinds.{p}
 use Rattle.c_grammar.specs.Grammar.{OfStars, OfRaisingStars}
 use Rattle.c_grammar.specs.Marks.{Lexeme, Mark, mark, erase, AllLow}
 use Rattle.c_grammar.specs.Phrase.{Head, function_head, object_head}

@@ -8,7 +8,7 @@ use Rattle.c_tree.specs.declared.program.Param.{Param}
 use Rattle.c_tree.specs.declared.program.Params.{Params}
 use Rattle.c_tree.specs.Tree.{Exp, index, member, arrow, post_increment, post_decrement, listed, named, call, number, letter, text, null, Declared, Init, listed_inits, Object, plain, initialised, Part, listed_parts, Code, Fields, Outer, function, objects}
 use Rattle.rr_base.specs.declared.position.Position.{Position}
-use Rattle.c_tree.specs.Kinds.{p, binary_punct}
+use Rattle.c_print.specs.Kinds.{p, binary_punct}
 use Rattle.c_grammar.specs.Marks.{Mark, mark, erase, Beginning, own, other, ◌>>◌, maybe, provided}
 use Rattle.c_grammar.specs.Grammar.{specifier_place, binds, is_cast, OfName, OfSpecifier, OfStars, OfType, OfExp, OfExps, OfMore, OfMaybe, OfRaisingStars, OfLengths, OfDeclared, OfInit, OfMoreInits, OfObject, OfMoreObjects, OfObjects, OfDeclares, OfStart, OfStatement, OfParts, OfMaybeName, OfParam, OfMoreParams, OfParams, OfCode, OfMoreDeclared, OfFields, OfMoreFields, OfOuter, OfProgram}
 use Rattle.c_grammar.specs.Phrase as phrase

@@ -11,7 +11,7 @@ use Rattle.c_tree.specs.declared.program.Param.{Param}
 use Rattle.c_tree.specs.declared.program.Params.TheVariants as params_of
 use Rattle.c_tree.specs.Tree.{Exp, Declared, declared, Object, plain, initialised, Statement, block, compute, break_at, continue_at, gives, branch, branch_else, while_loop, do_loop, for_loop, defined, prototype, Fields, fields, Outer, structure, function, objects}
 use Rattle.rr_base.specs.declared.position.Position.{Position}
-use Rattle.c_tree.specs.Kinds.{p, w}
+use Rattle.c_print.specs.Kinds.{p, w}
 use Rattle.c_grammar.specs.Marks.{Mark, mark}
 use Rattle.c_grammar.specs.Grammar.{specifier_place, ends_open, OfName, OfSpecifier, OfStars, OfRaisingStars, OfLengths, OfMoreObjects, OfStatement, OfParts, OfMaybeName, OfMoreParams, OfMoreDeclared, OfFields, OfOuter}
 use Rattle.c_grammar.specs.Phrase as phrase

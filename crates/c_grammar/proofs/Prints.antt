@@ -13,7 +13,7 @@ use Rattle.c_tree.specs.declared.program.Params.TheVariants as params
 use Rattle.c_tree.specs.declared.program.Param.{Param}
 use Rattle.c_tree.specs.Tree.{Exp, comma, assign, conditional, binary, prefix, sizeof_exp, sizeof_type, cast, index, member, arrow, post_increment, post_decrement, named, call, number, letter, text, null, paren, Exps, no_exp, and_exp, Declared, declared, Init, value, braces, mutex_start, cond_start, Inits, no_init, and_init, Object, plain, initialised, Declares, declares, Start, start_declares, start_computes, Statement, block, compute, break_at, continue_at, gives, branch, branch_else, while_loop, do_loop, for_loop, Parts, no_part, and_declares, and_does, Code, defined, prototype, Fields, fields, Outer, structure, function, objects}
 use Rattle.rr_base.specs.declared.position.Position.{Position}
-use Rattle.c_tree.specs.Kinds.{p, w, prefix_punct, binary_punct, assign_punct, name_kind, if_there, specifier_kinds, stars_kinds, type_kinds, exp_kinds, exps_kinds, rest_kinds, maybe_kinds, length_kinds, declared_kinds, init_kinds, inits_kinds, rest_init_kinds, object_kinds, rest_objects_kinds, objects_kinds, declares_kinds, start_kinds, stmt_kinds, parts_kinds, named_kinds, param_kinds, rest_params_kinds, params_kinds, code_kinds, rest_declared_kinds, all_declared_kinds, fields_kinds, all_fields_kinds, outer_kinds, kinds_of}
+use Rattle.c_print.specs.Kinds.{p, w, prefix_punct, binary_punct, assign_punct, name_kind, if_there, specifier_kinds, stars_kinds, type_kinds, exp_kinds, exps_kinds, rest_kinds, maybe_kinds, length_kinds, declared_kinds, init_kinds, inits_kinds, rest_init_kinds, object_kinds, rest_objects_kinds, objects_kinds, declares_kinds, start_kinds, stmt_kinds, parts_kinds, named_kinds, param_kinds, rest_params_kinds, params_kinds, code_kinds, rest_declared_kinds, all_declared_kinds, fields_kinds, all_fields_kinds, outer_kinds, kinds_of}
 use Rattle.c_grammar.specs.Marks.{Mark, kinds_at, Beginning, own, other, ◌>>◌, nothing, maybe, provided}
 use Rattle.c_grammar.specs.Grammar.{name_place, OfName, OfSpecifier, OfStars, OfType, OfExp, OfExps, OfMore, OfMaybe, OfRaisingStars, OfLengths, OfDeclared, OfInit, OfInits, OfMoreInits, OfObject, OfMoreObjects, OfObjects, OfDeclares, OfStart, OfStatement, OfParts, OfMaybeName, OfParam, OfMoreParams, OfParams, OfCode, OfMoreDeclared, OfAllDeclared, OfFields, OfMoreFields, OfAllFields, OfStatic, OfOuter, OfProgram}
 

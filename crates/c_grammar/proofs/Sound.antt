@@ -12,7 +12,7 @@ use Rattle.c_tree.specs.declared.program.Param.{Param}
 use Rattle.c_tree.specs.declared.program.Params.TheVariants as params_of
 use Rattle.c_tree.specs.Tree.{Exp, comma, named, call, number, letter, text, null, paren, listed, Declared, declared, Init, listed_inits, Object, Statement, branch, branch_else, part_declares, part_does, listed_parts, Outer}
 use Rattle.rr_base.specs.declared.position.Position.{Position}
-use Rattle.c_tree.specs.Kinds.{p, w}
+use Rattle.c_print.specs.Kinds.{p, w}
 use Rattle.c_grammar.specs.Grammar.{specifier_place, first_place, binds, postfixes_in, OfMaybeName, ends_open, is_void, is_nameless, is_void_alone, OfSpecifier, OfStars, OfExp, OfExps, OfRaisingStars, OfLengths, OfDeclared, OfInit, OfInits, OfObject, OfObjects, OfStatement, OfParts, OfParam, OfMoreParams, OfParams, OfAllDeclared, OfAllFields, OfOuter}
 use Rattle.c_grammar.specs.Marks.{Mark, mark, own, other, ◌>>◌, maybe}
 use Rattle.c_grammar.specs.Phrase as phrase

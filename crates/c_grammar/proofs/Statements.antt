@@ -5,7 +5,7 @@ use Rattle.c_lexer.specs.declared.token.Kind.TheVariants as kind
 use Rattle.c_lexer.specs.declared.token.Punct.TheVariants as punct
 use Rattle.c_lexer.specs.declared.token.Word.TheVariants as word
 use Rattle.c_tree.specs.Tree.{Exp, Declared, declared, Init, value, braces, mutex_start, cond_start, Inits, no_init, and_init, listed_inits, Object, plain, initialised, Declares, declares, start_declares, start_computes, Statement, block, compute, break_at, continue_at, gives, branch, branch_else, while_loop, do_loop, for_loop, Parts, no_part, and_declares, and_does, Part, part_declares, part_does, listed_parts}
-use Rattle.c_tree.specs.Kinds.{p}
+use Rattle.c_print.specs.Kinds.{p}
 use Rattle.c_grammar.specs.Marks.{Mark, mark, other, maybe}
 use Rattle.c_grammar.specs.Grammar.{OfMaybe, OfRaisingStars, OfDeclared, OfInit, OfMoreInits, OfObject, OfMoreObjects, OfObjects, OfDeclares, OfStatement, OfParts}
 use Rattle.c_grammar.specs.Phrase as phrase

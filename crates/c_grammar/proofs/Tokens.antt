@@ -13,7 +13,7 @@ use Rattle.c_tree.specs.declared.expr.BinaryOp.{BinaryOp}
 use Rattle.c_tree.specs.declared.expr.BinaryOp.TheVariants as binary_op
 use Rattle.c_tree.specs.declared.expr.AssignOp.{AssignOp}
 use Rattle.c_tree.specs.declared.expr.AssignOp.TheVariants as assign_op
-use Rattle.c_tree.specs.Kinds.{prefix_punct, binary_punct, assign_punct}
+use Rattle.c_print.specs.Kinds.{prefix_punct, binary_punct, assign_punct}
 use Rattle.c_grammar.specs.Parse.{Class, sign, key, a_name, a_number, a_letter, a_text, a_prefix, a_binary, an_assign, Value, kind_of, punct_code, word_code, as_prefix, as_binary, as_assign, some_if, grab}
 
 -- the one at that number

@@ -4,7 +4,7 @@ use Rattle.std.proofs.lemmas.Bool.Decides.{nat_tests}
 use Rattle.c_tree.specs.declared.expr.BinaryOp.{BinaryOp}
 use Rattle.c_tree.specs.Tree.{Exp, comma, assign, conditional, binary, index, member, arrow, post_increment, post_decrement, named, call, number, letter, text, null, paren}
 use Rattle.rr_base.specs.declared.position.Position.{Position}
-use Rattle.c_tree.specs.Kinds.{p, binary_punct}
+use Rattle.c_print.specs.Kinds.{p, binary_punct}
 use Rattle.c_grammar.specs.Marks.{Mark, own, ◌>>◌, provided, Beginning}
 use Rattle.c_grammar.specs.Grammar.{tightness, binds, operators_in, postfixes_in, OfExp}
 use Rattle.c_grammar.specs.Rules.{push}

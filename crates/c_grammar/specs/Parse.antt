@@ -13,7 +13,7 @@ use Rattle.c_tree.specs.declared.expr.BinaryOp.TheVariants as binary_op
 use Rattle.c_tree.specs.declared.expr.AssignOp.{AssignOp}
 use Rattle.c_tree.specs.declared.expr.AssignOp.TheVariants as assign_op
 use Rattle.rr_base.specs.declared.position.Position.{Position}
-use Rattle.c_tree.specs.Kinds.{prefix_punct, binary_punct, assign_punct}
+use Rattle.c_print.specs.Kinds.{prefix_punct, binary_punct, assign_punct}
 use Rattle.c_grammar.specs.Marks.{Lexeme}
 use Rattle.c_grammar.specs.Phrase.{Phrase, TreeOf, Head, function_head, object_head}
 

@@ -1,6 +1,6 @@
 ghost use Rattle.std.specs.Prelude.{◌≡◌, ℕ, List};
 ghost use Rattle.c_tree.specs.Tree.{Outer};
-ghost use Rattle.c_tree.specs.Kinds.{kinds_of};
+ghost use Rattle.c_print.specs.Kinds.{kinds_of};
 ghost use Rattle.c_grammar.specs.Marks.{Lexeme, Mark, erase, kinds_at};
 ghost use Rattle.c_grammar.specs.Exact.{IsProgram, IsExact, parsed};
 

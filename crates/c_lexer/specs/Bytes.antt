@@ -1,11 +1,7 @@
 -- The bytes of a source, and what each may be part of (C99 5.2.1). A source is a list of bytes, each a number:
 -- 9 tab, 10 newline, 12 form feed, 13 carriage return, 32 space, 34 `"`, 35 `#`, 39 `'`, 42 `*`, 45 `-`, 47 `/`, 48 `0`, 92 `\`, 95 `_`.
-use Rattle.std.specs.Prelude.{ℕ, Bool, not, ◌||◌, ◌==◌, nat_le, List}
+use Rattle.std.specs.Prelude.{ℕ, Bool, not, ◌||◌, ◌==◌, nat_le}
 use Rattle.std.specs.Char.{is_ascii_alphabetic, is_ascii_alphanumeric}
-
--- a source or a part of one, each byte as a number
-abbrev pub Text : Type 0
-Text = List ℕ
 
 -- space, tab, newline, carriage return, form feed
 abbrev pub is_blank : ℕ → Bool

@@ -1,8 +1,8 @@
 -- Names and words (C99 6.4.1, 6.4.2).
-use Rattle.std.specs.Prelude.{Bool, not, ◌&&◌, if◌then◌else◌, List, [], ◌∷◌, take, Option, Some, None, is_some, ℤ}
+use Rattle.std.specs.Prelude.{Bool, not, ◌&&◌, if◌then◌else◌, take, Option, Some, None, is_some, ℤ}
 use Rattle.std.specs.List.{prefix_len}
-use Rattle.std.specs.Str.{bytes_eq}
-use Rattle.c_lexer.specs.Bytes.{Text, continues_name}
+use Rattle.c_text.specs.Texts.{Text, entry_of}
+use Rattle.c_lexer.specs.Bytes.{continues_name}
 use Rattle.c_lexer.specs.Defined.{Defined}
 use Rattle.c_lexer.specs.Tables.{words, blank_words, refused_words, is_among, is_library_name}
 use Rattle.c_lexer.specs.declared.piece.Piece.{Piece}
@@ -10,11 +10,6 @@ use Rattle.c_lexer.specs.declared.piece.Piece.TheVariants as piece
 use Rattle.c_lexer.specs.declared.token.Kind.{Kind}
 use Rattle.c_lexer.specs.declared.token.Kind.TheVariants as kind
 use Rattle.c_lexer.specs.declared.token.Word.{Word}
-
--- what stands beside this spelling in a table
-abbrev pub entry_of : {A : Type 0} → List (Text × A) → Text → Option A
-entry_of [] name = None
-entry_of (e ∷ es) name = if bytes_eq name e.0 then Some e.1 else entry_of es name
 
 -- the word of the language that is spelled so
 unfoldable pub word_of : Text → Option Word

@@ -1,9 +1,8 @@
 -- How far pieces and their parts reach, and what else their calls ask and give.
 use Rattle.std.specs.Prelude.{ℕ, ◌≤◌, ◌<◌, ◌+◌, ◌^◌, ◌≡◌, Bool, true, ◌&&◌, nat_lt, List, [], ◌∷◌, length, slice_range, Option, Some, None, FitsSigned}
 use Rattle.std.specs.Int.{w64}
-use Rattle.c_lexer.specs.Bytes.{Text}
+use Rattle.c_text.specs.Texts.{Text, entry_of}
 use Rattle.c_lexer.specs.Defined.{Defined}
-use Rattle.c_lexer.specs.Names.{entry_of}
 use Rattle.c_lexer.specs.declared.piece.Literal.{Literal}
 use Rattle.c_lexer.specs.declared.piece.Parts.{Parts}
 use Rattle.c_lexer.specs.declared.piece.Piece.{Piece}

@@ -1,7 +1,7 @@
 -- What a source names: its declarators, its parameters, and the structs and functions that it defines. And what is known
 -- where it begins.
 use Rattle.std.specs.Prelude.{ℕ, ◌+◌, ◌^◌, min, Bool, true, false, List, [], ◌∷◌}
-use Rattle.c_lexer.specs.Bytes.{Text}
+use Rattle.c_text.specs.Texts.{Text}
 use Rattle.c_tree.specs.declared.name.Name.{Name}
 use Rattle.c_tree.specs.declared.program.Param.{Param}
 use Rattle.c_tree.specs.declared.program.Params.{Params}

@@ -1,6 +1,6 @@
 //! The table of names: what is known at a place of a source, kept while its text is passed (C99 6.2.1, 6.2.3).
 ghost use Rattle.std.specs.Prelude.{◌≡◌, ◌++◌, ◌∷◌, [], map, slice_get, true, Some, length, IfOk, OnOk};
-ghost use Rattle.c_lexer.specs.Names.{entry_of};
+ghost use Rattle.c_text.specs.Texts.{entry_of};
 ghost use Rattle.c_tree.specs.View.{outer_of, program_of};
 ghost use Rattle.c_types.specs.Scopes as spec;
 ghost use Rattle.c_names.specs.Sources.{global_cells_with, known_at_start, structs_with, functions_with};

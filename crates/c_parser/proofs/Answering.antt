@@ -2,7 +2,7 @@
 use Rattle.std.proofs.Common.{◌≡◌, List, [], ◌∷◌, map, refl, sym, ◌∙◌, ap}
 use Rattle.c_lexer.specs.declared.token.Kind.{Kind}
 use Rattle.c_lexer.specs.declared.token.Token.{Token}
-use Rattle.c_tree.specs.Kinds.{kinds_of}
+use Rattle.c_print.specs.Kinds.{kinds_of}
 use Rattle.c_tree.specs.Tree.{Outer}
 use Rattle.c_grammar.specs.Marks.{Lexeme, Mark, erase, kinds_at}
 use Rattle.c_grammar.specs.Parse.{Fault, Got, Stuck}

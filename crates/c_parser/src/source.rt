@@ -4,7 +4,7 @@ ghost use Rattle.std.specs.Prelude.{◌≡◌, All, List, [], Err, IfOk, IfErr, 
 ghost use Rattle.c_lexer.specs.Spans.{IsPlaced};
 ghost use Rattle.c_tree.specs.Tree.{Outer};
 ghost use Rattle.c_tree.specs.View.{outer_of, program_of};
-ghost use Rattle.c_tree.specs.Kinds.{kinds_of};
+ghost use Rattle.c_print.specs.Kinds.{kinds_of};
 ghost use Rattle.c_grammar.specs.Phrase as phrase;
 ghost use Rattle.c_grammar.specs.Exact.{parsed};
 ghost use Rattle.c_parser.specs.Answers.{IsTreeOf, Finds, IsFault, Tells, begins_refused, end_of, stands_at};

@@ -5,6 +5,7 @@
 mod declarators;
 mod functions;
 mod initials;
+mod law;
 mod members;
 mod objects;
 mod params;
@@ -14,6 +15,7 @@ mod structs;
 pub use declarators::{declared_type, put_pointers};
 pub use functions::{declare_function, note_function, signature_of};
 pub use initials::{part_at, value_target};
+pub use law::law_library_names;
 pub use objects::{copy_of, declare_object, note_objects, ref_of};
 pub use params::{declare_param, param_type};
 pub use structs::{cells_of_some, note_struct};

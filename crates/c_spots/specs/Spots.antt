@@ -1,7 +1,7 @@
 -- What has cells of its own: each global, each local or formal that is kept in cells, each `malloc`, in the order of the
 -- text (C99 6.2.4, 7.20.3.3).
 use Rattle.std.specs.Prelude.{ℕ, ◌+◌, Bool, true, false, not, ◌&&◌, ◌||◌, List, [], ◌∷◌, ◌++◌, length, Option, Some, None, is_some}
-use Rattle.c_lexer.specs.Bytes.{Text}
+use Rattle.c_text.specs.Texts.{Text}
 use Rattle.c_tree.specs.declared.name.Name.{Name}
 use Rattle.c_tree.specs.declared.ctype.Specifier.{Specifier}
 use Rattle.c_tree.specs.declared.program.Param.{Param}

@@ -1,4 +1,3 @@
 pub mod First
 pub mod Keyed
 pub mod Lengths
-mod LibraryNames

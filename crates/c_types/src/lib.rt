@@ -22,7 +22,7 @@ pub use cells::{
 };
 pub use fault::{FaultKind, Found, note};
 pub use format::{Inside, conversions};
-pub use law::{law_library_names, law_size};
+pub use law::law_size;
 pub use library::{LibraryName, StarredType, Wanted, given_by, library_named, wanted_by};
 pub use names::{Meaning, Names, Signature};
 pub use numbers::{binary_of, prefix_of};

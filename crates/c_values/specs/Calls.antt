@@ -1,7 +1,7 @@
 -- Calls of the library and of functions of the source (C99 6.5.2.2, 7.19, 7.20.3; POSIX.1-2017 threads). Attributes, formats
 -- and the function with which a thread starts are no operands of a call.
 use Rattle.std.specs.Prelude.{ℕ, ◌==◌, nat_lt, Bool, false, if◌then◌else◌, pos, List, [], ◌∷◌, ◌++◌, map, Option, Some, None}
-use Rattle.c_lexer.specs.Bytes.{Text}
+use Rattle.c_text.specs.Texts.{Text}
 use Rattle.abstract_machine.specs.declared.library_call.LibraryCall.{LibraryCall}
 use Rattle.abstract_machine.specs.declared.library_call.LibraryCall.TheVariants as call
 use Rattle.abstract_machine.specs.declared.library_call.Piece.{Piece}

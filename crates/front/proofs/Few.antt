@@ -1,14 +1,14 @@
 -- A source has no more functions than outermost declarations, no more of these than tokens, and no more tokens than bytes.
 use Rattle.std.proofs.Common.{◌≡◌, ℕ, zero, suc, ◌+◌, ◌-◌, ◌^◌, ◌≤◌, List, [], ◌∷◌, ◌++◌, length, Option, Some, None, Result, Ok, Err, refl, ap, arith, length-append}
 use Rattle.std.specs.Prelude.{nat_lt}
-use Rattle.c_lexer.specs.Bytes.{Text}
+use Rattle.c_text.specs.Texts.{Text}
 use Rattle.c_lexer.specs.declared.fault.LexFault.{LexFault}
 use Rattle.c_lexer.specs.declared.piece.Piece.{Piece}
 use Rattle.c_lexer.specs.declared.piece.Piece.TheVariants as piece
 use Rattle.c_lexer.specs.declared.token.Kind.{Kind}
 use Rattle.c_lexer.specs.declared.token.Token.{Token}
 use Rattle.c_lexer.specs.Tokens.{Found, Reading, passed, met, with_token, piece_at, start, tokens_from, tokens_of}
-use Rattle.c_tree.specs.Kinds.{outer_kinds, kinds_of, if_there, specifier_kinds, stars_kinds, objects_kinds, w, p}
+use Rattle.c_print.specs.Kinds.{outer_kinds, kinds_of, if_there, specifier_kinds, stars_kinds, objects_kinds, w, p}
 use Rattle.c_tree.specs.Tree.{Code, defined, prototype, Outer, structure, function, objects}
 use Rattle.c_tree.specs.declared.name.Name.{Name}
 use Rattle.c_tree.specs.declared.program.Params.{Params}

@@ -4,7 +4,7 @@ use Rattle.c_lexer.specs.declared.token.Kind.TheVariants as kind
 use Rattle.c_lexer.specs.declared.token.Punct.TheVariants as punct
 use Rattle.c_lexer.specs.declared.token.Word.TheVariants as word
 use Rattle.c_tree.specs.declared.name.Name.{Name}
-use Rattle.c_tree.specs.Kinds.{p, w}
+use Rattle.c_print.specs.Kinds.{p, w}
 use Rattle.c_tree.specs.Tree.{Fields, fields, Outer, structure, function, objects}
 use Rattle.c_grammar.specs.Marks.{Mark, Beginning, other, ◌>>◌, never}
 use Rattle.c_grammar.specs.Grammar.{OfName, OfSpecifier, OfFields, OfMoreFields, OfAllFields, OfOuter, OfProgram}

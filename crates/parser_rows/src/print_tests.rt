@@ -1,5 +1,6 @@
 use c_lexer::{Kind, Punct, Word};
-use c_tree::{Declarator, External, Item, Name, Program, Specifier, print_tree};
+use c_print::print_tree;
+use c_tree::{Declarator, External, Item, Name, Program, Specifier};
 use rr_base::{List, Position};
 use std::alloc::AllocError;
 

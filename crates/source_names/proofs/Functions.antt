@@ -7,7 +7,7 @@ use Rattle.c_lexer.specs.declared.fault.LexFault.{LexFault}
 use Rattle.c_lexer.specs.declared.token.Punct.TheVariants as punct
 use Rattle.c_lexer.specs.declared.token.Token.{Token}
 use Rattle.c_lexer.specs.declared.token.Word.TheVariants as word
-use Rattle.c_tree.specs.Kinds.{p, w, if_there, specifier_kinds, stars_kinds, name_kind, params_kinds, code_kinds, outer_kinds, kinds_of}
+use Rattle.c_print.specs.Kinds.{p, w, if_there, specifier_kinds, stars_kinds, name_kind, params_kinds, code_kinds, outer_kinds, kinds_of}
 use Rattle.c_tree.specs.Tree.{Code as Body, defined, prototype, Outer, structure, function, objects}
 use Rattle.c_tree.specs.declared.ctype.Specifier.{Specifier}
 use Rattle.c_tree.specs.declared.name.Name.{Name}

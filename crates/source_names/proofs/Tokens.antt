@@ -7,11 +7,12 @@ use Rattle.std.specs.Str.{IsUtf8, IsAscii}
 use Rattle.std.proofs.lemmas.Str.{IsUtf8-from_ascii}
 use Rattle.std.proofs.lemmas.Str.Ascii.{IsAscii-nil, IsAscii-cons}
 use Rattle.std.proofs.lemmas.Bool.Decides.{nat_tests}
-use Rattle.c_lexer.specs.Bytes.{Text, is_blank, is_in_line, begins_name, continues_name}
+use Rattle.c_text.specs.Texts.{Text, entry_of}
+use Rattle.c_lexer.specs.Bytes.{is_blank, is_in_line, begins_name, continues_name}
 use Rattle.c_lexer.specs.Comments.{comment_by, comment_at}
 use Rattle.c_lexer.specs.Defined.{Defined}
 use Rattle.c_lexer.specs.Directives.{include_at, parts_of, are_there, value_by, valued, define_at, directive_at}
-use Rattle.c_lexer.specs.Names.{is_free, is_blank_word, is_refused, entry_of, word_of, kind_of, name_at, name_by, word_by}
+use Rattle.c_lexer.specs.Names.{is_free, is_blank_word, is_refused, word_of, kind_of, name_at, name_by, word_by}
 use Rattle.c_lexer.specs.Numbers.{literal_at, number_by, number_at}
 use Rattle.c_lexer.specs.Quotes.{letter_by, letter_at, text_by, text_at}
 use Rattle.c_lexer.specs.Tables.{puncts}

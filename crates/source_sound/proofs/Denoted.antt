@@ -1,7 +1,7 @@
 -- What is held by no global: allocations, and the locals and formals of functions. They have no global cells.
 use Rattle.std.proofs.Common.{◌≡◌, ℕ, ◌+◌, Bool, true, false, List, [], ◌∷◌, ◌++◌, length, Option, Some, None, refl, sym, ap, ap₂, ◌∙◌, append_assoc}
 use Rattle.rr_base.specs.declared.layout.CellKind.{CellKind}
-use Rattle.c_lexer.specs.Bytes.{Text}
+use Rattle.c_text.specs.Texts.{Text}
 use Rattle.c_tree.specs.declared.name.Name.{Name}
 use Rattle.c_tree.specs.declared.ctype.Specifier.{Specifier}
 use Rattle.c_tree.specs.declared.program.Param.{Param}

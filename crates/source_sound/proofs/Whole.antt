@@ -8,8 +8,7 @@ use Rattle.rr_base.specs.declared.layout.Site.{Site}
 use Rattle.abstract_machine.specs.Pointers.{base_at}
 use Rattle.abstract_machine.specs.Cells.{size_of}
 use Rattle.abstract_machine.specs.Layouts.{sites_fit}
-use Rattle.c_lexer.specs.Bytes.{Text}
-use Rattle.c_lexer.specs.Names.{entry_of}
+use Rattle.c_text.specs.Texts.{Text, entry_of}
 use Rattle.c_tree.specs.Tree.{Outer}
 use Rattle.c_types.specs.Scopes.{Known}
 use Rattle.c_names.specs.Sources.{known_at_start}

@@ -1,5 +1,0 @@
-use Rattle.c_types.proofs.LibraryNames.{library_name}
-use Rattle.c_types.proofs.law.law_library_names.Goals as goal
-
-pub returns : goal.returns
-returns c = library_name
