@@ -3,21 +3,21 @@ use crate::token::Kind;
 use rr_base::{Bytes, Position};
 
 /// Where reading of a source stands: how many bytes are before it, and its line and column.
-#[derive(Clone, Copy, Debug, PartialEq, Eq)]
+#[derive(Clone, Copy)]
 pub struct Cursor {
     pub offset: u32,
     pub at: Position,
 }
 
 /// A number as it is written: its value where that is below 2^63, and its length with its suffix.
-#[derive(Clone, Copy, Debug, PartialEq, Eq)]
+#[derive(Clone, Copy)]
 pub struct Literal {
     pub value: Option<u64>,
     pub len: usize,
 }
 
 /// What stands after the opening quote of a letter or text, or after such a unit.
-#[derive(Clone, Copy, Debug, PartialEq, Eq)]
+#[derive(Clone, Copy)]
 pub enum Unit {
     /// A byte or an escape: the byte that it means, and its length.
     Byte(u8, usize),
@@ -30,7 +30,7 @@ pub enum Unit {
 }
 
 /// What stands after the opening quote of a text, as a whole.
-#[derive(Debug, Drop)]
+#[derive(Drop)]
 pub enum Body {
     /// The bytes that it means, and its length up to the closing quote.
     Closed(Bytes, usize),
@@ -42,7 +42,7 @@ pub enum Body {
 
 /// Where the parts of a `#define` stand on its line: its name's bytes are those `from` to `to`, and its digits
 /// begin at `digits`, right after `sign` if a `-` stands there.
-#[derive(Clone, Copy, Debug, PartialEq, Eq)]
+#[derive(Clone, Copy)]
 pub struct Parts {
     pub from: usize,
     pub to: usize,
@@ -52,7 +52,7 @@ pub struct Parts {
 }
 
 /// What a source that isn't empty begins with.
-#[derive(Debug, Drop)]
+#[derive(Drop)]
 pub enum Piece {
     /// So many bytes that stand for a blank.
     Blank(usize),

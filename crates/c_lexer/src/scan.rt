@@ -8,7 +8,7 @@ ghost use Rattle.c_lexer.specs.Comments.{comment_end};
 ghost use Rattle.c_lexer.specs.Classes.{belongs};
 
 /// What the bytes of a run have in common.
-#[derive(Clone, Copy, Debug, PartialEq, Eq)]
+#[derive(Clone, Copy)]
 pub enum Class {
     /// Spaces and tabs.
     Gap,
