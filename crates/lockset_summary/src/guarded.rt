@@ -4,7 +4,7 @@ ghost use Rattle.flow_code.specs.declared.code.Function.{Function as Routine};
 ghost use Rattle.facts.specs.Accesses as accesses;
 ghost use Rattle.facts.specs.Locks.{Points, locks_are_small};
 ghost use Rattle.facts.specs.Paths.{argument_namings, are_small_actuals};
-ghost use Rattle.facts.specs.Summaries.{Guards, guarded_by as guarded_by_of, seen_by, locks_of, guarded_ascend};
+ghost use Rattle.facts.specs.Summaries.{Guards, guarded_by as guarded_by_of, seen_by, locks_of as locks_at_access, guarded_ascend};
 ghost use Rattle.facts.specs.declared.locks.Guarded.{Guarded as Entry};
 ghost use Rattle.lockset_summary.specs.Rounds.{ForEach};
 ghost use Rattle.lockset_summary.specs.Guarding.{InRow, AreMade, AreReady, IsMetAt, AreAllMetAt, AreAllMet, Makes, accesses_of, IsSeenAccess, store_of as store_in};
@@ -65,10 +65,12 @@ fn guarded_by(
 ) -> Result<Guarded, AllocError>
     ensures { IfOk result (λ access. access ≡ guarded_by_of f k store locks.now) }
 {
+    let function = number(f)?;
+    let instr = number(k)?;
     let RelLocks { plus, minus } = locks.copied(alloc)?;
     Ok(Guarded {
-        function: number(f)?,
-        instr: number(k)?,
+        function,
+        instr,
         store,
         plus,
         minus,
@@ -94,6 +96,15 @@ fn own_access(
     }
 }
 
+// A copy of the locks at an access.
+fn locks_of(alloc: Global, access: &Guarded) -> Result<RelLocks, AllocError>
+    ensures { IfOk result (λ locks. locks ≡ locks_at_access access.now) }
+{
+    let plus = access.plus.copied(alloc)?;
+    let minus = access.minus.copied(alloc)?;
+    Ok(RelLocks { plus, minus })
+}
+
 // An access of a called function, as a caller sees it that holds these locks.
 fn seen(
     alloc: Global,
@@ -101,13 +112,11 @@ fn seen(
     actuals: &[Option<LockPath>],
     locks: &RelLocks,
 ) -> Result<Guarded, AllocError>
-    requires callee { locks_are_small (locks_of access.now) ≡ true }
+    requires callee { locks_are_small (locks_at_access access.now) ≡ true }
     requires actuals { are_small_actuals actuals.now ≡ true }
     ensures { IfOk result (λ seen. seen ≡ seen_by actuals.now locks.now access.now) }
 {
-    let plus = access.plus.copied(alloc)?;
-    let minus = access.minus.copied(alloc)?;
-    let callee = RelLocks { plus, minus };
+    let callee = locks_of(alloc, access)?;
     let RelLocks { plus, minus } = locks.through(alloc, actuals, &callee)?;
     Ok(Guarded {
         function: access.function,
@@ -127,7 +136,7 @@ fn seen_at(
     actuals: &[Option<LockPath>],
     locks: &RelLocks,
 ) -> Result<Option<Guarded>, AllocError>
-    requires callee { (b : Entry) → slice_get (accesses_of rows.now g) j ≡ Some b → locks_are_small (locks_of b) ≡ true }
+    requires callee { (b : Entry) → slice_get (accesses_of rows.now g) j ≡ Some b → locks_are_small (locks_at_access b) ≡ true }
     requires actuals { are_small_actuals actuals.now ≡ true }
     ensures { IfOk result (λ access. access ≡ option_map (seen_by actuals.now locks.now) (slice_get (accesses_of rows.now g) j)) }
 {

@@ -37,7 +37,17 @@ fn place_of(row: &[Guarded], access: &Guarded) -> Result<usize, usize>
     Err(low)
 }
 
-// Puts the access into the row, unless it is there, and tells whether it wasn't.
+// Puts the access where it is to be put, and tells that it wasn't there.
+fn insert_at(row: &mut List<Guarded>, place: usize, access: Guarded) -> Result<bool, AllocError>
+    requires ascends { guarded_ascend row.old ≡ true }
+    requires place { IsPlace row.old access place }
+    ensures { IfOk result (λ added. IsPut row.old access row.new added) }
+{
+    row.insert(place, access)?;
+    let _length = row.len();
+    Ok(true)
+}
+
 /// Puts an access in its place in an ascending row, and tells whether it wasn't there.
 pub fn insert(row: &mut List<Guarded>, access: Guarded) -> Result<bool, AllocError>
     requires { guarded_ascend row.old ≡ true }
@@ -45,10 +55,6 @@ pub fn insert(row: &mut List<Guarded>, access: Guarded) -> Result<bool, AllocErr
 {
     match place_of(row.as_slice(), &access) {
         Ok(_) => Ok(false),
-        Err(place) => {
-            row.insert(place, access)?;
-            let _length = row.len();
-            Ok(true)
-        }
+        Err(place) => insert_at(row, place, access),
     }
 }
