@@ -7,31 +7,11 @@ ghost use Rattle.std.specs.Process.{exit_status};
 ghost use Rattle.chimera.specs.Mains.{IsEndOf};
 
 #[cfg(test)]
-mod make_tests;
-#[cfg(test)]
-mod order_tests;
+mod checks;
 #[cfg(test)]
 mod outside_tests;
 #[cfg(test)]
-mod profile_tests;
-#[cfg(test)]
-mod race_tests;
-#[cfg(test)]
-mod range_tests;
-#[cfg(test)]
-mod record_tests;
-#[cfg(test)]
-mod region_tests;
-#[cfg(test)]
-mod shelves;
-#[cfg(test)]
-mod tests;
-#[cfg(test)]
 mod thread_tests;
-#[cfg(test)]
-mod weak_tests;
-#[cfg(test)]
-mod whole_tests;
 
 use answers::{FileShelf, InSource, OutSink};
 use crew::ScopeCrew;

@@ -1,8 +1,8 @@
-use crate::race_tests::HELD_BY_CALLER;
-use crate::shelves::push_file;
-use crate::tests::{
-    BANK, BEGIN, FIRST, GOES_ON, LAST, LOCK, Outside, SLOTS_8, SOUND, STARTS, UNLOCK, check_in,
-};
+use crate::checks::check_on;
+use job_samples::bank::{BANK, BANK_LOG};
+use job_samples::outside::{Outside, SOUND, crew_of};
+use job_samples::shelves::push_file;
+use job_samples::sources::HELD_BY_CALLER;
 use rr_base::{Bytes, List, MemShelf};
 use std::alloc::{AllocError, Global};
 use std::process::Abort;
@@ -64,12 +64,11 @@ static OTHERS: [(&[&str], Failing, &str, u8, (bool, bool)); 12] = [
 ];
 
 fn shelf_with(alloc: Global, fails: &[u64]) -> Result<MemShelf, AllocError> {
-    let log = [FIRST, SLOTS_8, STARTS, BEGIN, LOCK, UNLOCK, GOES_ON, LAST];
     let files: [(&str, &[&str]); 4] = [
         ("bank", &[BANK]),
         ("held", &[HELD_BY_CALLER]),
         ("p", &["{\"pairs\":[]}"]),
-        ("log", &log),
+        ("log", BANK_LOG),
     ];
     let mut held: List<(Bytes, Bytes)> = List::new(alloc);
     for (name, parts) in files {
@@ -99,6 +98,19 @@ fn outside_of<'a>(failing: Failing, number: &'a [u64]) -> Outside<'a> {
         },
         CrewAfter(turns) => Outside { turns, ..SOUND },
     }
+}
+
+// Calls with these words on the outside's crew.
+fn check_in(
+    rt: &(impl Abort + Threads + Wait + Sync),
+    alloc: Global,
+    words: &[&str],
+    outside: &Outside,
+    shelf: &mut MemShelf,
+    want: (&str, u8),
+) -> Result<(), Fail> {
+    let mut crew = crew_of(alloc, outside)?;
+    check_on(rt, alloc, words, outside, shelf, &mut crew, want)
 }
 
 fn check_failing(

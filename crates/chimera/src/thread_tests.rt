@@ -1,11 +1,11 @@
-use crate::order_tests::CHANGES;
-use crate::record_tests::with_source;
-use crate::shelves::{files_of, log_files};
-use crate::tests::{
-    BANK, FIRST, MORE_RUNS, NONE_LEFT, PASSES, RUNS, SLOTS_8, SOUND, WAITS, call_on, tells,
-};
-use crate::weak_tests::RUNS as WEAK_RUNS;
+use crate::checks::check_on;
 use crew::ScopeCrew;
+use job_samples::bank::{BANK, CHANGES};
+use job_samples::outside::SOUND;
+use job_samples::runs::{MORE_RUNS, RUNS};
+use job_samples::shelves::{REPLAY, bank_files, files_of, with_source};
+use job_samples::sources::{NONE_LEFT, PASSES, WAITS};
+use job_samples::weak_runs::WEAK_RUNS;
 use rr_base::MemShelf;
 use std::alloc::Global;
 use std::process::Abort;
@@ -22,9 +22,7 @@ fn check_on_threads(
     want: (&str, u8),
 ) -> Result<(), Fail> {
     let mut crew = ScopeCrew::new();
-    let (told, status) = call_on(rt, alloc, words, &SOUND, shelf, &mut crew)?;
-    tells(rt, told.as_slice(), status, want);
-    Ok(())
+    check_on(rt, alloc, words, &SOUND, shelf, &mut crew, want)
 }
 
 // Words, a source, and what is told whatever the interleaving: of condition variables, of a barrier, and where no slot is left.
@@ -55,15 +53,13 @@ fn records_on_threads(rt: HostRuntime) -> Result<(), Fail> {
     Ok(())
 }
 
-static REPLAY: [&str; 3] = ["replay", "a", "b"];
-
 fn check_change(
     rt: &(impl Abort + Threads + Wait + Sync),
     alloc: Global,
     entries: &[&str],
     want: (&str, u8),
 ) -> Result<(), Fail> {
-    let mut shelf = log_files(alloc, &[BANK], &[FIRST, SLOTS_8], entries)?;
+    let mut shelf = bank_files(alloc, entries)?;
     check_on_threads(rt, alloc, &REPLAY, &mut shelf, want)
 }
 

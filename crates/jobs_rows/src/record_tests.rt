@@ -1,8 +1,10 @@
-use crate::race_tests::{COUNTER, HELD_BY_CALLER};
-use crate::shelves::{files_of, holds_bytes, holds_parts};
-use crate::tests::{
-    BANK, DIVIDES, ECHOES, FIRST, IDLE, INPUT_HI, MISUSE, NO_POINTER, NONE_LEFT, Outside, PASSES,
-    SLOTS_1, SLOTS_3, SLOTS_8, SOUND, WAITS, check_files, check_in, repeated,
+use crate::checks::{check_files, check_in, holds_bytes, holds_parts};
+use job_samples::bank::BANK;
+use job_samples::logs::{FIRST, IDLE, INPUT_HI, SLOTS_1, SLOTS_3, SLOTS_8};
+use job_samples::outside::{Outside, SOUND, repeated};
+use job_samples::shelves::{files_of, with_source};
+use job_samples::sources::{
+    COUNTER, DIVIDES, ECHOES, HELD_BY_CALLER, MISUSE, NO_POINTER, NONE_LEFT, PASSES, WAITS,
 };
 use rr_base::MemShelf;
 use std::alloc::Global;
@@ -79,11 +81,6 @@ static RECORDS: [(&[&str], &str, &str, &str, u8, &[&str]); 10] = [
         &[],
     ),
 ];
-
-// The shelf with the profile of no pairs beside the source.
-pub fn with_source(alloc: Global, source: &[&str]) -> Result<MemShelf, Fail> {
-    Ok(files_of(alloc, source, &["{\"pairs\":[]}"])?)
-}
 
 // Fails unless file `l` of the shelf is this log; where none is given, any will do.
 pub fn same_log(

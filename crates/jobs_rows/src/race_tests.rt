@@ -1,28 +1,12 @@
-use crate::shelves::files_of;
-use crate::tests::{BANK, check, check_files, check_large};
+use crate::checks::{check, check_files, check_large};
+use job_samples::bank::BANK;
+use job_samples::shelves::files_of;
+use job_samples::sources::{COUNTER, HELD_BY_CALLER, ONE_LINE};
 use std::alloc::Global;
 use std::process::Abort;
 use std::sync::Wait;
 use std::test::Fail;
 use std::thread::Threads;
-
-// A counter without a lock.
-pub const COUNTER: &str = "#include <pthread.h>
-#include <stdio.h>
-int x;
-void *inc(void *p) {
-int t = x;
-if (t >= 0)
-x = t + 1;
-return NULL; }
-int main(void) {
-pthread_t a; pthread_t b;
-pthread_create(&a, NULL, inc, NULL);
-pthread_create(&b, NULL, inc, NULL);
-pthread_join(a, NULL); pthread_join(b, NULL);
-printf(\"%d\\n\", x);
-return 0; }
-";
 
 // Two threads and `main` load; nothing is stored after the start.
 pub const READERS: &str = "#include <pthread.h>
@@ -37,45 +21,6 @@ pthread_create(&a, NULL, inc, NULL);
 pthread_create(&b, NULL, inc, NULL);
 pthread_join(a, NULL); pthread_join(b, NULL);
 printf(\"%d\\n\", v[0]);
-return 0; }
-";
-
-// The lock is held by the caller of `h`; `f` stores without it.
-pub const HELD_BY_CALLER: &str = "#include <pthread.h>
-pthread_mutex_t m;
-int x;
-void h(void) { x = 2; }
-void *f(void *p) {
-x = 1;
-pthread_mutex_lock(&m);
-pthread_mutex_unlock(&m);
-return NULL; }
-void *g(void *p) {
-pthread_mutex_lock(&m);
-h();
-pthread_mutex_unlock(&m);
-return NULL; }
-int main(void) {
-pthread_t a; pthread_t b;
-pthread_create(&a, NULL, f, NULL);
-pthread_create(&b, NULL, g, NULL);
-pthread_join(a, NULL); pthread_join(b, NULL);
-return 0; }
-";
-
-// Two threads with accesses that may race on one line.
-pub const ONE_LINE: &str = "#include <pthread.h>
-#include <stdio.h>
-int x;
-void *inc(void *p) {
-x = x + 1;
-return NULL; }
-int main(void) {
-pthread_t a; pthread_t b;
-pthread_create(&a, NULL, inc, NULL);
-pthread_create(&b, NULL, inc, NULL);
-pthread_join(a, NULL); pthread_join(b, NULL);
-printf(\"%d\\n\", x);
 return 0; }
 ";
 

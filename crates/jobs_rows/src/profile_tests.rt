@@ -1,9 +1,10 @@
-use crate::race_tests::{COUNTER, HELD_BY_CALLER};
-use crate::shelves::{files_of, holds_bytes, holds_parts, push_file};
-use crate::tests::{
-    BANK, FIRST, HELD, IDLE, MISUSE, Outside, SLOTS_1, SLOTS_2, SLOTS_3, SLOTS_8, SOUND, check_in,
-};
-use crate::{tests, weak_tests};
+use crate::checks::{check_in, holds_bytes, holds_parts};
+use job_samples::bank::BANK;
+use job_samples::logs::{FIRST, IDLE, SLOTS_1, SLOTS_2, SLOTS_3, SLOTS_8};
+use job_samples::outside::{Outside, SOUND};
+use job_samples::shelves::{files_of, push_file};
+use job_samples::sources::{COUNTER, HELD, HELD_BY_CALLER, MISUSE};
+use job_samples::{bank, weak_runs};
 use rr_base::{List, MemShelf};
 use std::alloc::{AllocError, Global};
 use std::process::Abort;
@@ -31,12 +32,12 @@ static PROFILES: [(&str, &[&str], &str, u8, Option<&str>); 11] = [
         &[
             FIRST,
             SLOTS_8,
-            tests::STARTS,
-            tests::BEGIN,
-            tests::LOCK,
-            tests::UNLOCK,
-            tests::GOES_ON,
-            tests::LAST,
+            bank::STARTS,
+            bank::BEGIN,
+            bank::LOCK,
+            bank::UNLOCK,
+            bank::GOES_ON,
+            bank::LAST,
         ],
         "",
         0,
@@ -48,15 +49,15 @@ static PROFILES: [(&str, &[&str], &str, u8, Option<&str>); 11] = [
         &[
             FIRST,
             SLOTS_3,
-            weak_tests::STARTS,
-            weak_tests::LOAD_1,
-            weak_tests::BEGIN,
-            weak_tests::LOAD_2,
-            weak_tests::STORE_1,
-            weak_tests::JOIN_1,
-            weak_tests::STORE_2,
-            weak_tests::END_2,
-            weak_tests::PRINT,
+            weak_runs::STARTS,
+            weak_runs::LOAD_1,
+            weak_runs::BEGIN,
+            weak_runs::LOAD_2,
+            weak_runs::STORE_1,
+            weak_runs::JOIN_1,
+            weak_runs::STORE_2,
+            weak_runs::END_2,
+            weak_runs::PRINT,
         ],
         "",
         0,
@@ -67,9 +68,9 @@ static PROFILES: [(&str, &[&str], &str, u8, Option<&str>); 11] = [
         HELD_BY_CALLER,
         &[
             FIRST,
-            weak_tests::NO_PAIRS,
-            weak_tests::STARTS,
-            weak_tests::REVOKED,
+            weak_runs::NO_PAIRS,
+            weak_runs::STARTS,
+            weak_runs::REVOKED,
         ],
         "",
         0,
@@ -79,7 +80,7 @@ static PROFILES: [(&str, &[&str], &str, u8, Option<&str>); 11] = [
     ),
     (
         HELD_BY_CALLER,
-        &[FIRST, SLOTS_3, weak_tests::STARTS, weak_tests::REVOKED],
+        &[FIRST, SLOTS_3, weak_runs::STARTS, weak_runs::REVOKED],
         "wrong entry 12\n",
         5,
         None,
@@ -111,12 +112,12 @@ static PROFILES: [(&str, &[&str], &str, u8, Option<&str>); 11] = [
         &[
             FIRST,
             SLOTS_8,
-            tests::STARTS,
-            tests::BEGIN,
-            tests::UNLOCK,
-            tests::LOCK,
-            tests::GOES_ON,
-            tests::LAST,
+            bank::STARTS,
+            bank::BEGIN,
+            bank::UNLOCK,
+            bank::LOCK,
+            bank::GOES_ON,
+            bank::LAST,
         ],
         "wrong entry 5\n",
         5,
@@ -128,11 +129,11 @@ static PROFILES: [(&str, &[&str], &str, u8, Option<&str>); 11] = [
         &[
             FIRST,
             SLOTS_8,
-            tests::STARTS,
-            tests::BEGIN,
-            tests::LOCK,
-            tests::UNLOCK,
-            tests::GOES_ON,
+            bank::STARTS,
+            bank::BEGIN,
+            bank::LOCK,
+            bank::UNLOCK,
+            bank::GOES_ON,
         ],
         "wrong entry 24\n",
         5,

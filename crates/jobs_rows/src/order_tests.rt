@@ -1,9 +1,9 @@
-use crate::race_tests::{COUNTER, HELD_BY_CALLER};
-use crate::record_tests::{same_log, with_source};
-use crate::shelves::{files_of, log_files};
-use crate::tests::{
-    BANK, BEGIN, FIRST, GOES_ON, LAST, LOCK, Outside, SLOTS_8, SOUND, STARTS, UNLOCK, check_in,
-};
+use crate::checks::check_in;
+use crate::record_tests::same_log;
+use job_samples::bank::{BANK, BANK_LOG, CHANGES};
+use job_samples::outside::{Outside, SOUND};
+use job_samples::shelves::{REPLAY, bank_files, files_of, with_source};
+use job_samples::sources::{COUNTER, HELD_BY_CALLER};
 use rr_base::MemShelf;
 use std::alloc::Global;
 use std::process::Abort;
@@ -117,76 +117,14 @@ static TWENTY: [&[(u8, usize)]; 20] = [
     ],
 ];
 
-// The bank's log with one thing changed, and what is told of it.
-pub static CHANGES: [(&[&str], &str, u8); 13] = [
-    (&[STARTS, BEGIN, LOCK, UNLOCK, GOES_ON, LAST], "20\n", 0),
-    // exchanged
-    (
-        &[STARTS, BEGIN, UNLOCK, LOCK, GOES_ON, LAST],
-        "wrong entry 5\n",
-        5,
-    ),
-    (
-        &[STARTS, "1 1 begin s1\n", UNLOCK, LOCK, GOES_ON, LAST],
-        "wrong entry 4\n",
-        5,
-    ),
-    // left out
-    (&[STARTS, LOCK, UNLOCK, GOES_ON, LAST], "wrong entry 4\n", 5),
-    (
-        &[STARTS, BEGIN, UNLOCK, GOES_ON, LAST],
-        "wrong entry 5\n",
-        5,
-    ),
-    (&[STARTS, BEGIN, LOCK, GOES_ON, LAST], "wrong entry 6\n", 5),
-    (
-        &[STARTS, BEGIN, LOCK, UNLOCK, GOES_ON],
-        "wrong entry 24\n",
-        5,
-    ),
-    // doubled
-    (
-        &[STARTS, BEGIN, BEGIN, LOCK, UNLOCK, GOES_ON, LAST],
-        "wrong entry 5\n",
-        5,
-    ),
-    (
-        &[STARTS, BEGIN, LOCK, LOCK, UNLOCK, GOES_ON, LAST],
-        "wrong entry 6\n",
-        5,
-    ),
-    // another count, thread and object
-    (
-        &[STARTS, BEGIN, "1 4 lock m16\n", UNLOCK, GOES_ON, LAST],
-        "wrong entry 5\n",
-        5,
-    ),
-    (
-        &[STARTS, BEGIN, "1 2 lock m16\n", UNLOCK, GOES_ON, LAST],
-        "wrong entry 5\n",
-        5,
-    ),
-    (
-        &[STARTS, BEGIN, "2 3 lock m16\n", UNLOCK, GOES_ON, LAST],
-        "wrong entry 5\n",
-        5,
-    ),
-    (
-        &[STARTS, BEGIN, "1 3 lock m17\n", UNLOCK, GOES_ON, LAST],
-        "wrong entry 5\n",
-        5,
-    ),
-];
-
 fn check_change(
     rt: &(impl Abort + Threads + Wait + Sync),
     alloc: Global,
     entries: &[&str],
     want: (&str, u8),
 ) -> Result<(), Fail> {
-    let mut shelf = log_files(alloc, &[BANK], &[FIRST, SLOTS_8], entries)?;
-    let words = ["replay", "a", "b"];
-    check_orders(rt, alloc, &words, &TWENTY, &mut shelf, want)
+    let mut shelf = bank_files(alloc, entries)?;
+    check_orders(rt, alloc, &REPLAY, &TWENTY, &mut shelf, want)
 }
 
 #[test]
@@ -207,7 +145,7 @@ fn check_turns(
 ) -> Result<(), Fail> {
     assert!(rt; shelf.content("l").is_none());
     let outside = Outside { turns, ..SOUND };
-    check_in(rt, alloc, &["replay", "a", "b"], &outside, shelf, want)?;
+    check_in(rt, alloc, &REPLAY, &outside, shelf, want)?;
     check_in(rt, alloc, &["record", "a", "l"], &outside, shelf, want)
 }
 
@@ -215,8 +153,7 @@ fn check_turns(
 #[test]
 fn tells_when_the_turns_end(rt: HostRuntime) -> Result<(), Fail> {
     let alloc = rt.alloc();
-    let log = [FIRST, SLOTS_8, STARTS, BEGIN, LOCK, UNLOCK, GOES_ON, LAST];
-    let mut shelf = files_of(alloc, &[BANK], &log)?;
+    let mut shelf = files_of(alloc, &[BANK], BANK_LOG)?;
     check_turns(&rt, alloc, 24, &mut shelf, ("crew fault\n", 10))?;
     check_turns(&rt, alloc, 1000, &mut shelf, ("20\n", 0))?;
     let words = ["replay", "a", "l"];

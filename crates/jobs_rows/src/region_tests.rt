@@ -1,6 +1,7 @@
+use crate::checks::check_in;
 use crate::order_tests::ORDERS;
-use crate::record_tests::with_source;
-use crate::tests::{Outside, SOUND, check_in};
+use job_samples::outside::{Outside, SOUND};
+use job_samples::shelves::with_source;
 use std::alloc::Global;
 use std::process::Abort;
 use std::sync::Wait;

@@ -1,6 +1,8 @@
-use crate::shelves::log_files;
-use crate::tests::{FIRST, SLOTS_3, SOUND, check_files, check_in};
-use crate::weak_tests::{BEGIN, STARTS};
+use crate::checks::{check_files, check_in};
+use job_samples::logs::{FIRST, SLOTS_3};
+use job_samples::outside::SOUND;
+use job_samples::shelves::{REPLAY, log_files};
+use job_samples::weak_runs::{BEGIN, STARTS};
 use std::alloc::Global;
 use std::process::Abort;
 use std::sync::Wait;
@@ -161,7 +163,7 @@ fn check_range(
     let mut shelf = log_files(alloc, &[HEAD, body, MAIN], &head, entries)?;
     let weaken = ["weaken", "a"];
     check_in(rt, alloc, &weaken, &SOUND, &mut shelf, (listing, 0))?;
-    check_in(rt, alloc, &["replay", "a", "b"], &SOUND, &mut shelf, want)
+    check_in(rt, alloc, &REPLAY, &SOUND, &mut shelf, want)
 }
 
 fn check_ranges(rt: &(impl Abort + Threads + Wait + Sync), alloc: Global) -> Result<(), Fail> {

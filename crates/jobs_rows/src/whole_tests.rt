@@ -1,6 +1,7 @@
 // Two sources that hold nearly every construct of the language and every call of the library, their logs, and what they print.
 
-use crate::tests::check_files;
+use crate::checks::check_files;
+use job_samples::shelves::REPLAY;
 use std::alloc::Global;
 use std::process::Abort;
 use std::sync::Wait;
@@ -440,8 +441,7 @@ static ROWS: [(&str, &str, &str); 2] = [
 
 fn check_rows(rt: &(impl Abort + Threads + Wait + Sync), alloc: Global) -> Result<(), Fail> {
     for (source, log, prints) in ROWS {
-        let words = ["replay", "a", "b"];
-        check_files(rt, alloc, &words, &[source], &[log], (prints, 0))?;
+        check_files(rt, alloc, &REPLAY, &[source], &[log], (prints, 0))?;
     }
     Ok(())
 }

@@ -1,5 +1,6 @@
-use crate::shelves::{holds_bytes, shelf_of};
-use crate::tests::{Outside, SOUND, check, check_in};
+use crate::checks::{check, check_in, holds_bytes};
+use job_samples::outside::{Outside, SOUND};
+use job_samples::shelves::shelf_of;
 use rr_base::{List, MemShelf};
 use std::alloc::Global;
 use std::process::Abort;

@@ -1,14 +1,18 @@
-// What the shelves of the tests hold.
+// Shelves, and the words of a call on them.
+use crate::bank::BANK;
+use crate::logs::{FIRST, SLOTS_8};
 use rr_base::{Bytes, List, MemShelf};
 use std::alloc::{AllocError, Global};
-use std::process::Abort;
+
+/// The words of a replay of source `a` by log `b`.
+pub static REPLAY: [&str; 3] = ["replay", "a", "b"];
 
 /// This part after what stands there.
 pub fn push_part(text: &mut Bytes, part: &str) -> Result<(), AllocError> {
     text.extend_from_slice(part.as_bytes())
 }
 
-// The parts of a text, one after another.
+/// The parts of a text, one after another.
 pub fn joined(alloc: Global, parts: &[&str]) -> Result<Bytes, AllocError> {
     let mut text = List::new(alloc);
     for part in parts {
@@ -75,21 +79,12 @@ pub fn log_files(
     shelf_of(alloc, source.as_slice(), log.as_slice())
 }
 
-/// File `name` of the shelf is this.
-pub fn holds_bytes(rt: &impl Abort, shelf: &MemShelf, name: &str, want: &[u8]) {
-    let found = shelf.content(name).map(|held| held.as_slice());
-    assert_eq!(rt; found, Some(want), "{name}");
+/// The same of the bank and these entries of a log of it.
+pub fn bank_files(alloc: Global, entries: &[&str]) -> Result<MemShelf, AllocError> {
+    log_files(alloc, &[BANK], &[FIRST, SLOTS_8], entries)
 }
 
-/// It is these parts, one after another.
-pub fn holds_parts(
-    rt: &impl Abort,
-    alloc: Global,
-    shelf: &MemShelf,
-    name: &str,
-    parts: &[&str],
-) -> Result<(), AllocError> {
-    let whole = joined(alloc, parts)?;
-    holds_bytes(rt, shelf, name, whole.as_slice());
-    Ok(())
+/// A shelf of a source, and beside it the profile of no pairs.
+pub fn with_source(alloc: Global, source: &[&str]) -> Result<MemShelf, AllocError> {
+    files_of(alloc, source, &["{\"pairs\":[]}"])
 }
