@@ -6,6 +6,7 @@ pub mod Laws
 pub mod Listed
 pub mod Lists
 pub mod Places
+pub mod Products
 pub mod Pushed
 pub mod Rows
 pub mod Spots
