@@ -10,7 +10,7 @@ use Rattle.c_tree.specs.Tree.{Exp, named, prefix, paren, Init, value, braces, mu
 use Rattle.c_types.specs.declared.types.ObjectType.{ObjectType}
 use Rattle.c_types.specs.Numbers.{Computed}
 use Rattle.c_types.specs.Constants.{is_constant}
-use Rattle.c_rules.specs.Sizes.{value_here}
+use Rattle.c_constants.specs.Values.{value_here}
 use Rattle.c_types.specs.Scopes.{Known, with_name}
 use Rattle.c_programs.specs.Declarators.{declared_type}
 use Rattle.c_programs.specs.Initials.{part_at, part_type}

@@ -13,11 +13,12 @@ ghost use Rattle.c_names.specs.Table.{known_of};
 ghost use Rattle.c_globals.specs.Globals as spec;
 ghost use Rattle.c_operators.specs.Views.{globals_of, source_in};
 
+use c_constants::is_constant;
 use c_initials::kinds_of_some;
 use c_names::Table;
 use c_operators::Source;
 use c_programs::{copy_of, declare_object, declared_type, part_at, ref_of};
-use c_rules::{is_constant, value_of};
+use c_rules::value_of;
 use c_spots::{Holder, Spot};
 use c_tree::{Declarator, Expr, Initial, Item, Specifier};
 use c_types::{Names, TypeRef};

@@ -7,7 +7,7 @@ use Rattle.c_tree.specs.Tree.{Exp}
 use Rattle.c_types.specs.Numbers.{prefixed}
 use Rattle.c_types.specs.Constants.{is_constant, is_int, is_of_numbers, and_then, binary_value}
 use Rattle.c_types.specs.Scopes.{Known}
-use Rattle.c_rules.specs.Sizes.{chosen_value, value_here}
+use Rattle.c_constants.specs.Values.{chosen_value, value_here}
 use Rattle.c_operators.specs.declared.constant.Constant.{Constant}
 
 -- whether an expression has the form of a constant one, and the value that counts where it has

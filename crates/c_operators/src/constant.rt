@@ -1,14 +1,9 @@
 //! The value of a constant expression, by those of its operands (C99 6.6).
 ghost use Rattle.std.specs.Prelude.{◌≡◌};
-ghost use Rattle.c_tree.specs.View.{exp_of};
-ghost use Rattle.c_names.specs.Table.{known_of};
 ghost use Rattle.c_operators.specs.Constants as spec;
 
-use c_names::Table;
-use c_rules::{
-    chosen_value, is_constant, is_int, is_of_numbers, operation_value, prefix_value, value_of,
-};
-use c_tree::{BinaryOp, CType, Expr, PrefixOp};
+use c_constants::{chosen_value, is_int, is_of_numbers, operation_value, prefix_value};
+use c_tree::{BinaryOp, CType, PrefixOp};
 use rr_base::Trap;
 
 /// Whether an expression has the form of a constant one, and the value that counts where it has, or the trap that computing
@@ -27,16 +22,6 @@ impl Constant {
         Constant {
             is_formed: false,
             value: Ok(0),
-        }
-    }
-
-    /// That of an expression.
-    pub fn of(table: &Table, e: &Expr) -> Constant
-        ensures { result ≡ spec.constant_of (known_of table.now) (exp_of e.now) }
-    {
-        Constant {
-            is_formed: is_constant(e),
-            value: value_of(table, e),
         }
     }
 

@@ -8,8 +8,9 @@ ghost use Rattle.c_programs.specs.Declarators as spec;
 ghost use Rattle.c_types.specs.Found.{first_among};
 ghost use Rattle.c_names.specs.Table.{known_of};
 
+use c_constants::constant_named;
 use c_names::Table;
-use c_rules::{constant_named, length_of, name_place, note_length, note_mismatch, note_specifier};
+use c_rules::{length_of, name_place, note_length, note_mismatch, note_specifier};
 use c_tree::{Declarator, Expr, Name, Specifier};
 use c_types::{
     FaultKind, Found, Layer, MAX_CELLS, Names, ObjectType, TypeRef, base_of, is_complete,

@@ -9,7 +9,8 @@ ghost use Rattle.c_programs.specs.Initials as spec;
 ghost use Rattle.c_types.specs.Shown.{shown_type, shown_maybe, shown_member, shown_meaning, shown_operand, shown_target};
 ghost use Rattle.c_types.specs.Constants.{is_address};
 
-use c_rules::{first_place, is_constant, judge, note_constant, note_mismatch};
+use c_constants::is_constant;
+use c_rules::{first_place, judge, note_constant, note_mismatch};
 use c_tree::{Expr, Initial, PrefixOp};
 use c_types::{
     BaseType, FaultKind, Found, Layer, Meaning, Names, Operand, Target, TypeRef, accepts,

@@ -1,39 +1,15 @@
--- Constant expressions at their place: the sizes of what `sizeof` is applied to, and which constants are refused (C99
--- 6.5.3.4, 6.6, 6.7.5.2).
+-- Constant expressions at their place: which are refused (C99 6.6, 6.7.5.2).
 use Rattle.std.specs.Prelude.{ℕ, nat_lt, Bool, true, false, not, ◌&&◌, ◌||◌, if◌then◌else◌, ℤ, pos, negsuc, List, ◌++◌, Option, Some, None, is_none, Ok, Err}
 use Rattle.c_types.specs.declared.fault.Found.{Found}
 use Rattle.c_types.specs.declared.fault.FaultKind.TheVariants as fault
-use Rattle.c_tree.specs.Tree.{Exp, sizeof_exp, sizeof_type}
+use Rattle.c_tree.specs.Tree.{Exp}
 use Rattle.rr_base.specs.declared.position.Position.{Position}
-use Rattle.c_types.specs.Numbers.{Computed, is_zero}
-use Rattle.c_types.specs.Constants.{is_constant, and_then, value_of}
-use Rattle.c_types.specs.Scopes.{Known, type_named, cells_of_type, cells_of_some}
-use Rattle.c_types.specs.Operands.{Standing, no_type, zero_literal, null_literal, a_value, a_place}
-use Rattle.c_types.specs.Standing.{no_target, standing}
+use Rattle.c_types.specs.Numbers.{Computed}
+use Rattle.c_types.specs.Constants.{is_constant}
+use Rattle.c_types.specs.Scopes.{Known}
 use Rattle.c_types.specs.Found.{first_among, where_it_comes}
+use Rattle.c_constants.specs.Values.{value_here}
 use Rattle.c_rules.specs.Faults.{first_place, mismatch, expression_faults}
-
--- how many cells what an expression is takes
-abbrev pub cells_of_standing : Known → Standing → ℕ
-cells_of_standing known no_type = 0
-cells_of_standing known zero_literal = 1
-cells_of_standing known null_literal = 1
-cells_of_standing known (a_value t) = cells_of_type known t
-cells_of_standing known (a_place t) = cells_of_type known t
-
--- what a `sizeof` gives, in cells
-abbrev pub size_here : Known → Exp → ℕ
-size_here known (sizeof_exp a at) = cells_of_standing known (standing known no_target a)
-size_here known (sizeof_type t at) = cells_of_some known (type_named known t)
-size_here known _ = 0
-
--- the value of a constant expression with the sizes known here
-abbrev pub value_here : Known → Exp → Computed
-value_here known e = value_of (size_here known) e
-
--- of the last two values the one that the first chooses
-abbrev pub chosen_value : Computed → Computed → Computed → Computed
-chosen_value a b c = and_then a (λ n. if is_zero n then c else b)
 
 -- computing it overflows, divides by zero or shifts too far
 abbrev pub is_trap : Computed → Bool

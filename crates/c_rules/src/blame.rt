@@ -9,7 +9,7 @@ ghost use Rattle.c_rules.specs.Faults as spec;
 ghost use Rattle.c_tree.specs.View.{exp_of};
 ghost use Rattle.c_types.specs.Shown.{shown_type, shown_meaning, shown_standing, shown_operand};
 
-use crate::constants::constant_named;
+use c_constants::constant_named;
 use c_tree::{AssignOp, CType, Expr, Name, PrefixOp, Specifier};
 use c_types::{
     BaseType, FaultKind, Found, Meaning, Names, Operand, Standing, TypeRef, are_compatible,

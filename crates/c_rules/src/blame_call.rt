@@ -14,7 +14,7 @@ ghost use Rattle.c_rules.specs.Seen.{IsSeenOf};
 
 use crate::blame::{first_place, note_mismatch, own_place};
 use crate::calls::{format_of, is_main, is_null, is_root, is_text, printf_wants};
-use crate::constants::constant_named;
+use c_constants::constant_named;
 use c_tree::Expr;
 use c_types::{
     FaultKind, Found, LibraryName, Meaning, Names, Operand, Standing, Target, TypeRef, Wanted,

@@ -23,7 +23,7 @@ use crate::calls::{
     call_standing, can_go, fits_wanted, following, format_of, given_by_call, let_go,
     number_standing,
 };
-use crate::constants::constant_named;
+use c_constants::constant_named;
 use c_tree::{AssignOp, BinaryOp, CType, Expr, Name, PrefixOp};
 use c_types::{
     FaultKind, Found, Names, Operand, Standing, Target, Wanted, Wants, assign_standing,

@@ -1,5 +1,5 @@
 //! What each expression of a C source is at its place, the first rule that it breaks, and the values of constants. It
-//! stands on `c_types`.
+//! stands on `c_types` and `c_constants`.
 #![tactic(auto)]
 
 mod blame;
@@ -14,9 +14,6 @@ pub use blame_call::wants_of;
 pub use calls::{
     call_standing, can_go, fits_wanted, following, format_of, given_by_call, is_main, let_go,
 };
-pub use constants::{
-    chosen_value, constant_named, is_constant, is_int, is_of_numbers, operation_value,
-    prefix_value, value_of,
-};
+pub use constants::value_of;
 pub use judging::judge;
 pub use sizes::{length_of, note_constant, note_length};

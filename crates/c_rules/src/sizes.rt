@@ -6,17 +6,19 @@ ghost use Rattle.c_tree.specs.View.{exp_of};
 ghost use Rattle.c_types.specs.Scopes.{cells_of_some};
 ghost use Rattle.c_types.specs.Found.{first_among};
 ghost use Rattle.c_types.specs.Shown.{shown_maybe, shown_standing};
+ghost use Rattle.c_constants.specs.Values as values;
 ghost use Rattle.c_rules.specs.Sizes as spec;
 
 use crate::blame::{first_place, note_mismatch};
-use crate::constants::{is_constant, value_of};
+use crate::constants::value_of;
 use crate::judging::judge;
+use c_constants::is_constant;
 use c_tree::Expr;
 use c_types::{FaultKind, Found, Names, Standing, Target, TypeRef, note, type_named};
 use rr_base::{Position, Trap};
 
 fn cells_of_standing<N: Names>(names: &N, of: Standing) -> u32
-    ensures { result ≡ spec.cells_of_standing (N.known names.now) (shown_standing of.entry) }
+    ensures { result ≡ values.cells_of_standing (N.known names.now) (shown_standing of.entry) }
 {
     match of {
         Standing::NoType => 0,
@@ -40,7 +42,7 @@ fn cells_of_named<N: Names>(names: &N, of: Option<TypeRef>) -> u32
 
 /// What a `sizeof` gives at its place, in cells. It is 0 for what is none.
 pub fn size_here<N: Names>(names: &N, e: &Expr) -> u32
-    ensures { result ≡ spec.size_here (N.known names.now) (exp_of e.now) }
+    ensures { result ≡ values.size_here (N.known names.now) (exp_of e.now) }
 {
     match e {
         Expr::SizeofExpr { operand, .. } => {

@@ -8,7 +8,7 @@ use Rattle.c_types.specs.declared.types.ObjectType.{ObjectType}
 use Rattle.c_types.specs.declared.library.Wanted.{Wanted}
 use Rattle.c_types.specs.Numbers.{Computed, is_zero}
 use Rattle.c_types.specs.Constants.{is_constant}
-use Rattle.c_rules.specs.Sizes.{value_here}
+use Rattle.c_constants.specs.Values.{value_here}
 use Rattle.c_types.specs.Scopes.{Known, Meaning, variable, function_of, seen, type_named}
 use Rattle.c_types.specs.Operands.{operand_of, type_operand}
 use Rattle.c_types.specs.Library.{library_named}

@@ -7,14 +7,15 @@ ghost use Rattle.c_types.specs.Scopes as scopes;
 ghost use Rattle.c_types.specs.Standing.{no_target, standing};
 ghost use Rattle.c_core.specs.Core as core;
 ghost use Rattle.c_operators.specs.Denoted.{denoted_value, denoted_zero, part_by};
-ghost use Rattle.c_operators.specs.Constants.{constant_of};
+ghost use Rattle.c_operators.specs.Constants as spec_constants;
 ghost use Rattle.c_operators.specs.Context.{home_of};
 ghost use Rattle.c_operators.specs.Views.{denoted_of, context_of, part_of};
 ghost use Rattle.c_values.specs.Expressions as spec;
 
 use crate::parts::computed;
+use c_constants::is_constant;
 use c_operators::{Constant, Context, Denoted, Home, Part, make};
-use c_rules::judge;
+use c_rules::{judge, value_of};
 use c_tree::Expr;
 use c_types::{Meaning, Names, Standing, Target};
 use rr_base::Position;
@@ -28,15 +29,25 @@ fn standing_of<'h>(context: Context<'h, '_>, e: &Expr) -> Standing<'h>
     judge(context.table, Target::No, e, &mut unnoted)
 }
 
+/// Whether it has the form of a constant one, and the value that counts where it has.
+fn constant_of(context: Context, e: &Expr) -> Constant
+    ensures { result ≡ spec_constants.constant_of (context_of context.entry).known (tree.exp_of e.now) }
+{
+    Constant {
+        is_formed: is_constant(e),
+        value: value_of(context.table, e),
+    }
+}
+
 /// An expression none of whose operands is made, with what it is.
 fn leaf<'h>(context: Context<'h, '_>, e: &Expr, denoted: Denoted) -> Part<'h>
     ensures part { part_of result ≡ part_by (standing (context_of context.entry).known no_target (tree.exp_of e.now)) (denoted_of denoted) }
-    ensures constant { result.constant ≡ constant_of (context_of context.entry).known (tree.exp_of e.now) }
+    ensures constant { result.constant ≡ spec_constants.constant_of (context_of context.entry).known (tree.exp_of e.now) }
 {
     Part {
         standing: standing_of(context, e),
         denoted,
-        constant: Constant::of(context.table, e),
+        constant: constant_of(context, e),
     }
 }
 
@@ -49,9 +60,9 @@ fn folded_leaf<'h>(
     denoted: Denoted,
 ) -> Result<Part<'h>, AllocError>
     ensures part { IfOk result (λ p. part_of p ≡ part_by (standing (context_of context.entry).known no_target (tree.exp_of e.now)) (spec.folded (context_of context.entry).known (tree.exp_of e.now) at (denoted_of denoted))) }
-    ensures constant { IfOk result (λ p. p.constant ≡ constant_of (context_of context.entry).known (tree.exp_of e.now)) }
+    ensures constant { IfOk result (λ p. p.constant ≡ spec_constants.constant_of (context_of context.entry).known (tree.exp_of e.now)) }
 {
-    let constant = Constant::of(context.table, e);
+    let constant = constant_of(context, e);
     computed(alloc, standing_of(context, e), constant, at, denoted)
 }
 
@@ -117,7 +128,7 @@ pub fn name_part<'h>(
     at: Position,
 ) -> Result<Part<'h>, AllocError>
     ensures part { let e = tree.exp_of e.now in let h = context_of context.entry in IfOk result (λ p. part_of p ≡ part_by (standing h.known no_target e) (spec.folded h.known e at (spec.named_denoted h name.now (scopes.seen h.known name.now) at))) }
-    ensures constant { IfOk result (λ p. p.constant ≡ constant_of (context_of context.entry).known (tree.exp_of e.now)) }
+    ensures constant { IfOk result (λ p. p.constant ≡ spec_constants.constant_of (context_of context.entry).known (tree.exp_of e.now)) }
 {
     let denoted = named(alloc, context, name, at)?;
     folded_leaf(alloc, context, e, at, denoted)
@@ -131,7 +142,7 @@ pub fn size_part<'h>(
     at: Position,
 ) -> Result<Part<'h>, AllocError>
     ensures part { let e = tree.exp_of e.now in let h = context_of context.entry in IfOk result (λ p. part_of p ≡ part_by (standing h.known no_target e) (spec.folded h.known e at (denoted_zero at))) }
-    ensures constant { IfOk result (λ p. p.constant ≡ constant_of (context_of context.entry).known (tree.exp_of e.now)) }
+    ensures constant { IfOk result (λ p. p.constant ≡ spec_constants.constant_of (context_of context.entry).known (tree.exp_of e.now)) }
 {
     folded_leaf(alloc, context, e, at, Denoted::Zero { at })
 }
@@ -145,7 +156,7 @@ pub fn number_part<'h>(
     at: Position,
 ) -> Result<Part<'h>, AllocError>
     ensures part { let e = tree.exp_of e.now in let h = context_of context.entry in IfOk result (λ p. part_of p ≡ part_by (standing h.known no_target e) (if is_zero value then denoted_zero at else denoted_value (core.number value at))) }
-    ensures constant { IfOk result (λ p. p.constant ≡ constant_of (context_of context.entry).known (tree.exp_of e.now)) }
+    ensures constant { IfOk result (λ p. p.constant ≡ spec_constants.constant_of (context_of context.entry).known (tree.exp_of e.now)) }
 {
     let denoted = literal(alloc, value, at)?;
     Ok(leaf(context, e, denoted))
@@ -160,7 +171,7 @@ pub fn letter_part<'h>(
     at: Position,
 ) -> Result<Part<'h>, AllocError>
     ensures part { let e = tree.exp_of e.now in let h = context_of context.entry in IfOk result (λ p. part_of p ≡ part_by (standing h.known no_target e) (denoted_value (core.number (pos value) at))) }
-    ensures constant { IfOk result (λ p. p.constant ≡ constant_of (context_of context.entry).known (tree.exp_of e.now)) }
+    ensures constant { IfOk result (λ p. p.constant ≡ spec_constants.constant_of (context_of context.entry).known (tree.exp_of e.now)) }
 {
     let value = make::number(alloc, i64::from(value), at)?;
     Ok(leaf(context, e, Denoted::Value(value)))
@@ -169,7 +180,7 @@ pub fn letter_part<'h>(
 /// A text, which stands only where its bytes are read.
 pub fn text_part<'h>(context: Context<'h, '_>, e: &Expr, at: Position) -> Part<'h>
     ensures part { part_of result ≡ part_by (standing (context_of context.entry).known no_target (tree.exp_of e.now)) (denoted_zero at) }
-    ensures constant { result.constant ≡ constant_of (context_of context.entry).known (tree.exp_of e.now) }
+    ensures constant { result.constant ≡ spec_constants.constant_of (context_of context.entry).known (tree.exp_of e.now) }
 {
     leaf(context, e, Denoted::Zero { at })
 }
@@ -182,7 +193,7 @@ pub fn null_part<'h>(
     at: Position,
 ) -> Result<Part<'h>, AllocError>
     ensures part { let e = tree.exp_of e.now in let h = context_of context.entry in IfOk result (λ p. part_of p ≡ part_by (standing h.known no_target e) (denoted_value (core.null at))) }
-    ensures constant { IfOk result (λ p. p.constant ≡ constant_of (context_of context.entry).known (tree.exp_of e.now)) }
+    ensures constant { IfOk result (λ p. p.constant ≡ spec_constants.constant_of (context_of context.entry).known (tree.exp_of e.now)) }
 {
     let null = make::null(alloc, at)?;
     Ok(leaf(context, e, Denoted::Value(null)))

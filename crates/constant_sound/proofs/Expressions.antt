@@ -17,7 +17,7 @@ use Rattle.c_types.specs.Constants.{constants, constant_named, is_int, is_of_num
 use Rattle.c_types.specs.Scopes.{Known, seen, cells_of_some, type_named}
 use Rattle.c_types.specs.Operands.{Standing, no_type, zero_literal, null_literal, a_value, a_place}
 use Rattle.c_types.specs.Standing.{Target, no_target, cast_target, standing}
-use Rattle.c_rules.specs.Sizes.{cells_of_standing, size_here, value_here}
+use Rattle.c_constants.specs.Values.{cells_of_standing, size_here, value_here}
 use Rattle.c_core.specs.Core as core
 use Rattle.c_core.specs.Core.{Program}
 use Rattle.c_core.specs.Meaning.{Calls}

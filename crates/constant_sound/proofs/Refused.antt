@@ -10,7 +10,8 @@ use Rattle.c_types.specs.Numbers.{Computed}
 use Rattle.c_types.specs.Constants.{is_constant}
 use Rattle.c_types.specs.Standing.{no_target}
 use Rattle.c_rules.specs.Faults.{first_place}
-use Rattle.c_rules.specs.Sizes.{value_here, is_trap, is_sound, constant_faults}
+use Rattle.c_constants.specs.Values.{value_here}
+use Rattle.c_rules.specs.Sizes.{is_trap, is_sound, constant_faults}
 use Rattle.c_core.specs.Core.{Program}
 use Rattle.c_core.specs.Meaning.{Calls, value}
 use Rattle.c_core.specs.Runs.{M, pure, result_at}

@@ -7,7 +7,7 @@ use Rattle.c_tree.specs.declared.expr.BinaryOp.{BinaryOp}
 use Rattle.c_tree.specs.declared.expr.BinaryOp.TheVariants as op
 use Rattle.c_tree.specs.declared.expr.PrefixOp.TheVariants as prefix_op
 use Rattle.c_tree.specs.Tree.{Exp, conditional, binary, prefix, number}
-use Rattle.c_rules.specs.Sizes.{value_here}
+use Rattle.c_constants.specs.Values.{value_here}
 use Rattle.c_core.specs.Core.{Program}
 use Rattle.c_core.specs.Meaning.{Calls, value}
 use Rattle.c_core.specs.Runs.{result_at}

@@ -18,7 +18,8 @@ use Rattle.c_types.specs.Numbers.{Computed}
 use Rattle.c_types.specs.Constants.{is_constant}
 use Rattle.c_types.specs.Scopes.{Known, base_of, struct_numbered, is_complete, is_complete_layered, is_complete_base}
 use Rattle.c_rules.specs.Faults.{name_place, mismatch, specifier_faults, lacks_struct_by, expression_faults}
-use Rattle.c_rules.specs.Sizes.{is_sound, is_short, is_trap, value_here, constant_faults, length_faults, is_short_length, positive_value, length_of}
+use Rattle.c_constants.specs.Values.{value_here}
+use Rattle.c_rules.specs.Sizes.{is_sound, is_short, is_trap, constant_faults, length_faults, is_short_length, positive_value, length_of}
 use Rattle.c_programs.specs.Declarators.{with_arrays, type_by, arrays_of, complete_by, declared_type, is_void_specifier, lengths_faults, declarator_faults}
 use Rattle.source_sound.proofs.Environment.{IsFormedBase, IsFormedPointee, IsFormedLayered, IsFormed}
 use Rattle.source_sound.proofs.FileLists.{append_nil, nil3, where_nil}

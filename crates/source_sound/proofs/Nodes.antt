@@ -15,7 +15,7 @@ use Rattle.c_types.specs.Constants.{constant_named, is_constant, is_address}
 use Rattle.c_types.specs.Library.{library_named}
 use Rattle.c_types.specs.Scopes.{Meaning, variable, function_of, seen, has_name}
 use Rattle.c_types.specs.Operands.{Standing, no_type, zero_literal, null_literal, a_value, a_place, operand_of, as_value, int_value, is_scalar}
-use Rattle.c_rules.specs.Sizes.{value_here, size_here}
+use Rattle.c_constants.specs.Values.{value_here, size_here}
 use Rattle.c_types.specs.Standing.{Target, no_target, stepped, prefix_standing, assign_standing, casts_to, cast_standing, named_standing, can_go, let_go, following, is_sized, standing}
 use Rattle.c_types.specs.Found.{where_it_comes, found_at}
 use Rattle.c_rules.specs.Faults.{mismatch, own_place, place_faults, can_be_place, go_faults, steps, standing_type, assigns_to, needs_place, prefix_takes, step_faults, assign_faults, prefix_faults, named_faults}

@@ -23,7 +23,8 @@ use Rattle.c_types.specs.Scopes.{Known, struct_numbered, base_of, starred, is_co
 use Rattle.c_types.specs.Operands.{type_operand}
 use Rattle.c_types.specs.Standing.{layered_target, type_target, layered_struct, type_struct}
 use Rattle.c_rules.specs.Faults.{first_place, name_place, mismatch, specifier_faults, lacks_struct_by, is_unknown_struct, expression_faults}
-use Rattle.c_rules.specs.Sizes.{value_here, is_trap, is_sound, constant_faults, is_short, is_short_length, length_faults, positive, positive_value, length_of}
+use Rattle.c_constants.specs.Values.{value_here}
+use Rattle.c_rules.specs.Sizes.{is_trap, is_sound, constant_faults, is_short, is_short_length, length_faults, positive, positive_value, length_of}
 use Rattle.c_programs.specs.Declarators.{with_arrays, type_by, arrays_of, complete_by, declared_type, is_void_specifier, cannot_pass, passed_by, param_type, declarator_faults, lengths_faults}
 use Rattle.c_locals.specs.Kept.{is_kept_specifier, is_kept}
 use Rattle.c_operators.specs.Denoted.{is_pointing}

@@ -21,7 +21,8 @@ use Rattle.c_types.specs.Constants.{constant_named, is_address}
 use Rattle.c_types.specs.Types.{repeated, base_kinds, layered_kinds, kinds_of_type, members_kinds}
 use Rattle.c_types.specs.Found.{where_it_comes}
 use Rattle.c_rules.specs.Faults.{mismatch, faults, first_place}
-use Rattle.c_rules.specs.Sizes.{value_here, constant_faults}
+use Rattle.c_constants.specs.Values.{value_here}
+use Rattle.c_rules.specs.Sizes.{constant_faults}
 use Rattle.c_types.specs.Scopes.{Known, Meaning, variable, function_of, seen, Members, members_of}
 use Rattle.c_types.specs.Operands.{Operand, operand_of, accepts, layered_accepts, same_base}
 use Rattle.c_types.specs.Standing.{Target, no_target, standing}

@@ -1,6 +1,6 @@
 use Rattle.std.proofs.Common.{◌≡◌, length, map}
 use Rattle.c_text.specs.Texts.{entry_of}
-use Rattle.c_rules.proofs.constants.constant_in.Given as goal
+use Rattle.c_constants.proofs.constants.constant_in.Given as goal
 
 abbrev pub invariant-loop-table : goal.invariant-loop-table
 invariant-loop-table l = entry_of (map (λ e. (e.0.now, e.1)) l.table) l.name ≡ entry_of (map (λ e. (e.0.now, e.1)) l.initial.table) l.name
