@@ -1,7 +1,10 @@
 // The heads of logs, and the entries of the shortest run.
 
-/// The first line of a log.
+/// The first line of a log of version 1.
 pub const FIRST: &str = "chimera log 1\n";
+
+/// The first line of a log that is recorded.
+pub const RECORDED: &str = "chimera log 2\n";
 
 /// The head of a log with one slot, and so for the other numbers.
 pub const SLOTS_1: &str = "slots 1\ncells 16384\nlimit 16777216\nprofile all\ninput 0\n\n";

@@ -1,5 +1,5 @@
 // Logs in which weak locks are taken, given, revoked and taken again.
-use crate::logs::{FIRST, SLOTS_3};
+use crate::logs::{FIRST, RECORDED, SLOTS_3};
 use crate::sources::{COUNTER, HALVES, HELD_BY_CALLER, ONE_LINE};
 
 /// The entries of `main` up to the begin of both threads, in sources that start two of them and join them.
@@ -39,7 +39,7 @@ pub const REVOKED: &str =
     "1 3 take w0.0\n1 4 revoke w0.0\n2 0 begin s2\n2 3 lock m6\n2 5 take w0.0\n2 6 give w0.0\n2 6 unlock m6\n1 4 lock m6\n1 5 unlock m6\n1 6 retake w0.0\n1 6 give w0.0\n1 7 end s1\n0 10 join s1\n1 8 leave T\n2 8 end s2\n0 12 join s2\n0 13 halt H\n2 9 leave T\n";
 
 /// A source, a log of it, and what is told.
-pub static WEAK_RUNS: [(&str, &[&str], &str, u8); 9] = [
+pub static WEAK_RUNS: [(&str, &[&str], &str, u8); 13] = [
     (
         COUNTER,
         &[
@@ -127,5 +127,35 @@ pub static WEAK_RUNS: [(&str, &[&str], &str, u8); 9] = [
         ],
         "",
         0,
+    ),
+    // The same where what neighbouring stripes have in common stands in one line.
+    (
+        HALVES,
+        &[
+            RECORDED,
+            SLOTS_3,
+            STARTS,
+            "1 3 take w0.0-3\n2 0 begin s2\n2 3 take w0.4-7\n1 12 give w0.0-3\n1 13 end s1\n0 10 join s1\n1 14 leave T\n2 12 give w0.4-7\n2 13 end s2\n0 12 join s2\n0 13 halt H\n2 14 leave T\n",
+        ],
+        "",
+        0,
+    ),
+    (
+        HALVES,
+        &[RECORDED, SLOTS_3, STARTS, "1 3 take w0.0\n1 3 take w0.1\n"],
+        "log refused 23 14\n",
+        4,
+    ),
+    (
+        HALVES,
+        &[RECORDED, SLOTS_3, STARTS, "1 3 take w0.3-3\n"],
+        "log refused 23 13\n",
+        4,
+    ),
+    (
+        HALVES,
+        &[RECORDED, SLOTS_3, STARTS, "1 3 take w0.0-8\n"],
+        "log refused 24 13\n",
+        4,
     ),
 ];

@@ -1,9 +1,10 @@
 use crate::checks::check_in;
 use crate::record_tests::same_log;
 use job_samples::bank::{BANK, BANK_LOG, CHANGES};
+use job_samples::logs::{RECORDED, SLOTS_3};
 use job_samples::outside::{Outside, SOUND};
 use job_samples::shelves::{REPLAY, bank_files, files_of, with_source};
-use job_samples::sources::{COUNTER, HELD_BY_CALLER};
+use job_samples::sources::{COUNTER, HALVES, HELD_BY_CALLER};
 use rr_base::MemShelf;
 use std::alloc::Global;
 use std::process::Abort;
@@ -12,14 +13,18 @@ use std::test::Fail;
 use std::thread::Threads;
 
 const SLOTS_3_NO_PAIRS: &str =
-    "chimera log 1\nslots 3\ncells 16384\nlimit 16777216\nprofile 0\ninput 0\n\n";
+    "chimera log 2\nslots 3\ncells 16384\nlimit 16777216\nprofile 0\ninput 0\n\n";
 
 // Thread 2's refused take makes thread 1 give its stripe up, and take it again.
 const REVOKED: &str =
     "0 1 draw T\n0 4 start s1\n0 5 draw T\n0 8 start s2\n1 0 begin s1\n1 3 take w0.0\n1 4 revoke w0.0\n2 0 begin s2\n2 3 lock m6\n2 5 take w0.0\n2 6 give w0.0\n2 6 unlock m6\n1 4 lock m6\n1 5 unlock m6\n1 6 retake w0.0\n1 6 give w0.0\n1 7 end s1\n0 10 join s1\n1 8 leave T\n2 8 end s2\n0 12 join s2\n0 13 halt H\n2 9 leave T\n";
 
+// Each thread takes the stripes of its half of an array together, and gives them together.
+const TOGETHER: &str =
+    "0 1 draw T\n0 4 start s1\n0 5 draw T\n0 8 start s2\n1 0 begin s1\n1 3 take w0.0-3\n1 12 give w0.0-3\n1 13 end s1\n0 10 join s1\n1 14 leave T\n2 0 begin s2\n2 3 take w0.4-7\n2 12 give w0.4-7\n2 13 end s2\n0 12 join s2\n0 13 halt H\n2 14 leave T\n";
+
 // Words, a source, the order of turns, what is told, and the log where it is pinned.
-static RECORDS: [(&[&str], &str, &[(u8, usize)], &str, &[&str]); 3] = [
+static RECORDS: [(&[&str], &str, &[(u8, usize)], &str, &[&str]); 4] = [
     (
         &["record", "a", "l", "--slots", "3"],
         COUNTER,
@@ -40,6 +45,13 @@ static RECORDS: [(&[&str], &str, &[(u8, usize)], &str, &[&str]); 3] = [
         &[(0, 9), (2, 4), (1, 5), (2, 2), (1, 1), (2, 4), (1, 7)],
         "",
         &[SLOTS_3_NO_PAIRS, REVOKED],
+    ),
+    (
+        &["record", "a", "l", "--slots", "3"],
+        HALVES,
+        &[(0, 9), (1, 14)],
+        "",
+        &[RECORDED, SLOTS_3, TOGETHER],
     ),
 ];
 

@@ -1,6 +1,6 @@
 use crate::checks::{check_files, check_in, holds_bytes, holds_parts};
 use job_samples::bank::BANK;
-use job_samples::logs::{FIRST, IDLE, INPUT_HI, SLOTS_1, SLOTS_3, SLOTS_8};
+use job_samples::logs::{FIRST, IDLE, INPUT_HI, RECORDED, SLOTS_1, SLOTS_3, SLOTS_8};
 use job_samples::outside::{Outside, SOUND, repeated};
 use job_samples::shelves::{files_of, with_source};
 use job_samples::sources::{
@@ -24,7 +24,7 @@ static RECORDS: [(&[&str], &str, &str, &str, u8, &[&str]); 10] = [
         "",
         "",
         0,
-        &[FIRST, SLOTS_8, IDLE],
+        &[RECORDED, SLOTS_8, IDLE],
     ),
     (
         &["record", "--slots=1", "a", "l"],
@@ -33,7 +33,7 @@ static RECORDS: [(&[&str], &str, &str, &str, u8, &[&str]); 10] = [
         "hi",
         0,
         &[
-            FIRST,
+            RECORDED,
             INPUT_HI,
             "0 1 getchar I\n0 3 print O\n0 4 getchar I\n0 6 print O\n0 7 getchar I\n0 9 halt H\n",
         ],
@@ -44,7 +44,7 @@ static RECORDS: [(&[&str], &str, &str, &str, u8, &[&str]); 10] = [
         "",
         "trap 9 thread 0 line 2\n",
         3,
-        &[FIRST, SLOTS_1, "0 1 unlock m2\n0 2 trap H\n"],
+        &[RECORDED, SLOTS_1, "0 1 unlock m2\n0 2 trap H\n"],
     ),
     (
         &["record", "a", "--slots", "1", "l"],
@@ -52,7 +52,7 @@ static RECORDS: [(&[&str], &str, &str, &str, u8, &[&str]); 10] = [
         "",
         "trap 13 thread 0 line 2\n",
         3,
-        &[FIRST, SLOTS_1, "0 1 trap H\n"],
+        &[RECORDED, SLOTS_1, "0 1 trap H\n"],
     ),
     (
         &["record", "a", "l", "--slots", "2"],

@@ -67,7 +67,7 @@ within-clipped_object slots object.Halt few = refl
 within-clipped_object slots object.Input few = refl
 within-clipped_object slots object.Output few = refl
 
-last_few : (limit : ℕ) (o : OpName) → limit ≤ 67108864 → last_count limit o < 4294967295
+pub last_few : (limit : ℕ) (o : OpName) → limit ≤ 67108864 → last_count limit o < 4294967295
 last_few limit o few = by (is_ending o)
   where
     by : (t : Bool) → cond t (limit + 1) limit < 4294967295

@@ -13,13 +13,15 @@ use Rattle.profiles.specs.declared.profile.Profile.TheVariants as profile
 use Rattle.profiles.specs.Profile.{Text, Pair, text_order}
 use Rattle.order_log.specs.Names.{continues_name, IsName}
 use Rattle.order_log.specs.Log.{LogView, IsNamePair, IsLog, KeepsLimits}
-use Rattle.order_log.specs.Text.{number_text, hex_text, pair_line, log_lines}
+use Rattle.order_log.specs.declared.version.Version.{Version}
+use Rattle.order_log.specs.declared.version.Version.TheVariants as version
+use Rattle.order_log.specs.Text.{number_text, hex_text, pair_line, version_line, log_lines}
 use Rattle.order_log.specs.Line.{hex_in, ends_before}
 use Rattle.order_log.proofs.Heads.{AreBytes, pair_again, hex_again}
 use Rattle.order_log.proofs.Lists.{All-append}
 use Rattle.order_log.proofs.Machine.{Numbers, Part, Bare, Headed, Slotted, Celled, Limited, Pairing, Profiled, Sized, Whole, paired, view_of, taken}
 use Rattle.order_log.proofs.Said.{said, Fine, Kept, adds}
-use Rattle.order_log.proofs.Walks.{number_taken}
+use Rattle.order_log.proofs.Walks.{number_taken, version_taken}
 
 -- ---- a later pair
 
@@ -70,11 +72,12 @@ later_ends (q ∷ r ∷ rs) = later_ends (r ∷ rs)
 
 -- a log whose lines begin with what is said
 pub record Completed (p : Part) : Type 0 where
+  pub version : Version
   pub view : LogView
   pub log : IsLog view
   pub within : Kept p → KeepsLimits view
   pub more : List Text
-  pub lines : log_lines view ≡ said p ++ more
+  pub lines : log_lines version view ≡ said p ++ more
 
 -- by one line that fits
 able_by : (p : Part) (line : Text) (q : Part) → taken p line ≡ Some (q, true) → Fine p → (Fine q → Completed q) → Completed p
@@ -82,6 +85,7 @@ able_by p line q e fine later =
     let a = adds p line (q, true) e in
     let c = later (a.fine fine) in
     record {
+      version = c.version;
       view = c.view;
       log = c.log;
       within = λ k. c.within (a.kept refl k);
@@ -89,8 +93,8 @@ able_by p line q e fine later =
       lines = c.lines ∙ ap (λ (ls : List Text). ls ++ c.more) a.says ∙ append_assoc (said p) (line ∷ []) c.more;
     }
 
-able_whole : (p : Part) (v : LogView) → (Fine p → IsLog v) → (Kept p → KeepsLimits v) → log_lines v ≡ said p → Fine p → Completed p
-able_whole p v log within lines fine = record { view = v; log = log fine; within = within; more = []; lines = lines ∙ sym (append-nil (said p)) }
+able_whole : (p : Part) (w : Version) (v : LogView) → (Fine p → IsLog v) → (Kept p → KeepsLimits v) → log_lines w v ≡ said p → Fine p → Completed p
+able_whole p w v log within lines fine = record { version = w; view = v; log = log fine; within = within; more = []; lines = lines ∙ sym (append-nil (said p)) }
 
 AreBytes-zeros : (k : ℕ) → AreBytes (replicate k 0)
 AreBytes-zeros zero = tt
@@ -101,7 +105,7 @@ able_sized n p k fine =
     let input = replicate k 0 in
     let found : hex_in k (hex_text input) ≡ Some input = ap (λ (m : ℕ). hex_in m (hex_text input)) (sym (length-replicate k 0)) ∙ hex_again input (AreBytes-zeros k) in
     able_by (Sized n p k) (hex_text input) (Whole n p input []) (ap (option_map (λ bytes. (Whole n p bytes [], true))) found) fine
-    (able_whole (Whole n p input []) (view_of n p input []) (λ f. f) (λ h. h) refl)
+    (able_whole (Whole n p input []) n.version (view_of n p input []) (λ f. f) (λ h. h) refl)
 
 able_profiled : (n : Numbers) (p : Profile) → Fine (Profiled n p) → Completed (Profiled n p)
 able_profiled n p fine = able_by (Profiled n p) (codes "input " ++ number_text 0) (Sized n p 0) (number_taken (codes "input ") 0 1048576 (λ k. Sized n p k) 0) fine (able_sized n p 0)
@@ -116,24 +120,24 @@ able_paired n (suc k) ps fine =
 able_limited : (n : Numbers) → Fine (Limited n) → Completed (Limited n)
 able_limited n fine = able_by (Limited n) (codes "profile all") (Profiled n profile.All) refl fine (able_profiled n profile.All)
 
-able_celled : (s c : ℕ) → Fine (Celled s c) → Completed (Celled s c)
-able_celled s c fine =
-    able_by (Celled s c) (codes "limit " ++ number_text 1) (Limited (record { slots = s; cells = c; limit = 1 }))
-    (number_taken (codes "limit ") 1 67108864 (λ k. Limited (record { slots = s; cells = c; limit = k })) 1) fine (able_limited _)
+able_celled : (w : Version) (s c : ℕ) → Fine (Celled w s c) → Completed (Celled w s c)
+able_celled w s c fine =
+    able_by (Celled w s c) (codes "limit " ++ number_text 1) (Limited (record { version = w; slots = s; cells = c; limit = 1 }))
+    (number_taken (codes "limit ") 1 67108864 (λ k. Limited (record { version = w; slots = s; cells = c; limit = k })) 1) fine (able_limited _)
 
-able_slotted : (s : ℕ) → Fine (Slotted s) → Completed (Slotted s)
-able_slotted s fine = able_by (Slotted s) (codes "cells " ++ number_text 1024) (Celled s 1024) (number_taken (codes "cells ") 1024 131072 (λ k. Celled s k) 1024) fine (able_celled s 1024)
+able_slotted : (w : Version) (s : ℕ) → Fine (Slotted w s) → Completed (Slotted w s)
+able_slotted w s fine = able_by (Slotted w s) (codes "cells " ++ number_text 1024) (Celled w s 1024) (number_taken (codes "cells ") 1024 131072 (λ k. Celled w s k) 1024) fine (able_celled w s 1024)
 
-able_headed : Fine Headed → Completed Headed
-able_headed fine = able_by Headed (codes "slots " ++ number_text 1) (Slotted 1) (number_taken (codes "slots ") 1 16 (λ k. Slotted k) 1) fine (able_slotted 1)
+able_headed : (w : Version) → Fine (Headed w) → Completed (Headed w)
+able_headed w fine = able_by (Headed w) (codes "slots " ++ number_text 1) (Slotted w 1) (number_taken (codes "slots ") 1 16 (λ k. Slotted w k) 1) fine (able_slotted w 1)
 
 pub completed : (p : Part) → Fine p → Completed p
-completed Bare fine = able_by Bare (codes "chimera log 1") Headed refl fine able_headed
-completed Headed fine = able_headed fine
-completed (Slotted s) fine = able_slotted s fine
-completed (Celled s c) fine = able_celled s c fine
+completed Bare fine = able_by Bare (version_line version.Two) (Headed version.Two) (version_taken version.Two) fine (able_headed version.Two)
+completed (Headed w) fine = able_headed w fine
+completed (Slotted w s) fine = able_slotted w s fine
+completed (Celled w s c) fine = able_celled w s c fine
 completed (Limited n) fine = able_limited n fine
 completed (Pairing n left ps) fine = able_paired n (suc left) ps fine
 completed (Profiled n p) fine = able_profiled n p fine
 completed (Sized n p k) fine = able_sized n p k fine
-completed (Whole n p input es) fine = able_whole (Whole n p input es) (view_of n p input es) (λ f. f) (λ h. h) refl fine
+completed (Whole n p input es) fine = able_whole (Whole n p input es) n.version (view_of n p input es) (λ f. f) (λ h. h) refl fine

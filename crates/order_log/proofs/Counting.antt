@@ -1,13 +1,13 @@
 -- Counts of each thread's entries, one entry on; and the loop over the entries.
 use Rattle.std.proofs.Common.{◌≡◌, ◌≢◌, ℕ, ◌+◌, ◌<◌, Bool, true, false, cond, eqb, List, [], ◌∷◌, ◌++◌, length, get_or, set, replicate, Option, Some, None, Result, Ok, Err, refl, sym, ap, ◌∙◌, arith, ⊎_elim}
 use Rattle.std.specs.Prelude.{count_by, not, ◌&&◌}
-use Rattle.std.proofs.lemmas.Bool.{cases_eq, eq-eqb, ne_eqb, eqb-false, and_right, cond-true, cond-false}
-use Rattle.std.specs.Option.{option_map}
-use Rattle.std.proofs.lemmas.Option.{none-some}
+use Rattle.std.proofs.lemmas.Bool.{cases_eq, eq-eqb, ne_eqb, eqb-false, and_right, and_parts, cond-true, cond-false}
+use Rattle.std.specs.List.{AllByRecursion}
+use Rattle.std.specs.Option.{option_map, option_and_then}
 use Rattle.std.proofs.lemmas.List.{get_or-set_same, get_or-set_other, get_or-replicate}
 use Rattle.sync_objects.specs.declared.entry.Entry.{Entry}
 use Rattle.sync_objects.specs.Names.{is_ending}
-use Rattle.order_log.specs.Log.{is_ending_of, is_other_of}
+use Rattle.order_log.specs.Log.{is_ending_of, is_other_of, IsEntryWithin}
 use Rattle.profiles.specs.Profile.{Text}
 use Rattle.sync_objects.specs.Setup.{SetupView, IsWithinLimits}
 use Rattle.order_log.specs.declared.fault.LogFault.{LogFault}
@@ -15,18 +15,20 @@ use Rattle.order_log.specs.declared.fault.LogFault.TheVariants.{LogSyntax, LogLi
 use Rattle.order_log.specs.Reading.{lines_of}
 use Rattle.order_log.specs.Text.{text_of}
 use Rattle.order_log.proofs.Cutting.{text_of-lines_of}
-use Rattle.order_log.specs.Line.{entry_in, clipped}
-use Rattle.order_log.specs.Recogniser.{◌>>=◌, Fails, AreCounted, Lines, unfinished_of, lines_in, next, first_of, next_line, found_at, may_follow, entries_from}
-use Rattle.order_log.proofs.Entries.{map_some}
-use Rattle.order_log.proofs.Clipped.{may_follow-clipped, clipped_same}
-use Rattle.order_log.proofs.Lists.{count_push}
+use Rattle.order_log.specs.declared.entry.LineRun.{LineRun}
+use Rattle.order_log.specs.declared.version.Version.{Version}
+use Rattle.order_log.specs.Text.{Run}
+use Rattle.order_log.specs.Line.{clipped_run, entries_of, IsRun, run_in}
+use Rattle.order_log.specs.Recogniser.{◌>>=◌, Fails, AreCounted, Lines, unfinished_of, lines_in, next, first_of, next_line, found_at, is_entry_within, has_room, may_follow, may_all_follow, joins, apart, entries_from}
+use Rattle.order_log.proofs.Entries.{map_some, none_mapped}
+use Rattle.order_log.proofs.Runs.{IsRun_chain}
+use Rattle.order_log.proofs.Shared.{run_is}
+use Rattle.order_log.proofs.Said.{entry_within}
+use Rattle.order_log.proofs.Ranges.{joins-clipped}
+use Rattle.order_log.proofs.Lists.{All-append, count_push}
 
 ok_pair : (x y : Text × Lines) → ◌≡◌ {A = Result (Text × Lines) LogFault} (Ok x) (Ok y) → x ≡ y
 ok_pair x y e = cc
-
-none_mapped : {A B : Type 0} (f : A → B) (o : Option A) → option_map f o ≡ None → o ≡ None
-none_mapped f None e = refl
-none_mapped f (Some x) e = absurd (none-some (f x) (sym e))
 
 -- a count that the entry doesn't touch
 same_count : (p : Entry → Bool) (es : List Entry) (e : Entry) → p e ≡ false → count_by p (es ++ e ∷ []) ≡ count_by p es
@@ -78,27 +80,31 @@ counted_other others endings more es e inside ending is c = record {
 
 -- ---- the loop
 
-abbrev entries_on : SetupView → List Entry → Lines → Result (List Entry) LogFault
-entries_on s es l = entries_from s es l.at l.whole l.rest
+abbrev entries_on : Version → SetupView → List Entry → Lines → Result (List Entry) LogFault
+entries_on w s es l = entries_from w s es l.at l.whole l.rest
 
--- what is read so far goes on to the whole, and is counted
-pub record Reads (s : SetupView) (es : List Entry) (l : Lines) (others endings : List ℕ) (total : Result (List Entry) LogFault) : Type 0 where
-  pub goes_on : entries_from s es l.at l.whole l.rest ≡ total
+-- what is read so far goes on to the whole, is counted, and is within the limits
+pub record Reads (w : Version) (s : SetupView) (es : List Entry) (l : Lines) (others endings : List ℕ) (total : Result (List Entry) LogFault) : Type 0 where
+  pub goes_on : entries_from w s es l.at l.whole l.rest ≡ total
   pub counted : AreCounted others endings es
+  pub within : AllByRecursion (IsEntryWithin s) es
 
 pub counted_none : AreCounted (replicate 16 0) (replicate 16 0) []
 counted_none = record { of_others = λ thread low. get_or-replicate 16 thread 0 0 low; of_endings = λ thread low. get_or-replicate 16 thread 0 0 low }
 
 -- one line of entries
-abbrev read_one : SetupView → List Entry → ℕ → Lines → Entry → Result (List Entry) LogFault
-read_one s es at after e = cond (may_follow s es e) (entries_on s (es ++ e ∷ []) after) (Err (LogLimit at))
+abbrev run_at : Version → List Entry → Text → Option Run
+run_at w es line = option_and_then (apart w es) (run_in w line)
 
-line_read : (s : SetupView) (es : List Entry) (at : ℕ) (lines : List Text) (rest line : Text) (after : Lines) → first_of at lines rest ≡ Ok (line, after)
-    → entries_from s es at lines rest ≡ found_at at (entry_in line) >>= read_one s es at after
-line_read s es at [] rest line after e = absurd cc
-line_read s es at (l ∷ lines) rest line after e =
+abbrev read_one : Version → SetupView → List Entry → ℕ → Lines → Run → Result (List Entry) LogFault
+read_one w s es at after r = cond (may_all_follow s es (entries_of r)) (entries_on w s (es ++ entries_of r) after) (Err (LogLimit at))
+
+line_read : (w : Version) (s : SetupView) (es : List Entry) (at : ℕ) (lines : List Text) (rest line : Text) (after : Lines) → first_of at lines rest ≡ Ok (line, after)
+    → entries_from w s es at lines rest ≡ found_at at (run_at w es line) >>= read_one w s es at after
+line_read w s es at [] rest line after e = absurd cc
+line_read w s es at (l ∷ lines) rest line after e =
     let same : ◌≡◌ {A = Text × Lines} (l, record { at = next at; whole = lines; rest = rest }) (line, after) = ok_pair _ _ e in
-    ap (λ (p : Text × Lines). found_at at (entry_in p.0) >>= read_one s es at p.1) same
+    ap (λ (p : Text × Lines). found_at at (run_at w es p.0) >>= read_one w s es at p.1) same
 
 pub fewer_lines : (l after : Lines) (line : Text) → next_line l ≡ Ok (line, after) → length after.whole < length l.whole
 fewer_lines l after line e = by l.whole e
@@ -110,54 +116,93 @@ fewer_lines l after line e = by l.whole e
         let left : length lines ≡ length after.whole = ap (λ (p : Text × Lines). length p.1.whole) same in
         omega arith
 
--- a line that is no entry
-pub entries_syntax : (s : SetupView) (es : List Entry) (l after : Lines) (line : Text) (total : Result (List Entry) LogFault) → next_line l ≡ Ok (line, after) → None ≡ option_map clipped (entry_in line)
-    → entries_on s es l ≡ total → total ≡ Err (LogSyntax l.at)
-entries_syntax s es l after line total there none so_far =
-    let no_entry : entry_in line ≡ None = none_mapped clipped (entry_in line) (sym none) in
-    sym so_far ∙ line_read s es l.at l.whole l.rest line after there ∙ ap (λ (o : Option Entry). found_at l.at o >>= read_one s es l.at after) no_entry
+-- what a line that is found comes to
+step_read : (w : Version) (s : SetupView) (es : List Entry) (l after : Lines) (line : Text) (o : Option Run) (total : Result (List Entry) LogFault) → next_line l ≡ Ok (line, after) → run_at w es line ≡ o → entries_on w s es l ≡ total
+    → found_at l.at o >>= read_one w s es l.at after ≡ total
+step_read w s es l after line o total there found so_far =
+    ap (λ (p : Option Run). found_at l.at p >>= read_one w s es l.at after) (sym found) ∙ sym (line_read w s es l.at l.whole l.rest line after there) ∙ so_far
 
--- an entry beyond the limits
-pub entries_limit : (s : SetupView) (es : List Entry) (l after : Lines) (line : Text) (e : Entry) (total : Result (List Entry) LogFault) → IsWithinLimits s → next_line l ≡ Ok (line, after)
-    → Some e ≡ option_map clipped (entry_in line) → may_follow s es e ≡ false → entries_on s es l ≡ total → total ≡ Err (LogLimit l.at)
-entries_limit s es l after line e total limits there found beyond so_far =
-    let m = map_some clipped (entry_in line) e (sym found) in
-    let out : may_follow s es m.0 ≡ false = sym (may_follow-clipped s es m.0 limits) ∙ ap (may_follow s es) m.2 ∙ beyond in
-    sym so_far ∙ line_read s es l.at l.whole l.rest line after there ∙ ap (λ (o : Option Entry). found_at l.at o >>= read_one s es l.at after) m.1 ∙ cond-false _ _ _ out
+-- a line of no entries
+pub entries_syntax : (w : Version) (s : SetupView) (es : List Entry) (l after : Lines) (line : Text) (total : Result (List Entry) LogFault) → next_line l ≡ Ok (line, after) → None ≡ option_map clipped_run (run_in w line)
+    → entries_on w s es l ≡ total → total ≡ Err (LogSyntax l.at)
+entries_syntax w s es l after line total there none so_far =
+    sym (step_read w s es l after line None total there (ap (option_and_then (apart w es)) (none_mapped clipped_run (run_in w line) (sym none))) so_far)
 
--- one entry more
-pub entries_more : (s : SetupView) (es : List Entry) (l after : Lines) (line : Text) (e : Entry) (total : Result (List Entry) LogFault) → IsWithinLimits s → next_line l ≡ Ok (line, after)
-    → Some e ≡ option_map clipped (entry_in line) → may_follow s es e ≡ true → entries_on s es l ≡ total → entries_on s (es ++ e ∷ []) after ≡ total
-entries_more s es l after line e total limits there found fits so_far =
-    let m = map_some clipped (entry_in line) e (sym found) in
-    let inside : may_follow s es m.0 ≡ true = sym (may_follow-clipped s es m.0 limits) ∙ ap (may_follow s es) m.2 ∙ fits in
-    let same : e ≡ m.0 = sym m.2 ∙ clipped_same s es m.0 limits inside in
-    ap (λ (x : Entry). entries_on s (es ++ x ∷ []) after) same
-    ∙ sym (line_read s es l.at l.whole l.rest line after there ∙ ap (λ (o : Option Entry). found_at l.at o >>= read_one s es l.at after) m.1 ∙ cond-true _ _ _ inside) ∙ so_far
+-- what is found in a line
+pub record IsFound (w : Version) (s : SetupView) (es : List Entry) (line : Text) (x : LineRun) : Type 0 where
+  pub run : Run
+  pub is_run : IsRun run
+  pub read : run_in w line ≡ Some run
+  pub shown : x ≡ clipped_run run
+  pub begins : joins w es x.first ≡ joins w es run.first
+
+pub found_in : (w : Version) (s : SetupView) (es : List Entry) (line : Text) (x : LineRun) → IsWithinLimits s → AllByRecursion (IsEntryWithin s) es → Some x ≡ option_map clipped_run (run_in w line) → IsFound w s es line x
+found_in w s es line x limits within found =
+    let m = map_some clipped_run (run_in w line) x (sym found) in
+    let r = m.0 in
+    record {
+      run = r;
+      is_run = IsRun_chain w r (run_is w line r m.1).chain;
+      read = m.1;
+      shown = sym m.2;
+      begins = ap (λ (y : LineRun). joins w es y.first) (sym m.2) ∙ joins-clipped w s es r.first limits within;
+    }
+
+-- a line that should have been in the one before it
+pub entries_joined : (w : Version) (s : SetupView) (es : List Entry) (l after : Lines) (line : Text) (x : LineRun) (total : Result (List Entry) LogFault) → IsFound w s es line x → next_line l ≡ Ok (line, after)
+    → joins w es x.first ≡ true → entries_on w s es l ≡ total → total ≡ Err (LogSyntax l.at)
+entries_joined w s es l after line x total f there joined so_far =
+    sym (step_read w s es l after line None total there (ap (option_and_then (apart w es)) f.read ∙ cond-true (joins w es f.run.first) None (Some f.run) (sym f.begins ∙ joined)) so_far)
+
+apart_found : (w : Version) (s : SetupView) (es : List Entry) (line : Text) (x : LineRun) (f : IsFound w s es line x) → joins w es x.first ≡ false → run_at w es line ≡ Some f.run
+apart_found w s es line x f begins = ap (option_and_then (apart w es)) f.read ∙ cond-false (joins w es f.run.first) None (Some f.run) (sym f.begins ∙ begins)
+
+-- entries beyond the limits
+pub entries_limit : (w : Version) (s : SetupView) (es : List Entry) (l after : Lines) (line : Text) (x : LineRun) (total : Result (List Entry) LogFault) → (f : IsFound w s es line x) → next_line l ≡ Ok (line, after)
+    → joins w es x.first ≡ false → may_all_follow s es (entries_of f.run) ≡ false → entries_on w s es l ≡ total → total ≡ Err (LogLimit l.at)
+entries_limit w s es l after line x total f there begins beyond so_far =
+    sym (sym (cond-false (may_all_follow s es (entries_of f.run)) _ _ beyond) ∙ step_read w s es l after line (Some f.run) total there (apart_found w s es line x f begins) so_far)
+
+-- a line of entries more
+pub entries_more : (w : Version) (s : SetupView) (es : List Entry) (l after : Lines) (line : Text) (x : LineRun) (total : Result (List Entry) LogFault) → (f : IsFound w s es line x) → next_line l ≡ Ok (line, after)
+    → joins w es x.first ≡ false → may_all_follow s es (entries_of f.run) ≡ true → entries_on w s es l ≡ total → entries_on w s (es ++ entries_of f.run) after ≡ total
+entries_more w s es l after line x total f there begins fits so_far =
+    sym (cond-true (may_all_follow s es (entries_of f.run)) _ _ fits) ∙ step_read w s es l after line (Some f.run) total there (apart_found w s es line x f begins) so_far
+
+each_within : (s : SetupView) (es fs : List Entry) → may_all_follow s es fs ≡ true → AllByRecursion (IsEntryWithin s) fs
+each_within s es [] h = tt
+each_within s es (f ∷ fs) h =
+    let parts = and_parts (may_follow s es f) (may_all_follow s (es ++ f ∷ []) fs) h in
+    let here = and_parts (is_entry_within s f) (has_room (is_ending f.op) f.thread es) parts.0 in
+    (entry_within s f here.0, each_within s (es ++ f ∷ []) fs parts.1)
+
+-- and they are within the limits too
+pub more_within : (s : SetupView) (es fs : List Entry) → AllByRecursion (IsEntryWithin s) es → may_all_follow s es fs ≡ true → AllByRecursion (IsEntryWithin s) (es ++ fs)
+more_within s es fs within h = All-append (IsEntryWithin s) es fs within (each_within s es fs h)
 
 -- no byte is left
-pub entries_done : (s : SetupView) (es : List Entry) (at : ℕ) (bytes : Text) (total : Result (List Entry) LogFault) → bytes ≡ [] → entries_on s es (lines_in at bytes) ≡ total → total ≡ Ok es
-entries_done s es at bytes total none so_far = sym so_far ∙ ap (λ (bs : Text). entries_on s es (lines_in at bs)) none
+pub entries_done : (w : Version) (s : SetupView) (es : List Entry) (at : ℕ) (bytes : Text) (total : Result (List Entry) LogFault) → bytes ≡ [] → entries_on w s es (lines_in at bytes) ≡ total → total ≡ Ok es
+entries_done w s es at bytes total none so_far = sym so_far ∙ ap (λ (bs : Text). entries_on w s es (lines_in at bs)) none
 
 -- bytes are left, but no whole line
-err_at : (s : SetupView) (es : List Entry) (at : ℕ) (lines : List Text) (rest : Text) (e : LogFault) (total : Result (List Entry) LogFault) → (lines ≡ [] → rest ≢ []) → Fails e (first_of at lines rest)
-    → entries_from s es at lines rest ≡ total → Fails e total
-err_at s es at lines rest OutOfMemory total some f so_far = tt
-err_at s es at [] [] (LogSyntax n) total some f so_far = absurd (some refl refl)
-err_at s es at [] (b ∷ bs) (LogSyntax n) total some f so_far = sym so_far ∙ ap as_entries f
+err_at : (w : Version) (s : SetupView) (es : List Entry) (at : ℕ) (lines : List Text) (rest : Text) (e : LogFault) (total : Result (List Entry) LogFault) → (lines ≡ [] → rest ≢ []) → Fails e (first_of at lines rest)
+    → entries_from w s es at lines rest ≡ total → Fails e total
+err_at w s es at lines rest OutOfMemory total some f so_far = tt
+err_at w s es at [] [] (LogSyntax n) total some f so_far = absurd (some refl refl)
+err_at w s es at [] (b ∷ bs) (LogSyntax n) total some f so_far = sym so_far ∙ ap as_entries f
   where
     as_entries : Result (Text × Lines) LogFault → Result (List Entry) LogFault
     as_entries (Ok x) = Ok []
     as_entries (Err x) = Err x
-err_at s es at (x ∷ lines) rest (LogSyntax n) total some f so_far = absurd cc
-err_at s es at [] rest (LogLimit n) total some f so_far = absurd cc
-err_at s es at (x ∷ lines) rest (LogLimit n) total some f so_far = absurd cc
+err_at w s es at (x ∷ lines) rest (LogSyntax n) total some f so_far = absurd cc
+err_at w s es at [] rest (LogLimit n) total some f so_far = absurd cc
+err_at w s es at (x ∷ lines) rest (LogLimit n) total some f so_far = absurd cc
 
 some_left : (bytes : Text) → eqb (length bytes) 0 ≡ false → lines_of bytes ≡ [] → unfinished_of bytes ≢ []
 some_left bytes some none all =
     let whole_text : bytes ≡ [] = text_of-lines_of bytes ∙ (λ i. text_of (none i) ++ all i) in
     eqb-false (length bytes) 0 some (ap length whole_text)
 
-pub entries_err : (s : SetupView) (es : List Entry) (at : ℕ) (bytes : Text) (e : LogFault) (total : Result (List Entry) LogFault) → eqb (length bytes) 0 ≡ false → Fails e (next_line (lines_in at bytes))
-    → entries_on s es (lines_in at bytes) ≡ total → Fails e total
-entries_err s es at bytes e total some f so_far = err_at s es at (lines_of bytes) (unfinished_of bytes) e total (some_left bytes some) f so_far
+pub entries_err : (w : Version) (s : SetupView) (es : List Entry) (at : ℕ) (bytes : Text) (e : LogFault) (total : Result (List Entry) LogFault) → eqb (length bytes) 0 ≡ false → Fails e (next_line (lines_in at bytes))
+    → entries_on w s es (lines_in at bytes) ≡ total → Fails e total
+entries_err w s es at bytes e total some f so_far = err_at w s es at (lines_of bytes) (unfinished_of bytes) e total (some_left bytes some) f so_far

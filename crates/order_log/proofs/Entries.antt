@@ -1,10 +1,10 @@
 -- An entry that is read is the entry that was written, and only its one line is read.
 use Rattle.std.proofs.Common.{◌≡◌, ℕ, ◌<◌, Bool, true, false, cond, eqb, List, [], ◌∷◌, ◌++◌, length, Option, Some, None, refl, sym, ap, subst, ◌∙◌, arith, append_assoc, inl, inr, ⊎_elim}
-use Rattle.std.specs.Prelude.{codes, not, ◌&&◌, ◌⊎◌}
+use Rattle.std.specs.Prelude.{codes, nat_le, ◌⊎◌}
 use Rattle.std.specs.List.{AllByRecursion, list_all}
 use Rattle.std.specs.Option.{option_map}
 use Rattle.std.specs.Str.{bytes_eq}
-use Rattle.std.proofs.lemmas.Bool.{eqb-true, eq-eqb, ne_eqb, and_parts}
+use Rattle.std.proofs.lemmas.Bool.{eqb-true, eq-eqb, ne_eqb, and_parts, leb-true}
 use Rattle.std.proofs.lemmas.List.{nil_from_length}
 use Rattle.std.proofs.lemmas.Option.{none-some, same_Some, cond_some}
 use Rattle.std.proofs.lemmas.Slice.Eq.{bytes_eq-Decides}
@@ -18,7 +18,7 @@ use Rattle.sync_objects.specs.declared.kind.ObjKind.{ObjKind}
 use Rattle.sync_objects.specs.declared.kind.ObjKind.TheVariants as kind
 use Rattle.sync_objects.specs.Names.{kind_of, object_kind, Fits}
 use Rattle.order_log.specs.Operations.{op_text}
-use Rattle.order_log.specs.Text.{number_text, object_text, entry_line}
+use Rattle.order_log.specs.Text.{number_text, object_text, entry_line, stripe_of}
 use Rattle.order_log.specs.Line.{◌>>=◌, cut, number_in, op_among, op_rows, weak_in, lone_object, object_by, object_in, kind_number, fits, entry_in}
 use Rattle.order_log.proofs.Numbers.{number_in-number_text, number_text-number_in}
 use Rattle.order_log.proofs.Parts.{Free, Free-append, Free-number_text, cut_at, cut_is}
@@ -35,6 +35,10 @@ bind_at o x f e = ap (λ p. p >>= f) e
 pub map_some : {A B : Type 0} (f : A → B) (o : Option A) (y : B) → option_map f o ≡ Some y → (x : A) × (o ≡ Some x) × (f x ≡ y)
 map_some f None y e = absurd (none-some y e)
 map_some f (Some x) y e = (x, refl, same_Some (f x) y e)
+
+pub none_mapped : {A B : Type 0} (f : A → B) (o : Option A) → option_map f o ≡ None → o ≡ None
+none_mapped f None e = refl
+none_mapped f (Some x) e = absurd (none-some (f x) (sym e))
 
 -- which way a test went
 pub chosen : {A : Type 0} (b : Bool) (x y z : A) → cond b x y ≡ z → ((b ≡ true) × (x ≡ z)) ⊎ ((b ≡ false) × (y ≡ z))
@@ -86,44 +90,20 @@ op_again op.Stop = refl
 op_again op.GetChar = refl
 op_again op.Print = refl
 
-abbrev lacks : ℕ → Text → Bool
-lacks c bs = list_all (λ b. not (eqb b c)) bs
+-- the names of operations have small letters only
+op_high : (o : OpName) → list_all (λ b. nat_le 97 b) (op_text o) ≡ true
+op_high op.Lock = refl
+op_high _ = refl
 
-Free-lacks : (c : ℕ) (bs : Text) → lacks c bs ≡ true → Free c bs
-Free-lacks c [] e = tt
-Free-lacks c (b ∷ bs) e = let p = and_parts (not (eqb b c)) (lacks c bs) e in (by (eqb b c) p.0, Free-lacks c bs p.1)
-  where
-    by : (t : Bool) → not t ≡ true → t ≡ false
-    by true h = absurd cc
-    by false h = refl
+Free-high : (c : ℕ) (bs : Text) → c < 97 → list_all (λ b. nat_le 97 b) bs ≡ true → Free c bs
+Free-high c [] low e = tt
+Free-high c (b ∷ bs) low e =
+    let p = and_parts (nat_le 97 b) (list_all (λ x. nat_le 97 x) bs) e in
+    let high = leb-true 97 b p.0 in
+    (ne_eqb b c (λ same. omega arith), Free-high c bs low p.1)
 
-op_lacks : (o : OpName) → (lacks 10 (op_text o) && lacks 32 (op_text o)) ≡ true
-op_lacks op.Lock = refl
-op_lacks op.TryLock = refl
-op_lacks op.Unlock = refl
-op_lacks op.MutexInit = refl
-op_lacks op.CondEnter = refl
-op_lacks op.CondWake = refl
-op_lacks op.Signal = refl
-op_lacks op.BarrierInit = refl
-op_lacks op.Arrive = refl
-op_lacks op.Pass = refl
-op_lacks op.Take = refl
-op_lacks op.Retake = refl
-op_lacks op.Give = refl
-op_lacks op.Revoke = refl
-op_lacks op.Draw = refl
-op_lacks op.Start = refl
-op_lacks op.Begin = refl
-op_lacks op.End = refl
-op_lacks op.Join = refl
-op_lacks op.Close = refl
-op_lacks op.Leave = refl
-op_lacks op.HaltAll = refl
-op_lacks op.TrapHere = refl
-op_lacks op.Stop = refl
-op_lacks op.GetChar = refl
-op_lacks op.Print = refl
+Free-op_text : (c : ℕ) (o : OpName) → c < 97 → Free c (op_text o)
+Free-op_text c o low = Free-high c (op_text o) low (op_high o)
 
 -- ---- kinds
 
@@ -253,7 +233,7 @@ entry_again e h =
     let c = number_text e.count ++ 32 ∷ o in
     let first : cut 32 (entry_line e) ≡ Some (number_text e.thread, c) = ap (cut 32) (entry_parts e) ∙ cut_at 32 (number_text e.thread) c (Free-number_text 32 e.thread (omega arith)) in
     let second = cut_at 32 (number_text e.count) o (Free-number_text 32 e.count (omega arith)) in
-    let third = cut_at 32 (op_text e.op) (object_text e.obj) (Free-lacks 32 (op_text e.op) (and_parts _ _ (op_lacks e.op)).1) in
+    let third = cut_at 32 (op_text e.op) (object_text e.obj) (Free-op_text 32 e.op (omega arith)) in
     rw (first, second, third, number_in-number_text e.thread, number_in-number_text e.count, op_again e.op, object_again e.obj, fits-true e.op e.obj h) refl
 
 -- the entry that a line is
@@ -289,13 +269,34 @@ entry_is line e found =
     let spelled = line_from_parts line t.0.0 t.0.1 c.0.0 c.0.1 o.0.0 o.0.1 made first second third is_thread is_count is_op is_object in
     subst (λ (x : Entry). IsEntryLine line x) fit.1 (record { text = spelled; fitting = Fits-fits name.0 thing.0 fit.0 })
 
-pub Free-entry_line : (e : Entry) → Free 10 (entry_line e)
-Free-entry_line e =
-    let lacking = and_parts (lacks 10 (op_text e.op)) (lacks 32 (op_text e.op)) (op_lacks e.op) in
-    let blank : Free 10 (codes " ") = (refl, tt) in
-    let first = Free-append 10 (number_text e.thread) (codes " ") (Free-number_text 10 e.thread (omega arith)) blank in
-    let second = Free-append 10 (number_text e.thread ++ codes " ") (number_text e.count) first (Free-number_text 10 e.count (omega arith)) in
-    let third = Free-append 10 (number_text e.thread ++ codes " " ++ number_text e.count) (codes " ") second blank in
-    let fourth = Free-append 10 (number_text e.thread ++ codes " " ++ number_text e.count ++ codes " ") (op_text e.op) third (Free-lacks 10 (op_text e.op) lacking.0) in
-    let fifth = Free-append 10 (number_text e.thread ++ codes " " ++ number_text e.count ++ codes " " ++ op_text e.op) (codes " ") fourth blank in
-    Free-append 10 (number_text e.thread ++ codes " " ++ number_text e.count ++ codes " " ++ op_text e.op ++ codes " ") (object_text e.obj) fifth (Free-object_text 10 e.obj (omega arith))
+-- what stands before the object
+abbrev pub entry_head : Entry → Text
+entry_head e = number_text e.thread ++ codes " " ++ number_text e.count ++ codes " " ++ op_text e.op ++ codes " "
+
+-- a byte that is no blank, and below the digits
+pub Free-entry_head : (c : ℕ) (e : Entry) → c < 48 → eqb 32 c ≡ false → Free c (entry_head e)
+Free-entry_head c e low other =
+    let blank : Free c (codes " ") = (other, tt) in
+    let first = Free-append c (number_text e.thread) (codes " ") (Free-number_text c e.thread low) blank in
+    let second = Free-append c (number_text e.thread ++ codes " ") (number_text e.count) first (Free-number_text c e.count low) in
+    let third = Free-append c (number_text e.thread ++ codes " " ++ number_text e.count) (codes " ") second blank in
+    let fourth = Free-append c (number_text e.thread ++ codes " " ++ number_text e.count ++ codes " ") (op_text e.op) third (Free-op_text c e.op (omega arith)) in
+    Free-append c (number_text e.thread ++ codes " " ++ number_text e.count ++ codes " " ++ op_text e.op) (codes " ") fourth blank
+
+pub Free-entry_line : (c : ℕ) (e : Entry) → c < 46 → eqb 32 c ≡ false → Free c (entry_line e)
+Free-entry_line c e low other = Free-append c (entry_head e) (object_text e.obj) (Free-entry_head c e (omega arith) other) (Free-object_text c e.obj low)
+
+-- the stripe stands after the point
+pub stripe_cut : (e : Entry) → object_kind e.obj ≡ kind.Weak → (front : Text) × (cut 46 (entry_line e) ≡ Some (front, number_text (stripe_of e.obj)))
+stripe_cut e weak = by e.obj weak
+  where
+    by : (x : ObjId) → object_kind x ≡ kind.Weak → (front : Text) × (cut 46 (entry_head e ++ object_text x) ≡ Some (front, number_text (stripe_of x)))
+    by (object.Weak lock stripe) is =
+        let name = codes "w" ++ number_text lock in
+        let rest = 46 ∷ number_text stripe in
+        let front = entry_head e ++ name in
+        let free = Free-append 46 (entry_head e) name (Free-entry_head 46 e (omega arith) refl) (ne_eqb 119 46 (λ h. omega arith), Free-number_text 46 lock (omega arith)) in
+        let whole : entry_head e ++ object_text (object.Weak lock stripe) ≡ front ++ rest =
+        ap (λ (t : Text). entry_head e ++ t) (append_assoc name (codes ".") (number_text stripe)) ∙ sym (append_assoc (entry_head e) name rest) in
+        (front, ap (cut 46) whole ∙ cut_at 46 front (number_text stripe) free)
+    by _ is = absurd cc

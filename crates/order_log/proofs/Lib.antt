@@ -1,6 +1,8 @@
 pub mod Numbers
 pub mod Parts
 pub mod Entries
+pub mod Runs
+pub mod Shared
 pub mod Heads
 pub mod Lists
 pub mod Cutting
@@ -11,8 +13,12 @@ pub mod Completes
 pub mod Right
 pub mod Only
 pub mod Clipped
+pub mod Ranges
 pub mod Loops
 pub mod Few
 pub mod Counting
+pub mod Pushing
+pub mod Numerals
 pub mod Kept
 pub mod Written
+pub mod Rows

@@ -11,10 +11,13 @@ use Rattle.sync_objects.specs.Setup.{SetupView}
 use Rattle.order_log.specs.declared.fault.LogFault.{LogFault}
 use Rattle.order_log.specs.declared.fault.LogFault.TheVariants.{LogSyntax, LogLimit}
 use Rattle.order_log.specs.Log.{LogView}
-use Rattle.order_log.specs.Line.{after_word, number_in, pair_in, hex_in, entry_in}
-use Rattle.order_log.specs.Recogniser.{◌>>=◌, Lines, next, found_at, first_line, numbered, pairs_from, as_profile, profile_at, input_at, may_follow, entries_from, log_at}
+use Rattle.order_log.specs.declared.version.Version.{Version}
+use Rattle.order_log.specs.Text.{Run}
+use Rattle.order_log.specs.Line.{after_word, number_in, pair_in, hex_in, run_in, entries_of}
+use Rattle.order_log.specs.Recogniser.{◌>>=◌, Lines, next, found_at, version_in, first_line, numbered, pairs_from, as_profile, profile_at, input_at, may_all_follow, apart, entries_from, log_at}
 
 pub record Numbers : Type 0 where
+  pub version : Version
   pub slots : ℕ
   pub cells : ℕ
   pub limit : ℕ
@@ -22,9 +25,9 @@ pub record Numbers : Type 0 where
 -- what the lines so far say
 pub data Part : Type 0 where
   Bare : Part
-  Headed : Part
-  Slotted : ℕ → Part
-  Celled : ℕ → ℕ → Part
+  Headed : Version → Part
+  Slotted : Version → ℕ → Part
+  Celled : Version → ℕ → ℕ → Part
   Limited : Numbers → Part
   -- one pair and so many more are still to come
   Pairing : Numbers → ℕ → List Pair → Part
@@ -52,24 +55,28 @@ number_step word low high make line = option_map (λ n. (make n, nat_le low n &&
 abbrev pub count_step : Numbers → Text → Step
 count_step n line = option_map (λ k. (paired n k [], true)) (option_and_then number_in (after_word (codes "profile ") line))
 
+-- the entries of a line after those before
+abbrev pub entries_step : Numbers → Profile → List ℕ → List Entry → Option Run → Step
+entries_step n p input es o = option_map (λ r. (Whole n p input (es ++ entries_of r), may_all_follow (setup_of n input) es (entries_of r))) o
+
 abbrev pub taken : Part → Text → Step
-taken Bare line = cond (bytes_eq line (codes "chimera log 1")) (Some (Headed, true)) None
-taken Headed line = number_step (codes "slots ") 1 16 (λ s. Slotted s) line
-taken (Slotted s) line = number_step (codes "cells ") 1024 131072 (λ c. Celled s c) line
-taken (Celled s c) line = number_step (codes "limit ") 1 67108864 (λ l. Limited (record { slots = s; cells = c; limit = l })) line
+taken Bare line = option_map (λ w. (Headed w, true)) (version_in line)
+taken (Headed w) line = number_step (codes "slots ") 1 16 (λ s. Slotted w s) line
+taken (Slotted w s) line = number_step (codes "cells ") 1024 131072 (λ c. Celled w s c) line
+taken (Celled w s c) line = number_step (codes "limit ") 1 67108864 (λ l. Limited (record { version = w; slots = s; cells = c; limit = l })) line
 taken (Limited n) line = cond (bytes_eq line (codes "profile all")) (Some (Profiled n profile.All, true)) (count_step n line)
 taken (Pairing n left ps) line = option_map (λ p. (paired n left (ps ++ p ∷ []), true)) (pair_in ps line)
 taken (Profiled n p) line = number_step (codes "input ") 0 1048576 (λ k. Sized n p k) line
 taken (Sized n p k) line = option_map (λ input. (Whole n p input [], true)) (hex_in k line)
-taken (Whole n p input es) line = option_map (λ e. (Whole n p input (es ++ e ∷ []), may_follow (setup_of n input) es e)) (entry_in line)
+taken (Whole n p input es) line = entries_step n p input es (option_and_then (apart n.version es) (run_in n.version line))
 
 -- ---- all lines
 
 abbrev pub finish : Part → ℕ → Text → Result LogView LogFault
 finish Bare at rest = Err (LogSyntax at)
-finish Headed at rest = Err (LogSyntax at)
-finish (Slotted s) at rest = Err (LogSyntax at)
-finish (Celled s c) at rest = Err (LogSyntax at)
+finish (Headed w) at rest = Err (LogSyntax at)
+finish (Slotted w s) at rest = Err (LogSyntax at)
+finish (Celled w s c) at rest = Err (LogSyntax at)
 finish (Limited n) at rest = Err (LogSyntax at)
 finish (Pairing n left ps) at rest = Err (LogSyntax at)
 finish (Profiled n p) at rest = Err (LogSyntax at)
@@ -122,20 +129,26 @@ run_numbered p word low high make unfinished steps l = by l.at l.whole l.rest
         let after : Lines = record { at = next at; whole = lines; rest = rest } in
         ap (λ (s : Step). goes at s (λ q. run_on q after)) (steps line) ∙ found_number make low high at after (option_and_then number_in (after_word word line))
 
-run_first : (l : Lines) → run_on Bare l ≡ first_line l >>= run_on Headed
+abbrev onto_headed : Version × Lines → Result LogView LogFault
+onto_headed x = run_on (Headed x.0) x.1
+
+abbrev with_version : Lines → Version → Result (Version × Lines) LogFault
+with_version after w = Ok (w, after)
+
+run_first : (l : Lines) → run_on Bare l ≡ first_line l >>= onto_headed
 unfolding first_line
 run_first l = by l.at l.whole l.rest
   where
-    by : (at : ℕ) (ls : List Text) (rest : Text) → run Bare at ls rest ≡ first_line (record { at = at; whole = ls; rest = rest }) >>= run_on Headed
+    by : (at : ℕ) (ls : List Text) (rest : Text) → run Bare at ls rest ≡ first_line (record { at = at; whole = ls; rest = rest }) >>= onto_headed
     by at [] rest = refl
-    by at (line ∷ lines) rest = test (bytes_eq line (codes "chimera log 1"))
+    by at (line ∷ lines) rest = found (version_in line)
       where
         after : Lines
         after = record { at = next at; whole = lines; rest = rest }
 
-        test : (t : Bool) → goes at (cond t (Some (Headed, true)) None) (λ q. run_on q after) ≡ cond t (Ok after) (Err (LogSyntax at)) >>= run_on Headed
-        test true = refl
-        test false = refl
+        found : (o : Option Version) → goes at (option_map (λ w. (Headed w, true)) o) (λ q. run_on q after) ≡ (found_at at o >>= with_version after) >>= onto_headed
+        found None = refl
+        found (Some w) = refl
 
 -- ---- pairs
 
@@ -230,19 +243,19 @@ abbrev with_entries : Numbers → Profile → List ℕ → List Entry → Result
 with_entries n p input es = Ok (view_of n p input es)
 
 run_entries : (n : Numbers) (p : Profile) (input : List ℕ) (es : List Entry) (at : ℕ) (ls : List Text) (rest : Text)
-    → run (Whole n p input es) at ls rest ≡ entries_from (setup_of n input) es at ls rest >>= with_entries n p input
+    → run (Whole n p input es) at ls rest ≡ entries_from n.version (setup_of n input) es at ls rest >>= with_entries n p input
 run_entries n p input es at [] [] = refl
 run_entries n p input es at [] (b ∷ bs) = refl
-run_entries n p input es at (line ∷ lines) rest = found (entry_in line) (λ fs. run_entries n p input fs (next at) lines rest)
+run_entries n p input es at (line ∷ lines) rest = found (option_and_then (apart n.version es) (run_in n.version line)) (λ fs. run_entries n p input fs (next at) lines rest)
   where
-    found : (o : Option Entry) → ((fs : List Entry) → run (Whole n p input fs) (next at) lines rest ≡ entries_from (setup_of n input) fs (next at) lines rest >>= with_entries n p input)
-        → goes at (option_map (λ e. (Whole n p input (es ++ e ∷ []), may_follow (setup_of n input) es e)) o) (λ q. run q (next at) lines rest)
-        ≡ (found_at at o >>= λ e. cond (may_follow (setup_of n input) es e) (entries_from (setup_of n input) (es ++ e ∷ []) (next at) lines rest) (Err (LogLimit at))) >>= with_entries n p input
+    found : (o : Option Run) → ((fs : List Entry) → run (Whole n p input fs) (next at) lines rest ≡ entries_from n.version (setup_of n input) fs (next at) lines rest >>= with_entries n p input)
+        → goes at (entries_step n p input es o) (λ q. run q (next at) lines rest)
+        ≡ (found_at at o >>= λ r. cond (may_all_follow (setup_of n input) es (entries_of r)) (entries_from n.version (setup_of n input) (es ++ entries_of r) (next at) lines rest) (Err (LogLimit at))) >>= with_entries n p input
     found None others = refl
-    found (Some e) others = test (may_follow (setup_of n input) es e)
+    found (Some r) others = test (may_all_follow (setup_of n input) es (entries_of r))
       where
-        test : (t : Bool) → cond t (run (Whole n p input (es ++ e ∷ [])) (next at) lines rest) (Err (LogLimit at)) ≡ cond t (entries_from (setup_of n input) (es ++ e ∷ []) (next at) lines rest) (Err (LogLimit at)) >>= with_entries n p input
-        test true = others (es ++ e ∷ [])
+        test : (t : Bool) → cond t (run (Whole n p input (es ++ entries_of r)) (next at) lines rest) (Err (LogLimit at)) ≡ cond t (entries_from n.version (setup_of n input) (es ++ entries_of r) (next at) lines rest) (Err (LogLimit at)) >>= with_entries n p input
+        test true = others (es ++ entries_of r)
         test false = refl
 
 -- ---- the whole
@@ -257,11 +270,12 @@ pub log_at-run : (l : Lines) → log_at l ≡ run Bare l.at l.whole l.rest
 unfolding log_at
 log_at-run l =
     sym (run_first l ∙ bind_same (first_line l) _ _ (λ first.
-    run_numbered Headed (codes "slots ") 1 16 (λ s. Slotted s) (λ at rest. refl) (λ line. refl) first ∙ bind_same (numbered (codes "slots ") 1 16 first) _ _ (λ slots.
-    run_numbered (Slotted slots.0) (codes "cells ") 1024 131072 (λ c. Celled slots.0 c) (λ at rest. refl) (λ line. refl) slots.1 ∙ bind_same (numbered (codes "cells ") 1024 131072 slots.1) _ _ (λ cells.
-    run_numbered (Celled slots.0 cells.0) (codes "limit ") 1 67108864 (λ m. Limited (record { slots = slots.0; cells = cells.0; limit = m })) (λ at rest. refl) (λ line. refl) cells.1
+    let w = first.0 in
+    run_numbered (Headed w) (codes "slots ") 1 16 (λ s. Slotted w s) (λ at rest. refl) (λ line. refl) first.1 ∙ bind_same (numbered (codes "slots ") 1 16 first.1) _ _ (λ slots.
+    run_numbered (Slotted w slots.0) (codes "cells ") 1024 131072 (λ c. Celled w slots.0 c) (λ at rest. refl) (λ line. refl) slots.1 ∙ bind_same (numbered (codes "cells ") 1024 131072 slots.1) _ _ (λ cells.
+    run_numbered (Celled w slots.0 cells.0) (codes "limit ") 1 67108864 (λ m. Limited (record { version = w; slots = slots.0; cells = cells.0; limit = m })) (λ at rest. refl) (λ line. refl) cells.1
     ∙ bind_same (numbered (codes "limit ") 1 67108864 cells.1) _ _ (λ limit.
-    let n : Numbers = record { slots = slots.0; cells = cells.0; limit = limit.0 } in
+    let n : Numbers = record { version = w; slots = slots.0; cells = cells.0; limit = limit.0 } in
     run_profile n limit.1 ∙ bind_same (profile_at limit.1) _ _ (λ p.
     run_numbered (Profiled n p.0) (codes "input ") 0 1048576 (λ k. Sized n p.0 k) (λ at rest. refl) (λ line. refl) p.1 ∙ bind_same (numbered (codes "input ") 0 1048576 p.1) _ _ (λ size.
     run_input n p.0 size.0 size.1 ∙ bind_same (input_at size.0 size.1) _ _ (λ input.

@@ -8,7 +8,7 @@ use Rattle.profiles.specs.Profile.{Text}
 use Rattle.order_log.specs.declared.fault.LogFault.{LogFault}
 use Rattle.order_log.specs.declared.fault.LogFault.TheVariants.{LogSyntax, LogLimit, OutOfMemory}
 use Rattle.order_log.specs.Log.{LogView, IsLog, KeepsLimits}
-use Rattle.order_log.specs.Text.{log_lines, text_of, log_text}
+use Rattle.order_log.specs.Text.{log_lines, text_of, IsTextOf}
 use Rattle.order_log.specs.Reading.{lines_of, BeginsWith, IsSoundUpTo, IsSyntaxFault, IsLimitFault, shown, IsFirstAt, IsAnswer}
 use Rattle.order_log.specs.Recogniser.{lines_in, log_at}
 use Rattle.order_log.proofs.Machine.{Part, Bare, Headed, Slotted, Celled, Limited, Pairing, Profiled, Sized, Whole, view_of, log_at-run}
@@ -20,20 +20,20 @@ use Rattle.order_log.proofs.Right.{cut_log, begins_with, LeadsTo-start, run_righ
 -- the log that a part is, or the other one
 abbrev log_or : LogView → Part → LogView
 log_or v Bare = v
-log_or v Headed = v
-log_or v (Slotted s) = v
-log_or v (Celled s c) = v
+log_or v (Headed w) = v
+log_or v (Slotted w s) = v
+log_or v (Celled w s c) = v
 log_or v (Limited n) = v
 log_or v (Pairing n left ps) = v
 log_or v (Profiled n p) = v
 log_or v (Sized n p k) = v
 log_or v (Whole n p input es) = view_of n p input es
 
-pub same_text-same_log : (v w : LogView) → IsLog v → IsLog w → log_text v ≡ log_text w → v ≡ w
-same_text-same_log v w log_v log_w e =
-    let lines : log_lines v ≡ log_lines w = sym (cut_log (log_text v) v log_v refl).lines ∙ (cut_log (log_text v) w log_w e).lines in
-    let walked : Some (whole v) ≡ Some (whole w) = sym (whole_walk false v log_v (λ t. absurd cc)) ∙ ap (walk false Bare) lines ∙ whole_walk false w log_w (λ t. absurd cc) in
-    ap (log_or v) (same_Some (whole v) (whole w) walked)
+pub same_text-same_log : (bytes : Text) (v w : LogView) → IsLog v → IsLog w → IsTextOf bytes v → IsTextOf bytes w → v ≡ w
+same_text-same_log bytes v w log_v log_w e f =
+    let lines : log_lines e.0 v ≡ log_lines f.0 w = sym (cut_log bytes e.0 v log_v e.1).lines ∙ (cut_log bytes f.0 w log_w f.1).lines in
+    let walked : Some (whole e.0 v) ≡ Some (whole f.0 w) = sym (whole_walk false e.0 v log_v (λ t. absurd cc)) ∙ ap (walk false Bare) lines ∙ whole_walk false f.0 w log_w (λ t. absurd cc) in
+    ap (log_or v) (same_Some (whole e.0 v) (whole f.0 w) walked)
 
 -- ---- what fewer lines begin
 
@@ -43,6 +43,7 @@ begins_fewer j k lines v le b =
     let parts : take j lines ++ drop j (take k lines) ≡ take k lines = ap (λ (ls : List Text). ls ++ drop j (take k lines)) (sym shorter) ∙ take-append-drop j (take k lines) in
     record {
       log = b.log;
+      version = b.version;
       more = text_of (drop j (take k lines)) ++ b.more;
       text = b.text ∙ ap (λ (ls : List Text). text_of ls ++ b.more) (sym parts) ∙ ap (λ (t : Text). t ++ b.more) (flat_map-append (λ line. line ++ 10 ∷ []) (take j lines) (drop j (take k lines)))
           ∙ append_assoc (text_of (take j lines)) (text_of (drop j (take k lines))) b.more;
@@ -52,10 +53,10 @@ sound_fewer : (bytes : Text) (j k : ℕ) → j ≤ k → IsSoundUpTo bytes k →
 sound_fewer bytes j k le s = let t = s.there in record { there = omega arith; begins = (s.begins.0, begins_fewer j k (lines_of bytes) s.begins.0 le s.begins.1, s.begins.2) }
 
 -- a log is sound in all its lines
-log_begins : (bytes : Text) (v : LogView) (k : ℕ) → IsLog v → bytes ≡ log_text v → BeginsWith (take k (lines_of bytes)) v
+log_begins : (bytes : Text) (v : LogView) (k : ℕ) → IsLog v → IsTextOf bytes v → BeginsWith (take k (lines_of bytes)) v
 log_begins bytes v k log e =
-    let c = cut_log bytes v log e in
-    begins_with (take k (lines_of bytes)) v (drop k (lines_of bytes)) log (sym c.lines ∙ sym (take-append-drop k (lines_of bytes)))
+    let c = cut_log bytes e.0 v log e.1 in
+    begins_with (take k (lines_of bytes)) e.0 v (drop k (lines_of bytes)) log (sym c.lines ∙ sym (take-append-drop k (lines_of bytes)))
 
 -- ---- a fault is no sound line
 
@@ -76,10 +77,10 @@ not_both bytes j k same syntax limit =
     ⊎_elim (λ w. w.1 here.begins) (λ w. let t = here.there in let last : j + 1 ≡ length (lines_of bytes) + 1 = w.0 in absurd (omega arith)) syntax
 
 -- a log's text has no fault
-log_syntax : (bytes : Text) (v : LogView) (k : ℕ) → IsLog v → bytes ≡ log_text v → IsSyntaxFault bytes (k + 1) → ⊥
+log_syntax : (bytes : Text) (v : LogView) (k : ℕ) → IsLog v → IsTextOf bytes v → IsSyntaxFault bytes (k + 1) → ⊥
 log_syntax bytes v k log e fault = ⊎_elim (λ w. w.1 (v, log_begins bytes v (k + 1) log e)) (λ w. w.1 v log e) fault
 
-log_limit : (bytes : Text) (v : LogView) (k : ℕ) → IsLog v → KeepsLimits v → bytes ≡ log_text v → IsLimitFault bytes (k + 1) → ⊥
+log_limit : (bytes : Text) (v : LogView) (k : ℕ) → IsLog v → KeepsLimits v → IsTextOf bytes v → IsLimitFault bytes (k + 1) → ⊥
 log_limit bytes v k log kept e fault = fault.beyond (v, log_begins bytes v (k + 1) log e, kept)
 
 -- ---- one answer
@@ -98,7 +99,7 @@ syntax_or_limit : (bytes : Text) (m n : ℕ) → IsFirstAt (IsSyntaxFault bytes)
 syntax_or_limit bytes m n a b = not_both bytes a.0 b.0 (same_line bytes a.0 b.0 a.2 b.2 (syntax_stops bytes a.0 a.3) (limit_stops bytes b.0 b.3)) a.3 b.3
 
 one_answer : (bytes : Text) (q r : Result LogView LogFault) → IsAnswer bytes q → IsAnswer bytes r → q ≡ r
-one_answer bytes (Ok v) (Ok w) a b = ap (λ (x : LogView). Ok x) (same_text-same_log v w a.0 b.0 (sym a.2 ∙ b.2))
+one_answer bytes (Ok v) (Ok w) a b = ap (λ (x : LogView). Ok x) (same_text-same_log bytes v w a.0 b.0 a.2 b.2)
 one_answer bytes (Ok v) (Err (LogSyntax n)) a b = absurd (log_syntax bytes v b.0 a.0 a.2 b.3)
 one_answer bytes (Ok v) (Err (LogLimit n)) a b = absurd (log_limit bytes v b.0 a.0 a.1 a.2 b.3)
 one_answer bytes (Ok v) (Err OutOfMemory) a b = absurd b

@@ -8,15 +8,16 @@ use Rattle.std.proofs.lemmas.Option.{none-some, same_Some}
 use Rattle.profiles.specs.declared.profile.Profile.{Profile}
 use Rattle.profiles.specs.declared.profile.Profile.TheVariants as profile
 use Rattle.profiles.specs.Profile.{Text, Pair}
-use Rattle.sync_objects.specs.declared.entry.Entry.{Entry}
 use Rattle.order_log.specs.declared.fault.LogFault.{LogFault}
 use Rattle.order_log.specs.declared.fault.LogFault.TheVariants.{LogSyntax, LogLimit}
 use Rattle.order_log.specs.Log.{LogView, IsNamePair, HasNames, IsLog, KeepsLimits}
-use Rattle.order_log.specs.Text.{number_text, hex_text, entry_line, pair_line, profile_lines, log_lines, text_of, log_text}
+use Rattle.order_log.specs.declared.version.Version.{Version}
+use Rattle.order_log.specs.declared.version.Version.TheVariants as version
+use Rattle.order_log.specs.Text.{number_text, hex_text, pair_line, profile_lines, Run, runs_of, run_line, version_line, log_lines, text_of, text_in}
 use Rattle.order_log.specs.Reading.{lines_of, BeginsWith, BeginLog, BeginLimitedLog, IsSoundUpTo, shown, IsAnswer}
 use Rattle.order_log.specs.Recogniser.{next, unfinished_of}
 use Rattle.order_log.proofs.Parts.{Free, Free-append, Free-number_text}
-use Rattle.order_log.proofs.Entries.{Free-entry_line}
+use Rattle.order_log.proofs.Shared.{Free-run_line}
 use Rattle.order_log.proofs.Heads.{Free-pair_line, Free-hex_text}
 use Rattle.order_log.proofs.Lists.{All-append, All_front}
 use Rattle.order_log.proofs.Cutting.{AreLines, lines_of-text_of, unfinished_of-text_of, AreLines-lines_of, text_of-lines_of}
@@ -38,13 +39,17 @@ profile_is_lines : (p : Profile) → HasNames p → AreLines (profile_lines p)
 profile_is_lines profile.All h = ((refl, (refl, (refl, (refl, (refl, (refl, (refl, (refl, (refl, (refl, (refl, tt))))))))))), tt)
 profile_is_lines (profile.Pairs ps) h = (word_free (codes "profile ") (length ps) (refl, (refl, (refl, (refl, (refl, (refl, (refl, (refl, tt)))))))), pairs_are_lines ps h.1)
 
-entries_are_lines : (es : List Entry) → AreLines (map entry_line es)
-entries_are_lines [] = tt
-entries_are_lines (e ∷ es) = (Free-entry_line e, entries_are_lines es)
+runs_are_lines : (rs : List Run) → AreLines (map run_line rs)
+runs_are_lines [] = tt
+runs_are_lines (r ∷ rs) = (Free-run_line r, runs_are_lines rs)
 
-pub AreLines-log_lines : (v : LogView) → IsLog v → AreLines (log_lines v)
-AreLines-log_lines v log =
-    let first : Free 10 (codes "chimera log 1") = (refl, (refl, (refl, (refl, (refl, (refl, (refl, (refl, (refl, (refl, (refl, (refl, (refl, tt))))))))))))) in
+version_is_line : (w : Version) → Free 10 (version_line w)
+version_is_line version.One = (refl, (refl, (refl, (refl, (refl, (refl, (refl, (refl, (refl, (refl, (refl, (refl, (refl, tt)))))))))))))
+version_is_line version.Two = (refl, (refl, (refl, (refl, (refl, (refl, (refl, (refl, (refl, (refl, (refl, (refl, (refl, tt)))))))))))))
+
+pub AreLines-log_lines : (w : Version) (v : LogView) → IsLog v → AreLines (log_lines w v)
+AreLines-log_lines w v log =
+    let first = version_is_line w in
     let slots = word_free (codes "slots ") v.setup.slots (refl, (refl, (refl, (refl, (refl, (refl, tt)))))) in
     let cells = word_free (codes "cells ") v.setup.cells (refl, (refl, (refl, (refl, (refl, (refl, tt)))))) in
     let limit = word_free (codes "limit ") v.setup.limit (refl, (refl, (refl, (refl, (refl, (refl, tt)))))) in
@@ -52,29 +57,31 @@ AreLines-log_lines v log =
     let hex = Free-hex_text v.setup.input log.input in
     let tail = (codes "input " ++ number_text (length v.setup.input)) ∷ hex_text v.setup.input ∷ [] in
     let middle = All-append (Free 10) (profile_lines v.profile) tail (profile_is_lines v.profile log.profile) (input, (hex, tt)) in
-    (first, (slots, (cells, (limit, All-append (Free 10) (profile_lines v.profile ++ tail) (map entry_line v.entries) middle (entries_are_lines v.entries)))))
+    let entries = runs_of w v.entries in
+    (first, (slots, (cells, (limit, All-append (Free 10) (profile_lines v.profile ++ tail) (map run_line entries) middle (runs_are_lines entries)))))
 
 -- ---- a log whose text begins with lines has these lines in front
 
-pub begins_lines : (lines : List Text) (v : LogView) → AreLines lines → BeginsWith lines v → (more : List Text) × (log_lines v ≡ lines ++ more)
+pub begins_lines : (lines : List Text) (v : LogView) → AreLines lines → (b : BeginsWith lines v) → (more : List Text) × (log_lines b.version v ≡ lines ++ more)
 begins_lines lines v are b =
-    let back : lines_of (log_text v) ≡ log_lines v = ap lines_of (sym (append-nil (log_text v))) ∙ lines_of-text_of (log_lines v) [] (AreLines-log_lines v b.log) ∙ append-nil (log_lines v) in
+    let w = b.version in
+    let back : lines_of (text_in w v) ≡ log_lines w v = ap lines_of (sym (append-nil (text_in w v))) ∙ lines_of-text_of (log_lines w v) [] (AreLines-log_lines w v b.log) ∙ append-nil (log_lines w v) in
     (lines_of b.more, sym back ∙ ap lines_of b.text ∙ lines_of-text_of lines b.more are)
 
-pub begins_with : (lines : List Text) (v : LogView) (more : List Text) → IsLog v → log_lines v ≡ lines ++ more → BeginsWith lines v
-begins_with lines v more log e = record { log = log; more = text_of more; text = ap text_of e ∙ flat_map-append (λ line. line ++ 10 ∷ []) lines more }
+pub begins_with : (lines : List Text) (w : Version) (v : LogView) (more : List Text) → IsLog v → log_lines w v ≡ lines ++ more → BeginsWith lines v
+begins_with lines w v more log e = record { log = log; version = w; more = text_of more; text = ap text_of e ∙ flat_map-append (λ line. line ++ 10 ∷ []) lines more }
 
 -- the lines of a log's text are the log's lines, and nothing is left
-pub record IsCut (bytes : Text) (v : LogView) : Type 0 where
-  pub lines : lines_of bytes ≡ log_lines v
+pub record IsCut (bytes : Text) (w : Version) (v : LogView) : Type 0 where
+  pub lines : lines_of bytes ≡ log_lines w v
   pub rest : unfinished_of bytes ≡ []
 
-pub cut_log : (bytes : Text) (v : LogView) → IsLog v → bytes ≡ log_text v → IsCut bytes v
-cut_log bytes v log e =
-    let whole_text : bytes ≡ text_of (log_lines v) ++ [] = e ∙ sym (append-nil (log_text v)) in
+pub cut_log : (bytes : Text) (w : Version) (v : LogView) → IsLog v → bytes ≡ text_in w v → IsCut bytes w v
+cut_log bytes w v log e =
+    let whole_text : bytes ≡ text_of (log_lines w v) ++ [] = e ∙ sym (append-nil (text_in w v)) in
     record {
-      lines = ap lines_of whole_text ∙ lines_of-text_of (log_lines v) [] (AreLines-log_lines v log) ∙ append-nil (log_lines v);
-      rest = ap unfinished_of whole_text ∙ unfinished_of-text_of (log_lines v) [] (AreLines-log_lines v log);
+      lines = ap lines_of whole_text ∙ lines_of-text_of (log_lines w v) [] (AreLines-log_lines w v log) ∙ append-nil (log_lines w v);
+      rest = ap unfinished_of whole_text ∙ unfinished_of-text_of (log_lines w v) [] (AreLines-log_lines w v log);
     }
 
 -- ---- parts that lines lead to
@@ -104,21 +111,21 @@ leads_on done p line s l e fits =
 begin_log : (done : List Text) (p : Part) → Fine p → said p ≡ done → BeginLog done
 begin_log done p fine says =
     let c = completed p fine in
-    (c.view, begins_with done c.view c.more c.log (c.lines ∙ ap (λ (ls : List Text). ls ++ c.more) says))
+    (c.view, begins_with done c.version c.view c.more c.log (c.lines ∙ ap (λ (ls : List Text). ls ++ c.more) says))
 
 begin_limited : (done : List Text) (p : Part) → LeadsTo done p → BeginLimitedLog done
 begin_limited done p l =
     let c = completed p l.fine in
-    (c.view, begins_with done c.view c.more c.log (c.lines ∙ ap (λ (ls : List Text). ls ++ c.more) l.says), c.within l.kept)
+    (c.view, begins_with done c.version c.view c.more c.log (c.lines ∙ ap (λ (ls : List Text). ls ++ c.more) l.says), c.within l.kept)
 
 -- a log that begins with the lines so far and one more takes that line
-takes_more : (strict : Bool) (done : List Text) (p : Part) (line : Text) (v : LogView) → AreLines (done ++ line ∷ []) → LeadsTo done p → BeginsWith (done ++ line ∷ []) v → (strict ≡ true → KeepsLimits v)
-    → (more : List Text) × (walks strict (taken p line) (λ q. walk strict q more) ≡ Some (whole v))
+takes_more : (strict : Bool) (done : List Text) (p : Part) (line : Text) (v : LogView) → AreLines (done ++ line ∷ []) → LeadsTo done p → (b : BeginsWith (done ++ line ∷ []) v) → (strict ≡ true → KeepsLimits v)
+    → (more : List Text) × (walks strict (taken p line) (λ q. walk strict q more) ≡ Some (whole b.version v))
 takes_more strict done p line v are l b within =
     let lines = begins_lines (done ++ line ∷ []) v are b in
-    let regrouped : log_lines v ≡ done ++ line ∷ lines.0 = lines.1 ∙ append_assoc done (line ∷ []) lines.0 in
+    let regrouped : log_lines b.version v ≡ done ++ line ∷ lines.0 = lines.1 ∙ append_assoc done (line ∷ []) lines.0 in
     let there : walk strict Bare done ≡ Some p = by strict in
-    (lines.0, sym (walk_rest strict Bare done (line ∷ lines.0) p there) ∙ ap (walk strict Bare) (sym regrouped) ∙ whole_walk strict v b.log within)
+    (lines.0, sym (walk_rest strict Bare done (line ∷ lines.0) p there) ∙ ap (walk strict Bare) (sym regrouped) ∙ whole_walk strict b.version v b.log within)
   where
     by : (t : Bool) → walk t Bare done ≡ Some p
     by true = l.there
@@ -128,17 +135,17 @@ takes_more strict done p line v are l b within =
 
 -- a part is a whole log with nothing after it, or the end is missing
 finishes : (p : Part) (at : ℕ) (rest : Text)
-    → ((v : LogView) × (p ≡ whole v) × (rest ≡ []) × (finish p at rest ≡ Ok v)) ⊎ ((finish p at rest ≡ Err (LogSyntax at)) × ((v : LogView) → p ≡ whole v → rest ≡ [] → ⊥))
-finishes Bare at rest = inr (refl, λ v e r. cc)
-finishes Headed at rest = inr (refl, λ v e r. cc)
-finishes (Slotted s) at rest = inr (refl, λ v e r. cc)
-finishes (Celled s c) at rest = inr (refl, λ v e r. cc)
-finishes (Limited n) at rest = inr (refl, λ v e r. cc)
-finishes (Pairing n left ps) at rest = inr (refl, λ v e r. cc)
-finishes (Profiled n p) at rest = inr (refl, λ v e r. cc)
-finishes (Sized n p k) at rest = inr (refl, λ v e r. cc)
-finishes (Whole n p input es) at [] = inl (view_of n p input es, refl, refl, refl)
-finishes (Whole n p input es) at (b ∷ bs) = inr (refl, λ v e r. cc)
+    → ((w : Version) × (v : LogView) × (p ≡ whole w v) × (rest ≡ []) × (finish p at rest ≡ Ok v)) ⊎ ((finish p at rest ≡ Err (LogSyntax at)) × ((w : Version) (v : LogView) → p ≡ whole w v → rest ≡ [] → ⊥))
+finishes Bare at rest = inr (refl, λ w v e r. cc)
+finishes (Headed x) at rest = inr (refl, λ w v e r. cc)
+finishes (Slotted x s) at rest = inr (refl, λ w v e r. cc)
+finishes (Celled x s c) at rest = inr (refl, λ w v e r. cc)
+finishes (Limited n) at rest = inr (refl, λ w v e r. cc)
+finishes (Pairing n left ps) at rest = inr (refl, λ w v e r. cc)
+finishes (Profiled n p) at rest = inr (refl, λ w v e r. cc)
+finishes (Sized n p k) at rest = inr (refl, λ w v e r. cc)
+finishes (Whole n p input es) at [] = inl (n.version, view_of n p input es, refl, refl, refl)
+finishes (Whole n p input es) at (b ∷ bs) = inr (refl, λ w v e r. cc)
 
 -- ---- the answer
 
@@ -164,26 +171,28 @@ IsNext done at = at ≡ shown (length done + 1)
 at_end : (bytes : Text) (done : List Text) (p : Part) (at : ℕ) → lines_of bytes ≡ done → LeadsTo done p → IsNext done at → IsAnswer bytes (finish p at (unfinished_of bytes))
 at_end bytes done p at e l number =
     ⊎_elim
-    (λ w. subst (λ (r : Result LogView LogFault). IsAnswer bytes r) (sym w.3) (found w.0 w.1 w.2))
+    (λ w. subst (λ (r : Result LogView LogFault). IsAnswer bytes r) (sym w.4) (found w.0 w.1 w.2 w.3))
     (λ w. subst (λ (r : Result LogView LogFault). IsAnswer bytes r) (sym w.0) (missing w.1))
     (finishes p at (unfinished_of bytes))
   where
-    found : (v : LogView) → p ≡ whole v → unfinished_of bytes ≡ [] → IsAnswer bytes (Ok v)
-    found v is rest =
-        let says : log_lines v ≡ done = ap said (sym is) ∙ l.says in
-        (subst Fine is l.fine, subst Kept is l.kept, text_of-lines_of bytes ∙ ap (λ (t : Text). text_of (lines_of bytes) ++ t) rest ∙ append-nil (text_of (lines_of bytes)) ∙ ap text_of (e ∙ sym says))
+    found : (w : Version) (v : LogView) → p ≡ whole w v → unfinished_of bytes ≡ [] → IsAnswer bytes (Ok v)
+    found w v is rest =
+        let says : log_lines w v ≡ done = ap said (sym is) ∙ l.says in
+        let text : bytes ≡ text_in w v = text_of-lines_of bytes ∙ ap (λ (t : Text). text_of (lines_of bytes) ++ t) rest ∙ append-nil (text_of (lines_of bytes)) ∙ ap text_of (e ∙ sym says) in
+        (subst Fine is l.fine, subst Kept is l.kept, (w, text))
 
-    missing : ((v : LogView) → p ≡ whole v → unfinished_of bytes ≡ [] → ⊥) → IsAnswer bytes (Err (LogSyntax at))
+    missing : ((w : Version) (v : LogView) → p ≡ whole w v → unfinished_of bytes ≡ [] → ⊥) → IsAnswer bytes (Err (LogSyntax at))
     missing none = (
       length done,
       number,
       sound_here bytes done [] p (e ∙ sym (append-nil done)) l,
       inr (
         let long = ap length e in omega arith,
-        λ v log text. let c = cut_log bytes v log text in
-            let there : walk false Bare done ≡ Some (whole v) = ap (walk false Bare) (sym e ∙ c.lines) ∙ whole_walk false v log (λ t. absurd cc) in
-            let same : Some p ≡ Some (whole v) = sym (loosely Bare done p l.there) ∙ there in
-            none v (same_Some p (whole v) same) c.rest,
+        λ v log t. let w = t.0 in
+            let c = cut_log bytes w v log t.1 in
+            let there : walk false Bare done ≡ Some (whole w v) = ap (walk false Bare) (sym e ∙ c.lines) ∙ whole_walk false w v log (λ h. absurd cc) in
+            let same : Some p ≡ Some (whole w v) = sym (loosely Bare done p l.there) ∙ there in
+            none w v (same_Some p (whole w v) same) c.rest,
       ),
     )
 
@@ -221,13 +230,13 @@ at_line bytes done p at line more on e l number others = by (taken p line) refl
     spoiled none b =
         let w = subst BeginLog front b in
         let t = takes_more false done p line w.0 are l w.1 (λ h. absurd cc) in
-        none_walks false p line t.0 (whole w.0) none t.1
+        none_walks false p line t.0 (whole w.1.version w.0) none t.1
 
     beyond : (s : Part × Bool) → taken p line ≡ Some s → s.1 ≡ false → BeginLimitedLog (take (length done + 1) (lines_of bytes)) → ⊥
     beyond s is unfit b =
         let w = subst BeginLimitedLog front b in
         let t = takes_more true done p line w.0 are l w.1 (λ h. w.2) in
-        unfit_walks p line t.0 (whole w.0) s is unfit t.1
+        unfit_walks p line t.0 (whole w.1.version w.0) s is unfit t.1
 
     tested : (s : Part × Bool) (t : Bool) → taken p line ≡ Some s → s.1 ≡ t → IsAnswer bytes (cond t (on s.0) (Err (LogLimit at)))
     tested s true is fits = others s.0 (leads_on done p line s l is fits)

@@ -1,11 +1,12 @@
 -- What the machine keeps: its part says the lines so far, and can be completed to a log.
 use Rattle.std.proofs.Common.{◌≡◌, ℕ, zero, suc, ◌+◌, ◌<◌, ◌≤◌, Bool, true, false, cond, eqb, List, [], ◌∷◌, ◌++◌, length, map, Some, None, refl, sym, ap, subst, ◌∙◌, arith, append_assoc, ⊎_elim}
 use Rattle.std.specs.Prelude.{codes, not, nat_le, nat_lt, ◌&&◌, count_by}
+use Rattle.std.specs.List.{AllByRecursion}
 use Rattle.std.specs.Option.{option_map, option_and_then}
 use Rattle.std.specs.Str.{bytes_eq}
 use Rattle.std.proofs.lemmas.Bool.{and_parts, leb-true, ltb-true, eqb-true}
 use Rattle.std.proofs.lemmas.List.{append-nil, length-append, map-append}
-use Rattle.std.proofs.lemmas.Option.{same_Some, cond_some}
+use Rattle.std.proofs.lemmas.Option.{none-some, same_Some, cond_some}
 use Rattle.std.proofs.lemmas.Slice.Eq.{bytes_eq-Decides}
 use Rattle.profiles.specs.declared.profile.Profile.{Profile}
 use Rattle.profiles.specs.declared.profile.Profile.TheVariants as profile
@@ -13,18 +14,22 @@ use Rattle.profiles.specs.Profile.{Text, Pair}
 use Rattle.sync_objects.specs.declared.entry.Entry.{Entry}
 use Rattle.sync_objects.specs.declared.object.ObjId.{ObjId}
 use Rattle.sync_objects.specs.declared.object.ObjId.TheVariants as object
-use Rattle.sync_objects.specs.Names.{Fits, is_ending}
+use Rattle.sync_objects.specs.Names.{object_kind, Fits, is_ending}
 use Rattle.sync_objects.specs.Setup.{SetupView}
-use Rattle.order_log.specs.Log.{IsNamePair, HasNames, IsLog, IsObjectWithin, last_count, IsEntryWithin, is_ending_of, is_other_of, KeepsLimits}
-use Rattle.order_log.specs.Text.{number_text, hex_text, entry_line, pair_line, profile_lines, log_lines}
-use Rattle.order_log.specs.Line.{after_word, number_in, pair_in, hex_in, entry_in}
-use Rattle.order_log.specs.Recogniser.{is_object_within, is_entry_within, has_room, may_follow}
+use Rattle.order_log.specs.Log.{IsNamePair, HasNames, IsLog, IsObjectWithin, last_count, IsEntryWithin, is_ending_of, is_other_of, AreWithin, KeepsLimits}
+use Rattle.order_log.specs.declared.version.Version.{Version}
+use Rattle.order_log.specs.declared.version.Version.TheVariants as version
+use Rattle.order_log.specs.Text.{number_text, hex_text, pair_line, profile_lines, Run, runs_of, run_line, version_line, log_lines}
+use Rattle.order_log.specs.Line.{after_word, number_in, pair_in, hex_in, next_object, next_entry, stripes_after, entries_of, run_in}
+use Rattle.order_log.specs.Recogniser.{is_object_within, is_entry_within, has_room, may_follow, may_all_follow, joins, apart, version_in}
 use Rattle.order_log.proofs.Numbers.{number_text-number_in}
 use Rattle.order_log.proofs.Parts.{after_word_is}
-use Rattle.order_log.proofs.Entries.{bind_some, map_some, chosen, entry_is}
+use Rattle.order_log.proofs.Entries.{bind_some, map_some, chosen}
+use Rattle.order_log.proofs.Runs.{runs_more}
+use Rattle.order_log.proofs.Shared.{IsRunLine, run_is}
 use Rattle.order_log.proofs.Heads.{pair_is, hex_is}
 use Rattle.order_log.proofs.Lists.{All-append, count_push, AreAscending-push}
-use Rattle.order_log.proofs.Machine.{Numbers, Part, Bare, Headed, Slotted, Celled, Limited, Pairing, Profiled, Sized, Whole, paired, setup_of, view_of, number_step, count_step, taken}
+use Rattle.order_log.proofs.Machine.{Numbers, Part, Bare, Headed, Slotted, Celled, Limited, Pairing, Profiled, Sized, Whole, paired, setup_of, view_of, number_step, count_step, entries_step, taken}
 
 -- ---- the lines so far
 
@@ -44,26 +49,26 @@ abbrev input_line : ℕ → Text
 input_line n = codes "input " ++ number_text n
 
 abbrev pub numbers_lines : Numbers → List Text
-numbers_lines n = codes "chimera log 1" ∷ slots_line n.slots ∷ cells_line n.cells ∷ limit_line n.limit ∷ []
+numbers_lines n = version_line n.version ∷ slots_line n.slots ∷ cells_line n.cells ∷ limit_line n.limit ∷ []
 
 abbrev pub said : Part → List Text
 said Bare = []
-said Headed = codes "chimera log 1" ∷ []
-said (Slotted s) = codes "chimera log 1" ∷ slots_line s ∷ []
-said (Celled s c) = codes "chimera log 1" ∷ slots_line s ∷ cells_line c ∷ []
+said (Headed w) = version_line w ∷ []
+said (Slotted w s) = version_line w ∷ slots_line s ∷ []
+said (Celled w s c) = version_line w ∷ slots_line s ∷ cells_line c ∷ []
 said (Limited n) = numbers_lines n
 said (Pairing n left ps) = numbers_lines n ++ (count_line (length ps + suc left) ∷ map pair_line ps)
 said (Profiled n p) = numbers_lines n ++ profile_lines p
 said (Sized n p k) = numbers_lines n ++ (profile_lines p ++ input_line k ∷ [])
-said (Whole n p input es) = log_lines (view_of n p input es)
+said (Whole n p input es) = log_lines n.version (view_of n p input es)
 
 -- ---- what holds of a part: it is of a log, and of one within the limits
 
 abbrev pub Fine : Part → Type 0
 Fine Bare = Unit {0}
-Fine Headed = Unit {0}
-Fine (Slotted s) = Unit {0}
-Fine (Celled s c) = Unit {0}
+Fine (Headed w) = Unit {0}
+Fine (Slotted w s) = Unit {0}
+Fine (Celled w s c) = Unit {0}
 Fine (Limited n) = Unit {0}
 Fine (Pairing n left ps) = HasNames (profile.Pairs ps)
 Fine (Profiled n p) = HasNames p
@@ -79,9 +84,9 @@ AreKept n = IsFrom 1 16 n.slots × IsFrom 1024 131072 n.cells × IsFrom 1 671088
 
 abbrev pub Kept : Part → Type 0
 Kept Bare = Unit {0}
-Kept Headed = Unit {0}
-Kept (Slotted s) = IsFrom 1 16 s
-Kept (Celled s c) = IsFrom 1 16 s × IsFrom 1024 131072 c
+Kept (Headed w) = Unit {0}
+Kept (Slotted w s) = IsFrom 1 16 s
+Kept (Celled w s c) = IsFrom 1 16 s × IsFrom 1024 131072 c
 Kept (Limited n) = AreKept n
 Kept (Pairing n left ps) = AreKept n
 Kept (Profiled n p) = AreKept n
@@ -112,11 +117,17 @@ number_adds p word low high make line s says fine kept e =
       kept = λ t. let both = and_parts (nat_le low m.0) (nat_le m.0 high) t in kept m.0 (leb-true low m.0 both.0, leb-true m.0 high both.1);
     })
 
-bare_adds : (line : Text) (s : Part × Bool) → cond (bytes_eq line (codes "chimera log 1")) (Some (Headed, true)) None ≡ Some s → Adds Bare line s.0 s.1
+version_is : (line : Text) (w : Version) → version_in line ≡ Some w → line ≡ version_line w
+version_is line w e =
+    ⊎_elim
+    (λ h. (bytes_eq-Decides line (version_line version.One)).0 h.0 ∙ ap version_line (same_Some version.One w h.1))
+    (λ h. let c = cond_some (bytes_eq line (version_line version.Two)) version.Two w h.1 in (bytes_eq-Decides line (version_line version.Two)).0 c.0 ∙ ap version_line c.1)
+    (chosen (bytes_eq line (version_line version.One)) (Some version.One) _ (Some w) e)
+
+bare_adds : (line : Text) (s : Part × Bool) → option_map (λ w. (Headed w, true)) (version_in line) ≡ Some s → Adds Bare line s.0 s.1
 bare_adds line s e =
-    let c = cond_some (bytes_eq line (codes "chimera log 1")) (Headed, true) s e in
-    let text = (bytes_eq-Decides line (codes "chimera log 1")).0 c.0 in
-    subst (λ (t : Part × Bool). Adds Bare line t.0 t.1) c.1 (record { says = ap (λ (t : Text). t ∷ []) (sym text); fine = λ f. tt; kept = λ t k. tt })
+    let m = map_some (λ w. (Headed w, true)) (version_in line) s e in
+    subst (λ (t : Part × Bool). Adds Bare line t.0 t.1) m.2 (record { says = ap (λ (t : Text). t ∷ []) (sym (version_is line m.0 m.1)); fine = λ f. tt; kept = λ t k. tt })
 
 -- ---- the profile's lines
 
@@ -222,37 +233,71 @@ counts_kept true false thread es e same is room h =
     (omega arith, omega (arith, h.1))
 counts_kept false ending thread es e same is room h = (omega (arith, h.0), omega (arith, h.1))
 
+-- within the limits, and one entry more
+may_within : (s : SetupView) (es : List Entry) (e : Entry) → AreWithin s es → may_follow s es e ≡ true → AreWithin s (es ++ e ∷ [])
+may_within s es e k t =
+    let parts = and_parts (is_entry_within s e) (has_room (is_ending e.op) e.thread es) t in
+    let counts = (λ (thread : ℕ). counts_kept (eqb e.thread thread) (is_ending e.op) thread es e refl refl parts.1 (k.others thread, k.endings thread)) in
+    record {
+      each = All-append (IsEntryWithin s) es (e ∷ []) k.each (entry_within s e parts.0, tt);
+      others = λ thread. let c = counts thread in omega (arith, c.0, count_push (is_other_of thread) es e);
+      endings = λ thread. let c = counts thread in omega (arith, c.1, count_push (is_ending_of thread) es e);
+    }
+
+-- and as many more as may follow
+pub all_within : (s : SetupView) (es fs : List Entry) → AreWithin s es → may_all_follow s es fs ≡ true → AreWithin s (es ++ fs)
+all_within s es [] k t = subst (AreWithin s) (sym (append-nil es)) k
+all_within s es (f ∷ fs) k t =
+    let parts = and_parts (may_follow s es f) (may_all_follow s (es ++ f ∷ []) fs) t in
+    subst (AreWithin s) (append_assoc es (f ∷ []) fs) (all_within s (es ++ f ∷ []) fs (may_within s es f k parts.0) parts.1)
+
+next_object_kind : (x : ObjId) → object_kind (next_object x) ≡ object_kind x
+next_object_kind (object.Weak lock stripe) = refl
+next_object_kind _ = refl
+
+-- the stripes of one line all have its operation
+fits_after : (e : Entry) (more : ℕ) → Fits e.op e.obj → AllByRecursion (λ x. Fits x.op x.obj) (stripes_after e more)
+fits_after e zero fit = tt
+fits_after e (suc more) fit = let next : Fits e.op (next_object e.obj) = fit ∙ sym (next_object_kind e.obj) in (next, fits_after (next_entry e) more next)
+
+apart_is : (w : Version) (es : List Entry) (r q : Run) → apart w es r ≡ Some q → (joins w es r.first ≡ false) × (r ≡ q)
+apart_is w es r q e = by (joins w es r.first) e
+  where
+    by : (t : Bool) → cond t None (Some r) ≡ Some q → (t ≡ false) × (r ≡ q)
+    by true h = absurd (none-some q h)
+    by false h = (refl, same_Some r q h)
+
 whole_adds : (n : Numbers) (p : Profile) (input : List ℕ) (es : List Entry) (line : Text) (s : Part × Bool)
-    → option_map (λ e. (Whole n p input (es ++ e ∷ []), may_follow (setup_of n input) es e)) (entry_in line) ≡ Some s → Adds (Whole n p input es) line s.0 s.1
+    → entries_step n p input es (option_and_then (apart n.version es) (run_in n.version line)) ≡ Some s → Adds (Whole n p input es) line s.0 s.1
 whole_adds n p input es line s found =
-    let m = map_some (λ e. (Whole n p input (es ++ e ∷ []), may_follow (setup_of n input) es e)) (entry_in line) s found in
-    let e = m.0 in
-    let is = entry_is line e m.1 in
-    let head = profile_lines p ++ (input_line (length input) ∷ hex_text input ∷ []) in
-    let says : head ++ map entry_line (es ++ e ∷ []) ≡ (head ++ map entry_line es) ++ line ∷ [] =
-    ap (λ (ls : List Text). head ++ ls) (map-append entry_line es (e ∷ []) ∙ ap (λ (t : Text). map entry_line es ++ t ∷ []) (sym is.text)) ∙ sym (append_assoc head (map entry_line es) (line ∷ [])) in
-    subst (λ (t : Part × Bool). Adds (Whole n p input es) line t.0 t.1) m.2 (record {
-      says = ap (λ (ls : List Text). numbers_lines n ++ ls) says;
-      fine = λ f. record { profile = f.profile; input = f.input; operations = All-append (λ x. Fits x.op x.obj) es (e ∷ []) f.operations (is.fitting, tt) };
-      kept = λ t k. let parts = and_parts (is_entry_within (setup_of n input) e) (has_room (is_ending e.op) e.thread es) t in
-          let counts = (λ (thread : ℕ). counts_kept (eqb e.thread thread) (is_ending e.op) thread es e refl refl parts.1 (k.entries.others thread, k.entries.endings thread)) in
-          record {
-            setup = k.setup;
-            entries = record {
-              each = All-append (IsEntryWithin (setup_of n input)) es (e ∷ []) k.entries.each (entry_within (setup_of n input) e parts.0, tt);
-              others = λ thread. let c = counts thread in omega (arith, c.0, count_push (is_other_of thread) es e);
-              endings = λ thread. let c = counts thread in omega (arith, c.1, count_push (is_ending_of thread) es e);
-            };
-          };
-    })
+    let m = map_some (λ r. (Whole n p input (es ++ entries_of r), may_all_follow (setup_of n input) es (entries_of r))) (option_and_then (apart n.version es) (run_in n.version line)) s found in
+    let r = m.0 in
+    let b = bind_some (run_in n.version line) (apart n.version es) r m.1 in
+    let begun = apart_is n.version es b.0 r b.2 in
+    let is = run_is n.version line b.0 b.1 in
+    subst (λ (t : Part × Bool). Adds (Whole n p input es) line t.0 t.1) m.2
+    (subst (λ (q : Run). Adds (Whole n p input es) line (Whole n p input (es ++ entries_of q)) (may_all_follow (setup_of n input) es (entries_of q))) begun.1 (adds_run b.0 begun.0 is))
+  where
+    adds_run : (q : Run) → joins n.version es q.first ≡ false → IsRunLine n.version line q → Adds (Whole n p input es) line (Whole n p input (es ++ entries_of q)) (may_all_follow (setup_of n input) es (entries_of q))
+    adds_run q begins is =
+        let head = profile_lines p ++ (input_line (length input) ∷ hex_text input ∷ []) in
+        let lines : map run_line (runs_of n.version (es ++ entries_of q)) ≡ map run_line (runs_of n.version es) ++ line ∷ [] =
+        ap (map run_line) (runs_more n.version es q begins is.chain) ∙ map-append run_line (runs_of n.version es) (q ∷ []) ∙ ap (λ (t : Text). map run_line (runs_of n.version es) ++ t ∷ []) (sym is.text) in
+        let says : head ++ map run_line (runs_of n.version (es ++ entries_of q)) ≡ (head ++ map run_line (runs_of n.version es)) ++ line ∷ [] =
+        ap (λ (ls : List Text). head ++ ls) lines ∙ sym (append_assoc head (map run_line (runs_of n.version es)) (line ∷ [])) in
+        record {
+          says = ap (λ (ls : List Text). numbers_lines n ++ ls) says;
+          fine = λ f. record { profile = f.profile; input = f.input; operations = All-append (λ x. Fits x.op x.obj) es (entries_of q) f.operations (is.fitting, fits_after q.first q.more is.fitting) };
+          kept = λ t k. record { setup = k.setup; entries = all_within (setup_of n input) es (entries_of q) k.entries t };
+        }
 
 -- ---- any part
 
 pub adds : (p : Part) (line : Text) (s : Part × Bool) → taken p line ≡ Some s → Adds p line s.0 s.1
 adds Bare line s e = bare_adds line s e
-adds Headed line s e = number_adds Headed (codes "slots ") 1 16 (λ n. Slotted n) line s (λ n. refl) (λ n f. tt) (λ n h k. h) e
-adds (Slotted a) line s e = number_adds (Slotted a) (codes "cells ") 1024 131072 (λ n. Celled a n) line s (λ n. refl) (λ n f. tt) (λ n h k. (k, h)) e
-adds (Celled a c) line s e = number_adds (Celled a c) (codes "limit ") 1 67108864 (λ n. Limited (record { slots = a; cells = c; limit = n })) line s (λ n. refl) (λ n f. tt) (λ n h k. (k.0, k.1, h)) e
+adds (Headed w) line s e = number_adds (Headed w) (codes "slots ") 1 16 (λ n. Slotted w n) line s (λ n. refl) (λ n f. tt) (λ n h k. h) e
+adds (Slotted w a) line s e = number_adds (Slotted w a) (codes "cells ") 1024 131072 (λ n. Celled w a n) line s (λ n. refl) (λ n f. tt) (λ n h k. (k, h)) e
+adds (Celled w a c) line s e = number_adds (Celled w a c) (codes "limit ") 1 67108864 (λ n. Limited (record { version = w; slots = a; cells = c; limit = n })) line s (λ n. refl) (λ n f. tt) (λ n h k. (k.0, k.1, h)) e
 adds (Limited n) line s e = limited_adds n line s e
 adds (Pairing n left ps) line s e = pairing_adds n left ps line s e
 adds (Profiled n p) line s e = number_adds (Profiled n p) (codes "input ") 0 1048576 (λ k. Sized n p k) line s (λ k. refl) (λ k f. f) (λ k h a. (a, h)) e

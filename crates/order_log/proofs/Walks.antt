@@ -17,15 +17,18 @@ use Rattle.sync_objects.specs.declared.object.ObjId.TheVariants as object
 use Rattle.sync_objects.specs.Names.{Fits, is_ending}
 use Rattle.sync_objects.specs.Setup.{SetupView}
 use Rattle.order_log.specs.Log.{LogView, IsNamePair, HasNames, IsLog, IsObjectWithin, last_count, IsEntryWithin, is_ending_of, is_other_of, KeepsLimits}
-use Rattle.order_log.specs.Text.{number_text, hex_text, entry_line, pair_line, profile_lines, log_lines}
-use Rattle.order_log.specs.Line.{number_in}
-use Rattle.order_log.specs.Recogniser.{is_object_within, is_entry_within, has_room, may_follow}
+use Rattle.order_log.specs.declared.version.Version.{Version}
+use Rattle.order_log.specs.declared.version.Version.TheVariants as version
+use Rattle.order_log.specs.Text.{number_text, hex_text, pair_line, profile_lines, Run, runs_of, run_line, version_line, log_lines}
+use Rattle.order_log.specs.Line.{number_in, entries_of}
+use Rattle.order_log.specs.Recogniser.{is_object_within, is_entry_within, has_room, may_follow, may_all_follow, joins, apart}
 use Rattle.order_log.proofs.Numbers.{number_in-number_text}
 use Rattle.order_log.proofs.Parts.{after_word_at}
-use Rattle.order_log.proofs.Entries.{entry_again}
+use Rattle.order_log.proofs.Runs.{IsChain, Follow, entries_in, runs_follow, entries_in-runs}
+use Rattle.order_log.proofs.Shared.{run_again}
 use Rattle.order_log.proofs.Heads.{pair_again, hex_again}
-use Rattle.order_log.proofs.Lists.{All_back, count_front, ends_before_next}
-use Rattle.order_log.proofs.Machine.{Numbers, Part, Bare, Headed, Slotted, Celled, Limited, Pairing, Profiled, Sized, Whole, paired, setup_of, view_of, Step, number_step, count_step, taken}
+use Rattle.order_log.proofs.Lists.{All_front, All_back, count_front, ends_before_next}
+use Rattle.order_log.proofs.Machine.{Numbers, Part, Bare, Headed, Slotted, Celled, Limited, Pairing, Profiled, Sized, Whole, paired, setup_of, view_of, Step, number_step, count_step, entries_step, taken}
 
 -- ---- walks, within the limits where they are strict
 
@@ -147,24 +150,44 @@ may_come s es e fs p h =
     let within = All_back (IsEntryWithin s) es (e ∷ fs) h.entries.each in
     and_from (is_entry_within s e) (has_room (is_ending e.op) e.thread es) (within_entry s e within.0) (room_for (is_ending e.op) es e fs refl (h.entries.others e.thread) (h.entries.endings e.thread))
 
-walk_entries : (strict : Bool) (n : Numbers) (p : Profile) (input : List ℕ) (es fs : List Entry) → AllByRecursion (λ e. Fits e.op e.obj) fs → (strict ≡ true → KeepsLimits (view_of n p input (es ++ fs)))
-    → walk strict (Whole n p input es) (map entry_line fs) ≡ Some (Whole n p input (es ++ fs))
-walk_entries strict n p input es [] fitting within = ap (λ (xs : List Entry). Some (Whole n p input xs)) (sym (append-nil es))
-walk_entries strict n p input es (f ∷ fs) fitting within =
-    let regrouped : (es ++ f ∷ []) ++ fs ≡ es ++ f ∷ fs = append_assoc es (f ∷ []) fs in
-    let found = entry_again f fitting.0 in
-    walk_on strict (Whole n p input es) (entry_line f) (map entry_line fs) (Whole n p input (es ++ f ∷ [])) (may_follow (setup_of n input) es f)
-    (ap (option_map (λ e. (Whole n p input (es ++ e ∷ []), may_follow (setup_of n input) es e))) found) (λ t. may_come (setup_of n input) es f fs p (within t))
-    ∙ walk_entries strict n p input (es ++ f ∷ []) fs fitting.1 (λ t. subst (λ (xs : List Entry). KeepsLimits (view_of n p input xs)) (sym regrouped) (within t))
+may_all_come : (s : SetupView) (es fs gs : List Entry) (p : Profile) → KeepsLimits (record { setup = s; profile = p; entries = es ++ (fs ++ gs) }) → may_all_follow s es fs ≡ true
+may_all_come s es [] gs p h = refl
+may_all_come s es (f ∷ fs) gs p h =
+    and_from (may_follow s es f) (may_all_follow s (es ++ f ∷ []) fs) (may_come s es f (fs ++ gs) p h)
+    (may_all_come s (es ++ f ∷ []) fs gs p (subst (λ (xs : List Entry). KeepsLimits (record { setup = s; profile = p; entries = xs })) (sym (append_assoc es (f ∷ []) (fs ++ gs))) h))
+
+run_taken : (n : Numbers) (p : Profile) (input : List ℕ) (es : List Entry) (r : Run) → Fits r.first.op r.first.obj → joins n.version es r.first ≡ false → IsChain n.version r.first r.more
+    → taken (Whole n p input es) (run_line r) ≡ Some (Whole n p input (es ++ entries_of r), may_all_follow (setup_of n input) es (entries_of r))
+run_taken n p input es r fit begins chain =
+    ap (λ (o : Option Run). entries_step n p input es (option_and_then (apart n.version es) o)) (run_again n.version r fit chain)
+    ∙ ap (entries_step n p input es) (cond-false (joins n.version es r.first) None (Some r) begins)
+
+walk_runs : (strict : Bool) (n : Numbers) (p : Profile) (input : List ℕ) (es : List Entry) (rs : List Run) → AllByRecursion (λ e. Fits e.op e.obj) (entries_in rs) → Follow n.version es rs
+    → (strict ≡ true → KeepsLimits (view_of n p input (es ++ entries_in rs))) → walk strict (Whole n p input es) (map run_line rs) ≡ Some (Whole n p input (es ++ entries_in rs))
+walk_runs strict n p input es [] fitting follow within = ap (λ (xs : List Entry). Some (Whole n p input xs)) (sym (append-nil es))
+walk_runs strict n p input es (r ∷ rs) fitting follow within =
+    let regrouped : (es ++ entries_of r) ++ entries_in rs ≡ es ++ (entries_of r ++ entries_in rs) = append_assoc es (entries_of r) (entries_in rs) in
+    let front = All_front (λ e. Fits e.op e.obj) (entries_of r) (entries_in rs) fitting in
+    let back = All_back (λ e. Fits e.op e.obj) (entries_of r) (entries_in rs) fitting in
+    walk_on strict (Whole n p input es) (run_line r) (map run_line rs) (Whole n p input (es ++ entries_of r)) (may_all_follow (setup_of n input) es (entries_of r))
+    (run_taken n p input es r front.0 follow.0 follow.1) (λ t. may_all_come (setup_of n input) es (entries_of r) (entries_in rs) p (within t))
+    ∙ walk_runs strict n p input (es ++ entries_of r) rs back follow.2 (λ t. subst (λ (xs : List Entry). KeepsLimits (view_of n p input xs)) (sym regrouped) (within t))
     ∙ ap (λ (xs : List Entry). Some (Whole n p input xs)) regrouped
+
+walk_entries : (strict : Bool) (n : Numbers) (p : Profile) (input : List ℕ) (fs : List Entry) → AllByRecursion (λ e. Fits e.op e.obj) fs → (strict ≡ true → KeepsLimits (view_of n p input fs))
+    → walk strict (Whole n p input []) (map run_line (runs_of n.version fs)) ≡ Some (Whole n p input fs)
+walk_entries strict n p input fs fitting within =
+    let all = entries_in-runs n.version fs in
+    walk_runs strict n p input [] (runs_of n.version fs) (subst (AllByRecursion (λ e. Fits e.op e.obj)) (sym all) fitting) (runs_follow n.version fs) (λ t. subst (λ (xs : List Entry). KeepsLimits (view_of n p input xs)) (sym all) (within t))
+    ∙ ap (λ (xs : List Entry). Some (Whole n p input xs)) all
 
 -- ---- the whole
 
-abbrev pub numbers_of : LogView → Numbers
-numbers_of v = record { slots = v.setup.slots; cells = v.setup.cells; limit = v.setup.limit }
+abbrev pub numbers_of : Version → LogView → Numbers
+numbers_of w v = record { version = w; slots = v.setup.slots; cells = v.setup.cells; limit = v.setup.limit }
 
-abbrev pub whole : LogView → Part
-whole v = Whole (numbers_of v) v.profile v.setup.input v.entries
+abbrev pub whole : Version → LogView → Part
+whole w v = Whole (numbers_of w v) v.profile v.setup.input v.entries
 
 walk_number : (strict : Bool) (p : Part) (word : Text) (low high n : ℕ) (make : ℕ → Part) (lines : List Text) → ((line : Text) → taken p line ≡ number_step word low high make line)
     → (strict ≡ true → (low ≤ n) × (n ≤ high)) → walk strict p ((word ++ number_text n) ∷ lines) ≡ walk strict (make n) lines
@@ -172,24 +195,28 @@ walk_number strict p word low high n make lines steps within =
     walk_on strict p (word ++ number_text n) lines (make n) (nat_le low n && nat_le n high) (steps (word ++ number_text n) ∙ number_taken word low high make n)
     (λ t. within_both low high n (within t).0 (within t).1)
 
-pub whole_walk : (strict : Bool) (v : LogView) → IsLog v → (strict ≡ true → KeepsLimits v) → walk strict Bare (log_lines v) ≡ Some (whole v)
-whole_walk strict v log within =
+pub version_taken : (w : Version) → taken Bare (version_line w) ≡ Some (Headed w, true)
+version_taken version.One = refl
+version_taken version.Two = refl
+
+pub whole_walk : (strict : Bool) (w : Version) (v : LogView) → IsLog v → (strict ≡ true → KeepsLimits v) → walk strict Bare (log_lines w v) ≡ Some (whole w v)
+whole_walk strict w v log within =
     let s = v.setup in
-    let n = numbers_of v in
-    let entries = map entry_line v.entries in
+    let n = numbers_of w v in
+    let entries = map run_line (runs_of w v.entries) in
     let size = length s.input in
     let tail = (codes "input " ++ number_text size) ∷ hex_text s.input ∷ [] in
     let lines = (profile_lines v.profile ++ tail) ++ entries in
     let from_limit = (codes "limit " ++ number_text s.limit) ∷ lines in
     let from_cells = (codes "cells " ++ number_text s.cells) ∷ from_limit in
     let from_slots = (codes "slots " ++ number_text s.slots) ∷ from_cells in
-    walk_on strict Bare (codes "chimera log 1") from_slots Headed true refl (λ t. refl)
-    ∙ walk_number strict Headed (codes "slots ") 1 16 s.slots (λ k. Slotted k) from_cells (λ line. refl) (λ t. ((within t).setup.some_slot, (within t).setup.few_slots))
-    ∙ walk_number strict (Slotted s.slots) (codes "cells ") 1024 131072 s.cells (λ k. Celled s.slots k) from_limit (λ line. refl) (λ t. ((within t).setup.enough_cells, (within t).setup.few_cells))
-    ∙ walk_number strict (Celled s.slots s.cells) (codes "limit ") 1 67108864 s.limit (λ k. Limited (record { slots = s.slots; cells = s.cells; limit = k })) lines (λ line. refl)
+    walk_on strict Bare (version_line w) from_slots (Headed w) true (version_taken w) (λ t. refl)
+    ∙ walk_number strict (Headed w) (codes "slots ") 1 16 s.slots (λ k. Slotted w k) from_cells (λ line. refl) (λ t. ((within t).setup.some_slot, (within t).setup.few_slots))
+    ∙ walk_number strict (Slotted w s.slots) (codes "cells ") 1024 131072 s.cells (λ k. Celled w s.slots k) from_limit (λ line. refl) (λ t. ((within t).setup.enough_cells, (within t).setup.few_cells))
+    ∙ walk_number strict (Celled w s.slots s.cells) (codes "limit ") 1 67108864 s.limit (λ k. Limited (record { version = w; slots = s.slots; cells = s.cells; limit = k })) lines (λ line. refl)
     (λ t. ((within t).setup.some_event, (within t).setup.few_events))
     ∙ ap (walk strict (Limited n)) (append_assoc (profile_lines v.profile) tail entries) ∙ walk_profile strict n v.profile (tail ++ entries) log.profile
     ∙ walk_number strict (Profiled n v.profile) (codes "input ") 0 1048576 size (λ k. Sized n v.profile k) (hex_text s.input ∷ entries) (λ line. refl) (λ t. (omega arith, (within t).setup.short_input))
     ∙ walk_on strict (Sized n v.profile size) (hex_text s.input) entries (Whole n v.profile s.input []) true
     (ap (option_map (λ input. (Whole n v.profile input [], true))) (hex_again s.input log.input)) (λ t. refl)
-    ∙ walk_entries strict n v.profile s.input [] v.entries log.operations within
+    ∙ walk_entries strict n v.profile s.input v.entries log.operations within

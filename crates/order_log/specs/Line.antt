@@ -1,5 +1,5 @@
 -- Reading one line, as the code does it. What it comes to is said in Reading.antt: here the steps only have names.
-use Rattle.std.specs.Prelude.{ℕ, ◌+◌, ◌-◌, ◌*◌, min, Bool, true, false, ◌&&◌, ◌==◌, if◌then◌else◌, List, [], ◌∷◌, length, codes, Option, Some, None, option_map, option_and_then}
+use Rattle.std.specs.Prelude.{◌≡◌, ℕ, zero, suc, ◌+◌, ◌-◌, ◌*◌, ◌<◌, min, Bool, true, false, ◌&&◌, ◌==◌, nat_lt, if◌then◌else◌, List, [], ◌∷◌, length, codes, Option, Some, None, option_map, option_and_then}
 use Rattle.std.specs.Char.{is_ascii_digit}
 use Rattle.std.specs.Int.{is_in_range}
 use Rattle.std.specs.List.{list_all}
@@ -14,7 +14,11 @@ use Rattle.sync_objects.specs.declared.operation.OpName.TheVariants as op
 use Rattle.sync_objects.specs.declared.kind.ObjKind.{ObjKind}
 use Rattle.sync_objects.specs.declared.kind.ObjKind.TheVariants as kind
 use Rattle.sync_objects.specs.Names.{kind_of, object_kind}
+use Rattle.order_log.specs.declared.entry.LineRun.{LineRun}
+use Rattle.order_log.specs.declared.version.Version.{Version}
+use Rattle.order_log.specs.declared.version.Version.TheVariants as version
 use Rattle.order_log.specs.Names.{begins_name, continues_name}
+use Rattle.order_log.specs.Text.{Run, stripe_of}
 
 infixl 10 ◌>>=◌
 -- a line is refused as soon as one part of it is
@@ -155,6 +159,68 @@ entry_in line = do
   obj ← object_in o.1
   if fits op obj then Some (record { thread = thread; count = count; op = op; obj = obj }) else None
 
+-- ---- lines of entries
+
+-- the operations of which several may stand in one line
+abbrev pub may_share : OpName → Bool
+may_share op.Take = true
+may_share op.Give = true
+may_share _ = false
+
+-- an entry alone in its line
+abbrev pub alone : Entry → Run
+alone e = record { first = e; more = 0 }
+
+-- from an entry's stripe to a greater one
+abbrev pub run_to : Entry → ℕ → Option Run
+run_to e last = if may_share e.op && nat_lt (stripe_of e.obj) last then Some (record { first = e; more = last - stripe_of e.obj }) else None
+
+-- an entry, and the last stripe
+unfoldable pub range_in : Text × Text → Option Run
+range_in p = do
+  e ← entry_in p.0
+  last ← number_in p.1
+  run_to e last
+
+-- what a line is that was cut at its hyphen, where it has one
+abbrev pub run_cut : Text → Option (Text × Text) → Option Run
+run_cut line None = option_map alone (entry_in line)
+run_cut line (Some p) = range_in p
+
+-- the entries of a line, of which version 1 has one in each
+abbrev pub run_in : Version → Text → Option Run
+run_in version.One line = run_cut line None
+run_in version.Two line = run_cut line (cut 45 line)
+
+-- the next stripe of the same lock
+abbrev pub next_object : ObjId → ObjId
+next_object (object.Mutex cell) = object.Mutex cell
+next_object (object.Cond cell) = object.Cond cell
+next_object (object.Barrier cell) = object.Barrier cell
+next_object (object.Weak lock stripe) = object.Weak lock (stripe + 1)
+next_object (object.Slot slot) = object.Slot slot
+next_object object.Threads = object.Threads
+next_object object.Halt = object.Halt
+next_object object.Input = object.Input
+next_object object.Output = object.Output
+
+-- the same of the next stripe
+abbrev pub next_entry : Entry → Entry
+next_entry e = record { thread = e.thread; count = e.count; op = e.op; obj = next_object e.obj }
+
+-- so many entries after this one, each of the next stripe
+abbrev pub stripes_after : Entry → ℕ → List Entry
+stripes_after e zero = []
+stripes_after e (suc more) = next_entry e ∷ stripes_after (next_entry e) more
+
+-- the entries of a line
+abbrev pub entries_of : Run → List Entry
+entries_of r = r.first ∷ stripes_after r.first r.more
+
+-- only a stripe has others after it in its line
+abbrev pub IsRun : Run → Type 0
+IsRun r = 0 < r.more → object_kind r.first.obj ≡ kind.Weak
+
 -- ---- an entry in the code's types, whose greatest numbers stand for all from there on
 
 -- cells have 32 bits, locks 16, stripes and slots 8
@@ -172,6 +238,10 @@ clipped_object object.Output = object.Output
 -- threads have 8 bits, counts 32
 abbrev pub clipped : Entry → Entry
 clipped e = record { thread = min e.thread 255; count = min e.count 4294967295; op = e.op; obj = clipped_object e.obj }
+
+-- the first entry of a line, and the last stripe
+abbrev pub clipped_run : Run → LineRun
+clipped_run r = record { first = clipped r.first; last = min (stripe_of r.first.obj + r.more) 255 }
 
 -- ---- pairs
 

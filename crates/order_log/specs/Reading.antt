@@ -1,10 +1,11 @@
 -- What reading a log answers: the log whose text the bytes are, or the first line that spoils them.
-use Rattle.std.specs.Prelude.{◌≡◌, ◌≢◌, ℕ, ◌+◌, ◌≤◌, min, ◌==◌, if◌then◌else◌, ◌⊎◌, List, [], ◌∷◌, ◌++◌, length, take, Result, Ok, Err}
+use Rattle.std.specs.Prelude.{◌≡◌, ℕ, ◌+◌, ◌≤◌, min, ◌==◌, if◌then◌else◌, ◌⊎◌, List, [], ◌∷◌, ◌++◌, length, take, Result, Ok, Err}
 use Rattle.profiles.specs.Profile.{Text}
 use Rattle.order_log.specs.declared.fault.LogFault.{LogFault}
 use Rattle.order_log.specs.declared.fault.LogFault.TheVariants.{LogSyntax, LogLimit, OutOfMemory}
 use Rattle.order_log.specs.Log.{LogView, IsLog, KeepsLimits}
-use Rattle.order_log.specs.Text.{text_of, log_text}
+use Rattle.order_log.specs.declared.version.Version.{Version}
+use Rattle.order_log.specs.Text.{text_of, text_in, IsTextOf}
 
 -- ---- the lines of a text
 
@@ -20,11 +21,12 @@ lines_of (b ∷ bs) = if b == 10 then [] ∷ lines_of bs else onto_first b (line
 
 -- ---- beginnings
 
--- a log whose text begins with these lines
+-- a log whose text in one of the versions begins with these lines
 pub record BeginsWith (lines : List Text) (v : LogView) : Type 0 where
   pub log : IsLog v
+  pub version : Version
   pub more : Text
-  pub text : log_text v ≡ text_of lines ++ more
+  pub text : text_in version v ≡ text_of lines ++ more
 
 -- some log's text begins with these lines
 abbrev pub BeginLog : List Text → Type 0
@@ -46,7 +48,7 @@ pub record IsSoundUpTo (bytes : Text) (line : ℕ) : Type 0 where
 abbrev pub IsSyntaxFault : Text → ℕ → Type 0
 IsSyntaxFault bytes line =
     ((line ≤ length (lines_of bytes)) × ¬ BeginLog (take line (lines_of bytes)))
-    ⊎ ((line ≡ length (lines_of bytes) + 1) × ((v : LogView) → IsLog v → bytes ≢ log_text v))
+    ⊎ ((line ≡ length (lines_of bytes) + 1) × ((v : LogView) → IsLog v → ¬ IsTextOf bytes v))
 
 -- the lines up to this one begin a log, but none within the limits
 pub record IsLimitFault (bytes : Text) (line : ℕ) : Type 0 where
@@ -66,7 +68,7 @@ IsFirstAt IsFault bytes number = (before : ℕ) × (number ≡ shown (before + 1
 
 -- what each answer says of the bytes; for want of memory see below
 abbrev pub IsAnswer : Text → Result LogView LogFault → Type 0
-IsAnswer bytes (Ok v) = IsLog v × KeepsLimits v × (bytes ≡ log_text v)
+IsAnswer bytes (Ok v) = IsLog v × KeepsLimits v × IsTextOf bytes v
 IsAnswer bytes (Err (LogSyntax number)) = IsFirstAt (IsSyntaxFault bytes) bytes number
 IsAnswer bytes (Err (LogLimit number)) = IsFirstAt (IsLimitFault bytes) bytes number
 IsAnswer bytes (Err OutOfMemory) = ⊥

@@ -1,5 +1,5 @@
 -- Reading line by line, as the code does it. What it comes to is said in Reading.antt: here the steps only have names.
-use Rattle.std.specs.Prelude.{◌≡◌, ℕ, zero, suc, ◌+◌, min, Bool, true, false, ◌&&◌, ◌==◌, nat_lt, nat_le, if◌then◌else◌, List, [], ◌∷◌, ◌++◌, slice_index, ◌<◌, count_by, codes, Option, Some, None, option_and_then, Result, Ok, Err}
+use Rattle.std.specs.Prelude.{◌≡◌, ℕ, zero, suc, ◌+◌, min, Bool, true, false, ◌&&◌, ◌==◌, nat_lt, nat_le, if◌then◌else◌, IsTrue, List, [], ◌∷◌, ◌++◌, slice_index, ◌<◌, count_by, codes, Option, Some, None, option_and_then, Result, Ok, Err}
 use Rattle.std.specs.Str.{bytes_eq}
 use Rattle.profiles.specs.declared.profile.Profile.{Profile}
 use Rattle.profiles.specs.declared.profile.Profile.TheVariants as profile
@@ -14,7 +14,10 @@ use Rattle.order_log.specs.declared.fault.LogFault.TheVariants.{LogSyntax, LogLi
 use Rattle.order_log.specs.declared.reader.Reader.{Reader}
 use Rattle.order_log.specs.Log.{LogView, last_count, is_ending_of, is_other_of}
 use Rattle.order_log.specs.Reading.{lines_of}
-use Rattle.order_log.specs.Line.{after_word, number_in, pair_in, hex_in, entry_in}
+use Rattle.order_log.specs.declared.version.Version.{Version}
+use Rattle.order_log.specs.declared.version.Version.TheVariants as version
+use Rattle.order_log.specs.Text.{Run, shares, version_line}
+use Rattle.order_log.specs.Line.{after_word, number_in, pair_in, hex_in, run_in, entries_of}
 
 infixl 10 ◌>>=◌
 -- reading ends at the first fault
@@ -79,11 +82,16 @@ found_at at (Some x) = Ok x
 
 -- ---- the head
 
--- a log of this format and version begins with `chimera log 1`
-unfoldable pub first_line : Lines → Result Lines LogFault
+-- the version of which this is the first line
+abbrev pub version_in : Text → Option Version
+version_in line = if bytes_eq line (version_line version.One) then Some version.One else (if bytes_eq line (version_line version.Two) then Some version.Two else None)
+
+-- a log begins with the format and its version
+unfoldable pub first_line : Lines → Result (Version × Lines) LogFault
 first_line l = do
   line ← next_line l
-  if bytes_eq line.0 (codes "chimera log 1") then Ok line.1 else Err (LogSyntax l.at)
+  w ← found_at l.at (version_in line.0)
+  Ok (w, line.1)
 
 -- a word and a number from low to high
 unfoldable pub numbered : Text → ℕ → ℕ → Lines → Result (ℕ × Lines) LogFault
@@ -142,19 +150,35 @@ has_room false thread es = nat_lt (count_by (is_other_of thread) es) 1048576
 abbrev pub may_follow : SetupView → List Entry → Entry → Bool
 may_follow s es e = is_entry_within s e && has_room (is_ending e.op) e.thread es
 
+-- these may follow, one after another
+abbrev pub may_all_follow : SetupView → List Entry → List Entry → Bool
+may_all_follow s es [] = true
+may_all_follow s es (f ∷ fs) = may_follow s es f && may_all_follow s (es ++ f ∷ []) fs
+
+-- the entry belongs into the last line of those before
+abbrev pub joins : Version → List Entry → Entry → Bool
+joins w [] f = false
+joins w (e ∷ []) f = shares w e f
+joins w (e ∷ g ∷ es) f = joins w (g ∷ es) f
+
+-- the entries of a line that begins where it has to
+abbrev pub apart : Version → List Entry → Run → Option Run
+apart w es r = if joins w es r.first then None else Some r
+
 -- bytes without a newline behind the last line are a fault
 abbrev pub ended : List Entry → ℕ → Text → Result (List Entry) LogFault
 ended es at [] = Ok es
 ended es at (b ∷ bs) = Err (LogSyntax at)
 
 -- the entries to the end, after those that were read
-abbrev pub entries_from : SetupView → List Entry → ℕ → List Text → Text → Result (List Entry) LogFault
-entries_from s es at [] rest = ended es at rest
-entries_from s es at (line ∷ lines) rest = found_at at (entry_in line) >>= λ e. if may_follow s es e then entries_from s (es ++ e ∷ []) (next at) lines rest else Err (LogLimit at)
+abbrev pub entries_from : Version → SetupView → List Entry → ℕ → List Text → Text → Result (List Entry) LogFault
+entries_from w s es at [] rest = ended es at rest
+entries_from w s es at (line ∷ lines) rest =
+    found_at at (option_and_then (apart w es) (run_in w line)) >>= λ r. if may_all_follow s es (entries_of r) then entries_from w s (es ++ entries_of r) (next at) lines rest else Err (LogLimit at)
 
 -- all lines below the head are entries
-abbrev pub entries_at : SetupView → Lines → Result (List Entry) LogFault
-entries_at s l = entries_from s [] l.at l.whole l.rest
+abbrev pub entries_at : Version → SetupView → Lines → Result (List Entry) LogFault
+entries_at w s l = entries_from w s [] l.at l.whole l.rest
 
 -- ---- the whole
 
@@ -162,13 +186,13 @@ entries_at s l = entries_from s [] l.at l.whole l.rest
 unfoldable pub log_at : Lines → Result LogView LogFault
 log_at l = do
   first ← first_line l
-  slots ← numbered (codes "slots ") 1 16 first
+  slots ← numbered (codes "slots ") 1 16 first.1
   cells ← numbered (codes "cells ") 1024 131072 slots.1
   limit ← numbered (codes "limit ") 1 67108864 cells.1
   profile ← profile_at limit.1
   size ← numbered (codes "input ") 0 1048576 profile.1
   input ← input_at size.0 size.1
-  entries ← entries_at (record { slots = slots.0; cells = cells.0; limit = limit.0; input = input.0 }) input.1
+  entries ← entries_at first.0 (record { slots = slots.0; cells = cells.0; limit = limit.0; input = input.0 }) input.1
   Ok (record { setup = record { slots = slots.0; cells = cells.0; limit = limit.0; input = input.0 }; profile = profile.0; entries = entries })
 
 -- ---- counting
@@ -177,3 +201,9 @@ log_at l = do
 pub record AreCounted (others endings : List ℕ) (es : List Entry) : Type 0 where
   pub of_others : (thread : ℕ) → thread < 16 → slice_index others thread ≡ count_by (is_other_of thread) es
   pub of_endings : (thread : ℕ) → thread < 16 → slice_index endings thread ≡ count_by (is_ending_of thread) es
+
+-- whether these may follow those before, and then they are put after them and counted
+pub record Pushes (s : SetupView) (before these : List Entry) (may : Bool) (after : List Entry) (others endings : List ℕ) : Type 0 where
+  pub told : may ≡ may_all_follow s before these
+  pub put : IsTrue may → after ≡ before ++ these
+  pub counted : IsTrue may → AreCounted others endings after

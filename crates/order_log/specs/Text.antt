@@ -1,5 +1,5 @@
--- The one text of a log: lines, each ended by a newline byte.
-use Rattle.std.specs.Prelude.{ℕ, ◌+◌, ◌/◌, ◌%◌, ◌==◌, nat_lt, if◌then◌else◌, List, [], ◌∷◌, ◌++◌, length, map, codes}
+-- The one text of a log in either version: lines, each ended by a newline byte.
+use Rattle.std.specs.Prelude.{◌≡◌, ℕ, suc, ◌+◌, ◌/◌, ◌%◌, Bool, true, false, ◌&&◌, ◌==◌, nat_lt, if◌then◌else◌, List, [], ◌∷◌, ◌++◌, length, map, codes}
 use Rattle.std.specs.List.{flat_map}
 use Rattle.std.specs.Int.Digits.{digits_of}
 use Rattle.profiles.specs.declared.profile.Profile.{Profile}
@@ -8,6 +8,10 @@ use Rattle.profiles.specs.Profile.{Text, Pair}
 use Rattle.sync_objects.specs.declared.entry.Entry.{Entry}
 use Rattle.sync_objects.specs.declared.object.ObjId.{ObjId}
 use Rattle.sync_objects.specs.declared.object.ObjId.TheVariants as object
+use Rattle.sync_objects.specs.declared.operation.OpName.{OpName}
+use Rattle.sync_objects.specs.declared.operation.OpName.TheVariants as op
+use Rattle.order_log.specs.declared.version.Version.{Version}
+use Rattle.order_log.specs.declared.version.Version.TheVariants as version
 use Rattle.order_log.specs.Log.{LogView}
 use Rattle.order_log.specs.Operations.{op_text}
 
@@ -61,14 +65,79 @@ head_lines v =
     hex_text v.setup.input ∷
     []
 
--- the format and its version stand first, the entries last
-abbrev pub log_lines : LogView → List Text
-log_lines v = codes "chimera log 1" ∷ head_lines v ++ map entry_line v.entries
+-- ---- entries that share a line
+
+-- two takes, or two gives
+abbrev pub are_alike : OpName → OpName → Bool
+are_alike op.Take op.Take = true
+are_alike op.Give op.Give = true
+are_alike _ _ = false
+
+-- the second is the next stripe of the first one's lock
+abbrev pub is_next : ObjId → ObjId → Bool
+is_next (object.Weak lock stripe) (object.Weak other next) = lock == other && next == stripe + 1
+is_next _ _ = false
+
+-- after the first, one thread takes or gives the next stripe at the same count
+abbrev pub continues : Entry → Entry → Bool
+continues e f = e.thread == f.thread && (e.count == f.count && (are_alike e.op f.op && is_next e.obj f.obj))
+
+-- the second stands in the first one's line. In version 1 each entry has a line of its own
+abbrev pub shares : Version → Entry → Entry → Bool
+shares version.One e f = false
+shares version.Two e f = continues e f
+
+-- the entries of one line: the first, and how many more there are
+pub record Run : Type 0 where
+  pub first : Entry
+  pub more : ℕ
+
+-- an entry joins the line after it, or has its own
+abbrev pub onto_run : Version → Entry → List Run → List Run
+onto_run w e [] = record { first = e; more = 0 } ∷ []
+onto_run w e (r ∷ rs) = if shares w e r.first then record { first = e; more = suc r.more } ∷ rs else record { first = e; more = 0 } ∷ r ∷ rs
+
+-- the entries line by line, in each line all that share it
+abbrev pub runs_of : Version → List Entry → List Run
+runs_of w [] = []
+runs_of w (e ∷ es) = onto_run w e (runs_of w es)
+
+-- the stripe of an object that has one
+abbrev pub stripe_of : ObjId → ℕ
+stripe_of (object.Weak lock stripe) = stripe
+stripe_of _ = 0
+
+-- the last stripe of more than one
+abbrev pub last_text : Run → Text
+last_text r = if r.more == 0 then [] else codes "-" ++ number_text (stripe_of r.first.obj + r.more)
+
+-- such as `3 17 take w4.0-2`, which stands for the takes of three stripes
+abbrev pub run_line : Run → Text
+run_line r = entry_line r.first ++ last_text r
+
+-- ---- the whole
+
+-- the format and its version
+abbrev pub version_line : Version → Text
+version_line version.One = codes "chimera log 1"
+version_line version.Two = codes "chimera log 2"
+
+-- the version stands first, the entries last
+abbrev pub log_lines : Version → LogView → List Text
+log_lines w v = version_line w ∷ head_lines v ++ map run_line (runs_of w v.entries)
 
 -- the lines, each with its newline
 abbrev pub text_of : List Text → Text
 text_of lines = flat_map (λ line. line ++ 10 ∷ []) lines
 
--- the bytes of the log's file, the only ones that mean it
+-- the bytes that mean the log in this version, the only ones
+abbrev pub text_in : Version → LogView → Text
+text_in w v = text_of (log_lines w v)
+
+-- the bytes of the log's file, as it is written
 abbrev pub log_text : LogView → Text
-log_text v = text_of (log_lines v)
+log_text v = text_in version.Two v
+
+-- the bytes are the log's text in one of the versions
+abbrev pub IsTextOf : Text → LogView → Type 0
+IsTextOf bytes v = (w : Version) × (bytes ≡ text_in w v)

@@ -1,17 +1,21 @@
 // The entries of a log, and their limits.
 
-ghost use Rattle.std.specs.Prelude.{◌≡◌, ◌<◌, ◌+◌, ◌∷◌, ◌++◌, [], List, IsTrue, length, nat_lt, slice_index, slice_set};
+ghost use Rattle.std.specs.Prelude.{◌≡◌, ◌<◌, ◌+◌, ◌∷◌, ◌++◌, [], true, List, IsTrue, IfOk, Ok, length, nat_lt, slice_index, slice_set};
 ghost use Rattle.sync_objects.specs.declared.entry.Entry.{Entry};
 ghost use Rattle.sync_objects.specs.Setup.{IsWithinLimits};
+ghost use Rattle.order_log.specs.Line as line;
 ghost use Rattle.order_log.specs.Log.{last_count};
 ghost use Rattle.order_log.specs.Recogniser as recogniser;
-ghost use Rattle.order_log.specs.Recogniser.{AreCounted, Gives, left};
+ghost use Rattle.order_log.specs.Recogniser.{AreCounted, Gives, Pushes, left};
+ghost use Rattle.order_log.specs.Text.{Run, stripe_of};
 
-use crate::entry::entry_in;
+use crate::entry::{LineRun, run_in, stripe_of};
 use crate::fault::LogFault;
 use crate::reader::{Reader, next_line};
+use crate::run::shares;
+use crate::version::Version;
 use rr_base::List;
-use std::alloc::Global;
+use std::alloc::{AllocError, Global};
 use sync_objects::{Entry, ObjId, OpName, Setup};
 
 /// How many entries of either sort each thread has.
@@ -81,11 +85,88 @@ fn may_follow(setup: &Setup, counts: &mut Counts, entry: &Entry) -> bool
     }
 }
 
-/// The entries of a log, to the end of the text.
-pub fn entries(alloc: Global, reader: &mut Reader, setup: &Setup) -> Result<List<Entry>, LogFault>
+// Whether the entry belongs into the last line of those before.
+fn joins(version: Version, before: &[Entry], entry: &Entry) -> bool
+    ensures { result ≡ recogniser.joins version before.now entry.now }
+{
+    match before.last() {
+        None => false,
+        Some(last) => shares(version, last, entry),
+    }
+}
+
+// The same entry of the next stripe.
+fn next_entry(entry: &Entry) -> Entry
+    requires { stripe_of entry.now.obj < 255 }
+    ensures { result ≡ line.next_entry entry.now }
+{
+    let obj = match entry.obj {
+        ObjId::Weak { lock, stripe } => ObjId::Weak {
+            lock,
+            stripe: stripe + 1,
+        },
+        obj => obj,
+    };
+    Entry { obj, ..*entry }
+}
+
+// Puts an entry after those before, where it may follow them. Tells whether it may.
+fn push_entry(
+    setup: &Setup,
+    counts: &mut Counts,
+    found: &mut List<Entry>,
+    entry: Entry,
+) -> Result<bool, AllocError>
+    ensures told { AreCounted counts.old.others counts.old.endings found.old
+        → IfOk result (λ may. may ≡ recogniser.may_follow setup.now found.old entry) }
+    ensures put { result ≡ Ok true → found.new ≡ found.old ++ entry ∷ [] }
+    ensures counted { AreCounted counts.old.others counts.old.endings found.old → result ≡ Ok true
+        → AreCounted counts.new.others counts.new.endings found.new }
+{
+    if !may_follow(setup, counts, &entry) {
+        return Ok(false);
+    }
+    found.push(entry)?;
+    Ok(true)
+}
+
+// Puts the entries of a line after those before, up to the first that may not follow. Tells whether all may.
+fn push_run(
+    setup: &Setup,
+    counts: &mut Counts,
+    found: &mut List<Entry>,
+    run: LineRun,
+) -> Result<bool, AllocError>
+    requires { IsWithinLimits setup.now }
+    ensures { (r : Run) → line.IsRun r → run ≡ line.clipped_run r
+        → AreCounted counts.old.others counts.old.endings found.old
+        → IfOk result (λ may. Pushes setup.now found.old (line.entries_of r) may found.new counts.new.others counts.new.endings) }
+{
+    let mut entry = run.first;
+    let mut left = run.last.saturating_sub(stripe_of(entry.obj));
+    if !push_entry(setup, counts, found, entry)? {
+        return Ok(false);
+    }
+    while left > 0 {
+        entry = next_entry(&entry);
+        if !push_entry(setup, counts, found, entry)? {
+            return Ok(false);
+        }
+        left -= 1;
+    }
+    Ok(true)
+}
+
+/// The entries of a log of this version, to the end of the text.
+pub fn entries(
+    alloc: Global,
+    reader: &mut Reader,
+    version: Version,
+    setup: &Setup,
+) -> Result<List<Entry>, LogFault>
     requires { IsWithinLimits setup.now }
     ensures { Gives (λ es. es) result
-        (recogniser.entries_at setup.now (left reader.old)) }
+        (recogniser.entries_at version setup.now (left reader.old)) }
 {
     let mut found = List::new(alloc);
     let mut counts = Counts {
@@ -94,13 +175,15 @@ pub fn entries(alloc: Global, reader: &mut Reader, setup: &Setup) -> Result<List
     };
     while !reader.bytes.is_empty() {
         let at = reader.line;
-        let Some(entry) = entry_in(next_line(reader)?) else {
+        let Some(run) = run_in(version, next_line(reader)?) else {
             return Err(LogFault::LogSyntax(at));
         };
-        if !may_follow(setup, &mut counts, &entry) {
+        if joins(version, found.as_slice(), &run.first) {
+            return Err(LogFault::LogSyntax(at));
+        }
+        if !push_run(setup, &mut counts, &mut found, run)? {
             return Err(LogFault::LogLimit(at));
         }
-        found.push(entry)?;
     }
     Ok(found)
 }

@@ -1,11 +1,20 @@
-// The entry that a line is.
+// The entries that a line is.
 
-ghost use Rattle.std.specs.Prelude.{◌≡◌, min, option_map};
+ghost use Rattle.std.specs.Prelude.{◌≡◌, ℕ, Some, min, nat_lt, option_map};
 ghost use Rattle.order_log.specs.Line as line;
+ghost use Rattle.order_log.specs.Text.{stripe_of};
 
 use crate::operation::op_in;
 use crate::part::{cut, number};
+use crate::version::Version;
 use sync_objects::{Entry, ObjId, OpName, fits};
+
+/// The entries of a line: the first, and the last stripe, up to which each stripe has one.
+#[derive(Clone, Copy)]
+pub struct LineRun {
+    pub first: Entry,
+    pub last: u8,
+}
 
 fn as_u8(n: u64) -> u8
     ensures { result ≡ min n 255 }
@@ -60,9 +69,9 @@ fn is_fitting(op: OpName, obj: ObjId) -> bool
     fits(op, obj)
 }
 
-/// The entry that a line is. The greatest number of each type stands for all that are above.
+// The entry that a text is. The greatest number of each type stands for all that are above.
 #[tactic(auto, unfolding(crate::specs::Line::entry_in))]
-pub fn entry_in(text: &[u8]) -> Option<Entry>
+fn entry_in(text: &[u8]) -> Option<Entry>
     ensures { result ≡ option_map line.clipped (line.entry_in text.now) }
 {
     let (thread, rest) = cut(text, b' ')?;
@@ -81,4 +90,69 @@ pub fn entry_in(text: &[u8]) -> Option<Entry>
         op,
         obj,
     })
+}
+
+/// The stripe of an object that has one.
+pub fn stripe_of(obj: ObjId) -> u8
+    ensures { result ≡ stripe_of obj }
+{
+    match obj {
+        ObjId::Weak { stripe, .. } => stripe,
+        _ => 0,
+    }
+}
+
+fn may_share(op: OpName) -> bool
+    ensures { result ≡ line.may_share op }
+{
+    matches!(op, OpName::Take | OpName::Give)
+}
+
+// Whether the first of two numbers in digits is the lesser, however long they are.
+fn is_less(first: &[u8], second: &[u8]) -> bool
+    ensures { (m n : ℕ) → line.number_in first.now ≡ Some m → line.number_in second.now ≡ Some n
+        → result ≡ nat_lt m n }
+{
+    let by_length = first.len().cmp(&second.len());
+    by_length.then(first.cmp(&second)).is_lt()
+}
+
+fn alone(first: Entry) -> LineRun
+    ensures { result ≡ record { first = first; last = stripe_of first.obj } }
+{
+    LineRun {
+        first,
+        last: stripe_of(first.obj),
+    }
+}
+
+// From the stripe of the entry `front` to the stripe `last`.
+#[tactic(auto, unfolding(crate::specs::Line::range_in))]
+fn range_in(front: &[u8], last: &[u8]) -> Option<LineRun>
+    ensures { result ≡ option_map line.clipped_run (line.range_in (front.now, last.now)) }
+{
+    let first = entry_in(front)?;
+    let end = as_u8(number(last)?);
+    if !may_share(first.op) {
+        return None;
+    }
+    let (_, stripe) = cut(front, b'.')?;
+    if !is_less(stripe, last) {
+        return None;
+    }
+    Some(LineRun { first, last: end })
+}
+
+/// The entries that a line is. The greatest number of each type stands for all that are above.
+pub fn run_in(version: Version, text: &[u8]) -> Option<LineRun>
+    ensures { result ≡ option_map line.clipped_run (line.run_in version text.now) }
+{
+    let parts = match version {
+        Version::One => None,
+        Version::Two => cut(text, b'-'),
+    };
+    match parts {
+        Some((front, last)) => range_in(front, last),
+        None => Some(alone(entry_in(text)?)),
+    }
 }

@@ -10,21 +10,34 @@ use crate::hex::bytes_in;
 use crate::pairs::function_pairs;
 use crate::part::{after_word, number};
 use crate::reader::{Reader, next_line};
+use crate::version::Version;
 use profiles::Profile;
 use rr_base::Bytes;
 use std::alloc::Global;
 
-/// The first line, which tells what the text is.
+fn version_in(line: &[u8]) -> Option<Version>
+    ensures { result ≡ recogniser.version_in line.now }
+{
+    if line == Version::One.line() {
+        Some(Version::One)
+    } else if line == Version::Two.line() {
+        Some(Version::Two)
+    } else {
+        None
+    }
+}
+
+/// The first line, which tells what the text is, and in which version.
 #[tactic(auto, unfolding(crate::specs::Recogniser::first_line))]
-pub fn first_line(reader: &mut Reader) -> Result<(), LogFault>
-    ensures { Gives (λ _. left reader.new) result
+pub fn first_line(reader: &mut Reader) -> Result<Version, LogFault>
+    ensures { Gives (λ w. (w, left reader.new)) result
         (recogniser.first_line (left reader.old)) }
 {
     let at = reader.line;
-    if next_line(reader)? != b"chimera log 1".as_slice() {
-        return Err(LogFault::LogSyntax(at));
+    match version_in(next_line(reader)?) {
+        Some(version) => Ok(version),
+        None => Err(LogFault::LogSyntax(at)),
     }
-    Ok(())
 }
 
 /// The number after a word, alone in its line, where it is from `low` to `high`.

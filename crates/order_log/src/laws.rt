@@ -1,8 +1,9 @@
 ghost use Rattle.std.specs.Prelude.{◌≡◌};
+ghost use Rattle.profiles.specs.Profile.{Text};
 ghost use Rattle.order_log.specs.Log.{LogView, IsLog};
-ghost use Rattle.order_log.specs.Text.{log_text};
+ghost use Rattle.order_log.specs.Text.{IsTextOf};
 
-/// No two logs have one text, whatever their numbers are.
+/// No two logs have one text, whatever their numbers and the versions are.
 pub fn law_one_text()
-    ensures { (v w : LogView) → IsLog v → IsLog w → log_text v ≡ log_text w → v ≡ w }
+    ensures { (bytes : Text) (v w : LogView) → IsLog v → IsLog w → IsTextOf bytes v → IsTextOf bytes w → v ≡ w }
 {}

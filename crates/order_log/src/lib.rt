@@ -1,5 +1,6 @@
 //! The text of a log, both ways. It stands on `rr_base`, `sync_objects` and `profiles`. What is written of a log is
-//! read back as that log, nothing else is read, and each refusal names the first line that spoils the text.
+//! read back as that log, nothing else is read, and each refusal names the first line that spoils the text. A text has version 1
+//! or 2: both are read, and say the same entries.
 #![tactic(auto)]
 
 mod body;
@@ -14,6 +15,8 @@ mod pairs;
 mod part;
 mod read;
 mod reader;
+mod run;
+mod version;
 mod write;
 
 pub use fault::LogFault;
@@ -21,4 +24,4 @@ pub use laws::law_one_text;
 pub use log::Log;
 pub use part::is_name;
 pub use read::read_log;
-pub use write::write_log;
+pub use write::{write_log, write_log_1};

@@ -5,7 +5,7 @@ ghost use Rattle.order_log.specs.declared.fault.LogFault.{LogFault};
 ghost use Rattle.order_log.specs.Log.{LogView, IsLog, KeepsLimits};
 ghost use Rattle.order_log.specs.Reading.{IsAnswer, UnlessMemory};
 ghost use Rattle.order_log.specs.Recogniser.{Gives, lines_in, log_at};
-ghost use Rattle.order_log.specs.Text.{log_text};
+ghost use Rattle.order_log.specs.Text.{IsTextOf};
 
 use crate::body::entries;
 use crate::fault::LogFault;
@@ -21,7 +21,7 @@ fn log_in(alloc: Global, bytes: &[u8]) -> Result<Log, LogFault>
     ensures { Gives (λ v. v) result (log_at (lines_in 1 bytes.now)) }
 {
     let mut reader = Reader { bytes, line: 1 };
-    first_line(&mut reader)?;
+    let version = first_line(&mut reader)?;
     let slots = numbered(&mut reader, b"slots ", 1, 16)?;
     let cells = numbered(&mut reader, b"cells ", 1024, 131_072)?;
     let limit = numbered(&mut reader, b"limit ", 1, 67_108_864)?;
@@ -29,11 +29,11 @@ fn log_in(alloc: Global, bytes: &[u8]) -> Result<Log, LogFault>
     let size = numbered(&mut reader, b"input ", 0, 1_048_576)?;
     let input = input(alloc, &mut reader, size)?;
     let setup = Setup::new(slots as u8, cells, limit, input);
-    let entries = entries(alloc, &mut reader, &setup)?;
+    let entries = entries(alloc, &mut reader, version, &setup)?;
     Ok(Log::new(setup, profile, entries))
 }
 
-/// The log whose text the bytes are. A refusal tells the first line that spoils them: `LogSyntax` where no
+/// The log whose text the bytes are, in version 1 or 2. A refusal tells the first line that spoils them: `LogSyntax` where no
 /// log's text begins with the lines up to it, or where it is missing or unfinished, and `LogLimit` where
 /// some log's does, but none within the limits.
 pub fn read_log(alloc: Global, bytes: &[u8]) -> Result<Log, LogFault>
@@ -44,8 +44,8 @@ pub fn read_log(alloc: Global, bytes: &[u8]) -> Result<Log, LogFault>
     ensures only { (other : Result LogView LogFault) → IsAnswer bytes.now other
         → UnlessMemory result (result ≡ other) }
 
-    // The text of a log is read as that log.
-    ensures again { (v : LogView) → IsLog v → KeepsLimits v → bytes.now ≡ log_text v
+    // A log's text in either version is read as that log.
+    ensures again { (v : LogView) → IsLog v → KeepsLimits v → IsTextOf bytes.now v
         → UnlessMemory result (result ≡ Ok v) }
 {
     log_in(alloc, bytes)

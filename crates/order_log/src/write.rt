@@ -1,11 +1,15 @@
 // Writing a whole log.
 
-ghost use Rattle.std.specs.Prelude.{◌≡◌, ◌++◌, ◌∷◌, [], ◌<◌, map, OnOk, IfOk};
+ghost use Rattle.std.specs.Prelude.{◌≡◌, ◌++◌, ◌∷◌, [], ◌<◌, ◌≤◌, length, map, OnOk, IfOk};
 ghost use Rattle.profiles.specs.declared.profile.Profile.TheVariants as profile;
-ghost use Rattle.order_log.specs.Text.{number_text, hex_digit, hex_text, object_text, entry_line, pair_line, profile_lines, text_of, log_text};
+ghost use Rattle.order_log.specs.declared.version.Version.TheVariants as versions;
+ghost use Rattle.order_log.specs.Text.{number_text, hex_digit, hex_text, object_text, entry_line, pair_line, profile_lines, run_line, runs_of, text_of, text_in, log_text};
 
+use crate::entry::stripe_of;
 use crate::log::Log;
 use crate::operation::op_text;
+use crate::run::sharing;
+use crate::version::Version;
 use profiles::Profile;
 use rr_base::{Bytes, List};
 use std::alloc::{AllocError, Global};
@@ -45,23 +49,39 @@ fn push_object(out: &mut Bytes, obj: ObjId) -> Result<(), AllocError>
     }
 }
 
-fn push_entry_line(out: &mut Bytes, entry: &Entry) -> Result<(), AllocError>
-    ensures { OnOk result (out.new ≡ out.old ++ (entry_line entry.now ++ 10 ∷ [])) }
+fn push_entry(out: &mut Bytes, entry: &Entry) -> Result<(), AllocError>
+    ensures { OnOk result (out.new ≡ out.old ++ entry_line entry.now) }
 {
     push_numbered(out, b"", u64::from(entry.thread))?;
     push_numbered(out, b" ", u64::from(entry.count))?;
     out.push(b' ')?;
     out.extend_from_slice(op_text(entry.op))?;
     out.push(b' ')?;
-    push_object(out, entry.obj)?;
+    push_object(out, entry.obj)
+}
+
+// The line of an entry and so many more, each of the next stripe.
+fn push_run_line(out: &mut Bytes, first: &Entry, more: usize) -> Result<(), AllocError>
+    requires { more ≤ 16777312 }
+    ensures { OnOk result (out.new ≡ out.old ++ (run_line (record { first = first.now; more = more }) ++ 10 ∷ [])) }
+{
+    push_entry(out, first)?;
+    if more > 0 {
+        let last = u64::from(stripe_of(first.obj)) + more as u64;
+        push_numbered(out, b"-", last)?;
+    }
     out.push(b'\n')
 }
 
-fn push_entry_lines(out: &mut Bytes, entries: &[Entry]) -> Result<(), AllocError>
-    ensures { OnOk result (out.new ≡ out.old ++ text_of (map entry_line entries.now)) }
+fn push_entry_lines(out: &mut Bytes, version: Version, entries: &[Entry]) -> Result<(), AllocError>
+    requires { length entries.now ≤ 16777312 }
+    ensures { OnOk result (out.new ≡ out.old ++ text_of (map run_line (runs_of version entries.now))) }
 {
-    for entry in entries {
-        push_entry_line(out, entry)?;
+    let mut rest = entries;
+    while let [first, after @ ..] = rest {
+        let more = sharing(version, first, after);
+        push_run_line(out, first, more)?;
+        rest = &after[more..];
     }
     Ok(())
 }
@@ -112,13 +132,14 @@ fn push_hex(out: &mut Bytes, bytes: &[u8]) -> Result<(), AllocError>
     Ok(())
 }
 
-/// The text of a log.
-pub fn write_log(alloc: Global, log: &Log) -> Result<Bytes, AllocError>
-    ensures { IfOk result (λ text. text ≡ log_text log.now) }
+// The text of a log in this version.
+fn write_in(alloc: Global, version: Version, log: &Log) -> Result<Bytes, AllocError>
+    ensures { IfOk result (λ text. text ≡ text_in version log.now) }
 {
     let setup = log.setup();
     let mut out = List::new(alloc);
-    out.extend_from_slice(b"chimera log 1\n")?;
+    out.extend_from_slice(version.line())?;
+    out.push(b'\n')?;
     push_number_line(&mut out, b"slots ", u64::from(setup.slots()))?;
     push_number_line(&mut out, b"cells ", u64::from(setup.cells()))?;
     push_number_line(&mut out, b"limit ", u64::from(setup.limit()))?;
@@ -126,6 +147,20 @@ pub fn write_log(alloc: Global, log: &Log) -> Result<Bytes, AllocError>
     push_number_line(&mut out, b"input ", setup.input().len() as u64)?;
     push_hex(&mut out, setup.input().as_slice())?;
     out.push(b'\n')?;
-    push_entry_lines(&mut out, log.entries().as_slice())?;
+    push_entry_lines(&mut out, version, log.entries().as_slice())?;
     Ok(out)
+}
+
+/// The text of a log.
+pub fn write_log(alloc: Global, log: &Log) -> Result<Bytes, AllocError>
+    ensures { IfOk result (λ text. text ≡ log_text log.now) }
+{
+    write_in(alloc, Version::Two, log)
+}
+
+/// The text of a log in version 1, for those who read no other.
+pub fn write_log_1(alloc: Global, log: &Log) -> Result<Bytes, AllocError>
+    ensures { IfOk result (λ text. text ≡ text_in versions.One log.now) }
+{
+    write_in(alloc, Version::One, log)
 }

@@ -1,8 +1,11 @@
-use order_log::{LogFault, is_name, read_log, write_log};
+use order_log::{LogFault, is_name, read_log, write_log, write_log_1};
 use std::alloc::{AllocError, Global};
 use std::test::Fail;
 
 const START: &[u8] = b"chimera log 1\nslots 8\ncells 16384\nlimit 16777216\n";
+
+const START_2: &[u8] =
+    b"chimera log 2\nslots 8\ncells 16384\nlimit 16777216\nprofile all\ninput 0\n\n";
 
 const BANK: &[u8] =
     b"chimera log 1\nslots 8\ncells 16384\nlimit 16777216\nprofile all\ninput 0\n\n0 1 draw T\n0 4 start s1\n0 5 draw T\n0 8 start s2\n1 0 begin s1\n1 3 lock m16\n1 8 unlock m16\n1 10 end s1\n0 10 join s1\n1 11 leave T\n2 0 begin s2\n2 3 lock m16\n2 8 unlock m16\n2 10 end s2\n0 12 join s2\n0 13 lock m16\n0 15 print O\n0 16 unlock m16\n0 17 halt H\n2 11 leave T\n3 0 close s3\n4 0 close s4\n5 0 close s5\n6 0 close s6\n7 0 close s7\n";
@@ -126,12 +129,13 @@ static RESTS: [(&[u8], Answer); 45] = [
 ];
 
 // Texts that are refused in the start of a log, with what reading answers.
-static HEADS: [(&[u8], Answer); 12] = [
+static HEADS: [(&[u8], Answer); 13] = [
     (b"", Answer::Syntax(1)),
     (b"\n", Answer::Syntax(1)),
     (b"chimera log 1", Answer::Syntax(1)),
     (b"chimera log 1\r\n", Answer::Syntax(1)),
-    (b"chimera log 2\nslots 8\n", Answer::Syntax(1)),
+    (b"chimera log 3\nslots 8\n", Answer::Syntax(1)),
+    (b"chimera log 2\nslots 8\n", Answer::Syntax(3)),
     (b"chimera log 1\n", Answer::Syntax(2)),
     (b"chimera log 1\nslots 17\nnothing\n", Answer::Limit(2)),
     (b"chimera log 1\nslots 0\n", Answer::Limit(2)),
@@ -144,6 +148,40 @@ static HEADS: [(&[u8], Answer); 12] = [
     ),
 ];
 
+// Entries of a log of version 2, of which the first stands in line 8, with what reading answers.
+static LINES: [(&[u8], Answer); 22] = [
+    (b"1 3 take w0.0-3\n1 12 give w0.0-3\n", Answer::Read(8)),
+    (b"1 3 take w0.0\n1 3 take w0.1\n", Answer::Syntax(9)),
+    (b"1 3 take w0.0-1\n1 3 take w0.2-3\n", Answer::Syntax(9)),
+    (b"1 3 take w0.3-3\n", Answer::Syntax(8)),
+    (b"1 3 take w0.300-280\n", Answer::Syntax(8)),
+    (b"1 3 take w0.0-03\n", Answer::Syntax(8)),
+    (b"1 3 take w0.0-3-5\n", Answer::Syntax(8)),
+    (b"1 3 take w0.0-8\n", Answer::Limit(8)),
+    (b"9 3 take w0.0-1\n", Answer::Limit(8)),
+    // numbers that no type holds
+    (b"1 3 take w0.0-99999999999999999999999\n", Answer::Limit(8)),
+    (
+        b"1 3 take w0.99999999999999999999998-99999999999999999999999\n",
+        Answer::Limit(8),
+    ),
+    (
+        b"1 3 take w0.99999999999999999999999-99999999999999999999998\n",
+        Answer::Syntax(8),
+    ),
+    // what shares no line
+    (b"1 3 take w0.0-1\n1 3 take w0.3\n", Answer::Read(3)),
+    (b"1 3 take w0.0-1\n1 3 take w1.2\n", Answer::Read(3)),
+    (b"1 3 take w0.0\n1 4 take w0.1\n", Answer::Read(2)),
+    (b"1 3 take w0.0\n2 3 take w0.1\n", Answer::Read(2)),
+    (b"1 3 take w0.0\n1 3 give w0.1\n", Answer::Read(2)),
+    (b"1 3 take w0.1\n1 3 take w0.0\n", Answer::Read(2)),
+    (b"1 3 retake w0.0\n1 3 retake w0.1\n", Answer::Read(2)),
+    (b"1 3 retake w0.0-1\n", Answer::Syntax(8)),
+    (b"1 3 revoke w0.0-1\n", Answer::Syntax(8)),
+    (b"1 3 lock m0-1\n", Answer::Syntax(8)),
+];
+
 fn answer_to(alloc: Global, bytes: &[u8]) -> Answer {
     match read_log(alloc, bytes) {
         Ok(log) => Answer::Read(log.entries().len()),
@@ -153,10 +191,14 @@ fn answer_to(alloc: Global, bytes: &[u8]) -> Answer {
     }
 }
 
-fn past_start(alloc: Global, rest: &[u8]) -> Result<Vec<u8>, AllocError> {
-    let mut text = Vec::from_slice(alloc, START)?;
+fn joined(alloc: Global, start: &[u8], rest: &[u8]) -> Result<Vec<u8>, AllocError> {
+    let mut text = Vec::from_slice(alloc, start)?;
     text.extend_from_slice(rest)?;
     Ok(text)
+}
+
+fn past_start(alloc: Global, rest: &[u8]) -> Result<Vec<u8>, AllocError> {
+    joined(alloc, START, rest)
 }
 
 #[test]
@@ -164,6 +206,15 @@ fn answers_each_rest(rt: HostRuntime) -> Result<(), Fail> {
     for (rest, want) in RESTS {
         let text = past_start(rt.alloc(), rest)?;
         assert_eq!(rt; answer_to(rt.alloc(), text.as_slice()), want, "{rest:?}");
+    }
+    Ok(())
+}
+
+#[test]
+fn answers_each_line(rt: HostRuntime) -> Result<(), Fail> {
+    for (lines, want) in LINES {
+        let text = joined(rt.alloc(), START_2, lines)?;
+        assert_eq!(rt; answer_to(rt.alloc(), text.as_slice()), want, "{lines:?}");
     }
     Ok(())
 }
@@ -210,7 +261,26 @@ fn writes_what_it_reads(rt: HostRuntime) -> Result<(), Fail> {
         log.setup().input().as_slice(),
         b"\x00\x09\x6a\xff\xe0".as_slice()
     );
-    assert_eq!(rt; write_log(rt.alloc(), &log)?.as_slice(), text.as_slice());
+    assert_eq!(rt; write_log_1(rt.alloc(), &log)?.as_slice(), text.as_slice());
+    Ok(())
+}
+
+const APART: &[u8] =
+    b"profile all\ninput 0\n\n1 3 take w0.0\n1 3 take w0.1\n1 3 take w0.2\n1 3 take w1.3\n1 3 draw T\n1 4 give w0.0\n1 4 give w0.1\n2 4 give w0.2\n";
+
+const SHARED: &[u8] =
+    b"1 3 take w0.0-2\n1 3 take w1.3\n1 3 draw T\n1 4 give w0.0-1\n2 4 give w0.2\n";
+
+/// The two versions of a log are read as one, and each is written again.
+#[test]
+fn writes_both_versions(rt: HostRuntime) -> Result<(), Fail> {
+    let apart = past_start(rt.alloc(), APART)?;
+    let shared = joined(rt.alloc(), START_2, SHARED)?;
+    for text in [&apart, &shared] {
+        let log = read_log(rt.alloc(), text.as_slice())?;
+        assert_eq!(rt; write_log(rt.alloc(), &log)?.as_slice(), shared.as_slice());
+        assert_eq!(rt; write_log_1(rt.alloc(), &log)?.as_slice(), apart.as_slice());
+    }
     Ok(())
 }
 

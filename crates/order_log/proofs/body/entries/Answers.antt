@@ -1,30 +1,62 @@
-use Rattle.std.proofs.Common.{List, sym, subst, ◌∙◌}
+use Rattle.std.proofs.Common.{List, sym, ap, subst, ◌∙◌}
+use Rattle.std.specs.List.{AllByRecursion}
 use Rattle.std.proofs.lemmas.Result.{err_from_is_err_and}
 use Rattle.sync_objects.specs.declared.entry.Entry.{Entry}
-use Rattle.order_log.specs.Recogniser.{lines_in, entries_at}
-use Rattle.order_log.proofs.Counting.{Reads, entries_err, entries_limit, entries_more}
+use Rattle.order_log.specs.Log.{IsEntryWithin}
+use Rattle.order_log.specs.Line.{entries_of}
+use Rattle.order_log.specs.Recogniser.{lines_in, joins, entries_from}
+use Rattle.order_log.proofs.Counting.{found_in, entries_err, entries_joined, entries_limit, entries_more, more_within}
 use Rattle.order_log.proofs.body.entries.Goals as goal
 
 pub returns-in_err-next_line : goal.returns-in_err-next_line
 returns-in_err-next_line c =
     let p = err_from_is_err_and c.from_residual.result c.from_residual.ensures.1 in
-    let r = c.loop-counts.reader in
-    rw (p.1, p.2) (entries_err c.args.setup.now c.loop-counts.found r.line r.bytes.now c.in_err-next_line.field-0.0 _ (sym c.is_empty.ensures ∙ c.loop-counts-test.true) c.in_err-next_line.ensures c.loop-counts.invariant.goes_on)
+    let r = c.loop-version.reader in
+    rw (p.1, p.2) (entries_err c.args.version c.args.setup.now c.loop-version.found r.line r.bytes.now c.in_err-next_line.field-0.0 _ (sym c.is_empty.ensures ∙ c.loop-version-test.true) c.in_err-next_line.ensures c.loop-version.invariant.goes_on)
 
-pub returns-then-not-may_follow : goal.returns-then-not-may_follow
-returns-then-not-may_follow c =
-    let r = c.loop-counts.reader in
+pub returns-then-joins : goal.returns-then-joins
+returns-then-joins c =
+    let r = c.loop-version.reader in
     let after = lines_in c.next_line.new.reader.line c.next_line.new.reader.bytes.now in
-    let beyond = sym (c.may_follow.ensures.value c.loop-counts.found c.loop-counts.invariant.counted) ∙ c.if-not-may_follow.true in
-    entries_limit c.args.setup.now c.loop-counts.found (lines_in r.line r.bytes.now) after c.in_ok-next_line.field-0.now c.in-Some.entry _ c.requires c.in_ok-next_line.ensures c.in-Some.ensures beyond c.loop-counts.invariant.goes_on
+    let w = c.args.version in
+    let es = c.loop-version.found in
+    let line = c.in_ok-next_line.field-0.now in
+    let x = c.in-Some.run' in
+    let f = found_in w c.args.setup.now es line x c.requires c.loop-version.invariant.within c.in-Some.ensures in
+    let joined = sym (c.joins.ensures ∙ ap (λ (fs : List Entry). joins w fs x.first) c.as_slice.ensures) ∙ c.if-joins.true in
+    entries_joined w c.args.setup.now es (lines_in r.line r.bytes.now) after line x _ f c.in_ok-next_line.ensures joined c.loop-version.invariant.goes_on
 
-pub loop-counts-preserved : goal.loop-counts-preserved
-loop-counts-preserved c =
-    let r = c.loop-counts.reader in
+pub returns-then-not-branch : goal.returns-then-not-branch
+returns-then-not-branch c =
+    let r = c.loop-version.reader in
     let after = lines_in c.next_line.new.reader.line c.next_line.new.reader.bytes.now in
-    let es = c.loop-counts.found in
-    let counted = c.loop-counts.invariant.counted in
-    let fits = sym (c.may_follow.ensures.value es counted) ∙ c.if-not-may_follow.false in
-    let more = entries_more c.args.setup.now es (lines_in r.line r.bytes.now) after c.in_ok-next_line.field-0.now c.in-Some.entry _ c.requires c.in_ok-next_line.ensures c.in-Some.ensures fits c.loop-counts.invariant.goes_on in
-    subst (λ (fs : List Entry). Reads c.args.setup.now fs after c.may_follow.new.counts.others c.may_follow.new.counts.endings (entries_at c.args.setup.now (lines_in c.args.reader.now.line c.args.reader.now.bytes.now))) (sym c.in_ok-push.ensures.ok)
-    (record { goes_on = more; counted = c.may_follow.ensures.counted es counted c.if-not-may_follow.false })
+    let w = c.args.version in
+    let es = c.loop-version.found in
+    let line = c.in_ok-next_line.field-0.now in
+    let x = c.in-Some.run' in
+    let f = found_in w c.args.setup.now es line x c.requires c.loop-version.invariant.within c.in-Some.ensures in
+    let begins = sym (c.joins.ensures ∙ ap (λ (fs : List Entry). joins w fs x.first) c.as_slice.ensures) ∙ c.if-joins.false in
+    let pushed = c.in_ok-push_run.ensures f.run f.is_run f.shown c.loop-version.invariant.counted in
+    entries_limit w c.args.setup.now es (lines_in r.line r.bytes.now) after line x _ f c.in_ok-next_line.ensures begins (sym pushed.told ∙ c.if-not-branch.true) c.loop-version.invariant.goes_on
+
+pub loop-version-preserved : goal.loop-version-preserved
+loop-version-preserved c =
+    let r = c.loop-version.reader in
+    let after = lines_in c.next_line.new.reader.line c.next_line.new.reader.bytes.now in
+    let w = c.args.version in
+    let s = c.args.setup.now in
+    let es = c.loop-version.found in
+    let line = c.in_ok-next_line.field-0.now in
+    let x = c.in-Some.run' in
+    let f = found_in w s es line x c.requires c.loop-version.invariant.within c.in-Some.ensures in
+    let begins = sym (c.joins.ensures ∙ ap (λ (fs : List Entry). joins w fs x.first) c.as_slice.ensures) ∙ c.if-joins.false in
+    let pushed = c.in_ok-push_run.ensures f.run f.is_run f.shown c.loop-version.invariant.counted in
+    let all = c.if-not-branch.false in
+    let fits = sym pushed.told ∙ all in
+    let put = pushed.put all in
+    let more = entries_more w s es (lines_in r.line r.bytes.now) after line x _ f c.in_ok-next_line.ensures begins fits c.loop-version.invariant.goes_on in
+    record {
+      goes_on = ap (λ (fs : List Entry). entries_from w s fs after.at after.whole after.rest) put ∙ more;
+      counted = pushed.counted all;
+      within = subst (AllByRecursion (IsEntryWithin s)) (sym put) (more_within s es (entries_of f.run) c.loop-version.invariant.within fits);
+    }

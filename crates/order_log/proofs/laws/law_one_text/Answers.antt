@@ -2,4 +2,4 @@ use Rattle.order_log.proofs.Only.{same_text-same_log}
 use Rattle.order_log.proofs.laws.law_one_text.Goals as goal
 
 pub returns : goal.returns
-returns c v w log_v log_w e = same_text-same_log v w log_v log_w e
+returns c bytes v w log_v log_w e f = same_text-same_log bytes v w log_v log_w e f

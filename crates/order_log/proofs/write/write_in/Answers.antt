@@ -4,9 +4,9 @@ use Rattle.profiles.specs.Profile.{Text}
 use Rattle.profiles.specs.declared.profile.Profile.{Profile}
 use Rattle.sync_objects.specs.declared.entry.Entry.{Entry}
 use Rattle.sync_objects.specs.Setup.{SetupView}
-use Rattle.order_log.specs.Text.{number_text, hex_text, entry_line, profile_lines, text_of}
+use Rattle.order_log.specs.Text.{number_text, hex_text, profile_lines, runs_of, run_line, text_of}
 use Rattle.order_log.proofs.Written.{written}
-use Rattle.order_log.proofs.write.write_log.Goals as goal
+use Rattle.order_log.proofs.write.write_in.Goals as goal
 
 -- a text, and a line of a number after it
 abbrev following : Text → Text → ℕ → Text
@@ -21,14 +21,15 @@ returns c =
     let size = c.len.ensures ∙ ap length (c.input.ensures.value ∙ ap (λ (s : SetupView). s.input) setup) in
     let input = c.as_slice.ensures ∙ c.input-2.ensures.value ∙ ap (λ (s : SetupView). s.input) setup in
     let entries = c.as_slice-2.ensures ∙ c.entries.ensures.value in
-    written c.args.log.now c.extend_from_slice.new.self c.push_number_line.new.out c.push_number_line-2.new.out c.push_number_line-3.new.out c.push_profile_lines.new.out c.push_number_line-4.new.out c.push_hex.new.out c.push.new.self
-    c.push_entry_lines.new.out
-    (c.in_ok-extend_from_slice.ensures.ok ∙ ap (λ (t : Text). t ++ codes "chimera log 1\n") c.new-out.ensures)
-    (c.in_ok-push_number_line.ensures ∙ ap (following c.extend_from_slice.new.self (codes "slots ")) slots)
+    written c.args.version c.args.log.now c.extend_from_slice.new.self c.push.new.self c.push_number_line.new.out c.push_number_line-2.new.out c.push_number_line-3.new.out c.push_profile_lines.new.out c.push_number_line-4.new.out c.push_hex.new.out
+    c.push-2.new.self c.push_entry_lines.new.out
+    (c.in_ok-extend_from_slice.ensures.ok ∙ (λ i. c.new-out.ensures i ++ c.line.ensures i))
+    c.in_ok-push.ensures.ok
+    (c.in_ok-push_number_line.ensures ∙ ap (following c.push.new.self (codes "slots ")) slots)
     (c.in_ok-push_number_line-2.ensures ∙ ap (following c.push_number_line.new.out (codes "cells ")) cells)
     (c.in_ok-push_number_line-3.ensures ∙ ap (following c.push_number_line-2.new.out (codes "limit ")) limit)
     (c.in_ok-push_profile_lines.ensures ∙ ap (λ (p : Profile). c.push_number_line-3.new.out ++ text_of (profile_lines p)) c.profile.ensures.value)
     (c.in_ok-push_number_line-4.ensures ∙ ap (following c.push_profile_lines.new.out (codes "input ")) size)
     (c.in_ok-push_hex.ensures ∙ ap (λ (bs : List ℕ). c.push_number_line-4.new.out ++ hex_text bs) input)
-    c.in_ok-push.ensures.ok
-    (c.in_ok-push_entry_lines.ensures ∙ ap (λ (es : List Entry). c.push.new.self ++ text_of (map entry_line es)) entries)
+    c.in_ok-push-2.ensures.ok
+    (c.in_ok-push_entry_lines.ensures ∙ ap (λ (es : List Entry). c.push-2.new.self ++ text_of (map run_line (runs_of c.args.version es))) entries)
