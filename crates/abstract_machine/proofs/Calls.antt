@@ -22,7 +22,7 @@ use Rattle.abstract_machine.specs.declared.event.Onward.{Onward}
 use Rattle.abstract_machine.specs.declared.event.Onward.TheVariants as onward
 use Rattle.abstract_machine.specs.Values.{number, word}
 use Rattle.abstract_machine.specs.Library.{IsSoundCall}
-use Rattle.abstract_machine.specs.Library.{Caller, argument, slot_in, count_in, is_misuse, is_serial, at_cell, cell_of, printed_piece, piece_of, most_printed, print_due, create_due, is_joinable, join_thread_due, join_due, exit_due, mutex_due, try_due, wait_due_at, wait_due, barrier_count, barrier_init_due, barrier_wait_due, asks_for, library_due, create_onward, join_onward, checked_onward, wait_onward, barrier_wait_onward, library_onward}
+use Rattle.abstract_machine.specs.Library.{Caller, argument, slot_in, count_in, is_misuse, is_serial, at_cell, cell_of, printed_piece, piece_of, most_printed, print_due, create_due, is_joinable, join_thread_due, join_due, exit_due, mutex_due, try_due, wait_due_at, wait_due, barrier_count, barrier_init_due, barrier_wait_due, rwlock_due, asks_for, library_due, create_onward, join_onward, checked_onward, wait_onward, barrier_wait_onward, library_onward}
 
 -- what holds of both parts of a choice, or at each cell and of a trap, holds of what is due
 
@@ -180,6 +180,14 @@ mutex_goes w c o words zero kept answer a r n h q =
 mutex_goes w c o words (suc n) kept answer a r e h q =
     if_each (CallGoes w c words (suc n) kept answer) (is_misuse kept) (due.Trap trap.MutexMisuse) due.Quiet (λ misuse. tt) (q n)
 
+-- the same on a read-write lock
+rwlock_goes : (w : Caller) (c : LibraryCall) (o : Op) (words : List ℕ) (made : ℕ) (kept answer : ℤ) → ((cell : ℕ) → IsAsked o (object.Rw cell)) → (IsWithinLimits w.setup → IsSoundCall c → IsInRange o) → is_ending (name_of o) ≡ false → Continues w c words made kept answer → ((n : ℕ) → IsWithoutEvents w c words (suc n) kept) →
+    CallGoes w c words made kept answer (rwlock_due w o words made kept)
+rwlock_goes w c o words zero kept answer a r n h q =
+    at_each (CallGoes w c words zero kept answer) (cell_of w words 0 kind.Rw) (λ cell. due.Operate o (object.Rw cell)) (λ cell. (a cell, r, goes n h)) (λ k. tt)
+rwlock_goes w c o words (suc n) kept answer a r e h q =
+    if_each (CallGoes w c words (suc n) kept answer) (is_misuse kept) (due.Trap trap.RwMisuse) due.Quiet (λ misuse. tt) (q n)
+
 try_goes : (w : Caller) (words : List ℕ) (made : ℕ) (kept answer : ℤ) → CallGoes w call.MutexTryLock words made kept answer (try_due w words made)
 try_goes w words zero kept answer =
     at_each (CallGoes w call.MutexTryLock words zero kept answer) (cell_of w words 0 kind.Mutex) (λ cell. due.Operate op.TryLock (object.Mutex cell))
@@ -272,6 +280,11 @@ call_goes w call.CondDestroy words made kept answer = asks_goes w call.CondDestr
 call_goes w call.BarrierInit words made kept answer = barrier_init_goes w words made kept answer
 call_goes w call.BarrierWait words made kept answer = barrier_wait_goes w words made kept answer
 call_goes w call.BarrierDestroy words made kept answer = asks_goes w call.BarrierDestroy words made kept answer kind.Barrier (gives_zero w call.BarrierDestroy words made kept refl (λ a. refl))
+call_goes w call.RwInit words made kept answer = rwlock_goes w call.RwInit op.RwInit words made kept answer (λ cell. asked op.RwInit (object.Rw cell) refl refl refl) (λ l f. tt) refl (silent w call.RwInit words made kept answer refl (checked_goes_on made answer)) (λ n. gives_zero w call.RwInit words (suc n) kept refl (λ a. refl))
+call_goes w call.RwRdLock words made kept answer = rwlock_goes w call.RwRdLock op.RdLock words made kept answer (λ cell. asked op.RdLock (object.Rw cell) refl refl refl) (λ l f. tt) refl (silent w call.RwRdLock words made kept answer refl (checked_goes_on made answer)) (λ n. gives_zero w call.RwRdLock words (suc n) kept refl (λ a. refl))
+call_goes w call.RwWrLock words made kept answer = rwlock_goes w call.RwWrLock op.WrLock words made kept answer (λ cell. asked op.WrLock (object.Rw cell) refl refl refl) (λ l f. tt) refl (silent w call.RwWrLock words made kept answer refl (checked_goes_on made answer)) (λ n. gives_zero w call.RwWrLock words (suc n) kept refl (λ a. refl))
+call_goes w call.RwUnlock words made kept answer = rwlock_goes w call.RwUnlock op.RwUnlock words made kept answer (λ cell. asked op.RwUnlock (object.Rw cell) refl refl refl) (λ l f. tt) refl (silent w call.RwUnlock words made kept answer refl (checked_goes_on made answer)) (λ n. gives_zero w call.RwUnlock words (suc n) kept refl (λ a. refl))
+call_goes w call.RwDestroy words made kept answer = asks_goes w call.RwDestroy words made kept answer kind.Rw (gives_zero w call.RwDestroy words made kept refl (λ a. refl))
 call_goes w call.Free words made kept answer = gives_zero w call.Free words made kept refl (λ a. refl)
 call_goes w call.GetChar words made kept answer = (asked (op.GetChar (length w.setup.input)) object.Input refl refl refl, (λ l f. tt), goes refl (silent w call.GetChar words made kept answer refl tt))
 call_goes w (call.Print format) words made kept answer = print_goes w (call.Print format) words made kept answer (length (printed_piece format words)) refl tt

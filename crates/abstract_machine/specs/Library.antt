@@ -175,6 +175,11 @@ abbrev pub barrier_wait_due : Caller → List ℕ → ℕ → ℤ → Due
 barrier_wait_due w words zero kept = at_cell (cell_of w words 0 kind.Barrier) (λ c. due.Operate op.Arrive (object.Barrier c))
 barrier_wait_due w words (suc n) kept = if is_misuse kept then due.Trap trap.BarrierMisuse else if is_serial kept then due.Quiet else at_cell (cell_of w words 0 kind.Barrier) (λ c. due.Operate (op.Pass (count_in kept)) (object.Barrier c))
 
+-- a call with one operation on a read-write lock, which gives 0 unless it misuses the lock
+abbrev pub rwlock_due : Caller → Op → List ℕ → ℕ → ℤ → Due
+rwlock_due w o words zero kept = at_cell (cell_of w words 0 kind.Rw) (λ c. due.Operate o (object.Rw c))
+rwlock_due w o words (suc n) kept = checked_due trap.RwMisuse kept
+
 -- a call without events that asks for an object of a kind
 abbrev pub asks_for : Caller → List ℕ → CellKind → Due
 asks_for w words kind = at_cell (cell_of w words 0 kind) (λ c. due.Quiet)
@@ -198,6 +203,11 @@ library_due w call.CondDestroy words made kept = asks_for w words kind.Cond
 library_due w call.BarrierInit words made kept = barrier_init_due w words made kept
 library_due w call.BarrierWait words made kept = barrier_wait_due w words made kept
 library_due w call.BarrierDestroy words made kept = asks_for w words kind.Barrier
+library_due w call.RwInit words made kept = rwlock_due w op.RwInit words made kept
+library_due w call.RwRdLock words made kept = rwlock_due w op.RdLock words made kept
+library_due w call.RwWrLock words made kept = rwlock_due w op.WrLock words made kept
+library_due w call.RwUnlock words made kept = rwlock_due w op.RwUnlock words made kept
+library_due w call.RwDestroy words made kept = asks_for w words kind.Rw
 library_due w call.Free words made kept = due.Quiet
 library_due w call.GetChar words made kept = due.Operate (op.GetChar (length w.setup.input)) object.Input
 library_due w (call.Print format) words made kept = print_due w (length (printed_piece format words))
@@ -275,6 +285,10 @@ library_onward w call.MutexTryLock words made kept answer = try_onward made kept
 library_onward w call.CondWait words made kept answer = wait_onward made kept answer
 library_onward w call.BarrierInit words made kept answer = checked_onward made answer
 library_onward w call.BarrierWait words made kept answer = barrier_wait_onward made kept answer
+library_onward w call.RwInit words made kept answer = checked_onward made answer
+library_onward w call.RwRdLock words made kept answer = checked_onward made answer
+library_onward w call.RwWrLock words made kept answer = checked_onward made answer
+library_onward w call.RwUnlock words made kept answer = checked_onward made answer
 library_onward w call.GetChar words made kept answer = onward.Gives (character w.setup.input answer)
 library_onward w (call.Print format) words made kept answer = onward.Gives (length (printed_piece format words) % 2 ^ 64)
 library_onward w call.PutChar words made kept answer = onward.Gives (argument words 0)

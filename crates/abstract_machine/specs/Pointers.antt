@@ -32,6 +32,7 @@ same_kind kind.Pointer kind.Pointer = true
 same_kind kind.Mutex kind.Mutex = true
 same_kind kind.Cond kind.Cond = true
 same_kind kind.Barrier kind.Barrier = true
+same_kind kind.Rw kind.Rw = true
 same_kind _ _ = false
 
 -- the same of a cell that may not be there

@@ -364,6 +364,28 @@ fn barrier_wait_due(
     }
 }
 
+fn rwlock_due(
+    caller: &Caller,
+    op: Op,
+    registers: &[u64],
+    arguments: &[u32],
+    made: u8,
+    kept: i64,
+) -> Due
+    ensures { result ≡ spec.rwlock_due caller.now op (words_of registers.now arguments.now) made kept }
+{
+    if made > 0 {
+        return checked_due(Trap::RwMisuse, kept);
+    }
+    match cell_of(caller, registers, arguments, 0, CellKind::Rw) {
+        Ok(cell) => Due::Operate {
+            op,
+            obj: ObjId::Rw(cell),
+        },
+        Err(trap) => Due::Trap(trap),
+    }
+}
+
 fn asks_for(caller: &Caller, registers: &[u64], arguments: &[u32], kind: CellKind) -> Due
     ensures { result ≡ spec.asks_for caller.now (words_of registers.now arguments.now) kind }
 {
@@ -427,6 +449,18 @@ pub fn library_due(
         LibraryCall::BarrierInit => barrier_init_due(caller, registers, arguments, made, kept),
         LibraryCall::BarrierWait => barrier_wait_due(caller, registers, arguments, made, kept),
         LibraryCall::BarrierDestroy => asks_for(caller, registers, arguments, CellKind::Barrier),
+        LibraryCall::RwInit => rwlock_due(caller, Op::RwInit, registers, arguments, made, kept),
+        LibraryCall::RwRdLock => rwlock_due(caller, Op::RdLock, registers, arguments, made, kept),
+        LibraryCall::RwWrLock => rwlock_due(caller, Op::WrLock, registers, arguments, made, kept),
+        LibraryCall::RwUnlock => rwlock_due(
+            caller,
+            Op::RwUnlock,
+            registers,
+            arguments,
+            made,
+            kept,
+        ),
+        LibraryCall::RwDestroy => asks_for(caller, registers, arguments, CellKind::Rw),
         LibraryCall::GetChar => Due::Operate {
             op: Op::GetChar {
                 len: caller.setup().input_len(),

@@ -21,6 +21,11 @@ pub enum LibraryCall {
     BarrierInit,
     BarrierWait,
     BarrierDestroy,
+    RwInit,
+    RwRdLock,
+    RwWrLock,
+    RwUnlock,
+    RwDestroy,
     Free,
     GetChar,
     /// `printf` and `puts`.

@@ -129,7 +129,11 @@ pub fn library_onward(
         LibraryCall::MutexInit
         | LibraryCall::MutexLock
         | LibraryCall::MutexUnlock
-        | LibraryCall::BarrierInit => checked_onward(made, answer),
+        | LibraryCall::BarrierInit
+        | LibraryCall::RwInit
+        | LibraryCall::RwRdLock
+        | LibraryCall::RwWrLock
+        | LibraryCall::RwUnlock => checked_onward(made, answer),
         LibraryCall::MutexTryLock => try_onward(made, kept, answer),
         LibraryCall::CondWait => wait_onward(made, kept, answer),
         LibraryCall::BarrierWait => barrier_wait_onward(made, kept, answer),

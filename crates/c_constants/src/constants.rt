@@ -49,7 +49,8 @@ pub fn is_int(of: &CType) -> bool
         | Specifier::Struct { .. }
         | Specifier::PthreadMutexT { .. }
         | Specifier::PthreadCondT { .. }
-        | Specifier::PthreadBarrierT { .. } => false,
+        | Specifier::PthreadBarrierT { .. }
+        | Specifier::PthreadRwlockT { .. } => false,
     };
     is_number && of.stars == 0
 }

@@ -123,6 +123,7 @@ module _ (p : Program) (s : SetupView) where
   IsThere (object.Mutex cell) = cell < cell_count
   IsThere (object.Cond cell) = cell < cell_count
   IsThere (object.Barrier cell) = cell < cell_count
+  IsThere (object.Rw cell) = cell < cell_count
   IsThere (object.Slot k) = k < s.slots
   IsThere (object.Weak lock stripe) = ⊥
   IsThere _ = Unit {0}

@@ -6,7 +6,7 @@ use Rattle.rr_base.specs.Words.{pack}
 use Rattle.c_text.specs.Texts.{Text}
 use Rattle.abstract_machine.specs.Values.{word}
 use Rattle.c_tree.specs.declared.ctype.Specifier.{Specifier}
-use Rattle.c_tree.specs.Tree.{Exp, named, prefix, paren, Init, value, braces, mutex_start, cond_start, Inits, no_init, and_init, Object, plain, initialised}
+use Rattle.c_tree.specs.Tree.{Exp, named, prefix, paren, Init, value, braces, mutex_start, cond_start, rwlock_start, Inits, no_init, and_init, Object, plain, initialised}
 use Rattle.c_types.specs.declared.types.ObjectType.{ObjectType}
 use Rattle.c_types.specs.Numbers.{Computed}
 use Rattle.c_types.specs.Constants.{is_constant}
@@ -94,6 +94,7 @@ abbrev mutual
   start_words s known t (braces is trailing at) = padded (length (kinds_of_some s t)) (parts_words s known t 0 is)
   start_words s known t (mutex_start at) = 0 ∷ []
   start_words s known t (cond_start at) = 0 ∷ []
+  start_words s known t (rwlock_start at) = 0 ∷ []
 
   -- of its parts from the one with the number i on
   pub parts_words : Source → Known → Option ObjectType → ℕ → Inits → List ℕ

@@ -252,7 +252,7 @@ fn push_start<'h>(
             pad(many, &mut words)?;
             out.extend_from_slice(words.as_slice())
         }
-        Initial::Mutex { .. } | Initial::Cond { .. } => out.push(0),
+        Initial::Mutex { .. } | Initial::Cond { .. } | Initial::RwLock { .. } => out.push(0),
     }
 }
 

@@ -377,6 +377,10 @@ pub not_pthread_cond_initializer : (k : Kind) → begins_exp k ≡ true → is_o
 not_pthread_cond_initializer (kind.Word word.PthreadCondInitializer) h = cc
 not_pthread_cond_initializer _ h = refl
 
+pub not_pthread_rwlock_initializer : (k : Kind) → begins_exp k ≡ true → is_of (key word.PthreadRwlockInitializer) k ≡ false
+not_pthread_rwlock_initializer (kind.Word word.PthreadRwlockInitializer) h = cc
+not_pthread_rwlock_initializer _ h = refl
+
 pub not_type : (k : Kind) → begins_exp k ≡ true → is_type k ≡ false
 not_type (kind.Word x) h = by x h
   where

@@ -126,7 +126,9 @@ chooses_specifier l (specifiers.PthreadMutexT at) ms rest e ends =
 chooses_specifier l (specifiers.PthreadCondT at) ms rest e ends =
     inr (ap (reads_word word.Int) e, inr (ap (reads_word word.Long) e, inr (ap (reads_word word.Void) e, inr (ap (reads_word word.Struct) e, inr (ap (reads_word word.PthreadT) e, inr (ap (reads_word word.PthreadMutexT) e, inl (ap (reads_word word.PthreadCondT) e, (tt, at, rest, e, (refl, refl)))))))))
 chooses_specifier l (specifiers.PthreadBarrierT at) ms rest e ends =
-    inr (ap (reads_word word.Int) e, inr (ap (reads_word word.Long) e, inr (ap (reads_word word.Void) e, inr (ap (reads_word word.Struct) e, inr (ap (reads_word word.PthreadT) e, inr (ap (reads_word word.PthreadMutexT) e, inr (ap (reads_word word.PthreadCondT) e, (tt, at, rest, e, (refl, refl)))))))))
+    inr (ap (reads_word word.Int) e, inr (ap (reads_word word.Long) e, inr (ap (reads_word word.Void) e, inr (ap (reads_word word.Struct) e, inr (ap (reads_word word.PthreadT) e, inr (ap (reads_word word.PthreadMutexT) e, inr (ap (reads_word word.PthreadCondT) e, inl (ap (reads_word word.PthreadBarrierT) e, (tt, at, rest, e, (refl, refl))))))))))
+chooses_specifier l (specifiers.PthreadRwlockT at) ms rest e ends =
+    inr (ap (reads_word word.Int) e, inr (ap (reads_word word.Long) e, inr (ap (reads_word word.Void) e, inr (ap (reads_word word.Struct) e, inr (ap (reads_word word.PthreadT) e, inr (ap (reads_word word.PthreadMutexT) e, inr (ap (reads_word word.PthreadCondT) e, inr (ap (reads_word word.PthreadBarrierT) e, (tt, at, rest, e, (refl, refl))))))))))
 
 pub chooses_stars : (l n : ℕ) → Chooses (phrase.stars l n)
 chooses_stars l n k ms rest (zero, e, h) ends = inr (ap (sees punct.Star) h ∙ ends, (omega (arith, e), h))
@@ -180,6 +182,7 @@ type_begins l (specifiers.PthreadT at) ms rest h = ap (next_is is_type) h
 type_begins l (specifiers.PthreadMutexT at) ms rest h = ap (next_is is_type) h
 type_begins l (specifiers.PthreadCondT at) ms rest h = ap (next_is is_type) h
 type_begins l (specifiers.PthreadBarrierT at) ms rest h = ap (next_is is_type) h
+type_begins l (specifiers.PthreadRwlockT at) ms rest h = ap (next_is is_type) h
 
 -- ---- expressions
 

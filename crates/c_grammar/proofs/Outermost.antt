@@ -438,6 +438,8 @@ plainly (specifiers.PthreadCondT at) o ms m2 rest e h =
     inr (ap (reads_word word.Static) e, inr (ap (reads_word word.Struct) e, (specifiers.PthreadCondT at, m2, e, after_type m2 (after_begins false (specifiers.PthreadCondT at) at o m2 rest h), (o, rest, h, tt, (refl, refl)))))
 plainly (specifiers.PthreadBarrierT at) o ms m2 rest e h =
     inr (ap (reads_word word.Static) e, inr (ap (reads_word word.Struct) e, (specifiers.PthreadBarrierT at, m2, e, after_type m2 (after_begins false (specifiers.PthreadBarrierT at) at o m2 rest h), (o, rest, h, tt, (refl, refl)))))
+plainly (specifiers.PthreadRwlockT at) o ms m2 rest e h =
+    inr (ap (reads_word word.Static) e, inr (ap (reads_word word.Struct) e, (specifiers.PthreadRwlockT at, m2, e, after_type m2 (after_begins false (specifiers.PthreadRwlockT at) at o m2 rest h), (o, rest, h, tt, (refl, refl)))))
 
 statically : (s : Specifier) (at : Position) (o : Outer) (ms m1 m2 rest : List Mark) → ms ≡ mark (w word.Static) at 0 ∷ m1 → OfSpecifier 0 s m1 m2 → Of (phrase.outer_after true s at) o m2 rest → Chosen (rules phrase.outer) o ms rest
 statically s at o ms m1 m2 rest e hs h = inl (ap (reads_word word.Static) e, (tt, at, m1, e, (s, m2, hs, after_type m2 (after_begins true s at o m2 rest h), (o, rest, h, tt, (refl, refl)))))

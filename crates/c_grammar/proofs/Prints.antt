@@ -11,7 +11,7 @@ use Rattle.c_tree.specs.declared.ctype.CType.{CType}
 use Rattle.c_tree.specs.declared.program.Params.{Params}
 use Rattle.c_tree.specs.declared.program.Params.TheVariants as params
 use Rattle.c_tree.specs.declared.program.Param.{Param}
-use Rattle.c_tree.specs.Tree.{Exp, comma, assign, conditional, binary, prefix, sizeof_exp, sizeof_type, cast, index, member, arrow, post_increment, post_decrement, named, call, number, letter, text, null, paren, Exps, no_exp, and_exp, Declared, declared, Init, value, braces, mutex_start, cond_start, Inits, no_init, and_init, Object, plain, initialised, Declares, declares, Start, start_declares, start_computes, Statement, block, compute, break_at, continue_at, gives, branch, branch_else, while_loop, do_loop, for_loop, Parts, no_part, and_declares, and_does, Code, defined, prototype, Fields, fields, Outer, structure, function, objects}
+use Rattle.c_tree.specs.Tree.{Exp, comma, assign, conditional, binary, prefix, sizeof_exp, sizeof_type, cast, index, member, arrow, post_increment, post_decrement, named, call, number, letter, text, null, paren, Exps, no_exp, and_exp, Declared, declared, Init, value, braces, mutex_start, cond_start, rwlock_start, Inits, no_init, and_init, Object, plain, initialised, Declares, declares, Start, start_declares, start_computes, Statement, block, compute, break_at, continue_at, gives, branch, branch_else, while_loop, do_loop, for_loop, Parts, no_part, and_declares, and_does, Code, defined, prototype, Fields, fields, Outer, structure, function, objects}
 use Rattle.rr_base.specs.declared.position.Position.{Position}
 use Rattle.c_print.specs.Kinds.{p, w, prefix_punct, binary_punct, assign_punct, name_kind, if_there, specifier_kinds, stars_kinds, type_kinds, exp_kinds, exps_kinds, rest_kinds, maybe_kinds, length_kinds, declared_kinds, init_kinds, inits_kinds, rest_init_kinds, object_kinds, rest_objects_kinds, objects_kinds, declares_kinds, start_kinds, stmt_kinds, parts_kinds, named_kinds, param_kinds, rest_params_kinds, params_kinds, code_kinds, rest_declared_kinds, all_declared_kinds, fields_kinds, all_fields_kinds, outer_kinds, kinds_of}
 use Rattle.c_grammar.specs.Marks.{Mark, kinds_at, Beginning, own, other, ◌>>◌, nothing, maybe, provided}
@@ -53,6 +53,7 @@ specifiers l (specifier.PthreadT at) = o (w word.PthreadT) at l
 specifiers l (specifier.PthreadMutexT at) = o (w word.PthreadMutexT) at l
 specifiers l (specifier.PthreadCondT at) = o (w word.PthreadCondT) at l
 specifiers l (specifier.PthreadBarrierT at) = o (w word.PthreadBarrierT) at l
+specifiers l (specifier.PthreadRwlockT at) = o (w word.PthreadRwlockT) at l
 
 stars : (l n : ℕ) → Prints (stars_kinds n) (OfStars l n)
 stars l zero = none
@@ -113,6 +114,7 @@ mutual
   init l (braces is trailing at) = o (p punct.OpenBrace) at (suc l) & inits (suc l) is & if_some trailing (p punct.Comma) (t (p punct.Comma) (suc l)) & t (p punct.CloseBrace) (suc l)
   init l (mutex_start at) = o (w word.PthreadMutexInitializer) at (suc l)
   init l (cond_start at) = o (w word.PthreadCondInitializer) at (suc l)
+  init l (rwlock_start at) = o (w word.PthreadRwlockInitializer) at (suc l)
 
   inits : (l : ℕ) (is : Inits) → Prints (inits_kinds is) (OfInits l is)
   inits l no_init = record { says = λ ms rest h. absurd h }

@@ -4,14 +4,14 @@ use Rattle.c_lexer.specs.declared.token.Kind.{Kind}
 use Rattle.c_lexer.specs.declared.token.Kind.TheVariants as kind
 use Rattle.c_lexer.specs.declared.token.Punct.TheVariants as punct
 use Rattle.c_lexer.specs.declared.token.Word.TheVariants as word
-use Rattle.c_tree.specs.Tree.{Exp, Declared, declared, Init, value, braces, mutex_start, cond_start, Inits, no_init, and_init, listed_inits, Object, plain, initialised, Declares, declares, start_declares, start_computes, Statement, block, compute, break_at, continue_at, gives, branch, branch_else, while_loop, do_loop, for_loop, Parts, no_part, and_declares, and_does, Part, part_declares, part_does, listed_parts}
+use Rattle.c_tree.specs.Tree.{Exp, Declared, declared, Init, value, braces, mutex_start, cond_start, rwlock_start, Inits, no_init, and_init, listed_inits, Object, plain, initialised, Declares, declares, start_declares, start_computes, Statement, block, compute, break_at, continue_at, gives, branch, branch_else, while_loop, do_loop, for_loop, Parts, no_part, and_declares, and_does, Part, part_declares, part_does, listed_parts}
 use Rattle.c_print.specs.Kinds.{p}
 use Rattle.c_grammar.specs.Marks.{Mark, mark, other, maybe}
 use Rattle.c_grammar.specs.Grammar.{OfMaybe, OfRaisingStars, OfDeclared, OfInit, OfMoreInits, OfObject, OfMoreObjects, OfObjects, OfDeclares, OfStatement, OfParts}
 use Rattle.c_grammar.specs.Phrase as phrase
 use Rattle.c_grammar.specs.Phrase.{Phrase, initials}
 use Rattle.c_grammar.specs.Parse.{sign, key, is_of, is_type}
-use Rattle.c_grammar.proofs.Ends.{joins, joins_next, next_is, sees, reads_word, AfterType, by_joins, by_test, joins_test, no_comma, no_equals, no_bracket, begins_exp, exp_begins, not_begun, not_open_brace, not_close_brace, not_pthread_mutex_initializer, not_pthread_cond_initializer, not_type}
+use Rattle.c_grammar.proofs.Ends.{joins, joins_next, next_is, sees, reads_word, AfterType, by_joins, by_test, joins_test, no_comma, no_equals, no_bracket, begins_exp, exp_begins, not_begun, not_open_brace, not_close_brace, not_pthread_mutex_initializer, not_pthread_cond_initializer, not_pthread_rwlock_initializer, not_type}
 use Rattle.c_grammar.proofs.Expressions.{Chooses, joins_at, one_of_more, none_of_more, zero_plus, type_begins}
 
 -- ---- declarators
@@ -61,6 +61,7 @@ init_not_close l (value e) ms rest h = not_begun (is_of (sign punct.CloseBrace))
 init_not_close l (braces is trailing at) ms rest h = ap (sees punct.CloseBrace) h.1
 init_not_close l (mutex_start at) ms rest h = ap (sees punct.CloseBrace) h
 init_not_close l (cond_start at) ms rest h = ap (sees punct.CloseBrace) h
+init_not_close l (rwlock_start at) ms rest h = ap (sees punct.CloseBrace) h
 
 pub chooses_initial : (l : ℕ) → Chooses (phrase.initial l)
 chooses_initial l (value e) ms rest h ends =
@@ -68,11 +69,16 @@ chooses_initial l (value e) ms rest h ends =
       not_begun (is_of (sign punct.OpenBrace)) not_open_brace (suc l) e ms rest h.1,
       inr (
         not_begun (is_of (key word.PthreadMutexInitializer)) not_pthread_mutex_initializer (suc l) e ms rest h.1,
-        inr (not_begun (is_of (key word.PthreadCondInitializer)) not_pthread_cond_initializer (suc l) e ms rest h.1, (e, rest, h, ends, (refl, refl))),
+        inr (
+          not_begun (is_of (key word.PthreadCondInitializer)) not_pthread_cond_initializer (suc l) e ms rest h.1,
+          inr (not_begun (is_of (key word.PthreadRwlockInitializer)) not_pthread_rwlock_initializer (suc l) e ms rest h.1, (e, rest, h, ends, (refl, refl))),
+        ),
       ),
     )
 chooses_initial l (mutex_start at) ms rest h ends = inr (ap (sees punct.OpenBrace) h, inl (ap (reads_word word.PthreadMutexInitializer) h, (tt, at, rest, h, (refl, refl))))
 chooses_initial l (cond_start at) ms rest h ends = inr (ap (sees punct.OpenBrace) h, inr (ap (reads_word word.PthreadMutexInitializer) h, inl (ap (reads_word word.PthreadCondInitializer) h, (tt, at, rest, h, (refl, refl)))))
+chooses_initial l (rwlock_start at) ms rest h ends =
+    inr (ap (sees punct.OpenBrace) h, inr (ap (reads_word word.PthreadMutexInitializer) h, inr (ap (reads_word word.PthreadCondInitializer) h, inl (ap (reads_word word.PthreadRwlockInitializer) h, (tt, at, rest, h, (refl, refl))))))
 chooses_initial l (braces no_init trailing at) ms rest (m1, e, (m2, h, (m3, k, (q, ec)))) ends = absurd h
 chooses_initial l (braces (and_init i is) trailing at) ms rest (m1, e, (m2, (m5, hi, hm), (m3, k, (q, ec)))) ends =
     let closes = ap (sees punct.CloseBrace) ec in
@@ -257,6 +263,7 @@ statement_no_type (kind.Word word.PthreadT) h = cc
 statement_no_type (kind.Word word.PthreadMutexT) h = cc
 statement_no_type (kind.Word word.PthreadCondT) h = cc
 statement_no_type (kind.Word word.PthreadBarrierT) h = cc
+statement_no_type (kind.Word word.PthreadRwlockT) h = cc
 statement_no_type _ h = refl
 
 pub type_no_close : (k : Kind) → is_type k ≡ true → is_of (sign punct.CloseBrace) k ≡ false

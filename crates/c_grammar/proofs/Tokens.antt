@@ -31,7 +31,7 @@ abbrev puncts : List Punct
 puncts = punct.ShiftLeftAssign ∷ punct.ShiftRightAssign ∷ punct.Arrow ∷ punct.PlusPlus ∷ punct.MinusMinus ∷ punct.ShiftLeft ∷ punct.ShiftRight ∷ punct.LessEqual ∷ punct.GreaterEqual ∷ punct.EqualEqual ∷ punct.NotEqual ∷ punct.AndAnd ∷ punct.OrOr ∷ punct.PlusAssign ∷ punct.MinusAssign ∷ punct.StarAssign ∷ punct.SlashAssign ∷ punct.PercentAssign ∷ punct.AndAssign ∷ punct.OrAssign ∷ punct.CaretAssign ∷ punct.OpenParen ∷ punct.CloseParen ∷ punct.OpenBracket ∷ punct.CloseBracket ∷ punct.OpenBrace ∷ punct.CloseBrace ∷ punct.Semicolon ∷ punct.Comma ∷ punct.Dot ∷ punct.And ∷ punct.Star ∷ punct.Plus ∷ punct.Minus ∷ punct.Tilde ∷ punct.Not ∷ punct.Slash ∷ punct.Percent ∷ punct.Less ∷ punct.Greater ∷ punct.Caret ∷ punct.Or ∷ punct.Question ∷ punct.Colon ∷ punct.Assign ∷ []
 
 abbrev words : List Word
-words = word.Int ∷ word.Long ∷ word.Void ∷ word.Struct ∷ word.If ∷ word.Else ∷ word.While ∷ word.Do ∷ word.For ∷ word.Break ∷ word.Continue ∷ word.Return ∷ word.Sizeof ∷ word.Static ∷ word.Null ∷ word.PthreadT ∷ word.PthreadMutexT ∷ word.PthreadCondT ∷ word.PthreadBarrierT ∷ word.PthreadMutexInitializer ∷ word.PthreadCondInitializer ∷ []
+words = word.Int ∷ word.Long ∷ word.Void ∷ word.Struct ∷ word.If ∷ word.Else ∷ word.While ∷ word.Do ∷ word.For ∷ word.Break ∷ word.Continue ∷ word.Return ∷ word.Sizeof ∷ word.Static ∷ word.Null ∷ word.PthreadT ∷ word.PthreadMutexT ∷ word.PthreadCondT ∷ word.PthreadBarrierT ∷ word.PthreadRwlockT ∷ word.PthreadMutexInitializer ∷ word.PthreadCondInitializer ∷ word.PthreadRwlockInitializer ∷ []
 
 decoded_punct : (x : Punct) → nth_punct puncts (punct_code x) ≡ x
 decoded_punct punct.Comma = refl

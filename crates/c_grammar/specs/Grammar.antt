@@ -14,7 +14,7 @@ use Rattle.c_tree.specs.declared.expr.BinaryOp.TheVariants as binary_op
 use Rattle.c_tree.specs.declared.program.Params.{Params}
 use Rattle.c_tree.specs.declared.program.Params.TheVariants as params
 use Rattle.c_tree.specs.declared.program.Param.{Param}
-use Rattle.c_tree.specs.Tree.{Exp, comma, assign, conditional, binary, prefix, sizeof_exp, sizeof_type, cast, index, member, arrow, post_increment, post_decrement, named, call, number, letter, text, null, paren, Exps, no_exp, and_exp, Declared, declared, Init, value, braces, mutex_start, cond_start, Inits, no_init, and_init, Object, plain, initialised, Declares, declares, Start, start_declares, start_computes, Statement, block, compute, break_at, continue_at, gives, branch, branch_else, while_loop, do_loop, for_loop, Parts, no_part, and_declares, and_does, Code, defined, prototype, Fields, fields, Outer, structure, function, objects}
+use Rattle.c_tree.specs.Tree.{Exp, comma, assign, conditional, binary, prefix, sizeof_exp, sizeof_type, cast, index, member, arrow, post_increment, post_decrement, named, call, number, letter, text, null, paren, Exps, no_exp, and_exp, Declared, declared, Init, value, braces, mutex_start, cond_start, rwlock_start, Inits, no_init, and_init, Object, plain, initialised, Declares, declares, Start, start_declares, start_computes, Statement, block, compute, break_at, continue_at, gives, branch, branch_else, while_loop, do_loop, for_loop, Parts, no_part, and_declares, and_does, Code, defined, prototype, Fields, fields, Outer, structure, function, objects}
 use Rattle.rr_base.specs.declared.position.Position.{Position}
 use Rattle.c_print.specs.Kinds.{p, w, prefix_punct, binary_punct, assign_punct}
 use Rattle.c_grammar.specs.Marks.{Beginning, own, other, ◌>>◌, nothing, never, maybe, provided}
@@ -35,6 +35,7 @@ specifier_place (specifier.PthreadT at) = at
 specifier_place (specifier.PthreadMutexT at) = at
 specifier_place (specifier.PthreadCondT at) = at
 specifier_place (specifier.PthreadBarrierT at) = at
+specifier_place (specifier.PthreadRwlockT at) = at
 
 -- an identifier (C99 6.4.2), whose place the tree keeps
 abbrev pub OfName : ℕ → Name → Beginning
@@ -50,6 +51,7 @@ OfSpecifier l (specifier.PthreadT at) = own (w word.PthreadT) at l
 OfSpecifier l (specifier.PthreadMutexT at) = own (w word.PthreadMutexT) at l
 OfSpecifier l (specifier.PthreadCondT at) = own (w word.PthreadCondT) at l
 OfSpecifier l (specifier.PthreadBarrierT at) = own (w word.PthreadBarrierT) at l
+OfSpecifier l (specifier.PthreadRwlockT at) = own (w word.PthreadRwlockT) at l
 
 -- stars that raise nothing
 abbrev pub OfStars : ℕ → ℕ → Beginning
@@ -219,6 +221,7 @@ abbrev mutual
   OfInit l (braces is trailing place) = own (p punct.OpenBrace) place (suc l) >> OfInits (suc l) is >> maybe trailing (other (p punct.Comma) (suc l)) >> other (p punct.CloseBrace) (suc l)
   OfInit l (mutex_start place) = own (w word.PthreadMutexInitializer) place (suc l)
   OfInit l (cond_start place) = own (w word.PthreadCondInitializer) place (suc l)
+  OfInit l (rwlock_start place) = own (w word.PthreadRwlockInitializer) place (suc l)
 
   -- one or more
   pub OfInits : ℕ → Inits → Beginning

@@ -124,8 +124,10 @@ word_code word.PthreadT = 15
 word_code word.PthreadMutexT = 16
 word_code word.PthreadCondT = 17
 word_code word.PthreadBarrierT = 18
-word_code word.PthreadMutexInitializer = 19
-word_code word.PthreadCondInitializer = 20
+word_code word.PthreadRwlockT = 19
+word_code word.PthreadMutexInitializer = 20
+word_code word.PthreadCondInitializer = 21
+word_code word.PthreadRwlockInitializer = 22
 
 -- the operator that a sign means before its operand (C99 6.5.3)
 abbrev pub as_prefix : Punct → Option PrefixOp
@@ -208,6 +210,7 @@ is_type (kind.Word word.PthreadT) = true
 is_type (kind.Word word.PthreadMutexT) = true
 is_type (kind.Word word.PthreadCondT) = true
 is_type (kind.Word word.PthreadBarrierT) = true
+is_type (kind.Word word.PthreadRwlockT) = true
 is_type _ = false
 
 -- what may follow a declarator of an object

@@ -11,7 +11,7 @@ use Rattle.c_tree.specs.declared.expr.BinaryOp.{BinaryOp}
 use Rattle.c_tree.specs.declared.program.Param.{Param}
 use Rattle.c_tree.specs.declared.program.Params.{Params}
 use Rattle.c_tree.specs.declared.program.Params.TheVariants as params_of
-use Rattle.c_tree.specs.Tree.{Exp, comma, assign, conditional, binary, prefix, sizeof_exp, sizeof_type, cast, index, member, arrow, post_increment, post_decrement, named, call, number, letter, text, null, paren, listed, Declared, declared, Init, value, braces, mutex_start, cond_start, listed_inits, Object, plain, initialised, Declares, declares, Start, start_declares, start_computes, Statement, block, compute, break_at, continue_at, gives, branch, branch_else, while_loop, do_loop, for_loop, Part, part_declares, part_does, listed_parts, Code, defined, prototype, Fields, fields, Outer, structure, function, objects}
+use Rattle.c_tree.specs.Tree.{Exp, comma, assign, conditional, binary, prefix, sizeof_exp, sizeof_type, cast, index, member, arrow, post_increment, post_decrement, named, call, number, letter, text, null, paren, listed, Declared, declared, Init, value, braces, mutex_start, cond_start, rwlock_start, listed_inits, Object, plain, initialised, Declares, declares, Start, start_declares, start_computes, Statement, block, compute, break_at, continue_at, gives, branch, branch_else, while_loop, do_loop, for_loop, Part, part_declares, part_does, listed_parts, Code, defined, prototype, Fields, fields, Outer, structure, function, objects}
 use Rattle.rr_base.specs.declared.position.Position.{Position}
 use Rattle.c_grammar.specs.Grammar.{specifier_place, tightness, first_place, ends_open, is_void_alone}
 use Rattle.c_grammar.specs.Phrase as phrase
@@ -65,7 +65,8 @@ specifier_rule l =
     (on_word word.PthreadT (word_rule word.PthreadT l (λ at. ret (specifiers.PthreadT at)))
     (on_word word.PthreadMutexT (word_rule word.PthreadMutexT l (λ at. ret (specifiers.PthreadMutexT at)))
     (on_word word.PthreadCondT (word_rule word.PthreadCondT l (λ at. ret (specifiers.PthreadCondT at)))
-    (word_rule word.PthreadBarrierT l (λ at. ret (specifiers.PthreadBarrierT at)))))))))
+    (on_word word.PthreadBarrierT (word_rule word.PthreadBarrierT l (λ at. ret (specifiers.PthreadBarrierT at)))
+    (word_rule word.PthreadRwlockT l (λ at. ret (specifiers.PthreadRwlockT at))))))))))
 
 -- stars that raise no level, where n were read before
 abbrev pub stars_rule : ℕ → ℕ → Rule ℕ
@@ -204,7 +205,8 @@ initial_rule l =
     (punct_rule punct.OpenBrace (suc l) (λ at. braces_rule (suc l) at))
     (on_word word.PthreadMutexInitializer (word_rule word.PthreadMutexInitializer (suc l) (λ at. ret (mutex_start at)))
     (on_word word.PthreadCondInitializer (word_rule word.PthreadCondInitializer (suc l) (λ at. ret (cond_start at)))
-    (rule.call (phrase.assignment (suc l)) (λ e. ret (value e)))))
+    (on_word word.PthreadRwlockInitializer (word_rule word.PthreadRwlockInitializer (suc l) (λ at. ret (rwlock_start at)))
+    (rule.call (phrase.assignment (suc l)) (λ e. ret (value e))))))
 
 -- after a comma in braces a brace may come too
 abbrev pub more_initials_rule : ℕ → List Init → Rule Initials

@@ -1,9 +1,9 @@
 -- The first values of a block's objects (C99 6.7.8): a store for each cell, one after another, all at the `=`. Braces that
--- end early leave the remaining cells 0. A mutex, a condition variable or a barrier starts without a store.
+-- end early leave the remaining cells 0. A mutex, a condition variable, a barrier or a read-write lock starts without a store.
 use Rattle.std.specs.Prelude.{ℕ, ◌+◌, ◌-◌, Bool, true, false, pos, List, [], ◌∷◌, ◌++◌, drop, Option, Some, None}
 use Rattle.rr_base.specs.declared.layout.CellKind.{CellKind}
 use Rattle.rr_base.specs.declared.layout.CellKind.TheVariants as cell
-use Rattle.c_tree.specs.Tree.{Exp, Init, value, braces, mutex_start, cond_start, Inits, no_init, and_init}
+use Rattle.c_tree.specs.Tree.{Exp, Init, value, braces, mutex_start, cond_start, rwlock_start, Inits, no_init, and_init}
 use Rattle.c_types.specs.declared.types.ObjectType.{ObjectType}
 use Rattle.c_types.specs.Types.{kinds_of_type}
 use Rattle.c_types.specs.Scopes.{Known, cells_of_some}
@@ -27,7 +27,7 @@ kinds_of_some s (Some t) = kinds_of_type s.kinds t
 abbrev pub cell_stored : ℕ → Position → ℕ → core.Exp → core.Statement
 cell_stored k at offset e = core.compute (core.store (core.member (core.object k at) offset at) e at)
 
--- cells of mutexes, conditions and barriers get no store
+-- cells of mutexes, conditions, barriers and read-write locks get no store
 abbrev pub cell_cleared : ℕ → Position → ℕ → CellKind → List core.Statement
 cell_cleared k at offset cell.Whole = cell_stored k at offset (core.number (pos 0) at) ∷ []
 cell_cleared k at offset cell.Pointer = cell_stored k at offset (core.null at) ∷ []
@@ -53,6 +53,7 @@ abbrev mutual
   started h k at t offset (braces is trailing context) = parts_started h k at t offset 0 offset is
   started h k at t offset (mutex_start context) = []
   started h k at t offset (cond_start context) = []
+  started h k at t offset (rwlock_start context) = []
 
   -- its parts from the one with the number i on, the first of which lies at the second offset
   pub parts_started : Context → ℕ → Position → Option ObjectType → ℕ → ℕ → ℕ → Inits → List core.Statement
@@ -74,6 +75,7 @@ abbrev mutual
   first_word h pointer w at (braces is trailing context) = first_of_braces h pointer at is
   first_word h pointer w at (mutex_start context) = zero_word pointer at
   first_word h pointer w at (cond_start context) = zero_word pointer at
+  first_word h pointer w at (rwlock_start context) = zero_word pointer at
 
   pub first_of_braces : Context → Bool → Position → Inits → core.Exp
   first_of_braces h pointer at no_init = zero_word pointer at
@@ -87,6 +89,7 @@ object_begun h k t (value e) at = core.compute (core.store (core.object k at) (w
 object_begun h k t (braces is trailing context) at = parts_started h k at t 0 0 0 is
 object_begun h k t (mutex_start context) at = []
 object_begun h k t (cond_start context) at = []
+object_begun h k t (rwlock_start context) at = []
 
 -- the local of the type that is kept there starts as something
 abbrev pub begun : Context → Option Home → Option ObjectType → Init → Position → List core.Statement

@@ -81,7 +81,7 @@ fn push_cleared_cell(
             let null = make::null(alloc, at)?;
             push_stored(alloc, object, at, offset, null, out)
         }
-        CellKind::Mutex | CellKind::Cond | CellKind::Barrier => Ok(()),
+        CellKind::Mutex | CellKind::Cond | CellKind::Barrier | CellKind::Rw => Ok(()),
     }
 }
 
@@ -181,7 +181,7 @@ fn push_started<'h>(
                 out,
             )
         }
-        Initial::Mutex { .. } | Initial::Cond { .. } => Ok(()),
+        Initial::Mutex { .. } | Initial::Cond { .. } | Initial::RwLock { .. } => Ok(()),
     }
 }
 
@@ -235,7 +235,9 @@ fn first_word<'h>(
             [] => zero_word(alloc, pointer, at),
             [first, ..] => first_word(alloc, context, pointer, Target::No, at, first),
         },
-        Initial::Mutex { .. } | Initial::Cond { .. } => zero_word(alloc, pointer, at),
+        Initial::Mutex { .. } | Initial::Cond { .. } | Initial::RwLock { .. } => {
+            zero_word(alloc, pointer, at)
+        }
     }
 }
 
@@ -261,7 +263,7 @@ fn push_object<'h>(
         Initial::Braces { parts, .. } => {
             push_parts(alloc, context, object, at, of, 0, parts.as_slice(), out)
         }
-        Initial::Mutex { .. } | Initial::Cond { .. } => Ok(()),
+        Initial::Mutex { .. } | Initial::Cond { .. } | Initial::RwLock { .. } => Ok(()),
     }
 }
 

@@ -80,8 +80,10 @@ words =
     (codes "pthread_mutex_t", word.PthreadMutexT) ∷
     (codes "pthread_cond_t", word.PthreadCondT) ∷
     (codes "pthread_barrier_t", word.PthreadBarrierT) ∷
+    (codes "pthread_rwlock_t", word.PthreadRwlockT) ∷
     (codes "PTHREAD_MUTEX_INITIALIZER", word.PthreadMutexInitializer) ∷
     (codes "PTHREAD_COND_INITIALIZER", word.PthreadCondInitializer) ∷
+    (codes "PTHREAD_RWLOCK_INITIALIZER", word.PthreadRwlockInitializer) ∷
     []
 
 -- the words that stand for a blank
@@ -93,8 +95,7 @@ abbrev pub refused_words : List Text
 refused_words =
     codes "char" ∷ codes "short" ∷ codes "unsigned" ∷ codes "signed" ∷ codes "float" ∷ codes "double" ∷
     codes "union" ∷ codes "enum" ∷ codes "typedef" ∷ codes "switch" ∷ codes "case" ∷ codes "default" ∷
-    codes "goto" ∷ codes "auto" ∷ codes "register" ∷ codes "extern" ∷ codes "inline" ∷ codes "restrict" ∷
-    codes "pthread_rwlock_t" ∷ []
+    codes "goto" ∷ codes "auto" ∷ codes "register" ∷ codes "extern" ∷ codes "inline" ∷ codes "restrict" ∷ []
 
 -- the calls and constants of the library
 abbrev pub library_names : List Text
@@ -106,6 +107,8 @@ library_names =
     codes "pthread_cond_init" ∷ codes "pthread_cond_wait" ∷ codes "pthread_cond_signal" ∷
     codes "pthread_cond_broadcast" ∷ codes "pthread_cond_destroy" ∷
     codes "pthread_barrier_init" ∷ codes "pthread_barrier_wait" ∷ codes "pthread_barrier_destroy" ∷
+    codes "pthread_rwlock_init" ∷ codes "pthread_rwlock_rdlock" ∷ codes "pthread_rwlock_wrlock" ∷
+    codes "pthread_rwlock_unlock" ∷ codes "pthread_rwlock_destroy" ∷
     codes "malloc" ∷ codes "free" ∷ codes "getchar" ∷ codes "printf" ∷ codes "putchar" ∷ codes "puts" ∷
     codes "EOF" ∷ codes "EBUSY" ∷ codes "EAGAIN" ∷ codes "PTHREAD_BARRIER_SERIAL_THREAD" ∷
     codes "EXIT_SUCCESS" ∷ codes "EXIT_FAILURE" ∷ []

@@ -61,7 +61,7 @@ static PUNCTS: [(&[u8], Punct); 45] = [
     (b"=", Punct::Assign),
 ];
 
-static WORDS: [(&[u8], Word); 21] = [
+static WORDS: [(&[u8], Word); 23] = [
     (b"int", Word::Int),
     (b"long", Word::Long),
     (b"void", Word::Void),
@@ -81,15 +81,17 @@ static WORDS: [(&[u8], Word); 21] = [
     (b"pthread_mutex_t", Word::PthreadMutexT),
     (b"pthread_cond_t", Word::PthreadCondT),
     (b"pthread_barrier_t", Word::PthreadBarrierT),
+    (b"pthread_rwlock_t", Word::PthreadRwlockT),
     (b"PTHREAD_MUTEX_INITIALIZER", Word::PthreadMutexInitializer),
     (b"PTHREAD_COND_INITIALIZER", Word::PthreadCondInitializer),
+    (b"PTHREAD_RWLOCK_INITIALIZER", Word::PthreadRwlockInitializer),
 ];
 
 // Words that stand for a blank.
 static BLANK_WORDS: [&[u8]; 2] = [b"const", b"volatile"];
 
 // Words of C that the profile refuses.
-static REFUSED_WORDS: [&[u8]; 19] = [
+static REFUSED_WORDS: [&[u8]; 18] = [
     b"char",
     b"short",
     b"unsigned",
@@ -108,11 +110,10 @@ static REFUSED_WORDS: [&[u8]; 19] = [
     b"extern",
     b"inline",
     b"restrict",
-    b"pthread_rwlock_t",
 ];
 
 // Calls and constants of the library.
-static LIBRARY_NAMES: [&[u8]; 30] = [
+static LIBRARY_NAMES: [&[u8]; 35] = [
     b"pthread_create",
     b"pthread_join",
     b"pthread_exit",
@@ -131,6 +132,11 @@ static LIBRARY_NAMES: [&[u8]; 30] = [
     b"pthread_barrier_init",
     b"pthread_barrier_wait",
     b"pthread_barrier_destroy",
+    b"pthread_rwlock_init",
+    b"pthread_rwlock_rdlock",
+    b"pthread_rwlock_wrlock",
+    b"pthread_rwlock_unlock",
+    b"pthread_rwlock_destroy",
     b"malloc",
     b"free",
     b"getchar",

@@ -22,8 +22,10 @@ pub enum Word {
     PthreadMutexT,
     PthreadCondT,
     PthreadBarrierT,
+    PthreadRwlockT,
     PthreadMutexInitializer,
     PthreadCondInitializer,
+    PthreadRwlockInitializer,
 }
 
 /// A punctuator (C99 6.4.6).

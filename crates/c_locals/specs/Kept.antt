@@ -4,7 +4,7 @@ use Rattle.c_tree.specs.declared.ctype.Specifier.{Specifier}
 use Rattle.c_tree.specs.declared.ctype.Specifier.TheVariants as specifier
 use Rattle.c_tree.specs.Tree.{Exp, Declared, declared}
 
--- a struct, a mutex, a condition variable or a barrier
+-- a struct, a mutex, a condition variable, a barrier or a read-write lock
 abbrev pub is_kept_specifier : Specifier → Bool
 is_kept_specifier (specifier.Int at) = false
 is_kept_specifier (specifier.Long second int at) = false
@@ -14,6 +14,7 @@ is_kept_specifier (specifier.PthreadT at) = false
 is_kept_specifier (specifier.PthreadMutexT at) = true
 is_kept_specifier (specifier.PthreadCondT at) = true
 is_kept_specifier (specifier.PthreadBarrierT at) = true
+is_kept_specifier (specifier.PthreadRwlockT at) = true
 
 -- it is an array: at least one length stands after its name
 abbrev pub is_some_length : List Exp → Bool

@@ -184,6 +184,7 @@ fn push_initial(
         Initial::Braces { parts, .. } => push_initials(table, parts.as_slice(), out),
         Initial::Mutex { .. } => Ok(()),
         Initial::Cond { .. } => Ok(()),
+        Initial::RwLock { .. } => Ok(()),
     }
 }
 

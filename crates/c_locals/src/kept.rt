@@ -17,6 +17,7 @@ fn is_kept_specifier(specifier: &Specifier) -> bool
         Specifier::PthreadMutexT { .. } => true,
         Specifier::PthreadCondT { .. } => true,
         Specifier::PthreadBarrierT { .. } => true,
+        Specifier::PthreadRwlockT { .. } => true,
     }
 }
 

@@ -151,6 +151,7 @@ fn put_initial_starts<'a>(
         Initial::Braces { parts, .. } => put_initials_starts(names, parts.as_slice()),
         Initial::Mutex { .. } => Ok(()),
         Initial::Cond { .. } => Ok(()),
+        Initial::RwLock { .. } => Ok(()),
     }
 }
 

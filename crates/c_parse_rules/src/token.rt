@@ -350,6 +350,7 @@ fn is_type(word: Word) -> bool
             | Word::PthreadMutexT
             | Word::PthreadCondT
             | Word::PthreadBarrierT
+            | Word::PthreadRwlockT
     )
 }
 

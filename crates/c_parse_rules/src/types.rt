@@ -43,8 +43,11 @@ pub fn specifier(
     if let Some((at, rest)) = next_word(tokens, Word::PthreadCondT, level)? {
         return Ok((Specifier::PthreadCondT { at }, rest));
     }
-    let (at, rest) = word(tokens, Word::PthreadBarrierT, level)?;
-    Ok((Specifier::PthreadBarrierT { at }, rest))
+    if let Some((at, rest)) = next_word(tokens, Word::PthreadBarrierT, level)? {
+        return Ok((Specifier::PthreadBarrierT { at }, rest));
+    }
+    let (at, rest) = word(tokens, Word::PthreadRwlockT, level)?;
+    Ok((Specifier::PthreadRwlockT { at }, rest))
 }
 
 // After the first `long`, which stands at that place.
@@ -92,7 +95,8 @@ pub fn specifier_place(specifier: &Specifier) -> Position
         | Specifier::PthreadT { at }
         | Specifier::PthreadMutexT { at }
         | Specifier::PthreadCondT { at }
-        | Specifier::PthreadBarrierT { at } => at,
+        | Specifier::PthreadBarrierT { at }
+        | Specifier::PthreadRwlockT { at } => at,
     }
 }
 

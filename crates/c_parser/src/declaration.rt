@@ -97,6 +97,9 @@ pub(crate) fn initial(
     if let Some((at, rest)) = next_word(tokens, Word::PthreadCondInitializer, level + 1)? {
         return Ok((Initial::Cond { at }, rest));
     }
+    if let Some((at, rest)) = next_word(tokens, Word::PthreadRwlockInitializer, level + 1)? {
+        return Ok((Initial::RwLock { at }, rest));
+    }
     let (e, rest) = assignment(alloc, level + 1, tokens)?;
     Ok((Initial::Value(e), rest))
 }

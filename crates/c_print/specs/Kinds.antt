@@ -19,7 +19,7 @@ use Rattle.c_tree.specs.declared.expr.AssignOp.TheVariants as assign_op
 use Rattle.c_tree.specs.declared.program.Params.{Params}
 use Rattle.c_tree.specs.declared.program.Params.TheVariants as params
 use Rattle.c_tree.specs.declared.program.Param.{Param}
-use Rattle.c_tree.specs.Tree.{Exp, comma, assign, conditional, binary, prefix, sizeof_exp, sizeof_type, cast, index, member, arrow, post_increment, post_decrement, named, call, number, letter, text, null, paren, Exps, no_exp, and_exp, Declared, declared, Init, value, braces, mutex_start, cond_start, Inits, no_init, and_init, Object, plain, initialised, Declares, declares, Start, start_declares, start_computes, Statement, block, compute, break_at, continue_at, gives, branch, branch_else, while_loop, do_loop, for_loop, Parts, no_part, and_declares, and_does, Code, defined, prototype, Fields, fields, Outer, structure, function, objects}
+use Rattle.c_tree.specs.Tree.{Exp, comma, assign, conditional, binary, prefix, sizeof_exp, sizeof_type, cast, index, member, arrow, post_increment, post_decrement, named, call, number, letter, text, null, paren, Exps, no_exp, and_exp, Declared, declared, Init, value, braces, mutex_start, cond_start, rwlock_start, Inits, no_init, and_init, Object, plain, initialised, Declares, declares, Start, start_declares, start_computes, Statement, block, compute, break_at, continue_at, gives, branch, branch_else, while_loop, do_loop, for_loop, Parts, no_part, and_declares, and_does, Code, defined, prototype, Fields, fields, Outer, structure, function, objects}
 
 -- the sign of an operator that stands before its operand (C99 6.5.3)
 abbrev pub prefix_punct : PrefixOp → Punct
@@ -94,6 +94,7 @@ specifier_kinds (specifier.PthreadT at) = w word.PthreadT ∷ []
 specifier_kinds (specifier.PthreadMutexT at) = w word.PthreadMutexT ∷ []
 specifier_kinds (specifier.PthreadCondT at) = w word.PthreadCondT ∷ []
 specifier_kinds (specifier.PthreadBarrierT at) = w word.PthreadBarrierT ∷ []
+specifier_kinds (specifier.PthreadRwlockT at) = w word.PthreadRwlockT ∷ []
 
 -- so many stars, one for each level of pointer
 abbrev pub stars_kinds : ℕ → List Kind
@@ -159,6 +160,7 @@ abbrev mutual
   init_kinds (braces is trailing place) = p punct.OpenBrace ∷ (inits_kinds is ++ (if_there trailing (p punct.Comma) ++ p punct.CloseBrace ∷ []))
   init_kinds (mutex_start place) = w word.PthreadMutexInitializer ∷ []
   init_kinds (cond_start place) = w word.PthreadCondInitializer ∷ []
+  init_kinds (rwlock_start place) = w word.PthreadRwlockInitializer ∷ []
 
   pub inits_kinds : Inits → List Kind
   inits_kinds no_init = []

@@ -128,6 +128,7 @@ fn print_specifier(
         Specifier::PthreadMutexT { .. } => put_word(out, Word::PthreadMutexT),
         Specifier::PthreadCondT { .. } => put_word(out, Word::PthreadCondT),
         Specifier::PthreadBarrierT { .. } => put_word(out, Word::PthreadBarrierT),
+        Specifier::PthreadRwlockT { .. } => put_word(out, Word::PthreadRwlockT),
     }
 }
 
@@ -368,6 +369,7 @@ fn print_initial(alloc: Global, out: &mut List<Kind>, initial: &Initial) -> Resu
         }
         Initial::Mutex { .. } => put_word(out, Word::PthreadMutexInitializer),
         Initial::Cond { .. } => put_word(out, Word::PthreadCondInitializer),
+        Initial::RwLock { .. } => put_word(out, Word::PthreadRwlockInitializer),
     }
 }
 

@@ -1,7 +1,7 @@
 -- Worked rows of what objects start as: the first fault of each line of C, by its definition.
 use Rattle.std.proofs.Common.{◌≡◌, ℕ, pos, Bool, true, false, List, [], ◌∷◌, map, Option, Some, None, refl, codes}
 use Rattle.c_tree.specs.declared.expr.PrefixOp.TheVariants as prefix_op
-use Rattle.c_tree.specs.Tree.{Exp, prefix, named, number, null, Init, value, braces, mutex_start, Inits, no_init, and_init}
+use Rattle.c_tree.specs.Tree.{Exp, prefix, named, number, null, Init, value, braces, mutex_start, rwlock_start, Inits, no_init, and_init}
 use Rattle.rr_base.specs.declared.position.Position.{Position}
 use Rattle.rr_base.specs.Positions.{position_at}
 use Rattle.c_types.specs.declared.types.BaseType.TheVariants as base
@@ -80,9 +80,11 @@ start_rows =
     ((true, (Some (pointer_to int_type), value (null (at 3)))), None) ∷
     ((true, (Some (pointer_to int_type), k 0 3)), None) ∷
     ((true, (Some (pointer_to int_type), k 1 3)), fault_at fault.TypeMismatch 1) ∷
-    -- mutex = PTHREAD_MUTEX_INITIALIZER; int = PTHREAD_MUTEX_INITIALIZER; mutex = {0}
+    -- mutex = PTHREAD_MUTEX_INITIALIZER; int = PTHREAD_MUTEX_INITIALIZER; mutex = PTHREAD_RWLOCK_INITIALIZER; read-write lock = that; mutex = {0}
     ((true, (Some (bare base.Mutex), mutex_start (at 3))), None) ∷
     ((true, (Some int_type, mutex_start (at 3))), fault_at fault.TypeMismatch 1) ∷
+    ((true, (Some (bare base.Mutex), rwlock_start (at 3))), fault_at fault.TypeMismatch 1) ∷
+    ((true, (Some (bare base.RwLock), rwlock_start (at 3))), None) ∷
     ((true, (Some (bare base.Mutex), in_braces (one (k 0 3)))), fault_at fault.TypeMismatch 1) ∷
     -- of a type that isn't known: {1, x} in a local, x in a global
     ((false, (None, in_braces (and_init (k 1 3) (one (value (x 5)))))), None) ∷

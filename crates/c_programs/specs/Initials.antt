@@ -1,6 +1,6 @@
 -- What objects start as (C99 6.7.8), and which rules that breaks. Every mismatch of types stands at the `=`.
 use Rattle.std.specs.Prelude.{ℕ, ◌+◌, nat_lt, Bool, true, false, not, ◌&&◌, if◌then◌else◌, List, [], ◌∷◌, ◌++◌, Option, Some, None, is_none}
-use Rattle.c_tree.specs.Tree.{Exp, named, prefix, paren, number, null, Init, value, braces, mutex_start, cond_start, Inits, no_init, and_init}
+use Rattle.c_tree.specs.Tree.{Exp, named, prefix, paren, number, null, Init, value, braces, mutex_start, cond_start, rwlock_start, Inits, no_init, and_init}
 use Rattle.rr_base.specs.declared.position.Position.{Position}
 use Rattle.c_types.specs.declared.types.BaseType.{BaseType}
 use Rattle.c_types.specs.declared.types.BaseType.TheVariants as base
@@ -127,6 +127,7 @@ abbrev mutual
   initial_faults known is_global w t at (braces is trailing here) = inits_faults known is_global t 0 at is
   initial_faults known is_global w t at (mutex_start here) = mismatch (not (may_be_base base.Mutex t)) at
   initial_faults known is_global w t at (cond_start here) = mismatch (not (may_be_base base.Cond t)) at
+  initial_faults known is_global w t at (rwlock_start here) = mismatch (not (may_be_base base.RwLock t)) at
 
   -- each for its part of the object from this one on, and no more of them than parts. In braces nothing is the whole right side of the `=`
   pub inits_faults : Known → Bool → Option ObjectType → ℕ → Position → Inits → List Found

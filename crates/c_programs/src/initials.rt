@@ -43,6 +43,7 @@ fn base_part<'a, N: Names>(
         BaseType::Mutex => None,
         BaseType::Cond => None,
         BaseType::Barrier => None,
+        BaseType::RwLock => None,
     }
 }
 
@@ -217,6 +218,9 @@ fn note_initial<'a, N: Names>(
         }
         Initial::Cond { .. } => {
             note_mismatch(first, !may_be_base(BaseType::Cond, of), at);
+        }
+        Initial::RwLock { .. } => {
+            note_mismatch(first, !may_be_base(BaseType::RwLock, of), at);
         }
     }
 }

@@ -104,6 +104,7 @@ specifier_faults known needs_size (specifier.PthreadT at) = []
 specifier_faults known needs_size (specifier.PthreadMutexT at) = []
 specifier_faults known needs_size (specifier.PthreadCondT at) = []
 specifier_faults known needs_size (specifier.PthreadBarrierT at) = []
+specifier_faults known needs_size (specifier.PthreadRwlockT at) = []
 
 -- not where the type isn't known
 abbrev pub is_some_void : Option ObjectType → Bool

@@ -123,6 +123,7 @@ pub fn note_specifier<N: Names>(
         Specifier::PthreadMutexT { .. } => {}
         Specifier::PthreadCondT { .. } => {}
         Specifier::PthreadBarrierT { .. } => {}
+        Specifier::PthreadRwlockT { .. } => {}
     }
 }
 

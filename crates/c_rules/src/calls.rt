@@ -172,7 +172,11 @@ fn can_base_go(base: BaseType) -> bool
 {
     match base {
         BaseType::Int | BaseType::Void => true,
-        BaseType::Struct(_) | BaseType::Mutex | BaseType::Cond | BaseType::Barrier => false,
+        BaseType::Struct(_)
+        | BaseType::Mutex
+        | BaseType::Cond
+        | BaseType::Barrier
+        | BaseType::RwLock => false,
     }
 }
 

@@ -186,6 +186,7 @@ pub fn push_initial_allocations<N: Names>(
         }
         Initial::Mutex { .. } => Ok(()),
         Initial::Cond { .. } => Ok(()),
+        Initial::RwLock { .. } => Ok(()),
     }
 }
 

@@ -49,6 +49,7 @@ mutual
     braces : Inits → Bool → Position → Init
     mutex_start : Position → Init
     cond_start : Position → Init
+    rwlock_start : Position → Init
 
   pub data Inits : Type 0 where
     no_init : Inits

@@ -2,7 +2,7 @@
 use Rattle.std.specs.Prelude.{List, Option, Some, None, map}
 use Rattle.c_tree.specs.declared.expr.Expr.{Expr, Comma', Assign', Conditional', Binary', Prefix', SizeofExpr', SizeofType, Cast', Index', Member', Arrow', PostIncrement', PostDecrement', Name, Call', Number, Letter, Text, Null, Paren', Row_of-Expr, end_of-Expr, more_of-Expr}
 use Rattle.c_tree.specs.declared.declaration.Declarator.{Declarator}
-use Rattle.c_tree.specs.declared.declaration.Initial.{Initial, Value, Braces', Mutex, Cond, Row_of-Initial, end_of-Initial, more_of-Initial}
+use Rattle.c_tree.specs.declared.declaration.Initial.{Initial, Value, Braces', Mutex, Cond, RwLock, Row_of-Initial, end_of-Initial, more_of-Initial}
 use Rattle.c_tree.specs.declared.declaration.Item.{Item}
 use Rattle.c_tree.specs.declared.declaration.Item.TheVariants as item
 use Rattle.c_tree.specs.declared.declaration.Declaration.{Declaration}
@@ -17,7 +17,7 @@ use Rattle.c_tree.specs.declared.program.Member.{Member}
 use Rattle.c_tree.specs.declared.program.External.{External}
 use Rattle.c_tree.specs.declared.program.External.TheVariants as external
 use Rattle.c_tree.specs.declared.program.Program.{Program}
-use Rattle.c_tree.specs.Tree.{Exp, comma, assign, conditional, binary, prefix, sizeof_exp, sizeof_type, cast, index, member, arrow, post_increment, post_decrement, named, call, number, letter, text, null, paren, Exps, no_exp, and_exp, Declared, declared, Init, value, braces, mutex_start, cond_start, Inits, no_init, and_init, Object, plain, initialised, Declares, declares, Start, start_declares, start_computes, Statement, block, compute, break_at, continue_at, gives, branch, branch_else, while_loop, do_loop, for_loop, Parts, no_part, Code, defined, prototype, Fields, fields, Outer, structure, function, objects, Part, part_declares, part_does, with_part, listed_parts}
+use Rattle.c_tree.specs.Tree.{Exp, comma, assign, conditional, binary, prefix, sizeof_exp, sizeof_type, cast, index, member, arrow, post_increment, post_decrement, named, call, number, letter, text, null, paren, Exps, no_exp, and_exp, Declared, declared, Init, value, braces, mutex_start, cond_start, rwlock_start, Inits, no_init, and_init, Object, plain, initialised, Declares, declares, Start, start_declares, start_computes, Statement, block, compute, break_at, continue_at, gives, branch, branch_else, while_loop, do_loop, for_loop, Parts, no_part, Code, defined, prototype, Fields, fields, Outer, structure, function, objects, Part, part_declares, part_does, with_part, listed_parts}
 use Rattle.rr_base.specs.declared.position.Position.{Position}
 
 abbrev mutual
@@ -57,6 +57,7 @@ abbrev mutual
   init_of (Braces' shape row trailing at) = braces (inits_of_row row) trailing at
   init_of (Mutex at) = mutex_start at
   init_of (Cond at) = cond_start at
+  init_of (RwLock at) = rwlock_start at
 
   pub inits_of_row : {n : _} → Row_of-Initial n → Inits
   inits_of_row end_of-Initial = no_init

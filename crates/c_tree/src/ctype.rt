@@ -32,6 +32,9 @@ pub enum Specifier {
     PthreadBarrierT {
         at: Position,
     },
+    PthreadRwlockT {
+        at: Position,
+    },
 }
 
 /// The name of a type (C99 6.7.6): a specifier and so many stars. The place is that of its first token.

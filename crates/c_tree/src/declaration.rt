@@ -29,6 +29,10 @@ pub enum Initial {
     Cond {
         at: Position,
     },
+    /// `PTHREAD_RWLOCK_INITIALIZER`
+    RwLock {
+        at: Position,
+    },
 }
 
 /// One of the objects of a declaration.

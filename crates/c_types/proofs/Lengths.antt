@@ -25,6 +25,7 @@ base_sizes structs (base.Struct k) = ap (λ o. unwrap_or o 0) (slice_get-map len
 base_sizes structs base.Mutex = refl
 base_sizes structs base.Cond = refl
 base_sizes structs base.Barrier = refl
+base_sizes structs base.RwLock = refl
 
 layered_sizes : (structs : List (List CellKind)) (ls : List Layer) (b : BaseType) → layered_size (map length structs) ls b ≡ length (layered_kinds structs ls b)
 layered_sizes structs [] b = base_sizes structs b

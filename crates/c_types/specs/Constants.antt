@@ -36,6 +36,7 @@ is_int_specifier (specifier.PthreadT at) = true
 is_int_specifier (specifier.PthreadMutexT at) = false
 is_int_specifier (specifier.PthreadCondT at) = false
 is_int_specifier (specifier.PthreadBarrierT at) = false
+is_int_specifier (specifier.PthreadRwlockT at) = false
 
 -- the only type to which a constant expression may be cast
 abbrev pub is_int : CType → Bool

@@ -32,6 +32,11 @@ calls =
     (codes "pthread_barrier_init", call.BarrierInit) ∷
     (codes "pthread_barrier_wait", call.BarrierWait) ∷
     (codes "pthread_barrier_destroy", call.BarrierDestroy) ∷
+    (codes "pthread_rwlock_init", call.RwInit) ∷
+    (codes "pthread_rwlock_rdlock", call.RwRdLock) ∷
+    (codes "pthread_rwlock_wrlock", call.RwWrLock) ∷
+    (codes "pthread_rwlock_unlock", call.RwUnlock) ∷
+    (codes "pthread_rwlock_destroy", call.RwDestroy) ∷
     (codes "malloc", call.Malloc) ∷
     (codes "free", call.Free) ∷
     (codes "getchar", call.GetChar) ∷
@@ -80,6 +85,11 @@ wanted_by call.CondDestroy = to_one base.Cond ∷ []
 wanted_by call.BarrierInit = to_one base.Barrier ∷ wants.Attribute ∷ an_int ∷ []
 wanted_by call.BarrierWait = to_one base.Barrier ∷ []
 wanted_by call.BarrierDestroy = to_one base.Barrier ∷ []
+wanted_by call.RwInit = to_one base.RwLock ∷ wants.Attribute ∷ []
+wanted_by call.RwRdLock = to_one base.RwLock ∷ []
+wanted_by call.RwWrLock = to_one base.RwLock ∷ []
+wanted_by call.RwUnlock = to_one base.RwLock ∷ []
+wanted_by call.RwDestroy = to_one base.RwLock ∷ []
 wanted_by call.Malloc = an_int ∷ []
 wanted_by call.Free = to_one base.Void ∷ []
 wanted_by call.GetChar = []

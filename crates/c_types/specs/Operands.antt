@@ -31,7 +31,7 @@ pub data Operand : Type 0 where
   null_operand : Operand
   -- a pointer to the type; an array is the pointer to its first element
   pointing : ObjectType → Operand
-  -- Void, a struct, a mutex, a condition variable or a barrier
+  -- Void, a struct, a mutex, a condition variable, a barrier or a read-write lock
   no_operand : Operand
 
 -- of the types without layers operators take only whole numbers
@@ -42,6 +42,7 @@ base_operand (base.Struct k) = no_operand
 base_operand base.Mutex = no_operand
 base_operand base.Cond = no_operand
 base_operand base.Barrier = no_operand
+base_operand base.RwLock = no_operand
 
 -- an array decays to a pointer here (C99 6.3.2.1)
 abbrev pub layered_operand : List Layer → BaseType → Operand
@@ -89,6 +90,7 @@ same_base (base.Struct j) (base.Struct k) = j == k
 same_base base.Mutex base.Mutex = true
 same_base base.Cond base.Cond = true
 same_base base.Barrier base.Barrier = true
+same_base base.RwLock base.RwLock = true
 same_base _ _ = false
 
 -- arrays of different lengths are different types

@@ -83,6 +83,7 @@ base_of known (specifier.PthreadT at) = Some base.Int
 base_of known (specifier.PthreadMutexT at) = Some base.Mutex
 base_of known (specifier.PthreadCondT at) = Some base.Cond
 base_of known (specifier.PthreadBarrierT at) = Some base.Barrier
+base_of known (specifier.PthreadRwlockT at) = Some base.RwLock
 
 -- so many stars after a base
 abbrev pub starred : ℕ → BaseType → ObjectType
@@ -127,6 +128,7 @@ is_complete_base known (base.Struct k) = nat_lt k (length known.structs)
 is_complete_base known base.Mutex = true
 is_complete_base known base.Cond = true
 is_complete_base known base.Barrier = true
+is_complete_base known base.RwLock = true
 
 -- a pointer has a size whatever it points to
 abbrev pub is_complete_layered : Known → List Layer → BaseType → Bool

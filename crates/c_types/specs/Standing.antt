@@ -315,7 +315,7 @@ abbrev pub layered_can_go : List Layer → BaseType → Bool
 layered_can_go [] b = is_kept_base b
 layered_can_go (l ∷ ls) b = true
 
--- it is no struct, mutex, condition variable or barrier
+-- it is no struct, mutex, condition variable, barrier or read-write lock
 abbrev pub can_go : Standing → Bool
 can_go (a_value t) = layered_can_go t.layers t.base
 can_go (a_place t) = layered_can_go t.layers t.base

@@ -46,6 +46,7 @@ base_kinds structs (base.Struct k) = unwrap_or (slice_get structs k) []
 base_kinds structs base.Mutex = cell.Mutex ∷ []
 base_kinds structs base.Cond = cell.Cond ∷ []
 base_kinds structs base.Barrier = cell.Barrier ∷ []
+base_kinds structs base.RwLock = cell.Rw ∷ []
 
 -- a pointer takes one cell whatever it points to
 abbrev pub layered_kinds : List (List CellKind) → List Layer → BaseType → List CellKind
@@ -97,6 +98,7 @@ base_size sizes (base.Struct k) = unwrap_or (slice_get sizes k) 0
 base_size sizes base.Mutex = 1
 base_size sizes base.Cond = 1
 base_size sizes base.Barrier = 1
+base_size sizes base.RwLock = 1
 
 -- in cells, the layers taken from the outermost
 abbrev pub layered_size : List ℕ → List Layer → BaseType → ℕ

@@ -26,6 +26,7 @@ fn put_base(
         BaseType::Mutex => out.push(CellKind::Mutex),
         BaseType::Cond => out.push(CellKind::Cond),
         BaseType::Barrier => out.push(CellKind::Barrier),
+        BaseType::RwLock => out.push(CellKind::Rw),
     }
 }
 
@@ -81,7 +82,11 @@ fn cells_of_base(base: BaseType, structs: &[List<CellKind>]) -> usize
             Some(kinds) => kinds.len(),
             None => 0,
         },
-        BaseType::Int | BaseType::Mutex | BaseType::Cond | BaseType::Barrier => 1,
+        BaseType::Int
+        | BaseType::Mutex
+        | BaseType::Cond
+        | BaseType::Barrier
+        | BaseType::RwLock => 1,
     }
 }
 
@@ -140,7 +145,11 @@ fn size_of_base(base: BaseType, sizes: &[u32]) -> u32
     match base {
         BaseType::Void => 0,
         BaseType::Struct(number) => sizes.get(number).copied().unwrap_or(0),
-        BaseType::Int | BaseType::Mutex | BaseType::Cond | BaseType::Barrier => 1,
+        BaseType::Int
+        | BaseType::Mutex
+        | BaseType::Cond
+        | BaseType::Barrier
+        | BaseType::RwLock => 1,
     }
 }
 

@@ -48,6 +48,11 @@ pub enum LibraryName {
     BarrierInit,
     BarrierWait,
     BarrierDestroy,
+    RwInit,
+    RwRdLock,
+    RwWrLock,
+    RwUnlock,
+    RwDestroy,
     Malloc,
     Free,
     GetChar,
@@ -56,7 +61,7 @@ pub enum LibraryName {
     PutText,
 }
 
-static CALLS: [(&[u8], LibraryName); 24] = [
+static CALLS: [(&[u8], LibraryName); 29] = [
     (b"pthread_create", LibraryName::Create),
     (b"pthread_join", LibraryName::Join),
     (b"pthread_exit", LibraryName::Exit),
@@ -75,6 +80,11 @@ static CALLS: [(&[u8], LibraryName); 24] = [
     (b"pthread_barrier_init", LibraryName::BarrierInit),
     (b"pthread_barrier_wait", LibraryName::BarrierWait),
     (b"pthread_barrier_destroy", LibraryName::BarrierDestroy),
+    (b"pthread_rwlock_init", LibraryName::RwInit),
+    (b"pthread_rwlock_rdlock", LibraryName::RwRdLock),
+    (b"pthread_rwlock_wrlock", LibraryName::RwWrLock),
+    (b"pthread_rwlock_unlock", LibraryName::RwUnlock),
+    (b"pthread_rwlock_destroy", LibraryName::RwDestroy),
     (b"malloc", LibraryName::Malloc),
     (b"free", LibraryName::Free),
     (b"getchar", LibraryName::GetChar),
@@ -125,6 +135,11 @@ pub fn wanted_by(call: LibraryName) -> &'static [Wanted]
         }
         LibraryName::BarrierInit => &[TO_BARRIER, Wanted::Attribute, INT],
         LibraryName::BarrierWait | LibraryName::BarrierDestroy => &[TO_BARRIER],
+        LibraryName::RwInit => &[TO_RWLOCK, Wanted::Attribute],
+        LibraryName::RwRdLock
+        | LibraryName::RwWrLock
+        | LibraryName::RwUnlock
+        | LibraryName::RwDestroy => &[TO_RWLOCK],
         LibraryName::Malloc | LibraryName::PutChar => &[INT],
         LibraryName::PrintFormat | LibraryName::PutText => &[Wanted::Text],
     }
@@ -163,6 +178,11 @@ const TO_COND: Wanted = Wanted::Fits(StarredType {
 const TO_BARRIER: Wanted = Wanted::Fits(StarredType {
     stars: 1,
     base: BaseType::Barrier,
+});
+
+const TO_RWLOCK: Wanted = Wanted::Fits(StarredType {
+    stars: 1,
+    base: BaseType::RwLock,
 });
 
 static CREATE: [Wanted; 4] = [TO_INT, Wanted::Attribute, Wanted::Root, TO_VOID];

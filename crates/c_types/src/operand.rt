@@ -35,7 +35,7 @@ pub enum Operand<'a> {
     Null,
     /// A pointer to the type. An array is the pointer to its first element.
     Pointing(TypeRef<'a>),
-    /// Void, a struct, a mutex, a condition variable or a barrier.
+    /// Void, a struct, a mutex, a condition variable, a barrier or a read-write lock.
     Unfit,
 }
 
@@ -60,7 +60,8 @@ impl<'a> Operand<'a> {
             | BaseType::Struct(_)
             | BaseType::Mutex
             | BaseType::Cond
-            | BaseType::Barrier => Operand::Unfit,
+            | BaseType::Barrier
+            | BaseType::RwLock => Operand::Unfit,
         }
     }
 

@@ -220,7 +220,8 @@ pub fn accepts(to: TypeRef, from: Operand) -> bool
             | BaseType::Struct(_)
             | BaseType::Mutex
             | BaseType::Cond
-            | BaseType::Barrier => false,
+            | BaseType::Barrier
+            | BaseType::RwLock => false,
         },
     }
 }
@@ -238,7 +239,8 @@ pub fn moves(to: TypeRef, by: Operand) -> bool
             | BaseType::Struct(_)
             | BaseType::Mutex
             | BaseType::Cond
-            | BaseType::Barrier => false,
+            | BaseType::Barrier
+            | BaseType::RwLock => false,
         },
     }
 }
@@ -254,7 +256,8 @@ fn is_int(of: TypeRef) -> bool
             | BaseType::Struct(_)
             | BaseType::Mutex
             | BaseType::Cond
-            | BaseType::Barrier => false,
+            | BaseType::Barrier
+            | BaseType::RwLock => false,
         },
     }
 }

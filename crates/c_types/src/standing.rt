@@ -212,6 +212,7 @@ pub fn base_of<N: Names>(names: &N, specifier: &Specifier) -> Option<BaseType>
         Specifier::PthreadMutexT { .. } => Some(BaseType::Mutex),
         Specifier::PthreadCondT { .. } => Some(BaseType::Cond),
         Specifier::PthreadBarrierT { .. } => Some(BaseType::Barrier),
+        Specifier::PthreadRwlockT { .. } => Some(BaseType::RwLock),
     }
 }
 
@@ -235,6 +236,7 @@ fn is_complete_base<N: Names>(names: &N, base: BaseType) -> bool
         BaseType::Mutex => true,
         BaseType::Cond => true,
         BaseType::Barrier => true,
+        BaseType::RwLock => true,
     }
 }
 
@@ -342,6 +344,7 @@ fn struct_of_base(base: BaseType) -> Option<usize>
         BaseType::Mutex => None,
         BaseType::Cond => None,
         BaseType::Barrier => None,
+        BaseType::RwLock => None,
     }
 }
 

@@ -75,7 +75,8 @@ impl<'a> TypeRef<'a> {
                 | BaseType::Struct(_)
                 | BaseType::Mutex
                 | BaseType::Cond
-                | BaseType::Barrier => false,
+                | BaseType::Barrier
+                | BaseType::RwLock => false,
             },
         }
     }
@@ -108,7 +109,8 @@ pub fn have_same_base(a: BaseType, b: BaseType) -> bool
         | (BaseType::Void, BaseType::Void)
         | (BaseType::Mutex, BaseType::Mutex)
         | (BaseType::Cond, BaseType::Cond)
-        | (BaseType::Barrier, BaseType::Barrier) => true,
+        | (BaseType::Barrier, BaseType::Barrier)
+        | (BaseType::RwLock, BaseType::RwLock) => true,
         (BaseType::Struct(j), BaseType::Struct(k)) => j == k,
         _ => false,
     }

@@ -14,6 +14,7 @@ pub enum BaseType {
     Mutex,
     Cond,
     Barrier,
+    RwLock,
 }
 
 /// What is laid round a type to make another one.

@@ -76,6 +76,7 @@ int_base known (specifier.PthreadT at) h = refl
 int_base known (specifier.PthreadMutexT at) h = cc
 int_base known (specifier.PthreadCondT at) h = cc
 int_base known (specifier.PthreadBarrierT at) h = cc
+int_base known (specifier.PthreadRwlockT at) h = cc
 
 pub int_named : (known : Known) (t : CType) → is_int t ≡ true → type_named known t ≡ Some int_type
 int_named known t h =

@@ -8,7 +8,7 @@ use Rattle.sync_objects.specs.Start.{packed_start, start_word}
 use Rattle.sync_objects.specs.Words.{number_of, word_of}
 use Rattle.sync_objects.specs.declared.object.ObjId.{ObjId}
 use Rattle.sync_objects.specs.declared.object.ObjId.TheVariants as object
-use Rattle.sync_objects.proofs.Starts.{starts-Mutex, starts-Cond, starts-Barrier, starts-Weak, starts-other_slot}
+use Rattle.sync_objects.proofs.Starts.{starts-Mutex, starts-Cond, starts-Barrier, starts-Rw, starts-Weak, starts-other_slot}
 use Rattle.sync_objects.proofs.Packings.{number_of-word_of}
 use Rattle.rr_base.specs.declared.layout.CellKind.{CellKind}
 use Rattle.rr_base.proofs.Lists.{slice_get-append_left, slice_get-append_right}
@@ -44,21 +44,21 @@ single_words = start_word object.Threads ∷ start_word object.Halt ∷ start_wo
 abbrev words_past : Code → List ℕ
 words_past code = (slot_words ++ single_words) ++ replicate (8 * length code.locks) 0
 
-objects_are : (code : Code) (s : SetupView) → start_objects code s ≡ replicate (3 * cells_of code s) 0 ++ words_past code
+objects_are : (code : Code) (s : SetupView) → start_objects code s ≡ replicate (4 * cells_of code s) 0 ++ words_past code
 objects_are code s =
-    ap (λ (ws : List ℕ). ws ++ replicate (8 * length code.locks) 0) (append_assoc (replicate (3 * cells_of code s) 0) slot_words single_words)
-    ∙ append_assoc (replicate (3 * cells_of code s) 0) (slot_words ++ single_words) (replicate (8 * length code.locks) 0)
+    ap (λ (ws : List ℕ). ws ++ replicate (8 * length code.locks) 0) (append_assoc (replicate (4 * cells_of code s) 0) slot_words single_words)
+    ∙ append_assoc (replicate (4 * cells_of code s) 0) (slot_words ++ single_words) (replicate (8 * length code.locks) 0)
 
-pub length-start_words : (code : Code) (s : SetupView) → length (start_words code s) ≡ 4 * cells_of code s + 20 + 8 * length code.locks
+pub length-start_words : (code : Code) (s : SetupView) → length (start_words code s) ≡ 5 * cells_of code s + 20 + 8 * length code.locks
 length-start_words code s =
-    let zeros : List ℕ = replicate (3 * cells_of code s) 0 in
+    let zeros : List ℕ = replicate (4 * cells_of code s) 0 in
     let stripes : List ℕ = replicate (8 * length code.locks) 0 in
     let a : length (start_words code s) ≡ length (start_cells code s) + length (start_objects code s) = length-append (start_cells code s) (start_objects code s) in
     let b = length-start_cells code s in
     let o : length (start_objects code s) ≡ length (zeros ++ words_past code) = ap length (objects_are code s) in
     let c : length (zeros ++ words_past code) ≡ length zeros + length (words_past code) = length-append zeros (words_past code) in
     let d : length (words_past code) ≡ 20 + length stripes = length-append (slot_words ++ single_words) stripes in
-    let e : length zeros ≡ 3 * cells_of code s = length-replicate (3 * cells_of code s) 0 in
+    let e : length zeros ≡ 4 * cells_of code s = length-replicate (4 * cells_of code s) 0 in
     let f : length stripes ≡ 8 * length code.locks = length-replicate (8 * length code.locks) 0 in
     omega arith
 
@@ -74,20 +74,20 @@ following : (code : Code) (s : SetupView) (n : ℕ) (o : Option ℕ) → slice_g
 following code s n o e = ap (λ k. slice_get (start_words code s) (k + n)) (sym (length-start_cells code s)) ∙ slice_get-append_right (start_cells code s) (start_objects code s) n ∙ e
 
 -- an object of a cell has the word 0
-at_cell : (code : Code) (s : SetupView) (n : ℕ) → n < 3 * cells_of code s → slice_get (start_words code s) (cells_of code s + n) ≡ Some 0
+at_cell : (code : Code) (s : SetupView) (n : ℕ) → n < 4 * cells_of code s → slice_get (start_words code s) (cells_of code s + n) ≡ Some 0
 at_cell code s n h =
-    let zeros : List ℕ = replicate (3 * cells_of code s) 0 in
-    let len : length zeros ≡ 3 * cells_of code s = length-replicate (3 * cells_of code s) 0 in
-    following code s n (Some 0) (ap (λ ws. slice_get ws n) (objects_are code s) ∙ slice_get-append_left zeros (words_past code) n (omega arith) ∙ get_replicate (3 * cells_of code s) n h)
+    let zeros : List ℕ = replicate (4 * cells_of code s) 0 in
+    let len : length zeros ≡ 4 * cells_of code s = length-replicate (4 * cells_of code s) 0 in
+    following code s n (Some 0) (ap (λ ws. slice_get ws n) (objects_are code s) ∙ slice_get-append_left zeros (words_past code) n (omega arith) ∙ get_replicate (4 * cells_of code s) n h)
 
 -- after the objects of cells
-after_cells : (code : Code) (s : SetupView) (n : ℕ) (o : Option ℕ) → slice_get (words_past code) n ≡ o → slice_get (start_words code s) (4 * cells_of code s + n) ≡ o
+after_cells : (code : Code) (s : SetupView) (n : ℕ) (o : Option ℕ) → slice_get (words_past code) n ≡ o → slice_get (start_words code s) (5 * cells_of code s + n) ≡ o
 after_cells code s n o e =
-    let zeros : List ℕ = replicate (3 * cells_of code s) 0 in
-    let place : 4 * cells_of code s + n ≡ cells_of code s + (3 * cells_of code s + n) = omega arith in
-    let len : 3 * cells_of code s ≡ length zeros = sym (length-replicate (3 * cells_of code s) 0) in
+    let zeros : List ℕ = replicate (4 * cells_of code s) 0 in
+    let place : 5 * cells_of code s + n ≡ cells_of code s + (4 * cells_of code s + n) = omega arith in
+    let len : 4 * cells_of code s ≡ length zeros = sym (length-replicate (4 * cells_of code s) 0) in
     ap (slice_get (start_words code s)) place
-    ∙ following code s (3 * cells_of code s + n) o (ap (λ ws. slice_get ws (3 * cells_of code s + n)) (objects_are code s) ∙ ap (λ k. slice_get (zeros ++ words_past code) (k + n)) len ∙ slice_get-append_right zeros (words_past code) n ∙ e)
+    ∙ following code s (4 * cells_of code s + n) o (ap (λ ws. slice_get ws (4 * cells_of code s + n)) (objects_are code s) ∙ ap (λ k. slice_get (zeros ++ words_past code) (k + n)) len ∙ slice_get-append_right zeros (words_past code) n ∙ e)
 
 zero_word : (n : ℕ) → n ≡ 0 → Some 0 ≡ Some (word_of 0 n)
 zero_word n e = ap (λ k. Some (word_of 0 k)) (sym e)
@@ -107,6 +107,10 @@ start_word_at code s (object.Barrier cell) l h =
     let lt = ltb-true cell (cells_of code s) h in
     let place : 3 * cells_of code s + cell ≡ cells_of code s + (2 * cells_of code s + cell) = omega arith in
     ap (slice_get (start_words code s)) place ∙ at_cell code s (2 * cells_of code s + cell) (omega arith) ∙ zero_word (packed_start (object.Barrier cell)) (starts-Barrier cell)
+start_word_at code s (object.Rw cell) l h =
+    let lt = ltb-true cell (cells_of code s) h in
+    let place : 4 * cells_of code s + cell ≡ cells_of code s + (3 * cells_of code s + cell) = omega arith in
+    ap (slice_get (start_words code s)) place ∙ at_cell code s (3 * cells_of code s + cell) (omega arith) ∙ zero_word (packed_start (object.Rw cell)) (starts-Rw cell)
 start_word_at code s (object.Slot zero) l h = after_cells code s 0 (Some (start_word (object.Slot 0))) refl
 start_word_at code s (object.Slot (suc k)) l h =
     let lt = ltb-true (suc k) s.slots h in
@@ -121,7 +125,7 @@ start_word_at code s (object.Weak lock stripe) l h =
     let low = ltb-true lock (length code.locks) parts.0 in
     let few = ltb-true stripe 8 parts.1 in
     let n = 8 * lock + stripe in
-    let place : 4 * cells_of code s + 20 + 8 * lock + stripe ≡ 4 * cells_of code s + (20 + n) = omega arith in
+    let place : 5 * cells_of code s + 20 + 8 * lock + stripe ≡ 5 * cells_of code s + (20 + n) = omega arith in
     ap (slice_get (start_words code s)) place
     ∙ after_cells code s (20 + n) (Some 0) (slice_get-append_right (slot_words ++ single_words) (replicate (8 * length code.locks) 0) n ∙ get_replicate (8 * length code.locks) n (omega arith))
     ∙ zero_word (packed_start (object.Weak lock stripe)) (starts-Weak lock stripe)

@@ -11,6 +11,7 @@ pub place_past : (cells : ℕ) (o : ObjId) → cells ≤ place_of cells o
 place_past cells (object.Mutex cell) = omega arith
 place_past cells (object.Cond cell) = omega arith
 place_past cells (object.Barrier cell) = omega arith
+place_past cells (object.Rw cell) = omega arith
 place_past cells (object.Weak lock stripe) = omega arith
 place_past cells (object.Slot k) = omega arith
 place_past cells object.Threads = omega arith
@@ -35,7 +36,8 @@ object_at cells p =
     if nat_lt p (2 * cells) then object.Mutex (p - cells)
     else if nat_lt p (3 * cells) then object.Cond (p - 2 * cells)
     else if nat_lt p (4 * cells) then object.Barrier (p - 3 * cells)
-    else other (p - 4 * cells)
+    else if nat_lt p (5 * cells) then object.Rw (p - 4 * cells)
+    else other (p - 5 * cells)
 
 below : {A : Type 0} (m n : ℕ) (x y : A) → m < n → (if nat_lt m n then x else y) ≡ x
 below m n x y h = cond-true (nat_lt m n) x y (lt-ltb m n h)
@@ -43,11 +45,11 @@ below m n x y h = cond-true (nat_lt m n) x y (lt-ltb m n h)
 above : {A : Type 0} (m n : ℕ) (x y : A) → n ≤ m → (if nat_lt m n then x else y) ≡ y
 above m n x y h = cond-false (nat_lt m n) x y (le-ltb m n h)
 
-after_cells : (cells n : ℕ) → object_at cells (4 * cells + n) ≡ other n
+after_cells : (cells n : ℕ) → object_at cells (5 * cells + n) ≡ other n
 after_cells cells n =
-    let p = 4 * cells + n in
-    let left : p - 4 * cells ≡ n = omega arith in
-    above p (2 * cells) _ _ (omega arith) ∙ above p (3 * cells) _ _ (omega arith) ∙ above p (4 * cells) _ _ (omega arith) ∙ ap other left
+    let p = 5 * cells + n in
+    let left : p - 5 * cells ≡ n = omega arith in
+    above p (2 * cells) _ _ (omega arith) ∙ above p (3 * cells) _ _ (omega arith) ∙ above p (4 * cells) _ _ (omega arith) ∙ above p (5 * cells) _ _ (omega arith) ∙ ap other left
 
 pub object_at_place : (code : Code) (s : SetupView) (o : ObjId) → IsWithinLimits s → has_object code s o ≡ true → object_at (cells_of code s) (place_of (cells_of code s) o) ≡ o
 object_at_place code s (object.Mutex cell) l h = let lt = ltb-true cell (cells_of code s) h in below (cells_of code s + cell) (2 * cells_of code s) _ _ (omega arith) ∙ ap object.Mutex (omega arith)
@@ -58,6 +60,10 @@ object_at_place code s (object.Barrier cell) l h =
     let lt = ltb-true cell (cells_of code s) h in
     above (3 * cells_of code s + cell) (2 * cells_of code s) _ _ (omega arith) ∙ above (3 * cells_of code s + cell) (3 * cells_of code s) _ _ (omega arith)
     ∙ below (3 * cells_of code s + cell) (4 * cells_of code s) _ _ (omega arith) ∙ ap object.Barrier (omega arith)
+object_at_place code s (object.Rw cell) l h =
+    let lt = ltb-true cell (cells_of code s) h in
+    above (4 * cells_of code s + cell) (2 * cells_of code s) _ _ (omega arith) ∙ above (4 * cells_of code s + cell) (3 * cells_of code s) _ _ (omega arith)
+    ∙ above (4 * cells_of code s + cell) (4 * cells_of code s) _ _ (omega arith) ∙ below (4 * cells_of code s + cell) (5 * cells_of code s) _ _ (omega arith) ∙ ap object.Rw (omega arith)
 object_at_place code s (object.Slot k) l h =
     let lt = ltb-true k s.slots h in
     let few = l.few_slots in

@@ -257,6 +257,7 @@ pub(crate) fn make_entry(
             ObjId::Mutex(_) => make_own(flow, words, cells, entry),
             ObjId::Cond(_) => make_own(flow, words, cells, entry),
             ObjId::Barrier(_) => make_own(flow, words, cells, entry),
+            ObjId::Rw(_) => make_own(flow, words, cells, entry),
             ObjId::Slot(_) => make_own(flow, words, cells, entry),
             ObjId::Threads => make_own(flow, words, cells, entry),
             ObjId::Halt => make_own(flow, words, cells, entry),

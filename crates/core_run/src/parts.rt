@@ -160,7 +160,9 @@ pub fn has_object(code: &Code, setup: &Setup, cells: u32, obj: ObjId) -> bool
     ensures { result ≡ has_object_of code.now setup.now obj }
 {
     match obj {
-        ObjId::Mutex(cell) | ObjId::Cond(cell) | ObjId::Barrier(cell) => cell < cells,
+        ObjId::Mutex(cell) | ObjId::Cond(cell) | ObjId::Barrier(cell) | ObjId::Rw(cell) => {
+            cell < cells
+        }
         ObjId::Weak { lock, stripe } => usize::from(lock) < code.locks.len() && stripe < 8,
         ObjId::Slot(k) => k < setup.slots(),
         ObjId::Threads | ObjId::Halt | ObjId::Input | ObjId::Output => true,
@@ -176,13 +178,14 @@ pub fn place_of(cells: u32, obj: ObjId) -> usize
         ObjId::Mutex(cell) => cells + cell as usize,
         ObjId::Cond(cell) => 2 * cells + cell as usize,
         ObjId::Barrier(cell) => 3 * cells + cell as usize,
-        ObjId::Slot(k) => 4 * cells + usize::from(k),
-        ObjId::Threads => 4 * cells + 16,
-        ObjId::Halt => 4 * cells + 17,
-        ObjId::Input => 4 * cells + 18,
-        ObjId::Output => 4 * cells + 19,
+        ObjId::Rw(cell) => 4 * cells + cell as usize,
+        ObjId::Slot(k) => 5 * cells + usize::from(k),
+        ObjId::Threads => 5 * cells + 16,
+        ObjId::Halt => 5 * cells + 17,
+        ObjId::Input => 5 * cells + 18,
+        ObjId::Output => 5 * cells + 19,
         ObjId::Weak { lock, stripe } => {
-            4 * cells + 20 + 8 * usize::from(lock) + usize::from(stripe)
+            5 * cells + 20 + 8 * usize::from(lock) + usize::from(stripe)
         }
     }
 }

@@ -34,6 +34,10 @@ fn operation_index(op: OpName) -> u8
         OpName::Stop => 23,
         OpName::GetChar => 24,
         OpName::Print => 25,
+        OpName::RdLock => 26,
+        OpName::WrLock => 27,
+        OpName::RwUnlock => 28,
+        OpName::RwInit => 29,
     }
 }
 
@@ -44,6 +48,7 @@ fn same_object(a: ObjId, b: ObjId) -> bool
         (ObjId::Mutex(c), ObjId::Mutex(d)) => c == d,
         (ObjId::Cond(c), ObjId::Cond(d)) => c == d,
         (ObjId::Barrier(c), ObjId::Barrier(d)) => c == d,
+        (ObjId::Rw(c), ObjId::Rw(d)) => c == d,
         (ObjId::Weak { lock: l, stripe: s }, ObjId::Weak { lock: m, stripe: r }) => l == m
             && s == r,
         (ObjId::Slot(k), ObjId::Slot(n)) => k == n,

@@ -30,7 +30,11 @@ fn start_global(slots: u8, kind: CellKind, word: u64) -> u64
                 word.wrapping_add(2 * u64::from(slots) * (1 << 32))
             }
         }
-        CellKind::Whole | CellKind::Mutex | CellKind::Cond | CellKind::Barrier => word,
+        CellKind::Whole
+        | CellKind::Mutex
+        | CellKind::Cond
+        | CellKind::Barrier
+        | CellKind::Rw => word,
     }
 }
 
@@ -63,7 +67,7 @@ fn push_objects(words: &mut Vec<u64>, cells: usize, locks: usize) -> Result<(), 
     requires { cells < 2 ^ 32 }
     ensures { OnOk result (words.new.items ≡ words.old.items ++ objects_from cells locks) }
 {
-    push_zeros(words, 3 * cells)?;
+    push_zeros(words, 4 * cells)?;
     words.push(start_word(ObjId::Slot(0)))?;
     push_zeros(words, 15)?;
     words.push(start_word(ObjId::Threads))?;

@@ -263,6 +263,11 @@ fn arguments_fit(function: &Function, arguments: &[u32], call: &LibraryCall) -> 
         | LibraryCall::CondDestroy
         | LibraryCall::BarrierWait
         | LibraryCall::BarrierDestroy
+        | LibraryCall::RwInit
+        | LibraryCall::RwRdLock
+        | LibraryCall::RwWrLock
+        | LibraryCall::RwUnlock
+        | LibraryCall::RwDestroy
         | LibraryCall::Free => have_kinds(function, arguments, &[true]),
     }
 }

@@ -15,8 +15,8 @@ static SITES: [(&[u8], &str); 12] = [
         "v 6/2 WPWPWP; ",
     ),
     (
-        b"int a[2][3]; int *b[2]; pthread_mutex_t m; pthread_cond_t c[2]; pthread_barrier_t r; struct s {pthread_mutex_t l; int n[2];}; struct s t; int main(void){return 0;}",
-        "a 6/1 WWWWWW; b 2/1 PP; m 1/1 M; c 2/1 CC; r 1/1 B; t 3/3 MWW; ",
+        b"int a[2][3]; int *b[2]; pthread_mutex_t m; pthread_cond_t c[2]; pthread_barrier_t r; pthread_rwlock_t w; struct s {pthread_mutex_t l; int n[2];}; struct s t; int main(void){return 0;}",
+        "a 6/1 WWWWWW; b 2/1 PP; m 1/1 M; c 2/1 CC; r 1/1 B; w 1/1 R; t 3/3 MWW; ",
     ),
     (
         b"int main(void){int a; int b; int *p = &b; return 0;}",
@@ -97,6 +97,7 @@ fn letter_of(kind: CellKind) -> u8 {
         CellKind::Mutex => b'M',
         CellKind::Cond => b'C',
         CellKind::Barrier => b'B',
+        CellKind::Rw => b'R',
     }
 }
 

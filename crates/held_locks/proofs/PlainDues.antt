@@ -15,7 +15,7 @@ use Rattle.abstract_machine.specs.declared.event.Due.{Due}
 use Rattle.abstract_machine.specs.declared.event.Due.TheVariants as due
 use Rattle.abstract_machine.specs.Values.{number}
 use Rattle.abstract_machine.specs.Cells.{is_size, cells_in}
-use Rattle.abstract_machine.specs.Library.{Caller, argument, is_misuse, is_serial, at_cell, cell_of, printed_piece, most_printed, print_due, create_due, is_joinable, join_thread_due, join_due, exit_due, checked_due, mutex_due, try_due, wait_due_at, barrier_init_due, barrier_wait_due, asks_for, library_due}
+use Rattle.abstract_machine.specs.Library.{Caller, argument, is_misuse, is_serial, at_cell, cell_of, printed_piece, most_printed, print_due, create_due, is_joinable, join_thread_due, join_due, exit_due, checked_due, mutex_due, rwlock_due, try_due, wait_due_at, barrier_init_due, barrier_wait_due, asks_for, library_due}
 use Rattle.flow_code.specs.declared.code.Code.{Code}
 use Rattle.flow_code.specs.Threads.{Thread, is_main}
 use Rattle.flow_code.specs.Next.{quiet_unless, load_due, store_due, malloc_due, mark_if, enter_due, end_due, return_due, begun_due}
@@ -74,6 +74,10 @@ module _ (t : ℕ) where
   mutex_plain w o h words zero kept = at_plain (cell_of w words 0 kind.Mutex) _ (λ c. (refl, h c))
   mutex_plain w o h words (suc n) kept = checked_plain trap.MutexMisuse kept
 
+  rwlock_plain : (w : Caller) (o : Op) → ((c : ℕ) → OfSlot t o (object.Rw c)) → (words : List ℕ) (made : ℕ) (kept : ℤ) → IsPlain (rwlock_due w o words made kept)
+  rwlock_plain w o h words zero kept = at_plain (cell_of w words 0 kind.Rw) _ (λ c. (refl, h c))
+  rwlock_plain w o h words (suc n) kept = checked_plain trap.RwMisuse kept
+
   try_plain : (w : Caller) (words : List ℕ) (made : ℕ) → IsPlain (try_due w words made)
   try_plain w words zero = at_plain (cell_of w words 0 kind.Mutex) _ (λ c. (refl, tt))
   try_plain w words (suc n) = tt
@@ -116,6 +120,11 @@ module _ (t : ℕ) where
   library_plain w call.BarrierInit words made kept e = barrier_init_plain w words made kept
   library_plain w call.BarrierWait words made kept e = barrier_wait_plain w words made kept
   library_plain w call.BarrierDestroy words made kept e = asks_plain w words kind.Barrier
+  library_plain w call.RwInit words made kept e = rwlock_plain w op.RwInit (λ c. tt) words made kept
+  library_plain w call.RwRdLock words made kept e = rwlock_plain w op.RdLock (λ c. tt) words made kept
+  library_plain w call.RwWrLock words made kept e = rwlock_plain w op.WrLock (λ c. tt) words made kept
+  library_plain w call.RwUnlock words made kept e = rwlock_plain w op.RwUnlock (λ c. tt) words made kept
+  library_plain w call.RwDestroy words made kept e = asks_plain w words kind.Rw
   library_plain w call.Free words made kept e = tt
   library_plain w call.GetChar words made kept e = (refl, tt)
   library_plain w (call.Print format) words made kept e = print_plain w (length (printed_piece format words))

@@ -13,7 +13,7 @@ use Rattle.abstract_machine.specs.declared.event.Due.{Due}
 use Rattle.abstract_machine.specs.declared.event.Due.TheVariants as due
 use Rattle.abstract_machine.specs.Values.{number}
 use Rattle.abstract_machine.specs.Cells.{is_size, cells_in}
-use Rattle.abstract_machine.specs.Library.{Caller, argument, is_misuse, is_serial, at_cell, cell_of, printed_piece, most_printed, print_due, create_due, is_joinable, join_thread_due, join_due, exit_due, checked_due, mutex_due, try_due, wait_due_at, barrier_init_due, barrier_wait_due, asks_for, library_due}
+use Rattle.abstract_machine.specs.Library.{Caller, argument, is_misuse, is_serial, at_cell, cell_of, printed_piece, most_printed, print_due, create_due, is_joinable, join_thread_due, join_due, exit_due, checked_due, mutex_due, rwlock_due, try_due, wait_due_at, barrier_init_due, barrier_wait_due, asks_for, library_due}
 use Rattle.flow_code.specs.declared.code.Code.{Code}
 use Rattle.flow_code.specs.Threads.{Thread, is_main}
 use Rattle.flow_code.specs.Next.{quiet_unless, load_due, store_due, malloc_due, mark_if, enter_due, end_due, return_due, begun_due}
@@ -65,6 +65,10 @@ module _ (P : ℕ → Type 0) where
   mutex_none w o words zero kept e = at_none (cell_of w words 0 kind.Mutex) _ (λ c. e)
   mutex_none w o words (suc n) kept e = checked_none trap.MutexMisuse kept
 
+  rwlock_none : (w : Caller) (o : Op) (words : List ℕ) (made : ℕ) (kept : ℤ) → OpStarts P o → DueStarts P (rwlock_due w o words made kept)
+  rwlock_none w o words zero kept e = at_none (cell_of w words 0 kind.Rw) _ (λ c. e)
+  rwlock_none w o words (suc n) kept e = checked_none trap.RwMisuse kept
+
   try_none : (w : Caller) (words : List ℕ) (made : ℕ) → DueStarts P (try_due w words made)
   try_none w words zero = at_none (cell_of w words 0 kind.Mutex) _ (λ c. tt)
   try_none w words (suc n) = tt
@@ -112,6 +116,11 @@ module _ (P : ℕ → Type 0) where
   library_none w call.BarrierInit words made kept h = barrier_init_none w words made kept
   library_none w call.BarrierWait words made kept h = barrier_wait_none w words made kept
   library_none w call.BarrierDestroy words made kept h = asks_none w words kind.Barrier
+  library_none w call.RwInit words made kept h = rwlock_none w op.RwInit words made kept tt
+  library_none w call.RwRdLock words made kept h = rwlock_none w op.RdLock words made kept tt
+  library_none w call.RwWrLock words made kept h = rwlock_none w op.WrLock words made kept tt
+  library_none w call.RwUnlock words made kept h = rwlock_none w op.RwUnlock words made kept tt
+  library_none w call.RwDestroy words made kept h = asks_none w words kind.Rw
   library_none w call.Free words made kept h = tt
   library_none w call.GetChar words made kept h = tt
   library_none w (call.Print format) words made kept h = print_none w (length (printed_piece format words))

@@ -4,6 +4,10 @@
 pub const MISUSE: &str =
     "pthread_mutex_t m;\nint main(void) { pthread_mutex_unlock(&m); return 0; }\n";
 
+/// A read-write lock is unlocked that nobody holds.
+pub const RWLOCK_MISUSE: &str =
+    "pthread_rwlock_t l;\nint main(void) { pthread_rwlock_unlock(&l); return 0; }\n";
+
 /// A thread traps while `main` holds a lock and waits for it.
 pub const HELD: &str = "#include <pthread.h>
 pthread_mutex_t m;

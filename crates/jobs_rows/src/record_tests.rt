@@ -4,7 +4,8 @@ use job_samples::logs::{FIRST, IDLE, INPUT_HI, RECORDED, SLOTS_1, SLOTS_3, SLOTS
 use job_samples::outside::{Outside, SOUND, repeated};
 use job_samples::shelves::{files_of, with_source};
 use job_samples::sources::{
-    COUNTER, DIVIDES, ECHOES, HELD_BY_CALLER, MISUSE, NO_POINTER, NONE_LEFT, PASSES, WAITS,
+    COUNTER, DIVIDES, ECHOES, HELD_BY_CALLER, MISUSE, NO_POINTER, NONE_LEFT, PASSES, RWLOCK_MISUSE,
+    WAITS,
 };
 use rr_base::MemShelf;
 use std::alloc::Global;
@@ -16,7 +17,7 @@ use std::thread::Threads;
 const SHORT: &str = "int main(void){return 0;}\n";
 
 // Words, a source, an input, what is told with which status, and the log where it is the only one.
-static RECORDS: [(&[&str], &str, &str, &str, u8, &[&str]); 10] = [
+static RECORDS: [(&[&str], &str, &str, &str, u8, &[&str]); 11] = [
     (&["record", "a", "l"], BANK, "", "20\n", 0, &[]),
     (
         &["record", "a", "l"],
@@ -45,6 +46,14 @@ static RECORDS: [(&[&str], &str, &str, &str, u8, &[&str]); 10] = [
         "trap 9 thread 0 line 2\n",
         3,
         &[RECORDED, SLOTS_1, "0 1 unlock m2\n0 2 trap H\n"],
+    ),
+    (
+        &["record", "--slots", "1", "a", "l"],
+        RWLOCK_MISUSE,
+        "",
+        "trap 18 thread 0 line 2\n",
+        3,
+        &[RECORDED, SLOTS_1, "0 1 rwunlock r2\n0 2 trap H\n"],
     ),
     (
         &["record", "a", "--slots", "1", "l"],

@@ -101,6 +101,7 @@ module _ (code : Code) (s : SetupView) where
   object_within valid limits (object.Mutex cell) e = below_cells (valid_runnable code valid) limits cell e
   object_within valid limits (object.Cond cell) e = below_cells (valid_runnable code valid) limits cell e
   object_within valid limits (object.Barrier cell) e = below_cells (valid_runnable code valid) limits cell e
+  object_within valid limits (object.Rw cell) e = below_cells (valid_runnable code valid) limits cell e
   object_within valid limits (object.Weak lock stripe) e =
       let p = and_parts (nat_lt lock (length code.locks)) (nat_lt stripe 8) e in
       let low = ltb-true lock (length code.locks) p.0 in

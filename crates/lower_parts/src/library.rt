@@ -48,6 +48,11 @@ pub fn copy_of(alloc: Global, call: &LibraryCall) -> Result<LibraryCall, AllocEr
         LibraryCall::BarrierInit => LibraryCall::BarrierInit,
         LibraryCall::BarrierWait => LibraryCall::BarrierWait,
         LibraryCall::BarrierDestroy => LibraryCall::BarrierDestroy,
+        LibraryCall::RwInit => LibraryCall::RwInit,
+        LibraryCall::RwRdLock => LibraryCall::RwRdLock,
+        LibraryCall::RwWrLock => LibraryCall::RwWrLock,
+        LibraryCall::RwUnlock => LibraryCall::RwUnlock,
+        LibraryCall::RwDestroy => LibraryCall::RwDestroy,
         LibraryCall::Free => LibraryCall::Free,
         LibraryCall::GetChar => LibraryCall::GetChar,
         LibraryCall::Print { format } => LibraryCall::Print {

@@ -24,6 +24,7 @@ same kind.Pointer = refl
 same kind.Mutex = refl
 same kind.Cond = refl
 same kind.Barrier = refl
+same kind.Rw = refl
 
 begin_is : (ks ws : List CellKind) → ((j : ℕ) (c : CellKind) → slice_get ws j ≡ Some c → slice_get ks j ≡ Some c) → begin_with ks ws ≡ true
 begin_is ks [] h = refl
@@ -87,6 +88,7 @@ module _ (p : Program) (homes : AreAtHome p (base_at p.global_bases)) (layouts :
   word_is kind.Mutex w h = refl
   word_is kind.Cond w h = refl
   word_is kind.Barrier w h = refl
+  word_is kind.Rw w h = refl
 
   words_are : (ks : List CellKind) (ws : List ℕ) → ((j w : ℕ) → slice_get ks j ≡ Some kind.Pointer → slice_get ws j ≡ Some w → (w ≡ 0) ⊎ IsAddress p home w) → words_fit (lowered p) ks ws ≡ true
   words_are [] ws h = refl

@@ -126,6 +126,7 @@ module _ (code : Code) (s : SetupView) (x : Sets code s) (st : State Told) (reac
     object_known o (object.Mutex c) e h = h
     object_known o (object.Cond c) e h = h
     object_known o (object.Barrier c) e h = h
+    object_known o (object.Rw c) e h = h
     object_known o (object.Slot c) e h = h
     object_known o object.Threads e h = h
     object_known o object.Halt e h = h

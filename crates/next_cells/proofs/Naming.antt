@@ -13,7 +13,7 @@ use Rattle.sync_objects.specs.declared.object.ObjId.TheVariants as object
 use Rattle.sync_objects.specs.declared.operation.Op.{Op}
 use Rattle.sync_objects.specs.declared.operation.Op.TheVariants as op
 use Rattle.abstract_machine.specs.Cells.{argument_cell, result_cell, access_kind, size_of, is_size, cells_in}
-use Rattle.abstract_machine.specs.Library.{argument, slot_in, count_in, is_misuse, is_serial, is_joinable, join_thread_due, at_cell, cell_of, create_due, join_due, exit_due, mutex_due, wait_due_at, barrier_count, print_due, most_printed, printed_piece, library_due}
+use Rattle.abstract_machine.specs.Library.{argument, slot_in, count_in, is_misuse, is_serial, is_joinable, join_thread_due, at_cell, cell_of, create_due, join_due, exit_due, mutex_due, rwlock_due, wait_due_at, barrier_count, print_due, most_printed, printed_piece, library_due}
 use Rattle.abstract_machine.specs.Limits.{most_frames}
 use Rattle.abstract_machine.specs.Pointers.{resolved}
 use Rattle.abstract_machine.specs.Registers.{register, words_of}
@@ -215,6 +215,10 @@ module _ (code : Code) (s : SetupView) (t : ℕ) (lt : t < s.slots) (valid : is_
     mutex_there o ws zero kept f = there_at (cell_of (caller code s t th) ws 0 kind.Mutex) (λ k. due.Operate o (object.Mutex k)) f
     mutex_there o ws (suc n) kept f = there_if (is_misuse kept) (due.Trap trap.MutexMisuse) due.Quiet (λ e. tt) (λ e. tt)
 
+    rwlock_there : (o : Op) (ws : List ℕ) (n : ℕ) (kept : ℤ) → ((k : ℕ) → resolved code.sites (argument ws 0) kind.Rw ≡ Ok k → nat_lt k (cells_of code s) ≡ true) → Here (rwlock_due (caller code s t th) o ws n kept)
+    rwlock_there o ws zero kept f = there_at (cell_of (caller code s t th) ws 0 kind.Rw) (λ k. due.Operate o (object.Rw k)) f
+    rwlock_there o ws (suc n) kept f = there_if (is_misuse kept) (due.Trap trap.RwMisuse) due.Quiet (λ e. tt) (λ e. tt)
+
     wait_there : (c m n : ℕ) (kept : ℤ) → nat_lt c (cells_of code s) ≡ true → nat_lt m (cells_of code s) ≡ true → Here (wait_due_at c m n kept)
     wait_there c m zero kept a b = a
     wait_there c m (suc zero) kept a b = b
@@ -254,6 +258,11 @@ module _ (code : Code) (s : SetupView) (t : ℕ) (lt : t < s.slots) (valid : is_
         (λ e. there_if (is_serial th.top.kept) due.Quiet (at_cell (cell_of (caller code s t th) (words_of th.top.registers arguments) 0 kind.Barrier) (λ c. due.Operate (op.Pass (count_in th.top.kept)) (object.Barrier c))) (λ e2. tt)
         (λ e2. there_at (cell_of (caller code s t th) (words_of th.top.registers arguments) 0 kind.Barrier) (λ c. due.Operate (op.Pass (count_in th.top.kept)) (object.Barrier c)) (λ k e3. cell_there call.BarrierWait arguments into at 0 k kind.Barrier refl e3)))
     call_there call.BarrierDestroy arguments into n at m = asks_there (words_of th.top.registers arguments) kind.Barrier
+    call_there call.RwInit arguments into n at m = rwlock_there op.RwInit (words_of th.top.registers arguments) n th.top.kept (λ k e. cell_there call.RwInit arguments into at 0 k kind.Rw refl e)
+    call_there call.RwRdLock arguments into n at m = rwlock_there op.RdLock (words_of th.top.registers arguments) n th.top.kept (λ k e. cell_there call.RwRdLock arguments into at 0 k kind.Rw refl e)
+    call_there call.RwWrLock arguments into n at m = rwlock_there op.WrLock (words_of th.top.registers arguments) n th.top.kept (λ k e. cell_there call.RwWrLock arguments into at 0 k kind.Rw refl e)
+    call_there call.RwUnlock arguments into n at m = rwlock_there op.RwUnlock (words_of th.top.registers arguments) n th.top.kept (λ k e. cell_there call.RwUnlock arguments into at 0 k kind.Rw refl e)
+    call_there call.RwDestroy arguments into n at m = asks_there (words_of th.top.registers arguments) kind.Rw
     call_there call.Free arguments into n at m = tt
     call_there call.GetChar arguments into n at m = refl
     call_there (call.Print format) arguments into n at m = print_there (length (printed_piece format (words_of th.top.registers arguments)))

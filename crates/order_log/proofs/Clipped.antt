@@ -21,6 +21,7 @@ fits-clipped : (o : OpName) (x : ObjId) → fits o (clipped_object x) ≡ fits o
 fits-clipped o (object.Mutex cell) = refl
 fits-clipped o (object.Cond cell) = refl
 fits-clipped o (object.Barrier cell) = refl
+fits-clipped o (object.Rw cell) = refl
 fits-clipped o (object.Weak lock stripe) = refl
 fits-clipped o (object.Slot slot) = refl
 fits-clipped o object.Threads = refl
@@ -60,6 +61,7 @@ within-clipped_object : (slots : ℕ) (x : ObjId) → slots ≤ 16 → is_object
 within-clipped_object slots (object.Mutex cell) few = same_low cell 4294967295 4194304 (omega arith)
 within-clipped_object slots (object.Cond cell) few = same_low cell 4294967295 4194304 (omega arith)
 within-clipped_object slots (object.Barrier cell) few = same_low cell 4294967295 4194304 (omega arith)
+within-clipped_object slots (object.Rw cell) few = same_low cell 4294967295 4194304 (omega arith)
 within-clipped_object slots (object.Weak lock stripe) few = λ i. same_most lock 65535 65471 (omega arith) i && same_most stripe 255 7 (omega arith) i
 within-clipped_object slots (object.Slot slot) few = same_low slot 255 slots (omega arith)
 within-clipped_object slots object.Threads few = refl
@@ -83,6 +85,7 @@ same_object : (slots : ℕ) (x : ObjId) → slots ≤ 16 → IsObjectWithin slot
 same_object slots (object.Mutex cell) few h = let same : min cell 4294967295 ≡ cell = omega arith in ap object.Mutex same
 same_object slots (object.Cond cell) few h = let same : min cell 4294967295 ≡ cell = omega arith in ap object.Cond same
 same_object slots (object.Barrier cell) few h = let same : min cell 4294967295 ≡ cell = omega arith in ap object.Barrier same
+same_object slots (object.Rw cell) few h = let same : min cell 4294967295 ≡ cell = omega arith in ap object.Rw same
 same_object slots (object.Weak lock stripe) few h =
     let first : min lock 65535 ≡ lock = omega arith in
     let second : min stripe 255 ≡ stripe = omega arith in

@@ -15,7 +15,7 @@ use Rattle.order_log.specs.Names.{continues_name, IsName}
 use Rattle.order_log.specs.Log.{LogView, IsNamePair, IsLog, KeepsLimits}
 use Rattle.order_log.specs.declared.version.Version.{Version}
 use Rattle.order_log.specs.declared.version.Version.TheVariants as version
-use Rattle.order_log.specs.Text.{number_text, hex_text, pair_line, version_line, log_lines}
+use Rattle.order_log.specs.Text.{number_text, hex_text, pair_line, CanSay, version_line, log_lines}
 use Rattle.order_log.specs.Line.{hex_in, ends_before}
 use Rattle.order_log.proofs.Heads.{AreBytes, pair_again, hex_again}
 use Rattle.order_log.proofs.Lists.{All-append}
@@ -75,6 +75,7 @@ pub record Completed (p : Part) : Type 0 where
   pub version : Version
   pub view : LogView
   pub log : IsLog view
+  pub words : CanSay version view
   pub within : Kept p → KeepsLimits view
   pub more : List Text
   pub lines : log_lines version view ≡ said p ++ more
@@ -88,13 +89,14 @@ able_by p line q e fine later =
       version = c.version;
       view = c.view;
       log = c.log;
+      words = c.words;
       within = λ k. c.within (a.kept refl k);
       more = line ∷ c.more;
       lines = c.lines ∙ ap (λ (ls : List Text). ls ++ c.more) a.says ∙ append_assoc (said p) (line ∷ []) c.more;
     }
 
-able_whole : (p : Part) (w : Version) (v : LogView) → (Fine p → IsLog v) → (Kept p → KeepsLimits v) → log_lines w v ≡ said p → Fine p → Completed p
-able_whole p w v log within lines fine = record { version = w; view = v; log = log fine; within = within; more = []; lines = lines ∙ sym (append-nil (said p)) }
+able_whole : (p : Part) (w : Version) (v : LogView) → (Fine p → IsLog v × CanSay w v) → (Kept p → KeepsLimits v) → log_lines w v ≡ said p → Fine p → Completed p
+able_whole p w v log within lines fine = record { version = w; view = v; log = (log fine).0; words = (log fine).1; within = within; more = []; lines = lines ∙ sym (append-nil (said p)) }
 
 AreBytes-zeros : (k : ℕ) → AreBytes (replicate k 0)
 AreBytes-zeros zero = tt

@@ -15,14 +15,14 @@ use Rattle.order_log.specs.declared.fault.LogFault.TheVariants.{LogSyntax, LogLi
 use Rattle.order_log.specs.Reading.{lines_of}
 use Rattle.order_log.specs.Text.{text_of}
 use Rattle.order_log.proofs.Cutting.{text_of-lines_of}
-use Rattle.order_log.specs.declared.entry.LineRun.{LineRun}
+use Rattle.order_log.specs.declared.entry.LineGroup.{LineGroup}
 use Rattle.order_log.specs.declared.version.Version.{Version}
-use Rattle.order_log.specs.Text.{Run}
-use Rattle.order_log.specs.Line.{clipped_run, entries_of, IsRun, run_in}
-use Rattle.order_log.specs.Recogniser.{◌>>=◌, Fails, AreCounted, Lines, unfinished_of, lines_in, next, first_of, next_line, found_at, is_entry_within, has_room, may_follow, may_all_follow, joins, apart, entries_from}
+use Rattle.order_log.specs.Text.{Group, has_word}
+use Rattle.order_log.specs.Line.{clipped_group, entries_of, IsGroup, group_in}
+use Rattle.order_log.specs.Recogniser.{◌>>=◌, Fails, AreCounted, Lines, unfinished_of, lines_in, next, first_of, next_line, found_at, is_entry_within, has_room, may_follow, may_all_follow, joins, may_begin, apart, entries_from}
 use Rattle.order_log.proofs.Entries.{map_some, none_mapped}
-use Rattle.order_log.proofs.Runs.{IsRun_chain}
-use Rattle.order_log.proofs.Shared.{run_is}
+use Rattle.order_log.proofs.Groups.{IsGroup_chain}
+use Rattle.order_log.proofs.Shared.{group_is}
 use Rattle.order_log.proofs.Said.{entry_within}
 use Rattle.order_log.proofs.Ranges.{joins-clipped}
 use Rattle.order_log.proofs.Lists.{All-append, count_push}
@@ -93,18 +93,18 @@ pub counted_none : AreCounted (replicate 16 0) (replicate 16 0) []
 counted_none = record { of_others = λ thread low. get_or-replicate 16 thread 0 0 low; of_endings = λ thread low. get_or-replicate 16 thread 0 0 low }
 
 -- one line of entries
-abbrev run_at : Version → List Entry → Text → Option Run
-run_at w es line = option_and_then (apart w es) (run_in w line)
+abbrev group_at : Version → List Entry → Text → Option Group
+group_at w es line = option_and_then (apart w es) (group_in w line)
 
-abbrev read_one : Version → SetupView → List Entry → ℕ → Lines → Run → Result (List Entry) LogFault
+abbrev read_one : Version → SetupView → List Entry → ℕ → Lines → Group → Result (List Entry) LogFault
 read_one w s es at after r = cond (may_all_follow s es (entries_of r)) (entries_on w s (es ++ entries_of r) after) (Err (LogLimit at))
 
 line_read : (w : Version) (s : SetupView) (es : List Entry) (at : ℕ) (lines : List Text) (rest line : Text) (after : Lines) → first_of at lines rest ≡ Ok (line, after)
-    → entries_from w s es at lines rest ≡ found_at at (run_at w es line) >>= read_one w s es at after
+    → entries_from w s es at lines rest ≡ found_at at (group_at w es line) >>= read_one w s es at after
 line_read w s es at [] rest line after e = absurd cc
 line_read w s es at (l ∷ lines) rest line after e =
     let same : ◌≡◌ {A = Text × Lines} (l, record { at = next at; whole = lines; rest = rest }) (line, after) = ok_pair _ _ e in
-    ap (λ (p : Text × Lines). found_at at (run_at w es p.0) >>= read_one w s es at p.1) same
+    ap (λ (p : Text × Lines). found_at at (group_at w es p.0) >>= read_one w s es at p.1) same
 
 pub fewer_lines : (l after : Lines) (line : Text) → next_line l ≡ Ok (line, after) → length after.whole < length l.whole
 fewer_lines l after line e = by l.whole e
@@ -117,57 +117,57 @@ fewer_lines l after line e = by l.whole e
         omega arith
 
 -- what a line that is found comes to
-step_read : (w : Version) (s : SetupView) (es : List Entry) (l after : Lines) (line : Text) (o : Option Run) (total : Result (List Entry) LogFault) → next_line l ≡ Ok (line, after) → run_at w es line ≡ o → entries_on w s es l ≡ total
+step_read : (w : Version) (s : SetupView) (es : List Entry) (l after : Lines) (line : Text) (o : Option Group) (total : Result (List Entry) LogFault) → next_line l ≡ Ok (line, after) → group_at w es line ≡ o → entries_on w s es l ≡ total
     → found_at l.at o >>= read_one w s es l.at after ≡ total
 step_read w s es l after line o total there found so_far =
-    ap (λ (p : Option Run). found_at l.at p >>= read_one w s es l.at after) (sym found) ∙ sym (line_read w s es l.at l.whole l.rest line after there) ∙ so_far
+    ap (λ (p : Option Group). found_at l.at p >>= read_one w s es l.at after) (sym found) ∙ sym (line_read w s es l.at l.whole l.rest line after there) ∙ so_far
 
 -- a line of no entries
-pub entries_syntax : (w : Version) (s : SetupView) (es : List Entry) (l after : Lines) (line : Text) (total : Result (List Entry) LogFault) → next_line l ≡ Ok (line, after) → None ≡ option_map clipped_run (run_in w line)
+pub entries_syntax : (w : Version) (s : SetupView) (es : List Entry) (l after : Lines) (line : Text) (total : Result (List Entry) LogFault) → next_line l ≡ Ok (line, after) → None ≡ option_map clipped_group (group_in w line)
     → entries_on w s es l ≡ total → total ≡ Err (LogSyntax l.at)
 entries_syntax w s es l after line total there none so_far =
-    sym (step_read w s es l after line None total there (ap (option_and_then (apart w es)) (none_mapped clipped_run (run_in w line) (sym none))) so_far)
+    sym (step_read w s es l after line None total there (ap (option_and_then (apart w es)) (none_mapped clipped_group (group_in w line) (sym none))) so_far)
 
 -- what is found in a line
-pub record IsFound (w : Version) (s : SetupView) (es : List Entry) (line : Text) (x : LineRun) : Type 0 where
-  pub run : Run
-  pub is_run : IsRun run
-  pub read : run_in w line ≡ Some run
-  pub shown : x ≡ clipped_run run
-  pub begins : joins w es x.first ≡ joins w es run.first
+pub record IsFound (w : Version) (s : SetupView) (es : List Entry) (line : Text) (x : LineGroup) : Type 0 where
+  pub group : Group
+  pub is_group : IsGroup group
+  pub read : group_in w line ≡ Some group
+  pub shown : x ≡ clipped_group group
+  pub begins : may_begin w es x.first ≡ may_begin w es group.first
 
-pub found_in : (w : Version) (s : SetupView) (es : List Entry) (line : Text) (x : LineRun) → IsWithinLimits s → AllByRecursion (IsEntryWithin s) es → Some x ≡ option_map clipped_run (run_in w line) → IsFound w s es line x
+pub found_in : (w : Version) (s : SetupView) (es : List Entry) (line : Text) (x : LineGroup) → IsWithinLimits s → AllByRecursion (IsEntryWithin s) es → Some x ≡ option_map clipped_group (group_in w line) → IsFound w s es line x
 found_in w s es line x limits within found =
-    let m = map_some clipped_run (run_in w line) x (sym found) in
+    let m = map_some clipped_group (group_in w line) x (sym found) in
     let r = m.0 in
     record {
-      run = r;
-      is_run = IsRun_chain w r (run_is w line r m.1).chain;
+      group = r;
+      is_group = IsGroup_chain w r (group_is w line r m.1).chain;
       read = m.1;
       shown = sym m.2;
-      begins = ap (λ (y : LineRun). joins w es y.first) (sym m.2) ∙ joins-clipped w s es r.first limits within;
+      begins = ap (λ (y : LineGroup). may_begin w es y.first) (sym m.2) ∙ ap (λ (b : Bool). has_word w r.first.op && not b) (joins-clipped w s es r.first limits within);
     }
 
--- a line that should have been in the one before it
-pub entries_joined : (w : Version) (s : SetupView) (es : List Entry) (l after : Lines) (line : Text) (x : LineRun) (total : Result (List Entry) LogFault) → IsFound w s es line x → next_line l ≡ Ok (line, after)
-    → joins w es x.first ≡ true → entries_on w s es l ≡ total → total ≡ Err (LogSyntax l.at)
-entries_joined w s es l after line x total f there joined so_far =
-    sym (step_read w s es l after line None total there (ap (option_and_then (apart w es)) f.read ∙ cond-true (joins w es f.run.first) None (Some f.run) (sym f.begins ∙ joined)) so_far)
+-- a line whose operation the version doesn't have, or that should have been in the one before it
+pub entries_misplaced : (w : Version) (s : SetupView) (es : List Entry) (l after : Lines) (line : Text) (x : LineGroup) (total : Result (List Entry) LogFault) → IsFound w s es line x → next_line l ≡ Ok (line, after)
+    → may_begin w es x.first ≡ false → entries_on w s es l ≡ total → total ≡ Err (LogSyntax l.at)
+entries_misplaced w s es l after line x total f there misplaced so_far =
+    sym (step_read w s es l after line None total there (ap (option_and_then (apart w es)) f.read ∙ cond-false (may_begin w es f.group.first) (Some f.group) None (sym f.begins ∙ misplaced)) so_far)
 
-apart_found : (w : Version) (s : SetupView) (es : List Entry) (line : Text) (x : LineRun) (f : IsFound w s es line x) → joins w es x.first ≡ false → run_at w es line ≡ Some f.run
-apart_found w s es line x f begins = ap (option_and_then (apart w es)) f.read ∙ cond-false (joins w es f.run.first) None (Some f.run) (sym f.begins ∙ begins)
+apart_found : (w : Version) (s : SetupView) (es : List Entry) (line : Text) (x : LineGroup) (f : IsFound w s es line x) → may_begin w es x.first ≡ true → group_at w es line ≡ Some f.group
+apart_found w s es line x f begins = ap (option_and_then (apart w es)) f.read ∙ cond-true (may_begin w es f.group.first) (Some f.group) None (sym f.begins ∙ begins)
 
 -- entries beyond the limits
-pub entries_limit : (w : Version) (s : SetupView) (es : List Entry) (l after : Lines) (line : Text) (x : LineRun) (total : Result (List Entry) LogFault) → (f : IsFound w s es line x) → next_line l ≡ Ok (line, after)
-    → joins w es x.first ≡ false → may_all_follow s es (entries_of f.run) ≡ false → entries_on w s es l ≡ total → total ≡ Err (LogLimit l.at)
+pub entries_limit : (w : Version) (s : SetupView) (es : List Entry) (l after : Lines) (line : Text) (x : LineGroup) (total : Result (List Entry) LogFault) → (f : IsFound w s es line x) → next_line l ≡ Ok (line, after)
+    → may_begin w es x.first ≡ true → may_all_follow s es (entries_of f.group) ≡ false → entries_on w s es l ≡ total → total ≡ Err (LogLimit l.at)
 entries_limit w s es l after line x total f there begins beyond so_far =
-    sym (sym (cond-false (may_all_follow s es (entries_of f.run)) _ _ beyond) ∙ step_read w s es l after line (Some f.run) total there (apart_found w s es line x f begins) so_far)
+    sym (sym (cond-false (may_all_follow s es (entries_of f.group)) _ _ beyond) ∙ step_read w s es l after line (Some f.group) total there (apart_found w s es line x f begins) so_far)
 
 -- a line of entries more
-pub entries_more : (w : Version) (s : SetupView) (es : List Entry) (l after : Lines) (line : Text) (x : LineRun) (total : Result (List Entry) LogFault) → (f : IsFound w s es line x) → next_line l ≡ Ok (line, after)
-    → joins w es x.first ≡ false → may_all_follow s es (entries_of f.run) ≡ true → entries_on w s es l ≡ total → entries_on w s (es ++ entries_of f.run) after ≡ total
+pub entries_more : (w : Version) (s : SetupView) (es : List Entry) (l after : Lines) (line : Text) (x : LineGroup) (total : Result (List Entry) LogFault) → (f : IsFound w s es line x) → next_line l ≡ Ok (line, after)
+    → may_begin w es x.first ≡ true → may_all_follow s es (entries_of f.group) ≡ true → entries_on w s es l ≡ total → entries_on w s (es ++ entries_of f.group) after ≡ total
 entries_more w s es l after line x total f there begins fits so_far =
-    sym (cond-true (may_all_follow s es (entries_of f.run)) _ _ fits) ∙ step_read w s es l after line (Some f.run) total there (apart_found w s es line x f begins) so_far
+    sym (cond-true (may_all_follow s es (entries_of f.group)) _ _ fits) ∙ step_read w s es l after line (Some f.group) total there (apart_found w s es line x f begins) so_far
 
 each_within : (s : SetupView) (es fs : List Entry) → may_all_follow s es fs ≡ true → AllByRecursion (IsEntryWithin s) fs
 each_within s es [] h = tt

@@ -57,7 +57,7 @@ found_right (row ∷ rows) text o right e =
     (chosen (bytes_eq row.0 text) (Some row.1) (op_among rows text) (Some o) e)
 
 rows_right : AllByRecursion (λ row. row.0 ≡ op_text row.1) op_rows
-rows_right = (refl, (refl, (refl, (refl, (refl, (refl, (refl, (refl, (refl, (refl, (refl, (refl, (refl, (refl, (refl, (refl, (refl, (refl, (refl, (refl, (refl, (refl, (refl, (refl, (refl, (refl, tt))))))))))))))))))))))))))
+rows_right = (refl, (refl, (refl, (refl, (refl, (refl, (refl, (refl, (refl, (refl, (refl, (refl, (refl, (refl, (refl, (refl, (refl, (refl, (refl, (refl, (refl, (refl, (refl, (refl, (refl, (refl, (refl, (refl, (refl, (refl, tt))))))))))))))))))))))))))))))
 
 pub op_is : (text : Text) (o : OpName) → op_among op_rows text ≡ Some o → text ≡ op_text o
 op_is text o e = found_right op_rows text o rows_right e
@@ -73,6 +73,10 @@ op_again op.Signal = refl
 op_again op.BarrierInit = refl
 op_again op.Arrive = refl
 op_again op.Pass = refl
+op_again op.RdLock = refl
+op_again op.WrLock = refl
+op_again op.RwUnlock = refl
+op_again op.RwInit = refl
 op_again op.Take = refl
 op_again op.Retake = refl
 op_again op.Give = refl
@@ -108,7 +112,7 @@ Free-op_text c o low = Free-high c (op_text o) low (op_high o)
 -- ---- kinds
 
 abbrev kind_at : ℕ → ObjKind
-kind_at n = cond (eqb n 0) kind.Mutex (cond (eqb n 1) kind.Cond (cond (eqb n 2) kind.Barrier (cond (eqb n 3) kind.Weak (cond (eqb n 4) kind.Slot (cond (eqb n 5) kind.Threads (cond (eqb n 6) kind.Halt (cond (eqb n 7) kind.Input (kind.Output))))))))
+kind_at n = cond (eqb n 0) kind.Mutex (cond (eqb n 1) kind.Cond (cond (eqb n 2) kind.Barrier (cond (eqb n 3) kind.Weak (cond (eqb n 4) kind.Slot (cond (eqb n 5) kind.Threads (cond (eqb n 6) kind.Halt (cond (eqb n 7) kind.Input (cond (eqb n 8) kind.Output kind.Rw))))))))
 
 kind_at-number : (k : ObjKind) → kind_at (kind_number k) ≡ k
 kind_at-number kind.Mutex = refl
@@ -120,6 +124,7 @@ kind_at-number kind.Threads = refl
 kind_at-number kind.Halt = refl
 kind_at-number kind.Input = refl
 kind_at-number kind.Output = refl
+kind_at-number kind.Rw = refl
 
 pub Fits-fits : (o : OpName) (x : ObjId) → fits o x ≡ true → Fits o x
 Fits-fits o x e = sym (kind_at-number (kind_of o)) ∙ ap kind_at (eqb-true _ _ e) ∙ kind_at-number (object_kind x)
@@ -156,6 +161,7 @@ unfolding object_in
 object_again (object.Mutex cell) = ap (option_map object.Mutex) (number_in-number_text cell)
 object_again (object.Cond cell) = ap (option_map object.Cond) (number_in-number_text cell)
 object_again (object.Barrier cell) = ap (option_map object.Barrier) (number_in-number_text cell)
+object_again (object.Rw cell) = ap (option_map object.Rw) (number_in-number_text cell)
 object_again (object.Weak lock stripe) = weak_again lock stripe
 object_again (object.Slot slot) = ap (option_map object.Slot) (number_in-number_text slot)
 object_again object.Threads = refl
@@ -188,13 +194,15 @@ object_by_is b bs x e =
     ⊎_elim (λ w. at 109 w.0 (numbered_is object.Mutex 109 bs x (λ n. refl) w.1))
     (λ w. ⊎_elim (λ v. at 99 v.0 (numbered_is object.Cond 99 bs x (λ n. refl) v.1))
     (λ v. ⊎_elim (λ u. at 98 u.0 (numbered_is object.Barrier 98 bs x (λ n. refl) u.1))
-    (λ u. ⊎_elim (λ t. at 119 t.0 (weak_is bs x t.1))
+    (λ u. ⊎_elim (λ q. at 114 q.0 (numbered_is object.Rw 114 bs x (λ n. refl) q.1))
+    (λ q. ⊎_elim (λ t. at 119 t.0 (weak_is bs x t.1))
     (λ t. ⊎_elim (λ s. at 115 s.0 (numbered_is object.Slot 115 bs x (λ n. refl) s.1))
     (λ s. ⊎_elim (λ r. ap (λ (cs : Text). b ∷ cs) (nil_from_length bs (eqb-true _ _ r.0)) ∙ lone_is b x r.1)
     (λ r. absurd (none-some x r.1))
     (chosen (eqb (length bs) 0) (lone_object b) None (Some x) s.1))
     (chosen (eqb b 115) (option_map object.Slot (number_in bs)) _ (Some x) t.1))
-    (chosen (eqb b 119) (weak_in bs) _ (Some x) u.1))
+    (chosen (eqb b 119) (weak_in bs) _ (Some x) q.1))
+    (chosen (eqb b 114) (option_map object.Rw (number_in bs)) _ (Some x) u.1))
     (chosen (eqb b 98) (option_map object.Barrier (number_in bs)) _ (Some x) v.1))
     (chosen (eqb b 99) (option_map object.Cond (number_in bs)) _ (Some x) w.1))
     (chosen (eqb b 109) (option_map object.Mutex (number_in bs)) _ (Some x) e)
@@ -208,6 +216,7 @@ Free-object_text : (c : ℕ) (x : ObjId) → c < 46 → Free c (object_text x)
 Free-object_text c (object.Mutex cell) low = (ne_eqb _ _ (λ e. omega arith), Free-number_text c cell (omega arith))
 Free-object_text c (object.Cond cell) low = (ne_eqb _ _ (λ e. omega arith), Free-number_text c cell (omega arith))
 Free-object_text c (object.Barrier cell) low = (ne_eqb _ _ (λ e. omega arith), Free-number_text c cell (omega arith))
+Free-object_text c (object.Rw cell) low = (ne_eqb _ _ (λ e. omega arith), Free-number_text c cell (omega arith))
 Free-object_text c (object.Weak lock stripe) low = (
   ne_eqb _ _ (λ e. omega arith),
   Free-append c (number_text lock ++ codes ".") (number_text stripe)

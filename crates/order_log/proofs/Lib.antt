@@ -1,7 +1,7 @@
 pub mod Numbers
 pub mod Parts
 pub mod Entries
-pub mod Runs
+pub mod Groups
 pub mod Shared
 pub mod Heads
 pub mod Lists

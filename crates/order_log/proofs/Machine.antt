@@ -12,8 +12,8 @@ use Rattle.order_log.specs.declared.fault.LogFault.{LogFault}
 use Rattle.order_log.specs.declared.fault.LogFault.TheVariants.{LogSyntax, LogLimit}
 use Rattle.order_log.specs.Log.{LogView}
 use Rattle.order_log.specs.declared.version.Version.{Version}
-use Rattle.order_log.specs.Text.{Run}
-use Rattle.order_log.specs.Line.{after_word, number_in, pair_in, hex_in, run_in, entries_of}
+use Rattle.order_log.specs.Text.{Group}
+use Rattle.order_log.specs.Line.{after_word, number_in, pair_in, hex_in, group_in, entries_of}
 use Rattle.order_log.specs.Recogniser.{◌>>=◌, Lines, next, found_at, version_in, first_line, numbered, pairs_from, as_profile, profile_at, input_at, may_all_follow, apart, entries_from, log_at}
 
 pub record Numbers : Type 0 where
@@ -56,7 +56,7 @@ abbrev pub count_step : Numbers → Text → Step
 count_step n line = option_map (λ k. (paired n k [], true)) (option_and_then number_in (after_word (codes "profile ") line))
 
 -- the entries of a line after those before
-abbrev pub entries_step : Numbers → Profile → List ℕ → List Entry → Option Run → Step
+abbrev pub entries_step : Numbers → Profile → List ℕ → List Entry → Option Group → Step
 entries_step n p input es o = option_map (λ r. (Whole n p input (es ++ entries_of r), may_all_follow (setup_of n input) es (entries_of r))) o
 
 abbrev pub taken : Part → Text → Step
@@ -68,7 +68,7 @@ taken (Limited n) line = cond (bytes_eq line (codes "profile all")) (Some (Profi
 taken (Pairing n left ps) line = option_map (λ p. (paired n left (ps ++ p ∷ []), true)) (pair_in ps line)
 taken (Profiled n p) line = number_step (codes "input ") 0 1048576 (λ k. Sized n p k) line
 taken (Sized n p k) line = option_map (λ input. (Whole n p input [], true)) (hex_in k line)
-taken (Whole n p input es) line = entries_step n p input es (option_and_then (apart n.version es) (run_in n.version line))
+taken (Whole n p input es) line = entries_step n p input es (option_and_then (apart n.version es) (group_in n.version line))
 
 -- ---- all lines
 
@@ -246,9 +246,9 @@ run_entries : (n : Numbers) (p : Profile) (input : List ℕ) (es : List Entry) (
     → run (Whole n p input es) at ls rest ≡ entries_from n.version (setup_of n input) es at ls rest >>= with_entries n p input
 run_entries n p input es at [] [] = refl
 run_entries n p input es at [] (b ∷ bs) = refl
-run_entries n p input es at (line ∷ lines) rest = found (option_and_then (apart n.version es) (run_in n.version line)) (λ fs. run_entries n p input fs (next at) lines rest)
+run_entries n p input es at (line ∷ lines) rest = found (option_and_then (apart n.version es) (group_in n.version line)) (λ fs. run_entries n p input fs (next at) lines rest)
   where
-    found : (o : Option Run) → ((fs : List Entry) → run (Whole n p input fs) (next at) lines rest ≡ entries_from n.version (setup_of n input) fs (next at) lines rest >>= with_entries n p input)
+    found : (o : Option Group) → ((fs : List Entry) → run (Whole n p input fs) (next at) lines rest ≡ entries_from n.version (setup_of n input) fs (next at) lines rest >>= with_entries n p input)
         → goes at (entries_step n p input es o) (λ q. run q (next at) lines rest)
         ≡ (found_at at o >>= λ r. cond (may_all_follow (setup_of n input) es (entries_of r)) (entries_from n.version (setup_of n input) (es ++ entries_of r) (next at) lines rest) (Err (LogLimit at))) >>= with_entries n p input
     found None others = refl

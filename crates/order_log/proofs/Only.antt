@@ -31,8 +31,8 @@ log_or v (Whole n p input es) = view_of n p input es
 
 pub same_text-same_log : (bytes : Text) (v w : LogView) → IsLog v → IsLog w → IsTextOf bytes v → IsTextOf bytes w → v ≡ w
 same_text-same_log bytes v w log_v log_w e f =
-    let lines : log_lines e.0 v ≡ log_lines f.0 w = sym (cut_log bytes e.0 v log_v e.1).lines ∙ (cut_log bytes f.0 w log_w f.1).lines in
-    let walked : Some (whole e.0 v) ≡ Some (whole f.0 w) = sym (whole_walk false e.0 v log_v (λ t. absurd cc)) ∙ ap (walk false Bare) lines ∙ whole_walk false f.0 w log_w (λ t. absurd cc) in
+    let lines : log_lines e.0 v ≡ log_lines f.0 w = sym (cut_log bytes e.0 v log_v e.2).lines ∙ (cut_log bytes f.0 w log_w f.2).lines in
+    let walked : Some (whole e.0 v) ≡ Some (whole f.0 w) = sym (whole_walk false e.0 v log_v e.1 (λ t. absurd cc)) ∙ ap (walk false Bare) lines ∙ whole_walk false f.0 w log_w f.1 (λ t. absurd cc) in
     ap (log_or v) (same_Some (whole e.0 v) (whole f.0 w) walked)
 
 -- ---- what fewer lines begin
@@ -44,6 +44,7 @@ begins_fewer j k lines v le b =
     record {
       log = b.log;
       version = b.version;
+      words = b.words;
       more = text_of (drop j (take k lines)) ++ b.more;
       text = b.text ∙ ap (λ (ls : List Text). text_of ls ++ b.more) (sym parts) ∙ ap (λ (t : Text). t ++ b.more) (flat_map-append (λ line. line ++ 10 ∷ []) (take j lines) (drop j (take k lines)))
           ∙ append_assoc (text_of (take j lines)) (text_of (drop j (take k lines))) b.more;
@@ -55,8 +56,8 @@ sound_fewer bytes j k le s = let t = s.there in record { there = omega arith; be
 -- a log is sound in all its lines
 log_begins : (bytes : Text) (v : LogView) (k : ℕ) → IsLog v → IsTextOf bytes v → BeginsWith (take k (lines_of bytes)) v
 log_begins bytes v k log e =
-    let c = cut_log bytes e.0 v log e.1 in
-    begins_with (take k (lines_of bytes)) e.0 v (drop k (lines_of bytes)) log (sym c.lines ∙ sym (take-append-drop k (lines_of bytes)))
+    let c = cut_log bytes e.0 v log e.2 in
+    begins_with (take k (lines_of bytes)) e.0 v (drop k (lines_of bytes)) log e.1 (sym c.lines ∙ sym (take-append-drop k (lines_of bytes)))
 
 -- ---- a fault is no sound line
 

@@ -9,10 +9,10 @@ use Rattle.sync_objects.specs.declared.object.ObjId.TheVariants as object
 use Rattle.sync_objects.specs.declared.kind.ObjKind.TheVariants as kind
 use Rattle.sync_objects.specs.Names.{object_kind, is_ending}
 use Rattle.sync_objects.specs.Setup.{SetupView, IsWithinLimits}
-use Rattle.order_log.specs.declared.entry.LineRun.{LineRun}
+use Rattle.order_log.specs.declared.entry.LineGroup.{LineGroup}
 use Rattle.order_log.specs.Log.{IsObjectWithin}
-use Rattle.order_log.specs.Text.{Run, stripe_of}
-use Rattle.order_log.specs.Line.{next_object, next_entry, stripes_after, entries_of, IsRun, clipped_run}
+use Rattle.order_log.specs.Text.{Group, stripe_of}
+use Rattle.order_log.specs.Line.{next_object, next_entry, stripes_after, entries_of, IsGroup, clipped_group}
 use Rattle.order_log.specs.Recogniser.{is_entry_within, has_room, may_follow, may_all_follow, AreCounted, Pushes}
 use Rattle.order_log.proofs.Said.{entry_within}
 use Rattle.order_log.proofs.Clipped.{may_follow-clipped, clipped_same}
@@ -41,7 +41,7 @@ kind_next _ = refl
 -- ---- the loop
 
 -- the entries of the line up to this one are put, and so many are left of it
-pub record Pushed (s : SetupView) (r : Run) (before found : List Entry) (others endings : List ℕ) (entry : Entry) (left : ℕ) : Type 0 where
+pub record Pushed (s : SetupView) (r : Group) (before found : List Entry) (others endings : List ℕ) (entry : Entry) (left : ℕ) : Type 0 where
   pub more : ℕ
   pub left_is : left ≡ min more (255 - stripe_of entry.obj)
   pub low : stripe_of entry.obj ≤ 7
@@ -51,33 +51,33 @@ pub record Pushed (s : SetupView) (r : Run) (before found : List Entry) (others 
   pub whole : found ++ stripes_after entry more ≡ before ++ entries_of r
 
 -- the first entry is beyond the limits
-pub first_beyond : (s : SetupView) (r : Run) (before after : List Entry) (others endings : List ℕ) (x : LineRun) → IsWithinLimits s → x ≡ clipped_run r → false ≡ may_follow s before x.first → Pushes s before (entries_of r) false after others endings
+pub first_beyond : (s : SetupView) (r : Group) (before after : List Entry) (others endings : List ℕ) (x : LineGroup) → IsWithinLimits s → x ≡ clipped_group r → false ≡ may_follow s before x.first → Pushes s before (entries_of r) false after others endings
 first_beyond s r before after others endings x limits shown beyond =
-    let out : may_follow s before r.first ≡ false = sym (may_follow-clipped s before r.first limits) ∙ ap (λ (y : LineRun). may_follow s before y.first) (sym shown) ∙ sym beyond in
+    let out : may_follow s before r.first ≡ false = sym (may_follow-clipped s before r.first limits) ∙ ap (λ (y : LineGroup). may_follow s before y.first) (sym shown) ∙ sym beyond in
     record { told = sym (and_left _ _ out); put = λ t. absurd cc; counted = λ t. absurd cc }
 
 -- it may follow
-pub first_pushed : (s : SetupView) (r : Run) (before after : List Entry) (others endings : List ℕ) (x : LineRun) (left : ℕ) → IsWithinLimits s → IsRun r → x ≡ clipped_run r → true ≡ may_follow s before x.first
+pub first_pushed : (s : SetupView) (r : Group) (before after : List Entry) (others endings : List ℕ) (x : LineGroup) (left : ℕ) → IsWithinLimits s → IsGroup r → x ≡ clipped_group r → true ≡ may_follow s before x.first
     → after ≡ before ++ x.first ∷ [] → AreCounted others endings after → left ≡ x.last - stripe_of x.first.obj → Pushed s r before after others endings x.first left
-first_pushed s r before after others endings x left limits is_run shown fits pushed counted left_is =
-    let inside : may_follow s before r.first ≡ true = sym (may_follow-clipped s before r.first limits) ∙ ap (λ (y : LineRun). may_follow s before y.first) (sym shown) ∙ sym fits in
-    let same : x.first ≡ r.first = ap (λ (y : LineRun). y.first) shown ∙ clipped_same s before r.first limits inside in
+first_pushed s r before after others endings x left limits is_group shown fits pushed counted left_is =
+    let inside : may_follow s before r.first ≡ true = sym (may_follow-clipped s before r.first limits) ∙ ap (λ (y : LineGroup). may_follow s before y.first) (sym shown) ∙ sym fits in
+    let same : x.first ≡ r.first = ap (λ (y : LineGroup). y.first) shown ∙ clipped_same s before r.first limits inside in
     let low = follows_low s before r.first inside in
-    let last : x.last ≡ min (stripe_of r.first.obj + r.more) 255 = ap (λ (y : LineRun). y.last) shown in
+    let last : x.last ≡ min (stripe_of r.first.obj + r.more) 255 = ap (λ (y : LineGroup). y.last) shown in
     let stripe : stripe_of x.first.obj ≡ stripe_of r.first.obj = ap (λ (e : Entry). stripe_of e.obj) same in
     let put : after ≡ before ++ r.first ∷ [] = pushed ∙ ap (λ (e : Entry). before ++ e ∷ []) same in
     subst (λ (e : Entry). Pushed s r before after others endings e left) (sym same) (record {
       more = r.more;
       left_is = omega arith;
       low = low;
-      shape = is_run;
+      shape = is_group;
       counted = counted;
       rest = ap (λ (b : Bool). b && may_all_follow s (before ++ r.first ∷ []) (stripes_after r.first r.more)) inside ∙ ap (λ (es : List Entry). may_all_follow s es (stripes_after r.first r.more)) (sym put);
       whole = ap (λ (es : List Entry). es ++ stripes_after r.first r.more) put ∙ append_assoc before (r.first ∷ []) (stripes_after r.first r.more);
     })
 
 -- the next entry is beyond the limits
-pub next_beyond : (s : SetupView) (r : Run) (before found after : List Entry) (others endings others_then endings_then : List ℕ) (entry : Entry) (left : ℕ) → 0 < left → Pushed s r before found others endings entry left
+pub next_beyond : (s : SetupView) (r : Group) (before found after : List Entry) (others endings others_then endings_then : List ℕ) (entry : Entry) (left : ℕ) → 0 < left → Pushed s r before found others endings entry left
     → false ≡ may_follow s found (next_entry entry) → Pushes s before (entries_of r) false after others_then endings_then
 next_beyond s r before found after others endings others_then endings_then entry left some p beyond =
     record { told = sym (p.rest ∙ by p.more refl); put = λ t. absurd cc; counted = λ t. absurd cc }
@@ -87,7 +87,7 @@ next_beyond s r before found after others endings others_then endings_then entry
     by (suc k) is = and_left _ _ (sym beyond)
 
 -- it may follow
-pub next_pushed : (s : SetupView) (r : Run) (before found after : List Entry) (others endings others_then endings_then : List ℕ) (entry : Entry) (left : ℕ) → 0 < left → Pushed s r before found others endings entry left
+pub next_pushed : (s : SetupView) (r : Group) (before found after : List Entry) (others endings others_then endings_then : List ℕ) (entry : Entry) (left : ℕ) → 0 < left → Pushed s r before found others endings entry left
     → true ≡ may_follow s found (next_entry entry) → after ≡ found ++ next_entry entry ∷ [] → AreCounted others_then endings_then after → Pushed s r before after others_then endings_then (next_entry entry) (left - 1)
 next_pushed s r before found after others endings others_then endings_then entry left some p fits pushed counted = by p.more refl
   where
@@ -113,7 +113,7 @@ next_pushed s r before found after others endings others_then endings_then entry
         }
 
 -- none is left
-pub all_pushed : (s : SetupView) (r : Run) (before found : List Entry) (others endings : List ℕ) (entry : Entry) (left : ℕ) → left ≤ 0 → Pushed s r before found others endings entry left → Pushes s before (entries_of r) true found others endings
+pub all_pushed : (s : SetupView) (r : Group) (before found : List Entry) (others endings : List ℕ) (entry : Entry) (left : ℕ) → left ≤ 0 → Pushed s r before found others endings entry left → Pushes s before (entries_of r) true found others endings
 all_pushed s r before found others endings entry left none p =
     let left_is = p.left_is in
     let low = p.low in

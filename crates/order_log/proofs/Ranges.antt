@@ -15,11 +15,11 @@ use Rattle.order_log.specs.declared.version.Version.{Version}
 use Rattle.order_log.specs.declared.version.Version.TheVariants as version
 use Rattle.order_log.specs.Log.{IsObjectWithin, IsEntryWithin}
 use Rattle.order_log.specs.Text.{number_text, are_alike, is_next, shares, stripe_of}
-use Rattle.order_log.specs.Line.{cut, number_in, capped, entry_in, may_share, alone, range_in, run_cut, clipped_object, clipped, clipped_run}
+use Rattle.order_log.specs.Line.{cut, number_in, capped, entry_in, may_share, alone, range_in, group_cut, clipped_object, clipped, clipped_group}
 use Rattle.order_log.specs.Recogniser.{joins}
 use Rattle.order_log.proofs.Numbers.{number_in-number_text}
 use Rattle.order_log.proofs.Entries.{map_some, none_mapped, entry_is, stripe_cut}
-use Rattle.order_log.proofs.Runs.{sharing_kind}
+use Rattle.order_log.proofs.Groups.{sharing_kind}
 use Rattle.order_log.proofs.Clipped.{last_few}
 
 stripe_clipped : (x : ObjId) → stripe_of (clipped_object x) ≡ min (stripe_of x) 255
@@ -28,20 +28,20 @@ stripe_clipped _ = refl
 
 -- ---- an entry alone
 
-pub alone_given : (text : Text) (x : Entry) → Some x ≡ option_map clipped (entry_in text) → Some (record { first = x; last = stripe_of x.obj }) ≡ option_map clipped_run (run_cut text None)
+pub alone_given : (text : Text) (x : Entry) → Some x ≡ option_map clipped (entry_in text) → Some (record { first = x; last = stripe_of x.obj }) ≡ option_map clipped_group (group_cut text None)
 alone_given text x found =
     let m = map_some clipped (entry_in text) x (sym found) in
     let e = m.0 in
     let last : min (stripe_of e.obj + 0) 255 ≡ stripe_of x.obj = (let none : min (stripe_of e.obj + 0) 255 ≡ min (stripe_of e.obj) 255 = omega arith in none ∙ sym (stripe_clipped e.obj) ∙ ap (λ (y : Entry). stripe_of y.obj) m.2) in
-    sym (ap (λ (o : Option Entry). option_map clipped_run (option_map alone o)) m.1 ∙ (λ i. Some (record { first = m.2 i; last = last i })))
+    sym (ap (λ (o : Option Entry). option_map clipped_group (option_map alone o)) m.1 ∙ (λ i. Some (record { first = m.2 i; last = last i })))
 
-pub alone_none : (text : Text) → None ≡ option_map clipped (entry_in text) → None ≡ option_map clipped_run (run_cut text None)
-alone_none text none = sym (ap (λ (o : Option Entry). option_map clipped_run (option_map alone o)) (none_mapped clipped (entry_in text) (sym none)))
+pub alone_none : (text : Text) → None ≡ option_map clipped (entry_in text) → None ≡ option_map clipped_group (group_cut text None)
+alone_none text none = sym (ap (λ (o : Option Entry). option_map clipped_group (option_map alone o)) (none_mapped clipped (entry_in text) (sym none)))
 
 -- ---- more than one
 
 pub range_given : (front last before stripe : Text) (x : Entry) (k : ℕ) (t : Bool) → Some x ≡ option_map clipped (entry_in front) → Some k ≡ option_map capped (number_in last) → may_share x.op ≡ true → Some (before, stripe) ≡ cut 46 front
-    → ((m n : ℕ) → number_in stripe ≡ Some m → number_in last ≡ Some n → t ≡ nat_lt m n) → option_map clipped_run (range_in (front, last)) ≡ cond t (Some (record { first = x; last = min k 255 })) None
+    → ((m n : ℕ) → number_in stripe ≡ Some m → number_in last ≡ Some n → t ≡ nat_lt m n) → option_map clipped_group (range_in (front, last)) ≡ cond t (Some (record { first = x; last = min k 255 })) None
 unfolding range_in
 range_given front last before stripe x k t found ended share parts less =
     let m = map_some clipped (entry_in front) x (sym found) in
@@ -56,14 +56,14 @@ range_given front last before stripe x k t found ended share parts less =
     rw (m.1, n.1, shared, test) (by e m.2 n.0 n.2 t test)
   where
     by : (e : Entry) → clipped e ≡ x → (n : ℕ) → capped n ≡ k → (u : Bool) → nat_lt (stripe_of e.obj) n ≡ u
-        → option_map clipped_run (cond u (Some (record { first = e; more = n - stripe_of e.obj })) None) ≡ cond u (Some (record { first = x; last = min k 255 })) None
+        → option_map clipped_group (cond u (Some (record { first = e; more = n - stripe_of e.obj })) None) ≡ cond u (Some (record { first = x; last = min k 255 })) None
     by e first n end true is =
         let lt = ltb-true _ _ is in
         let last : min (stripe_of e.obj + (n - stripe_of e.obj)) 255 ≡ min k 255 = omega arith in
         λ i. Some (record { first = first i; last = last i })
     by e first n end false is = refl
 
-pub range_unshared : (front last : Text) (x : Entry) (k : ℕ) → Some x ≡ option_map clipped (entry_in front) → Some k ≡ option_map capped (number_in last) → may_share x.op ≡ false → None ≡ option_map clipped_run (range_in (front, last))
+pub range_unshared : (front last : Text) (x : Entry) (k : ℕ) → Some x ≡ option_map clipped (entry_in front) → Some k ≡ option_map capped (number_in last) → may_share x.op ≡ false → None ≡ option_map clipped_group (range_in (front, last))
 unfolding range_in
 range_unshared front last x k found ended share =
     let m = map_some clipped (entry_in front) x (sym found) in
@@ -71,11 +71,11 @@ range_unshared front last x k found ended share =
     let unshared : may_share (m.0).op ≡ false = ap (λ (y : Entry). may_share y.op) m.2 ∙ share in
     rw (m.1, n.1, unshared) refl
 
-pub range_no_entry : (front last : Text) → None ≡ option_map clipped (entry_in front) → None ≡ option_map clipped_run (range_in (front, last))
+pub range_no_entry : (front last : Text) → None ≡ option_map clipped (entry_in front) → None ≡ option_map clipped_group (range_in (front, last))
 unfolding range_in
 range_no_entry front last none = rw (none_mapped clipped (entry_in front) (sym none)) refl
 
-pub range_no_number : (front last : Text) (x : Entry) → Some x ≡ option_map clipped (entry_in front) → None ≡ option_map capped (number_in last) → None ≡ option_map clipped_run (range_in (front, last))
+pub range_no_number : (front last : Text) (x : Entry) → Some x ≡ option_map clipped (entry_in front) → None ≡ option_map capped (number_in last) → None ≡ option_map clipped_group (range_in (front, last))
 unfolding range_in
 range_no_number front last x found none =
     let m = map_some clipped (entry_in front) x (sym found) in

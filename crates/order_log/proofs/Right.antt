@@ -13,11 +13,11 @@ use Rattle.order_log.specs.declared.fault.LogFault.TheVariants.{LogSyntax, LogLi
 use Rattle.order_log.specs.Log.{LogView, IsNamePair, HasNames, IsLog, KeepsLimits}
 use Rattle.order_log.specs.declared.version.Version.{Version}
 use Rattle.order_log.specs.declared.version.Version.TheVariants as version
-use Rattle.order_log.specs.Text.{number_text, hex_text, pair_line, profile_lines, Run, runs_of, run_line, version_line, log_lines, text_of, text_in}
+use Rattle.order_log.specs.Text.{number_text, hex_text, pair_line, profile_lines, Group, groups_of, group_line, CanSay, version_line, log_lines, text_of, text_in}
 use Rattle.order_log.specs.Reading.{lines_of, BeginsWith, BeginLog, BeginLimitedLog, IsSoundUpTo, shown, IsAnswer}
 use Rattle.order_log.specs.Recogniser.{next, unfinished_of}
 use Rattle.order_log.proofs.Parts.{Free, Free-append, Free-number_text}
-use Rattle.order_log.proofs.Shared.{Free-run_line}
+use Rattle.order_log.proofs.Shared.{Free-group_line}
 use Rattle.order_log.proofs.Heads.{Free-pair_line, Free-hex_text}
 use Rattle.order_log.proofs.Lists.{All-append, All_front}
 use Rattle.order_log.proofs.Cutting.{AreLines, lines_of-text_of, unfinished_of-text_of, AreLines-lines_of, text_of-lines_of}
@@ -39,9 +39,9 @@ profile_is_lines : (p : Profile) → HasNames p → AreLines (profile_lines p)
 profile_is_lines profile.All h = ((refl, (refl, (refl, (refl, (refl, (refl, (refl, (refl, (refl, (refl, (refl, tt))))))))))), tt)
 profile_is_lines (profile.Pairs ps) h = (word_free (codes "profile ") (length ps) (refl, (refl, (refl, (refl, (refl, (refl, (refl, (refl, tt)))))))), pairs_are_lines ps h.1)
 
-runs_are_lines : (rs : List Run) → AreLines (map run_line rs)
-runs_are_lines [] = tt
-runs_are_lines (r ∷ rs) = (Free-run_line r, runs_are_lines rs)
+groups_are_lines : (rs : List Group) → AreLines (map group_line rs)
+groups_are_lines [] = tt
+groups_are_lines (r ∷ rs) = (Free-group_line r, groups_are_lines rs)
 
 version_is_line : (w : Version) → Free 10 (version_line w)
 version_is_line version.One = (refl, (refl, (refl, (refl, (refl, (refl, (refl, (refl, (refl, (refl, (refl, (refl, (refl, tt)))))))))))))
@@ -57,8 +57,8 @@ AreLines-log_lines w v log =
     let hex = Free-hex_text v.setup.input log.input in
     let tail = (codes "input " ++ number_text (length v.setup.input)) ∷ hex_text v.setup.input ∷ [] in
     let middle = All-append (Free 10) (profile_lines v.profile) tail (profile_is_lines v.profile log.profile) (input, (hex, tt)) in
-    let entries = runs_of w v.entries in
-    (first, (slots, (cells, (limit, All-append (Free 10) (profile_lines v.profile ++ tail) (map run_line entries) middle (runs_are_lines entries)))))
+    let entries = groups_of w v.entries in
+    (first, (slots, (cells, (limit, All-append (Free 10) (profile_lines v.profile ++ tail) (map group_line entries) middle (groups_are_lines entries)))))
 
 -- ---- a log whose text begins with lines has these lines in front
 
@@ -68,8 +68,8 @@ begins_lines lines v are b =
     let back : lines_of (text_in w v) ≡ log_lines w v = ap lines_of (sym (append-nil (text_in w v))) ∙ lines_of-text_of (log_lines w v) [] (AreLines-log_lines w v b.log) ∙ append-nil (log_lines w v) in
     (lines_of b.more, sym back ∙ ap lines_of b.text ∙ lines_of-text_of lines b.more are)
 
-pub begins_with : (lines : List Text) (w : Version) (v : LogView) (more : List Text) → IsLog v → log_lines w v ≡ lines ++ more → BeginsWith lines v
-begins_with lines w v more log e = record { log = log; version = w; more = text_of more; text = ap text_of e ∙ flat_map-append (λ line. line ++ 10 ∷ []) lines more }
+pub begins_with : (lines : List Text) (w : Version) (v : LogView) (more : List Text) → IsLog v → CanSay w v → log_lines w v ≡ lines ++ more → BeginsWith lines v
+begins_with lines w v more log words e = record { log = log; version = w; words = words; more = text_of more; text = ap text_of e ∙ flat_map-append (λ line. line ++ 10 ∷ []) lines more }
 
 -- the lines of a log's text are the log's lines, and nothing is left
 pub record IsCut (bytes : Text) (w : Version) (v : LogView) : Type 0 where
@@ -111,12 +111,12 @@ leads_on done p line s l e fits =
 begin_log : (done : List Text) (p : Part) → Fine p → said p ≡ done → BeginLog done
 begin_log done p fine says =
     let c = completed p fine in
-    (c.view, begins_with done c.version c.view c.more c.log (c.lines ∙ ap (λ (ls : List Text). ls ++ c.more) says))
+    (c.view, begins_with done c.version c.view c.more c.log c.words (c.lines ∙ ap (λ (ls : List Text). ls ++ c.more) says))
 
 begin_limited : (done : List Text) (p : Part) → LeadsTo done p → BeginLimitedLog done
 begin_limited done p l =
     let c = completed p l.fine in
-    (c.view, begins_with done c.version c.view c.more c.log (c.lines ∙ ap (λ (ls : List Text). ls ++ c.more) l.says), c.within l.kept)
+    (c.view, begins_with done c.version c.view c.more c.log c.words (c.lines ∙ ap (λ (ls : List Text). ls ++ c.more) l.says), c.within l.kept)
 
 -- a log that begins with the lines so far and one more takes that line
 takes_more : (strict : Bool) (done : List Text) (p : Part) (line : Text) (v : LogView) → AreLines (done ++ line ∷ []) → LeadsTo done p → (b : BeginsWith (done ++ line ∷ []) v) → (strict ≡ true → KeepsLimits v)
@@ -125,7 +125,7 @@ takes_more strict done p line v are l b within =
     let lines = begins_lines (done ++ line ∷ []) v are b in
     let regrouped : log_lines b.version v ≡ done ++ line ∷ lines.0 = lines.1 ∙ append_assoc done (line ∷ []) lines.0 in
     let there : walk strict Bare done ≡ Some p = by strict in
-    (lines.0, sym (walk_rest strict Bare done (line ∷ lines.0) p there) ∙ ap (walk strict Bare) (sym regrouped) ∙ whole_walk strict b.version v b.log within)
+    (lines.0, sym (walk_rest strict Bare done (line ∷ lines.0) p there) ∙ ap (walk strict Bare) (sym regrouped) ∙ whole_walk strict b.version v b.log b.words within)
   where
     by : (t : Bool) → walk t Bare done ≡ Some p
     by true = l.there
@@ -179,7 +179,8 @@ at_end bytes done p at e l number =
     found w v is rest =
         let says : log_lines w v ≡ done = ap said (sym is) ∙ l.says in
         let text : bytes ≡ text_in w v = text_of-lines_of bytes ∙ ap (λ (t : Text). text_of (lines_of bytes) ++ t) rest ∙ append-nil (text_of (lines_of bytes)) ∙ ap text_of (e ∙ sym says) in
-        (subst Fine is l.fine, subst Kept is l.kept, (w, text))
+        let fine = subst Fine is l.fine in
+        (fine.0, subst Kept is l.kept, (w, fine.1, text))
 
     missing : ((w : Version) (v : LogView) → p ≡ whole w v → unfinished_of bytes ≡ [] → ⊥) → IsAnswer bytes (Err (LogSyntax at))
     missing none = (
@@ -189,8 +190,8 @@ at_end bytes done p at e l number =
       inr (
         let long = ap length e in omega arith,
         λ v log t. let w = t.0 in
-            let c = cut_log bytes w v log t.1 in
-            let there : walk false Bare done ≡ Some (whole w v) = ap (walk false Bare) (sym e ∙ c.lines) ∙ whole_walk false w v log (λ h. absurd cc) in
+            let c = cut_log bytes w v log t.2 in
+            let there : walk false Bare done ≡ Some (whole w v) = ap (walk false Bare) (sym e ∙ c.lines) ∙ whole_walk false w v log t.1 (λ h. absurd cc) in
             let same : Some p ≡ Some (whole w v) = sym (loosely Bare done p l.there) ∙ there in
             none w v (same_Some p (whole w v) same) c.rest,
       ),

@@ -4,7 +4,7 @@ use Rattle.std.specs.Prelude.{codes, not, nat_le, nat_lt, ◌&&◌, count_by}
 use Rattle.std.specs.List.{AllByRecursion}
 use Rattle.std.specs.Option.{option_map, option_and_then}
 use Rattle.std.specs.Str.{bytes_eq}
-use Rattle.std.proofs.lemmas.Bool.{and_parts, leb-true, ltb-true, eqb-true}
+use Rattle.std.proofs.lemmas.Bool.{and_parts, leb-true, ltb-true, eqb-true, not-true}
 use Rattle.std.proofs.lemmas.List.{append-nil, length-append, map-append}
 use Rattle.std.proofs.lemmas.Option.{none-some, same_Some, cond_some}
 use Rattle.std.proofs.lemmas.Slice.Eq.{bytes_eq-Decides}
@@ -19,14 +19,14 @@ use Rattle.sync_objects.specs.Setup.{SetupView}
 use Rattle.order_log.specs.Log.{IsNamePair, HasNames, IsLog, IsObjectWithin, last_count, IsEntryWithin, is_ending_of, is_other_of, AreWithin, KeepsLimits}
 use Rattle.order_log.specs.declared.version.Version.{Version}
 use Rattle.order_log.specs.declared.version.Version.TheVariants as version
-use Rattle.order_log.specs.Text.{number_text, hex_text, pair_line, profile_lines, Run, runs_of, run_line, version_line, log_lines}
-use Rattle.order_log.specs.Line.{after_word, number_in, pair_in, hex_in, next_object, next_entry, stripes_after, entries_of, run_in}
-use Rattle.order_log.specs.Recogniser.{is_object_within, is_entry_within, has_room, may_follow, may_all_follow, joins, apart, version_in}
+use Rattle.order_log.specs.Text.{number_text, hex_text, pair_line, profile_lines, Group, groups_of, group_line, has_word, CanSay, version_line, log_lines}
+use Rattle.order_log.specs.Line.{after_word, number_in, pair_in, hex_in, next_object, next_entry, stripes_after, entries_of, group_in}
+use Rattle.order_log.specs.Recogniser.{is_object_within, is_entry_within, has_room, may_follow, may_all_follow, joins, may_begin, apart, version_in}
 use Rattle.order_log.proofs.Numbers.{number_text-number_in}
 use Rattle.order_log.proofs.Parts.{after_word_is}
 use Rattle.order_log.proofs.Entries.{bind_some, map_some, chosen}
-use Rattle.order_log.proofs.Runs.{runs_more}
-use Rattle.order_log.proofs.Shared.{IsRunLine, run_is}
+use Rattle.order_log.proofs.Groups.{groups_more}
+use Rattle.order_log.proofs.Shared.{IsGroupLine, group_is}
 use Rattle.order_log.proofs.Heads.{pair_is, hex_is}
 use Rattle.order_log.proofs.Lists.{All-append, count_push, AreAscending-push}
 use Rattle.order_log.proofs.Machine.{Numbers, Part, Bare, Headed, Slotted, Celled, Limited, Pairing, Profiled, Sized, Whole, paired, setup_of, view_of, number_step, count_step, entries_step, taken}
@@ -73,7 +73,7 @@ Fine (Limited n) = Unit {0}
 Fine (Pairing n left ps) = HasNames (profile.Pairs ps)
 Fine (Profiled n p) = HasNames p
 Fine (Sized n p k) = HasNames p
-Fine (Whole n p input es) = IsLog (view_of n p input es)
+Fine (Whole n p input es) = IsLog (view_of n p input es) × CanSay n.version (view_of n p input es)
 
 -- a number from low to high
 abbrev pub IsFrom : ℕ → ℕ → ℕ → Type 0
@@ -189,7 +189,7 @@ sized_adds n p k line s e =
     ∙ sym (append_assoc (profile_lines p) (input_line k ∷ []) (line ∷ [])) in
     subst (λ (t : Part × Bool). Adds (Sized n p k) line t.0 t.1) m.2 (record {
       says = ap (λ (ls : List Text). numbers_lines n ++ ls) says;
-      fine = λ f. record { profile = f; input = is.hex.bytes_below; operations = tt };
+      fine = λ f. (record { profile = f; input = is.hex.bytes_below; operations = tt }, tt);
       kept = λ t h. let size = is.size_is in
           let few = h.1.1 in
           record {
@@ -204,6 +204,7 @@ object_within : (slots : ℕ) (x : ObjId) → is_object_within slots x ≡ true 
 object_within slots (object.Mutex cell) e = ltb-true cell 4194304 e
 object_within slots (object.Cond cell) e = ltb-true cell 4194304 e
 object_within slots (object.Barrier cell) e = ltb-true cell 4194304 e
+object_within slots (object.Rw cell) e = ltb-true cell 4194304 e
 object_within slots (object.Weak lock stripe) e = let p = and_parts (nat_le lock 65471) (nat_le stripe 7) e in (leb-true lock 65471 p.0, leb-true stripe 7 p.1)
 object_within slots (object.Slot slot) e = ltb-true slot slots e
 object_within slots object.Threads e = tt
@@ -260,34 +261,40 @@ fits_after : (e : Entry) (more : ℕ) → Fits e.op e.obj → AllByRecursion (λ
 fits_after e zero fit = tt
 fits_after e (suc more) fit = let next : Fits e.op (next_object e.obj) = fit ∙ sym (next_object_kind e.obj) in (next, fits_after (next_entry e) more next)
 
-apart_is : (w : Version) (es : List Entry) (r q : Run) → apart w es r ≡ Some q → (joins w es r.first ≡ false) × (r ≡ q)
-apart_is w es r q e = by (joins w es r.first) e
-  where
-    by : (t : Bool) → cond t None (Some r) ≡ Some q → (t ≡ false) × (r ≡ q)
-    by true h = absurd (none-some q h)
-    by false h = (refl, same_Some r q h)
+words_after : (w : Version) (e : Entry) (more : ℕ) → has_word w e.op ≡ true → AllByRecursion (λ x. has_word w x.op ≡ true) (stripes_after e more)
+words_after w e zero h = tt
+words_after w e (suc more) h = (h, words_after w (next_entry e) more h)
+
+apart_is : (w : Version) (es : List Entry) (r q : Group) → apart w es r ≡ Some q → (has_word w r.first.op ≡ true) × (joins w es r.first ≡ false) × (r ≡ q)
+apart_is w es r q e =
+    let fit = cond_some (may_begin w es r.first) r q e in
+    let both = and_parts (has_word w r.first.op) (not (joins w es r.first)) fit.0 in
+    (both.0, not-true (joins w es r.first) both.1, fit.1)
 
 whole_adds : (n : Numbers) (p : Profile) (input : List ℕ) (es : List Entry) (line : Text) (s : Part × Bool)
-    → entries_step n p input es (option_and_then (apart n.version es) (run_in n.version line)) ≡ Some s → Adds (Whole n p input es) line s.0 s.1
+    → entries_step n p input es (option_and_then (apart n.version es) (group_in n.version line)) ≡ Some s → Adds (Whole n p input es) line s.0 s.1
 whole_adds n p input es line s found =
-    let m = map_some (λ r. (Whole n p input (es ++ entries_of r), may_all_follow (setup_of n input) es (entries_of r))) (option_and_then (apart n.version es) (run_in n.version line)) s found in
+    let m = map_some (λ r. (Whole n p input (es ++ entries_of r), may_all_follow (setup_of n input) es (entries_of r))) (option_and_then (apart n.version es) (group_in n.version line)) s found in
     let r = m.0 in
-    let b = bind_some (run_in n.version line) (apart n.version es) r m.1 in
+    let b = bind_some (group_in n.version line) (apart n.version es) r m.1 in
     let begun = apart_is n.version es b.0 r b.2 in
-    let is = run_is n.version line b.0 b.1 in
+    let is = group_is n.version line b.0 b.1 in
     subst (λ (t : Part × Bool). Adds (Whole n p input es) line t.0 t.1) m.2
-    (subst (λ (q : Run). Adds (Whole n p input es) line (Whole n p input (es ++ entries_of q)) (may_all_follow (setup_of n input) es (entries_of q))) begun.1 (adds_run b.0 begun.0 is))
+    (subst (λ (q : Group). Adds (Whole n p input es) line (Whole n p input (es ++ entries_of q)) (may_all_follow (setup_of n input) es (entries_of q))) begun.2 (adds_group b.0 begun.0 begun.1 is))
   where
-    adds_run : (q : Run) → joins n.version es q.first ≡ false → IsRunLine n.version line q → Adds (Whole n p input es) line (Whole n p input (es ++ entries_of q)) (may_all_follow (setup_of n input) es (entries_of q))
-    adds_run q begins is =
+    adds_group : (q : Group) → has_word n.version q.first.op ≡ true → joins n.version es q.first ≡ false → IsGroupLine n.version line q → Adds (Whole n p input es) line (Whole n p input (es ++ entries_of q)) (may_all_follow (setup_of n input) es (entries_of q))
+    adds_group q word begins is =
         let head = profile_lines p ++ (input_line (length input) ∷ hex_text input ∷ []) in
-        let lines : map run_line (runs_of n.version (es ++ entries_of q)) ≡ map run_line (runs_of n.version es) ++ line ∷ [] =
-        ap (map run_line) (runs_more n.version es q begins is.chain) ∙ map-append run_line (runs_of n.version es) (q ∷ []) ∙ ap (λ (t : Text). map run_line (runs_of n.version es) ++ t ∷ []) (sym is.text) in
-        let says : head ++ map run_line (runs_of n.version (es ++ entries_of q)) ≡ (head ++ map run_line (runs_of n.version es)) ++ line ∷ [] =
-        ap (λ (ls : List Text). head ++ ls) lines ∙ sym (append_assoc head (map run_line (runs_of n.version es)) (line ∷ [])) in
+        let lines : map group_line (groups_of n.version (es ++ entries_of q)) ≡ map group_line (groups_of n.version es) ++ line ∷ [] =
+        ap (map group_line) (groups_more n.version es q begins is.chain) ∙ map-append group_line (groups_of n.version es) (q ∷ []) ∙ ap (λ (t : Text). map group_line (groups_of n.version es) ++ t ∷ []) (sym is.text) in
+        let says : head ++ map group_line (groups_of n.version (es ++ entries_of q)) ≡ (head ++ map group_line (groups_of n.version es)) ++ line ∷ [] =
+        ap (λ (ls : List Text). head ++ ls) lines ∙ sym (append_assoc head (map group_line (groups_of n.version es)) (line ∷ [])) in
         record {
           says = ap (λ (ls : List Text). numbers_lines n ++ ls) says;
-          fine = λ f. record { profile = f.profile; input = f.input; operations = All-append (λ x. Fits x.op x.obj) es (entries_of q) f.operations (is.fitting, fits_after q.first q.more is.fitting) };
+          fine = λ f. (
+            record { profile = f.0.profile; input = f.0.input; operations = All-append (λ x. Fits x.op x.obj) es (entries_of q) f.0.operations (is.fitting, fits_after q.first q.more is.fitting) },
+            All-append (λ x. has_word n.version x.op ≡ true) es (entries_of q) f.1 (word, words_after n.version q.first q.more word),
+          );
           kept = λ t k. record { setup = k.setup; entries = all_within (setup_of n input) es (entries_of q) k.entries t };
         }
 

@@ -19,13 +19,13 @@ use Rattle.sync_objects.specs.Setup.{SetupView}
 use Rattle.order_log.specs.Log.{LogView, IsNamePair, HasNames, IsLog, IsObjectWithin, last_count, IsEntryWithin, is_ending_of, is_other_of, KeepsLimits}
 use Rattle.order_log.specs.declared.version.Version.{Version}
 use Rattle.order_log.specs.declared.version.Version.TheVariants as version
-use Rattle.order_log.specs.Text.{number_text, hex_text, pair_line, profile_lines, Run, runs_of, run_line, version_line, log_lines}
+use Rattle.order_log.specs.Text.{number_text, hex_text, pair_line, profile_lines, Group, groups_of, group_line, has_word, CanSay, version_line, log_lines}
 use Rattle.order_log.specs.Line.{number_in, entries_of}
-use Rattle.order_log.specs.Recogniser.{is_object_within, is_entry_within, has_room, may_follow, may_all_follow, joins, apart}
+use Rattle.order_log.specs.Recogniser.{is_object_within, is_entry_within, has_room, may_follow, may_all_follow, joins, may_begin, apart}
 use Rattle.order_log.proofs.Numbers.{number_in-number_text}
 use Rattle.order_log.proofs.Parts.{after_word_at}
-use Rattle.order_log.proofs.Runs.{IsChain, Follow, entries_in, runs_follow, entries_in-runs}
-use Rattle.order_log.proofs.Shared.{run_again}
+use Rattle.order_log.proofs.Groups.{IsChain, Follow, entries_in, groups_follow, entries_in-groups}
+use Rattle.order_log.proofs.Shared.{group_again}
 use Rattle.order_log.proofs.Heads.{pair_again, hex_again}
 use Rattle.order_log.proofs.Lists.{All_front, All_back, count_front, ends_before_next}
 use Rattle.order_log.proofs.Machine.{Numbers, Part, Bare, Headed, Slotted, Celled, Limited, Pairing, Profiled, Sized, Whole, paired, setup_of, view_of, Step, number_step, count_step, entries_step, taken}
@@ -120,6 +120,7 @@ within_object : (slots : ℕ) (x : ObjId) → IsObjectWithin slots x → is_obje
 within_object slots (object.Mutex cell) h = lt-ltb cell 4194304 h
 within_object slots (object.Cond cell) h = lt-ltb cell 4194304 h
 within_object slots (object.Barrier cell) h = lt-ltb cell 4194304 h
+within_object slots (object.Rw cell) h = lt-ltb cell 4194304 h
 within_object slots (object.Weak lock stripe) h = and_from (nat_le lock 65471) (nat_le stripe 7) (le-leb lock 65471 h.0) (le-leb stripe 7 h.1)
 within_object slots (object.Slot slot) h = lt-ltb slot slots h
 within_object slots object.Threads h = refl
@@ -156,29 +157,31 @@ may_all_come s es (f ∷ fs) gs p h =
     and_from (may_follow s es f) (may_all_follow s (es ++ f ∷ []) fs) (may_come s es f (fs ++ gs) p h)
     (may_all_come s (es ++ f ∷ []) fs gs p (subst (λ (xs : List Entry). KeepsLimits (record { setup = s; profile = p; entries = xs })) (sym (append_assoc es (f ∷ []) (fs ++ gs))) h))
 
-run_taken : (n : Numbers) (p : Profile) (input : List ℕ) (es : List Entry) (r : Run) → Fits r.first.op r.first.obj → joins n.version es r.first ≡ false → IsChain n.version r.first r.more
-    → taken (Whole n p input es) (run_line r) ≡ Some (Whole n p input (es ++ entries_of r), may_all_follow (setup_of n input) es (entries_of r))
-run_taken n p input es r fit begins chain =
-    ap (λ (o : Option Run). entries_step n p input es (option_and_then (apart n.version es) o)) (run_again n.version r fit chain)
-    ∙ ap (entries_step n p input es) (cond-false (joins n.version es r.first) None (Some r) begins)
+group_taken : (n : Numbers) (p : Profile) (input : List ℕ) (es : List Entry) (r : Group) → Fits r.first.op r.first.obj → has_word n.version r.first.op ≡ true → joins n.version es r.first ≡ false → IsChain n.version r.first r.more
+    → taken (Whole n p input es) (group_line r) ≡ Some (Whole n p input (es ++ entries_of r), may_all_follow (setup_of n input) es (entries_of r))
+group_taken n p input es r fit word begins chain =
+    ap (λ (o : Option Group). entries_step n p input es (option_and_then (apart n.version es) o)) (group_again n.version r fit chain)
+    ∙ ap (entries_step n p input es) (cond-true (may_begin n.version es r.first) (Some r) None (and_from (has_word n.version r.first.op) (not (joins n.version es r.first)) word (ap not begins)))
 
-walk_runs : (strict : Bool) (n : Numbers) (p : Profile) (input : List ℕ) (es : List Entry) (rs : List Run) → AllByRecursion (λ e. Fits e.op e.obj) (entries_in rs) → Follow n.version es rs
-    → (strict ≡ true → KeepsLimits (view_of n p input (es ++ entries_in rs))) → walk strict (Whole n p input es) (map run_line rs) ≡ Some (Whole n p input (es ++ entries_in rs))
-walk_runs strict n p input es [] fitting follow within = ap (λ (xs : List Entry). Some (Whole n p input xs)) (sym (append-nil es))
-walk_runs strict n p input es (r ∷ rs) fitting follow within =
+walk_groups : (strict : Bool) (n : Numbers) (p : Profile) (input : List ℕ) (es : List Entry) (rs : List Group) → AllByRecursion (λ e. Fits e.op e.obj) (entries_in rs) → AllByRecursion (λ e. has_word n.version e.op ≡ true) (entries_in rs) → Follow n.version es rs
+    → (strict ≡ true → KeepsLimits (view_of n p input (es ++ entries_in rs))) → walk strict (Whole n p input es) (map group_line rs) ≡ Some (Whole n p input (es ++ entries_in rs))
+walk_groups strict n p input es [] fitting words follow within = ap (λ (xs : List Entry). Some (Whole n p input xs)) (sym (append-nil es))
+walk_groups strict n p input es (r ∷ rs) fitting words follow within =
     let regrouped : (es ++ entries_of r) ++ entries_in rs ≡ es ++ (entries_of r ++ entries_in rs) = append_assoc es (entries_of r) (entries_in rs) in
     let front = All_front (λ e. Fits e.op e.obj) (entries_of r) (entries_in rs) fitting in
     let back = All_back (λ e. Fits e.op e.obj) (entries_of r) (entries_in rs) fitting in
-    walk_on strict (Whole n p input es) (run_line r) (map run_line rs) (Whole n p input (es ++ entries_of r)) (may_all_follow (setup_of n input) es (entries_of r))
-    (run_taken n p input es r front.0 follow.0 follow.1) (λ t. may_all_come (setup_of n input) es (entries_of r) (entries_in rs) p (within t))
-    ∙ walk_runs strict n p input (es ++ entries_of r) rs back follow.2 (λ t. subst (λ (xs : List Entry). KeepsLimits (view_of n p input xs)) (sym regrouped) (within t))
+    let word = All_front (λ e. has_word n.version e.op ≡ true) (entries_of r) (entries_in rs) words in
+    let rest = All_back (λ e. has_word n.version e.op ≡ true) (entries_of r) (entries_in rs) words in
+    walk_on strict (Whole n p input es) (group_line r) (map group_line rs) (Whole n p input (es ++ entries_of r)) (may_all_follow (setup_of n input) es (entries_of r))
+    (group_taken n p input es r front.0 word.0 follow.0 follow.1) (λ t. may_all_come (setup_of n input) es (entries_of r) (entries_in rs) p (within t))
+    ∙ walk_groups strict n p input (es ++ entries_of r) rs back rest follow.2 (λ t. subst (λ (xs : List Entry). KeepsLimits (view_of n p input xs)) (sym regrouped) (within t))
     ∙ ap (λ (xs : List Entry). Some (Whole n p input xs)) regrouped
 
-walk_entries : (strict : Bool) (n : Numbers) (p : Profile) (input : List ℕ) (fs : List Entry) → AllByRecursion (λ e. Fits e.op e.obj) fs → (strict ≡ true → KeepsLimits (view_of n p input fs))
-    → walk strict (Whole n p input []) (map run_line (runs_of n.version fs)) ≡ Some (Whole n p input fs)
-walk_entries strict n p input fs fitting within =
-    let all = entries_in-runs n.version fs in
-    walk_runs strict n p input [] (runs_of n.version fs) (subst (AllByRecursion (λ e. Fits e.op e.obj)) (sym all) fitting) (runs_follow n.version fs) (λ t. subst (λ (xs : List Entry). KeepsLimits (view_of n p input xs)) (sym all) (within t))
+walk_entries : (strict : Bool) (n : Numbers) (p : Profile) (input : List ℕ) (fs : List Entry) → AllByRecursion (λ e. Fits e.op e.obj) fs → AllByRecursion (λ e. has_word n.version e.op ≡ true) fs → (strict ≡ true → KeepsLimits (view_of n p input fs))
+    → walk strict (Whole n p input []) (map group_line (groups_of n.version fs)) ≡ Some (Whole n p input fs)
+walk_entries strict n p input fs fitting words within =
+    let all = entries_in-groups n.version fs in
+    walk_groups strict n p input [] (groups_of n.version fs) (subst (AllByRecursion (λ e. Fits e.op e.obj)) (sym all) fitting) (subst (AllByRecursion (λ e. has_word n.version e.op ≡ true)) (sym all) words) (groups_follow n.version fs) (λ t. subst (λ (xs : List Entry). KeepsLimits (view_of n p input xs)) (sym all) (within t))
     ∙ ap (λ (xs : List Entry). Some (Whole n p input xs)) all
 
 -- ---- the whole
@@ -199,11 +202,11 @@ pub version_taken : (w : Version) → taken Bare (version_line w) ≡ Some (Head
 version_taken version.One = refl
 version_taken version.Two = refl
 
-pub whole_walk : (strict : Bool) (w : Version) (v : LogView) → IsLog v → (strict ≡ true → KeepsLimits v) → walk strict Bare (log_lines w v) ≡ Some (whole w v)
-whole_walk strict w v log within =
+pub whole_walk : (strict : Bool) (w : Version) (v : LogView) → IsLog v → CanSay w v → (strict ≡ true → KeepsLimits v) → walk strict Bare (log_lines w v) ≡ Some (whole w v)
+whole_walk strict w v log words within =
     let s = v.setup in
     let n = numbers_of w v in
-    let entries = map run_line (runs_of w v.entries) in
+    let entries = map group_line (groups_of w v.entries) in
     let size = length s.input in
     let tail = (codes "input " ++ number_text size) ∷ hex_text s.input ∷ [] in
     let lines = (profile_lines v.profile ++ tail) ++ entries in
@@ -219,4 +222,4 @@ whole_walk strict w v log within =
     ∙ walk_number strict (Profiled n v.profile) (codes "input ") 0 1048576 size (λ k. Sized n v.profile k) (hex_text s.input ∷ entries) (λ line. refl) (λ t. (omega arith, (within t).setup.short_input))
     ∙ walk_on strict (Sized n v.profile size) (hex_text s.input) entries (Whole n v.profile s.input []) true
     (ap (option_map (λ input. (Whole n v.profile input [], true))) (hex_again s.input log.input)) (λ t. refl)
-    ∙ walk_entries strict n v.profile s.input v.entries log.operations within
+    ∙ walk_entries strict n v.profile s.input v.entries log.operations words within

@@ -14,11 +14,11 @@ use Rattle.sync_objects.specs.declared.operation.OpName.TheVariants as op
 use Rattle.sync_objects.specs.declared.kind.ObjKind.{ObjKind}
 use Rattle.sync_objects.specs.declared.kind.ObjKind.TheVariants as kind
 use Rattle.sync_objects.specs.Names.{kind_of, object_kind}
-use Rattle.order_log.specs.declared.entry.LineRun.{LineRun}
+use Rattle.order_log.specs.declared.entry.LineGroup.{LineGroup}
 use Rattle.order_log.specs.declared.version.Version.{Version}
 use Rattle.order_log.specs.declared.version.Version.TheVariants as version
 use Rattle.order_log.specs.Names.{begins_name, continues_name}
-use Rattle.order_log.specs.Text.{Run, stripe_of}
+use Rattle.order_log.specs.Text.{are_alike, Group, stripe_of}
 
 infixl 10 ◌>>=◌
 -- a line is refused as soon as one part of it is
@@ -98,6 +98,10 @@ op_rows =
     (codes "halt", op.HaltAll) ∷
     (codes "trap", op.TrapHere) ∷
     (codes "stop", op.Stop) ∷
+    (codes "rdlock", op.RdLock) ∷
+    (codes "wrlock", op.WrLock) ∷
+    (codes "rwunlock", op.RwUnlock) ∷
+    (codes "rwinit", op.RwInit) ∷
     []
 
 -- a lock and its stripe, with a point between them
@@ -122,9 +126,10 @@ object_by b bs =
     if b == 109 then option_map object.Mutex (number_in bs) else
     (if b == 99 then option_map object.Cond (number_in bs) else
     (if b == 98 then option_map object.Barrier (number_in bs) else
+    (if b == 114 then option_map object.Rw (number_in bs) else
     (if b == 119 then weak_in bs else
     (if b == 115 then option_map object.Slot (number_in bs) else
-    (if length bs == 0 then lone_object b else None)))))
+    (if length bs == 0 then lone_object b else None))))))
 
 -- an object by its first byte and its number
 unfoldable pub object_in : Text → Option ObjId
@@ -142,6 +147,7 @@ kind_number kind.Threads = 5
 kind_number kind.Halt = 6
 kind_number kind.Input = 7
 kind_number kind.Output = 8
+kind_number kind.Rw = 9
 
 -- the test for an operation on an object of its own kind
 abbrev pub fits : OpName → ObjId → Bool
@@ -163,40 +169,39 @@ entry_in line = do
 
 -- the operations of which several may stand in one line
 abbrev pub may_share : OpName → Bool
-may_share op.Take = true
-may_share op.Give = true
-may_share _ = false
+may_share o = are_alike o o
 
 -- an entry alone in its line
-abbrev pub alone : Entry → Run
+abbrev pub alone : Entry → Group
 alone e = record { first = e; more = 0 }
 
 -- from an entry's stripe to a greater one
-abbrev pub run_to : Entry → ℕ → Option Run
-run_to e last = if may_share e.op && nat_lt (stripe_of e.obj) last then Some (record { first = e; more = last - stripe_of e.obj }) else None
+abbrev pub group_to : Entry → ℕ → Option Group
+group_to e last = if may_share e.op && nat_lt (stripe_of e.obj) last then Some (record { first = e; more = last - stripe_of e.obj }) else None
 
 -- an entry, and the last stripe
-unfoldable pub range_in : Text × Text → Option Run
+unfoldable pub range_in : Text × Text → Option Group
 range_in p = do
   e ← entry_in p.0
   last ← number_in p.1
-  run_to e last
+  group_to e last
 
 -- what a line is that was cut at its hyphen, where it has one
-abbrev pub run_cut : Text → Option (Text × Text) → Option Run
-run_cut line None = option_map alone (entry_in line)
-run_cut line (Some p) = range_in p
+abbrev pub group_cut : Text → Option (Text × Text) → Option Group
+group_cut line None = option_map alone (entry_in line)
+group_cut line (Some p) = range_in p
 
 -- the entries of a line, of which version 1 has one in each
-abbrev pub run_in : Version → Text → Option Run
-run_in version.One line = run_cut line None
-run_in version.Two line = run_cut line (cut 45 line)
+abbrev pub group_in : Version → Text → Option Group
+group_in version.One line = group_cut line None
+group_in version.Two line = group_cut line (cut 45 line)
 
 -- the next stripe of the same lock
 abbrev pub next_object : ObjId → ObjId
 next_object (object.Mutex cell) = object.Mutex cell
 next_object (object.Cond cell) = object.Cond cell
 next_object (object.Barrier cell) = object.Barrier cell
+next_object (object.Rw cell) = object.Rw cell
 next_object (object.Weak lock stripe) = object.Weak lock (stripe + 1)
 next_object (object.Slot slot) = object.Slot slot
 next_object object.Threads = object.Threads
@@ -214,12 +219,12 @@ stripes_after e zero = []
 stripes_after e (suc more) = next_entry e ∷ stripes_after (next_entry e) more
 
 -- the entries of a line
-abbrev pub entries_of : Run → List Entry
+abbrev pub entries_of : Group → List Entry
 entries_of r = r.first ∷ stripes_after r.first r.more
 
 -- only a stripe has others after it in its line
-abbrev pub IsRun : Run → Type 0
-IsRun r = 0 < r.more → object_kind r.first.obj ≡ kind.Weak
+abbrev pub IsGroup : Group → Type 0
+IsGroup r = 0 < r.more → object_kind r.first.obj ≡ kind.Weak
 
 -- ---- an entry in the code's types, whose greatest numbers stand for all from there on
 
@@ -228,6 +233,7 @@ abbrev pub clipped_object : ObjId → ObjId
 clipped_object (object.Mutex cell) = object.Mutex (min cell 4294967295)
 clipped_object (object.Cond cell) = object.Cond (min cell 4294967295)
 clipped_object (object.Barrier cell) = object.Barrier (min cell 4294967295)
+clipped_object (object.Rw cell) = object.Rw (min cell 4294967295)
 clipped_object (object.Weak lock stripe) = object.Weak (min lock 65535) (min stripe 255)
 clipped_object (object.Slot slot) = object.Slot (min slot 255)
 clipped_object object.Threads = object.Threads
@@ -240,8 +246,8 @@ abbrev pub clipped : Entry → Entry
 clipped e = record { thread = min e.thread 255; count = min e.count 4294967295; op = e.op; obj = clipped_object e.obj }
 
 -- the first entry of a line, and the last stripe
-abbrev pub clipped_run : Run → LineRun
-clipped_run r = record { first = clipped r.first; last = min (stripe_of r.first.obj + r.more) 255 }
+abbrev pub clipped_group : Group → LineGroup
+clipped_group r = record { first = clipped r.first; last = min (stripe_of r.first.obj + r.more) 255 }
 
 -- ---- pairs
 

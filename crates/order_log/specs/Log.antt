@@ -45,6 +45,7 @@ abbrev pub IsObjectWithin : ℕ → ObjId → Type 0
 IsObjectWithin slots (object.Mutex cell) = cell < 4194304
 IsObjectWithin slots (object.Cond cell) = cell < 4194304
 IsObjectWithin slots (object.Barrier cell) = cell < 4194304
+IsObjectWithin slots (object.Rw cell) = cell < 4194304
 IsObjectWithin slots (object.Weak lock stripe) = (lock ≤ 65471) × (stripe ≤ 7)
 IsObjectWithin slots (object.Slot slot) = slot < slots
 IsObjectWithin slots object.Threads = Unit {0}

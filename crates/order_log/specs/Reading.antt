@@ -5,7 +5,7 @@ use Rattle.order_log.specs.declared.fault.LogFault.{LogFault}
 use Rattle.order_log.specs.declared.fault.LogFault.TheVariants.{LogSyntax, LogLimit, OutOfMemory}
 use Rattle.order_log.specs.Log.{LogView, IsLog, KeepsLimits}
 use Rattle.order_log.specs.declared.version.Version.{Version}
-use Rattle.order_log.specs.Text.{text_of, text_in, IsTextOf}
+use Rattle.order_log.specs.Text.{CanSay, text_of, text_in, IsTextOf}
 
 -- ---- the lines of a text
 
@@ -21,10 +21,11 @@ lines_of (b ∷ bs) = if b == 10 then [] ∷ lines_of bs else onto_first b (line
 
 -- ---- beginnings
 
--- a log whose text in one of the versions begins with these lines
+-- a log whose text, in one of the versions that can say it, begins with these lines
 pub record BeginsWith (lines : List Text) (v : LogView) : Type 0 where
   pub log : IsLog v
   pub version : Version
+  pub words : CanSay version v
   pub more : Text
   pub text : text_in version v ≡ text_of lines ++ more
 

@@ -1,5 +1,5 @@
 -- Reading line by line, as the code does it. What it comes to is said in Reading.antt: here the steps only have names.
-use Rattle.std.specs.Prelude.{◌≡◌, ℕ, zero, suc, ◌+◌, min, Bool, true, false, ◌&&◌, ◌==◌, nat_lt, nat_le, if◌then◌else◌, IsTrue, List, [], ◌∷◌, ◌++◌, slice_index, ◌<◌, count_by, codes, Option, Some, None, option_and_then, Result, Ok, Err}
+use Rattle.std.specs.Prelude.{◌≡◌, ℕ, zero, suc, ◌+◌, min, Bool, true, false, not, ◌&&◌, ◌==◌, nat_lt, nat_le, if◌then◌else◌, IsTrue, List, [], ◌∷◌, ◌++◌, slice_index, ◌<◌, count_by, codes, Option, Some, None, option_and_then, Result, Ok, Err}
 use Rattle.std.specs.Str.{bytes_eq}
 use Rattle.profiles.specs.declared.profile.Profile.{Profile}
 use Rattle.profiles.specs.declared.profile.Profile.TheVariants as profile
@@ -16,8 +16,8 @@ use Rattle.order_log.specs.Log.{LogView, last_count, is_ending_of, is_other_of}
 use Rattle.order_log.specs.Reading.{lines_of}
 use Rattle.order_log.specs.declared.version.Version.{Version}
 use Rattle.order_log.specs.declared.version.Version.TheVariants as version
-use Rattle.order_log.specs.Text.{Run, shares, version_line}
-use Rattle.order_log.specs.Line.{after_word, number_in, pair_in, hex_in, run_in, entries_of}
+use Rattle.order_log.specs.Text.{Group, shares, has_word, version_line}
+use Rattle.order_log.specs.Line.{after_word, number_in, pair_in, hex_in, group_in, entries_of}
 
 infixl 10 ◌>>=◌
 -- reading ends at the first fault
@@ -130,6 +130,7 @@ abbrev pub is_object_within : ℕ → ObjId → Bool
 is_object_within slots (object.Mutex cell) = nat_lt cell 4194304
 is_object_within slots (object.Cond cell) = nat_lt cell 4194304
 is_object_within slots (object.Barrier cell) = nat_lt cell 4194304
+is_object_within slots (object.Rw cell) = nat_lt cell 4194304
 is_object_within slots (object.Weak lock stripe) = nat_le lock 65471 && nat_le stripe 7
 is_object_within slots (object.Slot slot) = nat_lt slot slots
 is_object_within slots object.Threads = true
@@ -161,9 +162,13 @@ joins w [] f = false
 joins w (e ∷ []) f = shares w e f
 joins w (e ∷ g ∷ es) f = joins w (g ∷ es) f
 
--- the entries of a line that begins where it has to
-abbrev pub apart : Version → List Entry → Run → Option Run
-apart w es r = if joins w es r.first then None else Some r
+-- a line may begin with the entry after those before: the version has a word for it, and it doesn't belong into the last line
+abbrev pub may_begin : Version → List Entry → Entry → Bool
+may_begin w es f = has_word w f.op && not (joins w es f)
+
+-- the entries of a line that begins as it has to
+abbrev pub apart : Version → List Entry → Group → Option Group
+apart w es r = if may_begin w es r.first then Some r else None
 
 -- bytes without a newline behind the last line are a fault
 abbrev pub ended : List Entry → ℕ → Text → Result (List Entry) LogFault
@@ -174,7 +179,7 @@ ended es at (b ∷ bs) = Err (LogSyntax at)
 abbrev pub entries_from : Version → SetupView → List Entry → ℕ → List Text → Text → Result (List Entry) LogFault
 entries_from w s es at [] rest = ended es at rest
 entries_from w s es at (line ∷ lines) rest =
-    found_at at (option_and_then (apart w es) (run_in w line)) >>= λ r. if may_all_follow s es (entries_of r) then entries_from w s (es ++ entries_of r) (next at) lines rest else Err (LogLimit at)
+    found_at at (option_and_then (apart w es) (group_in w line)) >>= λ r. if may_all_follow s es (entries_of r) then entries_from w s (es ++ entries_of r) (next at) lines rest else Err (LogLimit at)
 
 -- all lines below the head are entries
 abbrev pub entries_at : Version → SetupView → Lines → Result (List Entry) LogFault

@@ -1,6 +1,6 @@
 -- The one text of a log in either version: lines, each ended by a newline byte.
-use Rattle.std.specs.Prelude.{◌≡◌, ℕ, suc, ◌+◌, ◌/◌, ◌%◌, Bool, true, false, ◌&&◌, ◌==◌, nat_lt, if◌then◌else◌, List, [], ◌∷◌, ◌++◌, length, map, codes}
-use Rattle.std.specs.List.{flat_map}
+use Rattle.std.specs.Prelude.{◌≡◌, ℕ, suc, ◌+◌, ◌/◌, ◌%◌, Bool, true, false, not, ◌&&◌, ◌==◌, nat_lt, if◌then◌else◌, List, [], ◌∷◌, ◌++◌, length, map, codes}
+use Rattle.std.specs.List.{AllByRecursion, flat_map}
 use Rattle.std.specs.Int.Digits.{digits_of}
 use Rattle.profiles.specs.declared.profile.Profile.{Profile}
 use Rattle.profiles.specs.declared.profile.Profile.TheVariants as profile
@@ -32,6 +32,7 @@ abbrev pub object_text : ObjId → Text
 object_text (object.Mutex cell) = codes "m" ++ number_text cell
 object_text (object.Cond cell) = codes "c" ++ number_text cell
 object_text (object.Barrier cell) = codes "b" ++ number_text cell
+object_text (object.Rw cell) = codes "r" ++ number_text cell
 object_text (object.Weak lock stripe) = codes "w" ++ number_text lock ++ codes "." ++ number_text stripe
 object_text (object.Slot slot) = codes "s" ++ number_text slot
 object_text object.Threads = codes "T"
@@ -88,19 +89,19 @@ shares version.One e f = false
 shares version.Two e f = continues e f
 
 -- the entries of one line: the first, and how many more there are
-pub record Run : Type 0 where
+pub record Group : Type 0 where
   pub first : Entry
   pub more : ℕ
 
 -- an entry joins the line after it, or has its own
-abbrev pub onto_run : Version → Entry → List Run → List Run
-onto_run w e [] = record { first = e; more = 0 } ∷ []
-onto_run w e (r ∷ rs) = if shares w e r.first then record { first = e; more = suc r.more } ∷ rs else record { first = e; more = 0 } ∷ r ∷ rs
+abbrev pub onto_group : Version → Entry → List Group → List Group
+onto_group w e [] = record { first = e; more = 0 } ∷ []
+onto_group w e (r ∷ rs) = if shares w e r.first then record { first = e; more = suc r.more } ∷ rs else record { first = e; more = 0 } ∷ r ∷ rs
 
 -- the entries line by line, in each line all that share it
-abbrev pub runs_of : Version → List Entry → List Run
-runs_of w [] = []
-runs_of w (e ∷ es) = onto_run w e (runs_of w es)
+abbrev pub groups_of : Version → List Entry → List Group
+groups_of w [] = []
+groups_of w (e ∷ es) = onto_group w e (groups_of w es)
 
 -- the stripe of an object that has one
 abbrev pub stripe_of : ObjId → ℕ
@@ -108,12 +109,31 @@ stripe_of (object.Weak lock stripe) = stripe
 stripe_of _ = 0
 
 -- the last stripe of more than one
-abbrev pub last_text : Run → Text
+abbrev pub last_text : Group → Text
 last_text r = if r.more == 0 then [] else codes "-" ++ number_text (stripe_of r.first.obj + r.more)
 
 -- such as `3 17 take w4.0-2`, which stands for the takes of three stripes
-abbrev pub run_line : Run → Text
-run_line r = entry_line r.first ++ last_text r
+abbrev pub group_line : Group → Text
+group_line r = entry_line r.first ++ last_text r
+
+-- ---- what a version can say
+
+-- an operation on a read-write lock
+abbrev pub is_of_rwlock : OpName → Bool
+is_of_rwlock op.RdLock = true
+is_of_rwlock op.WrLock = true
+is_of_rwlock op.RwUnlock = true
+is_of_rwlock op.RwInit = true
+is_of_rwlock _ = false
+
+-- version 1 has no words for read-write locks
+abbrev pub has_word : Version → OpName → Bool
+has_word version.One o = not (is_of_rwlock o)
+has_word version.Two o = true
+
+-- the version has a word for the operation of each entry
+abbrev pub CanSay : Version → LogView → Type 0
+CanSay w v = AllByRecursion (λ e. has_word w e.op ≡ true) v.entries
 
 -- ---- the whole
 
@@ -124,7 +144,7 @@ version_line version.Two = codes "chimera log 2"
 
 -- the version stands first, the entries last
 abbrev pub log_lines : Version → LogView → List Text
-log_lines w v = version_line w ∷ head_lines v ++ map run_line (runs_of w v.entries)
+log_lines w v = version_line w ∷ head_lines v ++ map group_line (groups_of w v.entries)
 
 -- the lines, each with its newline
 abbrev pub text_of : List Text → Text
@@ -138,6 +158,6 @@ text_in w v = text_of (log_lines w v)
 abbrev pub log_text : LogView → Text
 log_text v = text_in version.Two v
 
--- the bytes are the log's text in one of the versions
+-- the bytes are the log's text in one of the versions that can say it
 abbrev pub IsTextOf : Text → LogView → Type 0
-IsTextOf bytes v = (w : Version) × (bytes ≡ text_in w v)
+IsTextOf bytes v = (w : Version) × CanSay w v × (bytes ≡ text_in w v)

@@ -7,12 +7,12 @@ ghost use Rattle.order_log.specs.Line as line;
 ghost use Rattle.order_log.specs.Log.{last_count};
 ghost use Rattle.order_log.specs.Recogniser as recogniser;
 ghost use Rattle.order_log.specs.Recogniser.{AreCounted, Gives, Pushes, left};
-ghost use Rattle.order_log.specs.Text.{Run, stripe_of};
+ghost use Rattle.order_log.specs.Text.{Group, stripe_of};
 
-use crate::entry::{LineRun, run_in, stripe_of};
+use crate::entry::{LineGroup, group_in, stripe_of};
 use crate::fault::LogFault;
 use crate::reader::{Reader, next_line};
-use crate::run::shares;
+use crate::group::shares;
 use crate::version::Version;
 use rr_base::List;
 use std::alloc::{AllocError, Global};
@@ -29,7 +29,9 @@ fn is_object_within(slots: u8, obj: ObjId) -> bool
     ensures { result ≡ recogniser.is_object_within slots obj }
 {
     match obj {
-        ObjId::Mutex(cell) | ObjId::Cond(cell) | ObjId::Barrier(cell) => cell < 4_194_304,
+        ObjId::Mutex(cell) | ObjId::Cond(cell) | ObjId::Barrier(cell) | ObjId::Rw(cell) => {
+            cell < 4_194_304
+        }
         ObjId::Weak { lock, stripe } => lock <= 65_471 && stripe <= 7,
         ObjId::Slot(slot) => slot < slots,
         ObjId::Threads | ObjId::Halt | ObjId::Input | ObjId::Output => true,
@@ -95,6 +97,13 @@ fn joins(version: Version, before: &[Entry], entry: &Entry) -> bool
     }
 }
 
+// Whether a line may begin with the entry, after those before.
+fn may_begin(version: Version, before: &[Entry], entry: &Entry) -> bool
+    ensures { result ≡ recogniser.may_begin version before.now entry.now }
+{
+    version.has_word(entry.op) && !joins(version, before, entry)
+}
+
 // The same entry of the next stripe.
 fn next_entry(entry: &Entry) -> Entry
     requires { stripe_of entry.now.obj < 255 }
@@ -131,19 +140,19 @@ fn push_entry(
 }
 
 // Puts the entries of a line after those before, up to the first that may not follow. Tells whether all may.
-fn push_run(
+fn push_group(
     setup: &Setup,
     counts: &mut Counts,
     found: &mut List<Entry>,
-    run: LineRun,
+    group: LineGroup,
 ) -> Result<bool, AllocError>
     requires { IsWithinLimits setup.now }
-    ensures { (r : Run) → line.IsRun r → run ≡ line.clipped_run r
+    ensures { (r : Group) → line.IsGroup r → group ≡ line.clipped_group r
         → AreCounted counts.old.others counts.old.endings found.old
         → IfOk result (λ may. Pushes setup.now found.old (line.entries_of r) may found.new counts.new.others counts.new.endings) }
 {
-    let mut entry = run.first;
-    let mut left = run.last.saturating_sub(stripe_of(entry.obj));
+    let mut entry = group.first;
+    let mut left = group.last.saturating_sub(stripe_of(entry.obj));
     if !push_entry(setup, counts, found, entry)? {
         return Ok(false);
     }
@@ -175,13 +184,13 @@ pub fn entries(
     };
     while !reader.bytes.is_empty() {
         let at = reader.line;
-        let Some(run) = run_in(version, next_line(reader)?) else {
+        let Some(group) = group_in(version, next_line(reader)?) else {
             return Err(LogFault::LogSyntax(at));
         };
-        if joins(version, found.as_slice(), &run.first) {
+        if !may_begin(version, found.as_slice(), &group.first) {
             return Err(LogFault::LogSyntax(at));
         }
-        if !push_run(setup, &mut counts, &mut found, run)? {
+        if !push_group(setup, &mut counts, &mut found, group)? {
             return Err(LogFault::LogLimit(at));
         }
     }

@@ -6,12 +6,13 @@ ghost use Rattle.order_log.specs.Text.{stripe_of};
 
 use crate::operation::op_in;
 use crate::part::{cut, number};
+use crate::group::are_alike;
 use crate::version::Version;
 use sync_objects::{Entry, ObjId, OpName, fits};
 
 /// The entries of a line: the first, and the last stripe, up to which each stripe has one.
 #[derive(Clone, Copy)]
-pub struct LineRun {
+pub struct LineGroup {
     pub first: Entry,
     pub last: u8,
 }
@@ -52,6 +53,7 @@ fn object_in(text: &[u8]) -> Option<ObjId>
         [b'm', cell @ ..] => Some(ObjId::Mutex(as_u32(number(cell)?))),
         [b'c', cell @ ..] => Some(ObjId::Cond(as_u32(number(cell)?))),
         [b'b', cell @ ..] => Some(ObjId::Barrier(as_u32(number(cell)?))),
+        [b'r', cell @ ..] => Some(ObjId::Rw(as_u32(number(cell)?))),
         [b'w', parts @ ..] => weak_in(parts),
         [b's', slot @ ..] => Some(ObjId::Slot(as_u8(number(slot)?))),
         [b'T'] => Some(ObjId::Threads),
@@ -105,7 +107,7 @@ pub fn stripe_of(obj: ObjId) -> u8
 fn may_share(op: OpName) -> bool
     ensures { result ≡ line.may_share op }
 {
-    matches!(op, OpName::Take | OpName::Give)
+    are_alike(op, op)
 }
 
 // Whether the first of two numbers in digits is the lesser, however long they are.
@@ -117,10 +119,10 @@ fn is_less(first: &[u8], second: &[u8]) -> bool
     by_length.then(first.cmp(&second)).is_lt()
 }
 
-fn alone(first: Entry) -> LineRun
+fn alone(first: Entry) -> LineGroup
     ensures { result ≡ record { first = first; last = stripe_of first.obj } }
 {
-    LineRun {
+    LineGroup {
         first,
         last: stripe_of(first.obj),
     }
@@ -128,8 +130,8 @@ fn alone(first: Entry) -> LineRun
 
 // From the stripe of the entry `front` to the stripe `last`.
 #[tactic(auto, unfolding(crate::specs::Line::range_in))]
-fn range_in(front: &[u8], last: &[u8]) -> Option<LineRun>
-    ensures { result ≡ option_map line.clipped_run (line.range_in (front.now, last.now)) }
+fn range_in(front: &[u8], last: &[u8]) -> Option<LineGroup>
+    ensures { result ≡ option_map line.clipped_group (line.range_in (front.now, last.now)) }
 {
     let first = entry_in(front)?;
     let end = as_u8(number(last)?);
@@ -140,12 +142,12 @@ fn range_in(front: &[u8], last: &[u8]) -> Option<LineRun>
     if !is_less(stripe, last) {
         return None;
     }
-    Some(LineRun { first, last: end })
+    Some(LineGroup { first, last: end })
 }
 
 /// The entries that a line is. The greatest number of each type stands for all that are above.
-pub fn run_in(version: Version, text: &[u8]) -> Option<LineRun>
-    ensures { result ≡ option_map line.clipped_run (line.run_in version text.now) }
+pub fn group_in(version: Version, text: &[u8]) -> Option<LineGroup>
+    ensures { result ≡ option_map line.clipped_group (line.group_in version text.now) }
 {
     let parts = match version {
         Version::One => None,

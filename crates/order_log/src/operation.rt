@@ -7,7 +7,7 @@ ghost use Rattle.order_log.specs.Operations as operations;
 use sync_objects::OpName;
 
 /// Each operation by its name; those that stand most often in logs come first.
-static OPERATIONS: [(&[u8], OpName); 26] = [
+static OPERATIONS: [(&[u8], OpName); 30] = [
     (b"take", OpName::Take),
     (b"give", OpName::Give),
     (b"lock", OpName::Lock),
@@ -34,6 +34,10 @@ static OPERATIONS: [(&[u8], OpName); 26] = [
     (b"halt", OpName::HaltAll),
     (b"trap", OpName::TrapHere),
     (b"stop", OpName::Stop),
+    (b"rdlock", OpName::RdLock),
+    (b"wrlock", OpName::WrLock),
+    (b"rwunlock", OpName::RwUnlock),
+    (b"rwinit", OpName::RwInit),
 ];
 
 fn op_among(mut table: &[(&[u8], OpName)], text: &[u8]) -> Option<OpName>
@@ -70,6 +74,10 @@ pub fn op_text(op: OpName) -> &'static [u8]
         OpName::BarrierInit => b"binit",
         OpName::Arrive => b"arrive",
         OpName::Pass => b"pass",
+        OpName::RdLock => b"rdlock",
+        OpName::WrLock => b"wrlock",
+        OpName::RwUnlock => b"rwunlock",
+        OpName::RwInit => b"rwinit",
         OpName::Take => b"take",
         OpName::Retake => b"retake",
         OpName::Give => b"give",

@@ -1,14 +1,14 @@
 // Writing a whole log.
 
-ghost use Rattle.std.specs.Prelude.{◌≡◌, ◌++◌, ◌∷◌, [], ◌<◌, ◌≤◌, length, map, OnOk, IfOk};
+ghost use Rattle.std.specs.Prelude.{◌≡◌, ◌↔◌, ◌++◌, ◌∷◌, [], ◌<◌, ◌≤◌, length, map, IsTrue, OnOk, IfOk};
 ghost use Rattle.profiles.specs.declared.profile.Profile.TheVariants as profile;
 ghost use Rattle.order_log.specs.declared.version.Version.TheVariants as versions;
-ghost use Rattle.order_log.specs.Text.{number_text, hex_digit, hex_text, object_text, entry_line, pair_line, profile_lines, run_line, runs_of, text_of, text_in, log_text};
+ghost use Rattle.order_log.specs.Text.{number_text, hex_digit, hex_text, object_text, entry_line, pair_line, profile_lines, group_line, groups_of, CanSay, text_of, text_in, log_text};
 
 use crate::entry::stripe_of;
 use crate::log::Log;
 use crate::operation::op_text;
-use crate::run::sharing;
+use crate::group::sharing;
 use crate::version::Version;
 use profiles::Profile;
 use rr_base::{Bytes, List};
@@ -37,6 +37,7 @@ fn push_object(out: &mut Bytes, obj: ObjId) -> Result<(), AllocError>
         ObjId::Mutex(cell) => push_numbered(out, b"m", u64::from(cell)),
         ObjId::Cond(cell) => push_numbered(out, b"c", u64::from(cell)),
         ObjId::Barrier(cell) => push_numbered(out, b"b", u64::from(cell)),
+        ObjId::Rw(cell) => push_numbered(out, b"r", u64::from(cell)),
         ObjId::Weak { lock, stripe } => {
             push_numbered(out, b"w", u64::from(lock))?;
             push_numbered(out, b".", u64::from(stripe))
@@ -61,9 +62,9 @@ fn push_entry(out: &mut Bytes, entry: &Entry) -> Result<(), AllocError>
 }
 
 // The line of an entry and so many more, each of the next stripe.
-fn push_run_line(out: &mut Bytes, first: &Entry, more: usize) -> Result<(), AllocError>
+fn push_group_line(out: &mut Bytes, first: &Entry, more: usize) -> Result<(), AllocError>
     requires { more ≤ 16777312 }
-    ensures { OnOk result (out.new ≡ out.old ++ (run_line (record { first = first.now; more = more }) ++ 10 ∷ [])) }
+    ensures { OnOk result (out.new ≡ out.old ++ (group_line (record { first = first.now; more = more }) ++ 10 ∷ [])) }
 {
     push_entry(out, first)?;
     if more > 0 {
@@ -75,12 +76,12 @@ fn push_run_line(out: &mut Bytes, first: &Entry, more: usize) -> Result<(), Allo
 
 fn push_entry_lines(out: &mut Bytes, version: Version, entries: &[Entry]) -> Result<(), AllocError>
     requires { length entries.now ≤ 16777312 }
-    ensures { OnOk result (out.new ≡ out.old ++ text_of (map run_line (runs_of version entries.now))) }
+    ensures { OnOk result (out.new ≡ out.old ++ text_of (map group_line (groups_of version entries.now))) }
 {
     let mut rest = entries;
     while let [first, after @ ..] = rest {
         let more = sharing(version, first, after);
-        push_run_line(out, first, more)?;
+        push_group_line(out, first, more)?;
         rest = &after[more..];
     }
     Ok(())
@@ -158,8 +159,19 @@ pub fn write_log(alloc: Global, log: &Log) -> Result<Bytes, AllocError>
     write_in(alloc, Version::Two, log)
 }
 
-/// The text of a log in version 1, for those who read no other.
+/// Whether version 1 can say the log: no entry is of a read-write lock.
+pub fn fits_version_1(log: &Log) -> bool
+    ensures { IsTrue result ↔ CanSay versions.One log.now }
+{
+    log.entries()
+        .as_slice()
+        .iter()
+        .all(|entry| Version::One.has_word(entry.op))
+}
+
+/// The text in version 1 of a log that it can say, for those who read no other.
 pub fn write_log_1(alloc: Global, log: &Log) -> Result<Bytes, AllocError>
+    requires { CanSay versions.One log.now }
     ensures { IfOk result (λ text. text ≡ text_in versions.One log.now) }
 {
     write_in(alloc, Version::One, log)

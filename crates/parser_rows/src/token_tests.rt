@@ -37,7 +37,7 @@ static ROWS: [(&[u8], &str); 97] = [
         "Refused char 1:1 0-4;Refused restrict 1:6 5-13;",
     ),
     (b"NULL sizeof", "Null 1:1 0-4;Sizeof 1:6 5-11;"),
-    (b"pthread_rwlock_t", "Refused pthread_rwlock_t 1:1 0-16;"),
+    (b"pthread_rwlock_t", "PthreadRwlockT 1:1 0-16;"),
     (b"printf", "Name printf 1:1 0-6;"),
     // Punctuation.
     (b"->", "Arrow 1:1 0-2;"),

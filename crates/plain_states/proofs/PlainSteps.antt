@@ -55,6 +55,7 @@ halt_or object.Halt = inl refl
 halt_or (object.Mutex c) = inr (λ e. cc)
 halt_or (object.Cond c) = inr (λ e. cc)
 halt_or (object.Barrier c) = inr (λ e. cc)
+halt_or (object.Rw c) = inr (λ e. cc)
 halt_or (object.Weak lock k) = inr (λ e. cc)
 halt_or (object.Slot k) = inr (λ e. cc)
 halt_or object.Threads = inr (λ e. cc)
@@ -79,6 +80,7 @@ module _ (w : Code) (objects : HasObjects w) (s : SetupView) (limits : IsWithinL
   has_plain (object.Mutex c) strong h = h
   has_plain (object.Cond c) strong h = h
   has_plain (object.Barrier c) strong h = h
+  has_plain (object.Rw c) strong h = h
   has_plain (object.Slot k) strong h = h
   has_plain object.Threads strong h = h
   has_plain object.Halt strong h = h

@@ -113,6 +113,7 @@ module _ (t old new : ℕ) (answer : ℤ) where
   also_moves o (object.Mutex c) plain fits other row h = record { word = new; moves = ap (advanced o t) (sym h) ∙ row; is_plain = refl }
   also_moves o (object.Cond c) plain fits other row h = record { word = new; moves = ap (advanced o t) (sym h) ∙ row; is_plain = refl }
   also_moves o (object.Barrier c) plain fits other row h = record { word = new; moves = ap (advanced o t) (sym h) ∙ row; is_plain = refl }
+  also_moves o (object.Rw c) plain fits other row h = record { word = new; moves = ap (advanced o t) (sym h) ∙ row; is_plain = refl }
   also_moves o (object.Weak lock k) plain fits other row h = record { word = new; moves = ap (advanced o t) (sym h) ∙ row; is_plain = refl }
   also_moves o object.Threads plain fits other row h = record { word = new; moves = ap (advanced o t) (sym h) ∙ row; is_plain = refl }
   also_moves o object.Input plain fits other row h = record { word = new; moves = ap (advanced o t) (sym h) ∙ row; is_plain = refl }
@@ -137,6 +138,7 @@ module _ (w : Code) (s : SetupView) (limits : IsWithinLimits s) where
   had (object.Mutex c) h = h
   had (object.Cond c) h = h
   had (object.Barrier c) h = h
+  had (object.Rw c) h = h
   had (object.Slot k) h = h
   had object.Threads h = h
   had object.Halt h = h
@@ -217,6 +219,7 @@ module _ (w : Code) (s : SetupView) (limits : IsWithinLimits s) where
   starts_plain (object.Mutex c) = refl
   starts_plain (object.Cond c) = refl
   starts_plain (object.Barrier c) = refl
+  starts_plain (object.Rw c) = refl
   starts_plain (object.Weak lock k) = refl
   starts_plain object.Threads = refl
   starts_plain object.Input = refl

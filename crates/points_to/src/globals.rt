@@ -15,7 +15,11 @@ fn address_at(kind: CellKind, word: u64) -> Option<u64>
 {
     match kind {
         CellKind::Pointer => { if word == 0 { None } else { Some(word) } }
-        CellKind::Whole | CellKind::Mutex | CellKind::Cond | CellKind::Barrier => None,
+        CellKind::Whole
+        | CellKind::Mutex
+        | CellKind::Cond
+        | CellKind::Barrier
+        | CellKind::Rw => None,
     }
 }
 

@@ -184,6 +184,7 @@ pub(crate) fn make(cells: &Cells, seat: &mut Seat, run: &mut ThreadRun, next: No
             ObjId::Mutex(_) => make_own(cells, seat, run, next),
             ObjId::Cond(_) => make_own(cells, seat, run, next),
             ObjId::Barrier(_) => make_own(cells, seat, run, next),
+            ObjId::Rw(_) => make_own(cells, seat, run, next),
             ObjId::Slot(_) => make_own(cells, seat, run, next),
             ObjId::Threads => make_own(cells, seat, run, next),
             ObjId::Halt => make_own(cells, seat, run, next),

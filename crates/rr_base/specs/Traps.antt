@@ -1,9 +1,9 @@
 -- The number by which texts name each trap.
 use Rattle.std.specs.Prelude.{ℕ}
 use Rattle.rr_base.specs.declared.trap.Trap.{Trap}
-use Rattle.rr_base.specs.declared.trap.Trap.TheVariants.{DivideByZero, Overflow, ShiftRange, BadDereference, OutOfObject, BadKind, BadSize, ArenaFull, MutexMisuse, BarrierMisuse, BadThread, Limit, CastRange, PointerToNumber, CompareObjects, Depth, LogFull}
+use Rattle.rr_base.specs.declared.trap.Trap.TheVariants.{DivideByZero, Overflow, ShiftRange, BadDereference, OutOfObject, BadKind, BadSize, ArenaFull, MutexMisuse, BarrierMisuse, BadThread, Limit, CastRange, PointerToNumber, CompareObjects, Depth, LogFull, RwMisuse}
 
--- from 1 to 17, as a run's answers print it
+-- from 1 to 18, as a run's answers print it
 abbrev pub trap_number : Trap → ℕ
 trap_number DivideByZero = 1
 trap_number Overflow = 2
@@ -22,3 +22,4 @@ trap_number PointerToNumber = 14
 trap_number CompareObjects = 15
 trap_number Depth = 16
 trap_number LogFull = 17
+trap_number RwMisuse = 18

@@ -14,6 +14,8 @@ pub enum CellKind {
     Cond,
     /// A barrier.
     Barrier,
+    /// A read-write lock.
+    Rw,
 }
 
 /// How an object's cells lie: their number, the size of one element, and the kind of each cell.

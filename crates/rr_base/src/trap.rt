@@ -38,10 +38,12 @@ pub enum Trap {
     Depth,
     /// The thread's list of entries is full.
     LogFull,
+    /// A read-write lock is used against its rules (POSIX `pthread_rwlock_rdlock`), or held twice by one thread.
+    RwMisuse,
 }
 
 impl Trap {
-    /// The number by which texts name the trap, from 1 to 17.
+    /// The number by which texts name the trap, from 1 to 18.
     pub fn number(self) -> u8
         ensures { result ≡ trap_number self }
     {
@@ -63,6 +65,7 @@ impl Trap {
             Trap::CompareObjects => 15,
             Trap::Depth => 16,
             Trap::LogFull => 17,
+            Trap::RwMisuse => 18,
         }
     }
 }

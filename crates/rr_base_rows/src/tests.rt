@@ -92,8 +92,8 @@ fn no_numbers_in_pointer_words(rt: HostRuntime) -> Result<(), Fail> {
 #[test]
 fn numbers_of_traps(rt: HostRuntime) -> Result<(), Fail> {
     assert_eq!(rt;
-        (Trap::DivideByZero.number(), Trap::LogFull.number()),
-        (1, 17)
+        (Trap::DivideByZero.number(), Trap::RwMisuse.number()),
+        (1, 18)
     );
     Ok(())
 }

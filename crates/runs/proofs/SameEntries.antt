@@ -5,15 +5,16 @@ use Rattle.std.proofs.lemmas.Option.{same_Some}
 use Rattle.std.proofs.lemmas.Bool.{eqb-true, and_parts, and_from}
 use Rattle.sync_objects.specs.declared.entry.Entry.{Entry}
 use Rattle.sync_objects.specs.declared.object.ObjId.{ObjId}
-use Rattle.sync_objects.specs.declared.object.ObjId.TheVariants.{Mutex, Cond, Barrier, Weak, Slot, Threads, Halt, Input, Output}
+use Rattle.sync_objects.specs.declared.object.ObjId.TheVariants.{Mutex, Cond, Barrier, Rw, Weak, Slot, Threads, Halt, Input, Output}
 use Rattle.sync_objects.specs.declared.operation.OpName.{OpName}
-use Rattle.sync_objects.specs.declared.operation.OpName.TheVariants.{Lock, TryLock, Unlock, MutexInit, CondEnter, CondWake, Signal, BarrierInit, Arrive, Pass, Take, Retake, Give, Revoke, Draw, Start, Begin, End, Join, Close, Leave, HaltAll, TrapHere, Stop, GetChar, Print}
+use Rattle.sync_objects.specs.declared.operation.OpName.TheVariants.{Lock, TryLock, Unlock, MutexInit, CondEnter, CondWake, Signal, BarrierInit, Arrive, Pass, Take, Retake, Give, Revoke, Draw, Start, Begin, End, Join, Close, Leave, HaltAll, TrapHere, Stop, GetChar, Print, RdLock, WrLock, RwUnlock, RwInit}
 use Rattle.runs.specs.Same.{same_object, operation_index, same_operation, same_entry}
 
 pub same_object-refl : (o : ObjId) → same_object o o ≡ true
 same_object-refl (Mutex c) = eq-eqb c c refl
 same_object-refl (Cond c) = eq-eqb c c refl
 same_object-refl (Barrier c) = eq-eqb c c refl
+same_object-refl (Rw c) = eq-eqb c c refl
 same_object-refl (Weak l s) = and_from (eqb l l) (eqb s s) (eq-eqb l l refl) (eq-eqb s s refl)
 same_object-refl (Slot k) = eq-eqb k k refl
 same_object-refl Threads = refl
@@ -25,6 +26,7 @@ pub same_object-true : (o p : ObjId) → same_object o p ≡ true → o ≡ p
 same_object-true (Mutex c) (Mutex d) h = ap Mutex (eqb-true c d h)
 same_object-true (Cond c) (Cond d) h = ap Cond (eqb-true c d h)
 same_object-true (Barrier c) (Barrier d) h = ap Barrier (eqb-true c d h)
+same_object-true (Rw c) (Rw d) h = ap Rw (eqb-true c d h)
 same_object-true (Weak l s) (Weak k r) h =
     let both = and_parts (eqb l k) (eqb s r) h in
     ap (λ z. Weak z s) (eqb-true l k both.0) ∙ ap (λ z. Weak k z) (eqb-true s r both.1)
@@ -51,7 +53,7 @@ same_object-ne o p ne = go (same_object o p) refl
     go false h = h
 
 all_operations : List OpName
-all_operations = Lock ∷ TryLock ∷ Unlock ∷ MutexInit ∷ CondEnter ∷ CondWake ∷ Signal ∷ BarrierInit ∷ Arrive ∷ Pass ∷ Take ∷ Retake ∷ Give ∷ Revoke ∷ Draw ∷ Start ∷ Begin ∷ End ∷ Join ∷ Close ∷ Leave ∷ HaltAll ∷ TrapHere ∷ Stop ∷ GetChar ∷ Print ∷ []
+all_operations = Lock ∷ TryLock ∷ Unlock ∷ MutexInit ∷ CondEnter ∷ CondWake ∷ Signal ∷ BarrierInit ∷ Arrive ∷ Pass ∷ Take ∷ Retake ∷ Give ∷ Revoke ∷ Draw ∷ Start ∷ Begin ∷ End ∷ Join ∷ Close ∷ Leave ∷ HaltAll ∷ TrapHere ∷ Stop ∷ GetChar ∷ Print ∷ RdLock ∷ WrLock ∷ RwUnlock ∷ RwInit ∷ []
 
 found_again : (op : OpName) → slice_get all_operations (operation_index op) ≡ Some op
 unfolding all_operations
@@ -81,6 +83,10 @@ found_again TrapHere = refl
 found_again Stop = refl
 found_again GetChar = refl
 found_again Print = refl
+found_again RdLock = refl
+found_again WrLock = refl
+found_again RwUnlock = refl
+found_again RwInit = refl
 
 pub same_operation-true : (a b : OpName) → same_operation a b ≡ true → a ≡ b
 same_operation-true a b h =

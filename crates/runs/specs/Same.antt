@@ -2,15 +2,16 @@
 use Rattle.std.specs.Prelude.{ℕ, Bool, true, false, ◌&&◌, ◌==◌}
 use Rattle.sync_objects.specs.declared.entry.Entry.{Entry}
 use Rattle.sync_objects.specs.declared.object.ObjId.{ObjId}
-use Rattle.sync_objects.specs.declared.object.ObjId.TheVariants.{Mutex, Cond, Barrier, Weak, Slot, Threads, Halt, Input, Output}
+use Rattle.sync_objects.specs.declared.object.ObjId.TheVariants.{Mutex, Cond, Barrier, Rw, Weak, Slot, Threads, Halt, Input, Output}
 use Rattle.sync_objects.specs.declared.operation.OpName.{OpName}
-use Rattle.sync_objects.specs.declared.operation.OpName.TheVariants.{Lock, TryLock, Unlock, MutexInit, CondEnter, CondWake, Signal, BarrierInit, Arrive, Pass, Take, Retake, Give, Revoke, Draw, Start, Begin, End, Join, Close, Leave, HaltAll, TrapHere, Stop, GetChar, Print}
+use Rattle.sync_objects.specs.declared.operation.OpName.TheVariants.{Lock, TryLock, Unlock, MutexInit, CondEnter, CondWake, Signal, BarrierInit, Arrive, Pass, Take, Retake, Give, Revoke, Draw, Start, Begin, End, Join, Close, Leave, HaltAll, TrapHere, Stop, GetChar, Print, RdLock, WrLock, RwUnlock, RwInit}
 
 -- the same kind with the same numbers
 abbrev pub same_object : ObjId → ObjId → Bool
 same_object (Mutex c) (Mutex d) = c == d
 same_object (Cond c) (Cond d) = c == d
 same_object (Barrier c) (Barrier d) = c == d
+same_object (Rw c) (Rw d) = c == d
 same_object (Weak l s) (Weak m r) = (l == m) && (s == r)
 same_object (Slot k) (Slot n) = k == n
 same_object Threads Threads = true
@@ -47,6 +48,10 @@ operation_index TrapHere = 22
 operation_index Stop = 23
 operation_index GetChar = 24
 operation_index Print = 25
+operation_index RdLock = 26
+operation_index WrLock = 27
+operation_index RwUnlock = 28
+operation_index RwInit = 29
 
 -- by their places in the list of all operations
 abbrev pub same_operation : OpName → OpName → Bool

@@ -62,7 +62,7 @@ fn code(alloc: Global) -> Result<Code, AllocError>
     })
 }
 
-// 4 hand-off cells, 2 arenas, and for each cell 3 objects, 20 others and 8 stripes.
+// 4 hand-off cells, 2 arenas, and for each cell 4 objects, 20 others and 8 stripes.
 #[test]
 fn starts_and_ends(rt: HostRuntime) -> Result<(), Fail> {
     let alloc = rt.alloc();
@@ -72,7 +72,7 @@ fn starts_and_ends(rt: HostRuntime) -> Result<(), Fail> {
     let (cells, seats) = Cells::new(alloc, &code, &setup)?;
     assert_eq!(rt; cells.cell_count(), 2052);
     let closed = cells.close(alloc, seats)?;
-    assert_eq!(rt; closed.words.len(), 4 * 2052 + 28);
+    assert_eq!(rt; closed.words.len(), 5 * 2052 + 28);
     assert_eq!(rt; closed.departure, 4_294_967_295);
     Ok(())
 }

@@ -45,6 +45,7 @@ module _ (code : Code) (s : SetupView) (none : code.locks ≡ []) where
     no_action n (action.Operate o (object.Mutex c)) h = refl
     no_action n (action.Operate o (object.Cond c)) h = refl
     no_action n (action.Operate o (object.Barrier c)) h = refl
+    no_action n (action.Operate o (object.Rw c)) h = refl
     no_action n (action.Operate o (object.Slot k)) h = refl
     no_action n (action.Operate o object.Threads) h = refl
     no_action n (action.Operate o object.Halt) h = refl

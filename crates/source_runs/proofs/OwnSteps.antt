@@ -44,6 +44,7 @@ no_stripe o (object.Weak lock k) h = absurd (h tt)
 no_stripe o (object.Mutex c) h = refl
 no_stripe o (object.Cond c) h = refl
 no_stripe o (object.Barrier c) h = refl
+no_stripe o (object.Rw c) h = refl
 no_stripe o (object.Slot k) h = refl
 no_stripe o object.Threads h = refl
 no_stripe o object.Halt h = refl

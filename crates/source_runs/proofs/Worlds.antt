@@ -44,6 +44,7 @@ weak_stripe (object.Weak lock stripe) h = refl
 weak_stripe (object.Mutex c) h = absurd h
 weak_stripe (object.Cond c) h = absurd h
 weak_stripe (object.Barrier c) h = absurd h
+weak_stripe (object.Rw c) h = absurd h
 weak_stripe (object.Slot k) h = absurd h
 weak_stripe object.Threads h = absurd h
 weak_stripe object.Halt h = absurd h
@@ -70,6 +71,7 @@ module _ (p : Program) (s : SetupView) (code : Code) (same_cells : cells_of code
   there (object.Mutex c) h not' = cell_there c (ltb-true c (cells_of code s) h)
   there (object.Cond c) h not' = cell_there c (ltb-true c (cells_of code s) h)
   there (object.Barrier c) h not' = cell_there c (ltb-true c (cells_of code s) h)
+  there (object.Rw c) h not' = cell_there c (ltb-true c (cells_of code s) h)
   there (object.Slot k) h not' = ltb-true k s.slots h
   there (object.Weak lock stripe) h not' = not' tt
   there object.Threads h not' = tt
@@ -81,6 +83,7 @@ module _ (p : Program) (s : SetupView) (code : Code) (same_cells : cells_of code
   is_had (object.Mutex c) h = lt-ltb c (cells_of code s) (let same = same_cells in omega arith)
   is_had (object.Cond c) h = lt-ltb c (cells_of code s) (let same = same_cells in omega arith)
   is_had (object.Barrier c) h = lt-ltb c (cells_of code s) (let same = same_cells in omega arith)
+  is_had (object.Rw c) h = lt-ltb c (cells_of code s) (let same = same_cells in omega arith)
   is_had (object.Slot k) h = lt-ltb k s.slots h
   is_had (object.Weak lock stripe) h = absurd h
   is_had object.Threads h = refl
@@ -93,6 +96,7 @@ module _ (p : Program) (s : SetupView) (code : Code) (same_cells : cells_of code
   no_stripe (object.Mutex c) h k = k
   no_stripe (object.Cond c) h k = k
   no_stripe (object.Barrier c) h k = k
+  no_stripe (object.Rw c) h k = k
   no_stripe (object.Slot n) h k = k
   no_stripe object.Threads h k = k
   no_stripe object.Halt h k = k

@@ -231,6 +231,11 @@ module _ (p : Program) (home : ℕ → Option ℕ) (f : Function) (h : Context) 
   some_stands w library.BarrierInit es at here' o site formed has none none' none'' all = plain_stands library.BarrierInit es at o tt none none'' all
   some_stands w library.BarrierWait es at here' o site formed has none none' none'' all = plain_stands library.BarrierWait es at o tt none none'' all
   some_stands w library.BarrierDestroy es at here' o site formed has none none' none'' all = plain_stands library.BarrierDestroy es at o tt none none'' all
+  some_stands w library.RwInit es at here' o site formed has none none' none'' all = plain_stands library.RwInit es at o tt none none'' all
+  some_stands w library.RwRdLock es at here' o site formed has none none' none'' all = plain_stands library.RwRdLock es at o tt none none'' all
+  some_stands w library.RwWrLock es at here' o site formed has none none' none'' all = plain_stands library.RwWrLock es at o tt none none'' all
+  some_stands w library.RwUnlock es at here' o site formed has none none' none'' all = plain_stands library.RwUnlock es at o tt none none'' all
+  some_stands w library.RwDestroy es at here' o site formed has none none' none'' all = plain_stands library.RwDestroy es at o tt none none'' all
   some_stands w library.Free es at here' o site formed has none none' none'' all = plain_stands library.Free es at o tt none none'' all
   some_stands w library.GetChar es at here' o site formed has none none' none'' all = plain_stands library.GetChar es at o tt none none'' all
   some_stands w library.PutChar es at here' o site formed has none none' none'' all = plain_stands library.PutChar es at o tt none none'' all

@@ -45,6 +45,7 @@ pointing_stars zero (base.Struct k) = refl
 pointing_stars zero base.Mutex = refl
 pointing_stars zero base.Cond = refl
 pointing_stars zero base.Barrier = refl
+pointing_stars zero base.RwLock = refl
 pointing_stars (suc n) b = sym (lt-ltb 0 (suc n) (omega arith))
 
 pub wanted_pointer : (t : StarredType) → is_pointing (type_operand (starred_type t)) ≡ is_pointer_wanted t
@@ -85,6 +86,11 @@ library_wanted library.CondDestroy = tt
 library_wanted library.BarrierInit = tt
 library_wanted library.BarrierWait = tt
 library_wanted library.BarrierDestroy = tt
+library_wanted library.RwInit = tt
+library_wanted library.RwRdLock = tt
+library_wanted library.RwWrLock = tt
+library_wanted library.RwUnlock = tt
+library_wanted library.RwDestroy = tt
 library_wanted library.Malloc = tt
 library_wanted library.Free = tt
 library_wanted library.GetChar = tt
@@ -129,6 +135,11 @@ module _ (p : Program) (home : ℕ → Option ℕ) (f : Function) where
   plain_kinds known library.BarrierInit es h = refl
   plain_kinds known library.BarrierWait es h = refl
   plain_kinds known library.BarrierDestroy es h = refl
+  plain_kinds known library.RwInit es h = refl
+  plain_kinds known library.RwRdLock es h = refl
+  plain_kinds known library.RwWrLock es h = refl
+  plain_kinds known library.RwUnlock es h = refl
+  plain_kinds known library.RwDestroy es h = refl
   plain_kinds known library.Malloc es h = absurd h
   plain_kinds known library.Free es h = refl
   plain_kinds known library.GetChar es h = refl
@@ -203,6 +214,11 @@ module _ (p : Program) (home : ℕ → Option ℕ) (f : Function) where
     library_starts library.BarrierInit es x r = tt
     library_starts library.BarrierWait es x r = tt
     library_starts library.BarrierDestroy es x r = tt
+    library_starts library.RwInit es x r = tt
+    library_starts library.RwRdLock es x r = tt
+    library_starts library.RwWrLock es x r = tt
+    library_starts library.RwUnlock es x r = tt
+    library_starts library.RwDestroy es x r = tt
     library_starts library.Malloc es x r = absurd x
     library_starts library.Free es x r = tt
     library_starts library.GetChar es x r = tt

@@ -36,6 +36,7 @@ no_struct_moves [] (base.Struct k) a h = never h
 no_struct_moves [] base.Mutex a h = refl
 no_struct_moves [] base.Cond a h = refl
 no_struct_moves [] base.Barrier a h = refl
+no_struct_moves [] base.RwLock a h = refl
 no_struct_moves (l ∷ ls) b a h = refl
 
 no_struct_accepts : (ls : List Layer) (b : BaseType) (a : Operand) → layered_accepts ls b a ≡ true → layered_struct ls b ≡ None
@@ -45,6 +46,7 @@ no_struct_accepts [] (base.Struct k) a h = never h
 no_struct_accepts [] base.Mutex a h = refl
 no_struct_accepts [] base.Cond a h = refl
 no_struct_accepts [] base.Barrier a h = refl
+no_struct_accepts [] base.RwLock a h = refl
 no_struct_accepts (l ∷ ls) b a h = refl
 
 int_moves : (ls : List Layer) (b : BaseType) (a : Operand) → layered_is_int ls b ≡ true → is_whole a ≡ true → layered_moves ls b a ≡ true
@@ -54,6 +56,7 @@ int_moves [] (base.Struct k) a h w = never h
 int_moves [] base.Mutex a h w = never h
 int_moves [] base.Cond a h w = never h
 int_moves [] base.Barrier a h w = never h
+int_moves [] base.RwLock a h w = never h
 int_moves (l ∷ ls) b a h w = never h
 
 number_moves : (t : ObjectType) (a : Operand) → (is_int_type t && is_whole a) ≡ true → moves t a ≡ true
@@ -74,6 +77,7 @@ module _ (p : Program) (home : ℕ → Option ℕ) (f : Function) (structs : ℕ
   accepted_layers [] base.Mutex a v q g h = never h
   accepted_layers [] base.Cond a v q g h = never h
   accepted_layers [] base.Barrier a v q g h = never h
+  accepted_layers [] base.RwLock a v q g h = never h
   accepted_layers (layer.Pointer ∷ ls) b a v q g h = g.pointer (compatible_pointers (pointing (record { layers = ls; base = b })) a h).1
   accepted_layers (layer.Array m ∷ ls) b a v q g h = never h
 
@@ -128,6 +132,7 @@ module _ (p : Program) (home : ℕ → Option ℕ) (f : Function) (structs : ℕ
     layers_change [] base.Mutex x o a v q old at h g e = never e
     layers_change [] base.Cond x o a v q old at h g e = never e
     layers_change [] base.Barrier x o a v q old at h g e = never e
+    layers_change [] base.RwLock x o a v q old at h g e = never e
     layers_change (layer.Pointer ∷ ls) b x o a v q old at h g e =
         let are = both (not (is_void (record { layers = ls; base = b }))) (is_whole a) e in
         pointer_changes ls b x _ a v q old at h g (not_true (is_void (record { layers = ls; base = b })) are.0) are.1

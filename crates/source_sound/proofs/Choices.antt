@@ -53,6 +53,7 @@ module _ (p : Program) (home : ℕ → Option ℕ) (f : Function) (structs : ℕ
   type_value_stands [] base.Mutex e h n k s = (tt, k, s)
   type_value_stands [] base.Cond e h n k s = (tt, k, s)
   type_value_stands [] base.Barrier e h n k s = (tt, k, s)
+  type_value_stands [] base.RwLock e h n k s = (tt, k, s)
   type_value_stands (layer.Pointer ∷ ls) b e h n k s = (h, k, s)
   type_value_stands (layer.Array m ∷ ls) b e h n k s = (formed_or_void structs ls b h.1, k, s)
 
@@ -65,6 +66,7 @@ module _ (p : Program) (home : ℕ → Option ℕ) (f : Function) (structs : ℕ
   place_value [] base.Mutex e h c k s = never c
   place_value [] base.Cond e h c k s = never c
   place_value [] base.Barrier e h c k s = never c
+  place_value [] base.RwLock e h c k s = never c
   place_value (layer.Pointer ∷ ls) b e h c k s = (h, k, s)
   place_value (layer.Array m ∷ ls) b e h c k s = (formed_or_void structs ls b h.1, k, s)
 

@@ -44,6 +44,7 @@ base_known known needs (specifier.PthreadT at) e = (base.Int, refl, tt)
 base_known known needs (specifier.PthreadMutexT at) e = (base.Mutex, refl, tt)
 base_known known needs (specifier.PthreadCondT at) e = (base.Cond, refl, tt)
 base_known known needs (specifier.PthreadBarrierT at) e = (base.Barrier, refl, tt)
+base_known known needs (specifier.PthreadRwlockT at) e = (base.RwLock, refl, tt)
 base_known known needs (specifier.Struct name at) e = by (struct_numbered known name.text) refl (where_nil _ _ _ e)
   where
     by : (o : Option ℕ) → struct_numbered known name.text ≡ o → lacks_struct_by known needs o ≡ false → (b : BaseType) × (option_map base.Struct o ≡ Some b) × IsFileBase (length known.struct_names) b
@@ -59,6 +60,7 @@ complete_specifier known (specifier.PthreadT at) b e v is = ap (is_complete_base
 complete_specifier known (specifier.PthreadMutexT at) b e v is = ap (is_complete_base known) (sym (same_Some base.Mutex b is))
 complete_specifier known (specifier.PthreadCondT at) b e v is = ap (is_complete_base known) (sym (same_Some base.Cond b is))
 complete_specifier known (specifier.PthreadBarrierT at) b e v is = ap (is_complete_base known) (sym (same_Some base.Barrier b is))
+complete_specifier known (specifier.PthreadRwlockT at) b e v is = ap (is_complete_base known) (sym (same_Some base.RwLock b is))
 complete_specifier known (specifier.Struct name at) b e v is = by (struct_numbered known name.text) (where_nil _ _ _ e) is
   where
     below : (b : Bool) → not b ≡ false → b ≡ true
@@ -202,6 +204,7 @@ base_formed known n base.Int h c = tt
 base_formed known n base.Mutex h c = tt
 base_formed known n base.Cond h c = tt
 base_formed known n base.Barrier h c = tt
+base_formed known n base.RwLock h c = tt
 
 pub pointee_formed : (n : ℕ) (b : BaseType) → IsFileBase n b → IsFormedPointee n b
 pointee_formed n base.Void h = tt
@@ -210,6 +213,7 @@ pointee_formed n base.Int h = tt
 pointee_formed n base.Mutex h = tt
 pointee_formed n base.Cond h = tt
 pointee_formed n base.Barrier h = tt
+pointee_formed n base.RwLock h = tt
 
 pub pointers_formed : (n : ℕ) (ls : List Layer) (b : BaseType) → ArePointers ls → IsFileBase n b → IsFormedLayered n (layer.Pointer ∷ ls) b
 pointers_formed n [] b h base_is = pointee_formed n b base_is
@@ -231,6 +235,7 @@ base_within known base.Int c = tt
 base_within known base.Mutex c = tt
 base_within known base.Cond c = tt
 base_within known base.Barrier c = tt
+base_within known base.RwLock c = tt
 
 layers_within : (known : Known) (ls : List Layer) (b : BaseType) → AreDeclarable ls → is_complete_layered known ls b ≡ true → IsWithin (length known.structs) ls b
 layers_within known [] b h c = base_within known b c

@@ -5,7 +5,7 @@ use Rattle.c_text.specs.Texts.{Text}
 use Rattle.c_tree.specs.declared.name.Name.{Name}
 use Rattle.c_tree.specs.declared.ctype.Specifier.{Specifier}
 use Rattle.c_tree.specs.declared.program.Param.{Param}
-use Rattle.c_tree.specs.Tree.{Exp, comma, assign, conditional, binary, prefix, sizeof_exp, sizeof_type, cast, index, member, arrow, post_increment, post_decrement, named, call, number, letter, text, null, paren, Exps, no_exp, and_exp, Declared, Init, value, braces, mutex_start, cond_start, Inits, no_init, and_init, Object, plain, initialised, Declares, declares, Start, start_declares, start_computes, Statement, block, compute, break_at, continue_at, gives, branch, branch_else, while_loop, do_loop, for_loop, Parts, no_part, and_declares, and_does, Code, defined, prototype, Fields, fields}
+use Rattle.c_tree.specs.Tree.{Exp, comma, assign, conditional, binary, prefix, sizeof_exp, sizeof_type, cast, index, member, arrow, post_increment, post_decrement, named, call, number, letter, text, null, paren, Exps, no_exp, and_exp, Declared, Init, value, braces, mutex_start, cond_start, rwlock_start, Inits, no_init, and_init, Object, plain, initialised, Declares, declares, Start, start_declares, start_computes, Statement, block, compute, break_at, continue_at, gives, branch, branch_else, while_loop, do_loop, for_loop, Parts, no_part, and_declares, and_does, Code, defined, prototype, Fields, fields}
 use Rattle.rr_base.specs.declared.position.Position.{Position}
 use Rattle.c_types.specs.Scopes.{Known, type_named, opened}
 use Rattle.c_types.specs.Standing.{Target, no_target, assigned_target, cast_target, standing}
@@ -96,6 +96,7 @@ mutual
   initial_others known w (braces is trailing at) = initials_others known is
   initial_others known w (mutex_start at) = tt
   initial_others known w (cond_start at) = tt
+  initial_others known w (rwlock_start at) = tt
 
   initials_others : (known : Known) (is : Inits) → AreOthers (initials_allocations known is)
   initials_others known no_init = tt

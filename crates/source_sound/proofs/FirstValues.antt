@@ -4,7 +4,7 @@ use Rattle.rr_base.specs.declared.layout.CellKind.{CellKind}
 use Rattle.rr_base.specs.declared.layout.CellKind.TheVariants as cell
 use Rattle.c_text.specs.Texts.{Text}
 use Rattle.c_tree.specs.declared.ctype.Specifier.{Specifier}
-use Rattle.c_tree.specs.Tree.{Exp, Init, value, braces, mutex_start, cond_start, Inits, no_init, and_init, Object, plain, initialised, Declares, declares}
+use Rattle.c_tree.specs.Tree.{Exp, Init, value, braces, mutex_start, cond_start, rwlock_start, Inits, no_init, and_init, Object, plain, initialised, Declares, declares}
 use Rattle.rr_base.specs.declared.position.Position.{Position}
 use Rattle.c_types.specs.declared.types.BaseType.{BaseType}
 use Rattle.c_types.specs.declared.types.BaseType.TheVariants as base
@@ -50,6 +50,7 @@ first_layered known [] (base.Struct k) is = absurd is
 first_layered known [] base.Mutex is = absurd is
 first_layered known [] base.Cond is = absurd is
 first_layered known [] base.Barrier is = absurd is
+first_layered known [] base.RwLock is = absurd is
 first_layered known (layer.Pointer ∷ ls) b is = refl
 first_layered known (layer.Array n ∷ ls) b is = absurd is
 
@@ -76,6 +77,7 @@ module _ (p : Program) (home : ℕ → Option ℕ) (f : Function) (structs : ℕ
   cell_sound k at offset cell.Mutex lt = tt
   cell_sound k at offset cell.Cond lt = tt
   cell_sound k at offset cell.Barrier lt = tt
+  cell_sound k at offset cell.Rw lt = tt
 
   cleared_sound : (k : ℕ) (at : Position) (offset : ℕ) (cs : List CellKind) → k < length f.objects → AreAllSound (cleared k at offset cs)
   cleared_sound k at offset [] lt = tt
@@ -98,6 +100,7 @@ module _ (p : Program) (home : ℕ → Option ℕ) (f : Function) (structs : ℕ
       started_sound h k at t offset place (braces is trailing end) s lt have none = parts_started_sound h k at t offset 0 offset place is s lt have none
       started_sound h k at t offset place (mutex_start end) s lt have none = tt
       started_sound h k at t offset place (cond_start end) s lt have none = tt
+      started_sound h k at t offset place (rwlock_start end) s lt have none = tt
 
       parts_started_sound : (h : Context) (k : ℕ) (at : Position) (t : Option ObjectType) (begin i offset : ℕ) (place : Position) (is : Inits) → Suits p home f h → k < length f.objects
           → Have p h.frame h.source.sites (initials_addressed h.numbers is) (initials_allocations h.known is) → inits_faults h.known false t i place is ≡ [] → AreAllSound (parts_started h k at t begin i offset is)
@@ -128,6 +131,7 @@ module _ (p : Program) (home : ℕ → Option ℕ) (f : Function) (structs : ℕ
       first_sound h t w at place (braces is trailing end) s formed scalar have none = braces_sound h t at place is s scalar have none
       first_sound h t w at place (mutex_start end) s formed scalar have none = zero_sound (is_pointing (type_operand t)) at
       first_sound h t w at place (cond_start end) s formed scalar have none = zero_sound (is_pointing (type_operand t)) at
+      first_sound h t w at place (rwlock_start end) s formed scalar have none = zero_sound (is_pointing (type_operand t)) at
 
       braces_sound : (h : Context) (t : ObjectType) (at : Position) (place : Position) (is : Inits) → Suits p home f h → IsScalar t → Have p h.frame h.source.sites (initials_addressed h.numbers is) (initials_allocations h.known is)
           → inits_faults h.known false (Some t) 0 place is ≡ [] → IsWord (is_pointing (type_operand t)) (first_of_braces h (is_pointing (type_operand t)) at is)
@@ -150,6 +154,7 @@ module _ (p : Program) (home : ℕ → Option ℕ) (f : Function) (structs : ℕ
     object_begun_sound h k t at place (braces is trailing end) s formed lt have none = parts_started_sound h k at (Some t) 0 0 0 place is s lt have none
     object_begun_sound h k t at place (mutex_start end) s formed lt have none = tt
     object_begun_sound h k t at place (cond_start end) s formed lt have none = tt
+    object_begun_sound h k t at place (rwlock_start end) s formed lt have none = tt
 
     begun_sound : (h : Context) (x : Home) (t : ObjectType) (at : Position) (place : Position) (i : Init) (s : Suits p home f h) → IsFormed s.structs t → HomeSuits p home f structs x t
         → Have p h.frame h.source.sites (initial_addressed h.numbers i) (initial_allocations h.known (value_target (Some t)) i) → start_faults h.known false (Some t) place i ≡ [] → AreAllSound (begun h (Some x) (Some t) i at)

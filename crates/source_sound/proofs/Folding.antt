@@ -114,6 +114,7 @@ int_base known (specifier.PthreadT at) h = refl
 int_base known (specifier.PthreadMutexT at) h = never h
 int_base known (specifier.PthreadCondT at) h = never h
 int_base known (specifier.PthreadBarrierT at) h = never h
+int_base known (specifier.PthreadRwlockT at) h = never h
 
 int_named : (known : Known) (t : CType) → is_int t ≡ true → type_named known t ≡ Some int_type
 int_named known t h =

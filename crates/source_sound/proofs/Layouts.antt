@@ -3,7 +3,7 @@ use Rattle.std.proofs.Common.{◌≡◌, ℕ, ◌+◌, ◌≤◌, Bool, true, fa
 use Rattle.rr_base.specs.declared.layout.CellKind.{CellKind}
 use Rattle.abstract_machine.specs.Layouts.{layout_fits}
 use Rattle.c_text.specs.Texts.{Text}
-use Rattle.c_tree.specs.Tree.{Exp, comma, assign, conditional, binary, prefix, sizeof_exp, sizeof_type, cast, index, member, arrow, post_increment, post_decrement, named, call, number, letter, text, null, paren, Exps, no_exp, and_exp, Init, value, braces, mutex_start, cond_start, Inits, no_init, and_init}
+use Rattle.c_tree.specs.Tree.{Exp, comma, assign, conditional, binary, prefix, sizeof_exp, sizeof_type, cast, index, member, arrow, post_increment, post_decrement, named, call, number, letter, text, null, paren, Exps, no_exp, and_exp, Init, value, braces, mutex_start, cond_start, rwlock_start, Inits, no_init, and_init}
 use Rattle.rr_base.specs.declared.position.Position.{Position}
 use Rattle.c_types.specs.declared.types.BaseType.{BaseType}
 use Rattle.c_types.specs.declared.types.Layer.{Layer}
@@ -88,6 +88,11 @@ module _ (ks : List (List CellKind)) (n : ℕ) (small : AreSmall ks) (size : len
   library_laid (Some library.BarrierInit) name w is_format format many at target h = tt
   library_laid (Some library.BarrierWait) name w is_format format many at target h = tt
   library_laid (Some library.BarrierDestroy) name w is_format format many at target h = tt
+  library_laid (Some library.RwInit) name w is_format format many at target h = tt
+  library_laid (Some library.RwRdLock) name w is_format format many at target h = tt
+  library_laid (Some library.RwWrLock) name w is_format format many at target h = tt
+  library_laid (Some library.RwUnlock) name w is_format format many at target h = tt
+  library_laid (Some library.RwDestroy) name w is_format format many at target h = tt
   library_laid (Some library.Free) name w is_format format many at target h = tt
   library_laid (Some library.GetChar) name w is_format format many at target h = tt
   library_laid (Some library.PrintFormat) name w is_format format many at target h = tt
@@ -225,6 +230,7 @@ module _ (ks : List (List CellKind)) (n : ℕ) (small : AreSmall ks) (size : len
       initial_laid is_global w target t at (braces is trailing here') h = initials_laid is_global t 0 at is h
       initial_laid is_global w target t at (mutex_start here') h = tt
       initial_laid is_global w target t at (cond_start here') h = tt
+      initial_laid is_global w target t at (rwlock_start here') h = tt
 
       initials_laid : (is_global : Bool) (t : Option ObjectType) (k : ℕ) (at : Position) (is : Inits) → inits_faults known is_global t k at is ≡ [] → Laid (initials_allocations known is)
       initials_laid is_global t k at no_init h = tt

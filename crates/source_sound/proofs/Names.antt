@@ -54,6 +54,7 @@ module _ (known : Known) (structs : ℕ) (names : (name : Text) (k : ℕ) → st
   base_known needs (specifier.PthreadMutexT at) h = (base.Mutex, refl, tt)
   base_known needs (specifier.PthreadCondT at) h = (base.Cond, refl, tt)
   base_known needs (specifier.PthreadBarrierT at) h = (base.Barrier, refl, tt)
+  base_known needs (specifier.PthreadRwlockT at) h = (base.RwLock, refl, tt)
 
   stars_formed : (n : ℕ) (b : BaseType) → IsFormedPointee structs b → IsFormedLayered structs (layer.Pointer ∷ replicate n layer.Pointer) b
   stars_formed zero b h = h
@@ -79,6 +80,7 @@ sized_by known zero (specifier.PthreadT at) v h = refl
 sized_by known zero (specifier.PthreadMutexT at) v h = refl
 sized_by known zero (specifier.PthreadCondT at) v h = refl
 sized_by known zero (specifier.PthreadBarrierT at) v h = refl
+sized_by known zero (specifier.PthreadRwlockT at) v h = refl
 sized_by known (suc n) (specifier.Int at) v h = refl
 sized_by known (suc n) (specifier.Long second int at) v h = refl
 sized_by known (suc n) (specifier.Void at) v h = refl
@@ -91,6 +93,7 @@ sized_by known (suc n) (specifier.PthreadT at) v h = refl
 sized_by known (suc n) (specifier.PthreadMutexT at) v h = refl
 sized_by known (suc n) (specifier.PthreadCondT at) v h = refl
 sized_by known (suc n) (specifier.PthreadBarrierT at) v h = refl
+sized_by known (suc n) (specifier.PthreadRwlockT at) v h = refl
 
 pub sized_type : (known : Known) (t : CType) (at : Position) → sizeof_type_faults known t at ≡ [] → sizeof_type_standing known (type_named known t) ≡ int_value
 sized_type known t at h =

@@ -51,6 +51,7 @@ no_struct_given n [] (base.Struct k) h = absurd h
 no_struct_given n [] base.Mutex h = refl
 no_struct_given n [] base.Cond h = refl
 no_struct_given n [] base.Barrier h = refl
+no_struct_given n [] base.RwLock h = refl
 no_struct_given n (l ∷ ls) b h = refl
 
 scalar_struct : (ls : List Layer) (b : BaseType) → is_scalar (layered_operand ls b) ≡ true → layered_struct ls b ≡ None
@@ -60,6 +61,7 @@ scalar_struct [] (base.Struct k) h = never h
 scalar_struct [] base.Mutex h = refl
 scalar_struct [] base.Cond h = refl
 scalar_struct [] base.Barrier h = refl
+scalar_struct [] base.RwLock h = refl
 scalar_struct (l ∷ ls) b h = refl
 
 lacks_none : (a : Operand) (k : Option ℕ) → is_typed a ≡ true → lacks_struct a k ≡ false → is_none k ≡ false

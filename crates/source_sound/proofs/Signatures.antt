@@ -62,6 +62,7 @@ base_same k m e (specifier.PthreadT at) = refl
 base_same k m e (specifier.PthreadMutexT at) = refl
 base_same k m e (specifier.PthreadCondT at) = refl
 base_same k m e (specifier.PthreadBarrierT at) = refl
+base_same k m e (specifier.PthreadRwlockT at) = refl
 
 pub param_names : (known : Known) (p : Param) → (after_param known p).struct_names ≡ known.struct_names
 param_names known p = elim p.name as (λ o. (after_param known (record p { name = o })).struct_names ≡ known.struct_names) [ None ↦ refl | Some name ↦ refl ]
@@ -99,6 +100,7 @@ starred_formed n zero base.Void h plain = tt
 starred_formed n zero base.Mutex h plain = tt
 starred_formed n zero base.Cond h plain = tt
 starred_formed n zero base.Barrier h plain = tt
+starred_formed n zero base.RwLock h plain = tt
 starred_formed n (suc stars) b h plain = pointers_formed n (replicate stars layer.Pointer) b (only_pointers stars) h
 
 struct_specifier : (known : Known) (s : Specifier) (b : BaseType) → base_of known s ≡ Some b → is_struct_specifier s ≡ false → is_struct_base b ≡ false
@@ -110,6 +112,7 @@ struct_specifier known (specifier.PthreadT at) b e h = ap is_struct_base (sym (s
 struct_specifier known (specifier.PthreadMutexT at) b e h = ap is_struct_base (sym (same_Some base.Mutex b e))
 struct_specifier known (specifier.PthreadCondT at) b e h = ap is_struct_base (sym (same_Some base.Cond b e))
 struct_specifier known (specifier.PthreadBarrierT at) b e h = ap is_struct_base (sym (same_Some base.Barrier b e))
+struct_specifier known (specifier.PthreadRwlockT at) b e h = ap is_struct_base (sym (same_Some base.RwLock b e))
 
 pub result_known : (known : Known) (s : Specifier) (stars : ℕ) → specifier_faults known (stars == 0) s ≡ [] → cannot_give s stars ≡ false → IsSomeResult (length known.struct_names) (result_of known s stars)
 result_known known s stars h give =

@@ -27,6 +27,7 @@ typed_layers [] (base.Struct k) = refl
 typed_layers [] base.Mutex = refl
 typed_layers [] base.Cond = refl
 typed_layers [] base.Barrier = refl
+typed_layers [] base.RwLock = refl
 typed_layers (layer.Pointer ∷ ls) b = refl
 typed_layers (layer.Array n ∷ ls) b = refl
 
@@ -38,6 +39,7 @@ pointer_layers [] (base.Struct k) = refl
 pointer_layers [] base.Mutex = refl
 pointer_layers [] base.Cond = refl
 pointer_layers [] base.Barrier = refl
+pointer_layers [] base.RwLock = refl
 pointer_layers (layer.Pointer ∷ ls) b = refl
 pointer_layers (layer.Array n ∷ ls) b = refl
 
@@ -48,6 +50,7 @@ address_layers [] (base.Struct k) = refl
 address_layers [] base.Mutex = refl
 address_layers [] base.Cond = refl
 address_layers [] base.Barrier = refl
+address_layers [] base.RwLock = refl
 address_layers (layer.Pointer ∷ ls) b = refl
 address_layers (layer.Array n ∷ ls) b = refl
 
@@ -60,6 +63,7 @@ formed_base_pointee n (base.Struct k) h = h
 formed_base_pointee n base.Mutex h = h
 formed_base_pointee n base.Cond h = h
 formed_base_pointee n base.Barrier h = h
+formed_base_pointee n base.RwLock h = h
 
 pub formed_or_void : (n : ℕ) (ls : List Layer) (b : BaseType) → IsFormedLayered n ls b → IsFormedLayered n (layer.Pointer ∷ ls) b
 formed_or_void n [] b h = formed_base_pointee n b h
@@ -74,6 +78,7 @@ formed_pointee n [] (base.Struct k) h v = h
 formed_pointee n [] base.Mutex h v = h
 formed_pointee n [] base.Cond h v = h
 formed_pointee n [] base.Barrier h v = h
+formed_pointee n [] base.RwLock h v = h
 formed_pointee n (layer.Pointer ∷ ls) b h v = h
 formed_pointee n (layer.Array m ∷ ls) b h v = h
 
@@ -91,6 +96,7 @@ formed_place_operand n [] (base.Struct k) h = tt
 formed_place_operand n [] base.Mutex h = tt
 formed_place_operand n [] base.Cond h = tt
 formed_place_operand n [] base.Barrier h = tt
+formed_place_operand n [] base.RwLock h = tt
 formed_place_operand n (layer.Pointer ∷ ls) b h = h
 formed_place_operand n (layer.Array m ∷ ls) b h = formed_or_void n ls b h.1
 
@@ -101,6 +107,7 @@ formed_value_operand n [] (base.Struct k) h = tt
 formed_value_operand n [] base.Mutex h = tt
 formed_value_operand n [] base.Cond h = tt
 formed_value_operand n [] base.Barrier h = tt
+formed_value_operand n [] base.RwLock h = tt
 formed_value_operand n (layer.Pointer ∷ ls) b h = h
 formed_value_operand n (layer.Array m ∷ ls) b h = absurd h
 

@@ -35,6 +35,7 @@ within_base m n le base.Int h = tt
 within_base m n le base.Mutex h = tt
 within_base m n le base.Cond h = tt
 within_base m n le base.Barrier h = tt
+within_base m n le base.RwLock h = tt
 
 pub within_more : (m n : ℕ) → m ≤ n → (ls : List Layer) (b : BaseType) → IsWithin m ls b → IsWithin n ls b
 within_more m n le [] b h = within_base m n le b h
@@ -59,6 +60,7 @@ base_sized ks (base.Struct k) = size_got ks k
 base_sized ks base.Mutex = refl
 base_sized ks base.Cond = refl
 base_sized ks base.Barrier = refl
+base_sized ks base.RwLock = refl
 
 pub layers_sized : (ks : List (List CellKind)) (ls : List Layer) (b : BaseType) → layered_size (map (λ x. length x) ks) ls b ≡ length (layered_kinds ks ls b)
 layers_sized ks [] b = base_sized ks b
@@ -79,6 +81,7 @@ base_before ks more (base.Struct k) h = ap (λ o. unwrap_or o []) (got_before ks
 base_before ks more base.Mutex h = refl
 base_before ks more base.Cond h = refl
 base_before ks more base.Barrier h = refl
+base_before ks more base.RwLock h = refl
 
 pub kinds_before : (ks more : List (List CellKind)) (ls : List Layer) (b : BaseType) → IsWithin (length ks) ls b → layered_kinds (ks ++ more) ls b ≡ layered_kinds ks ls b
 kinds_before ks more [] b h = base_before ks more b h
@@ -108,6 +111,7 @@ small_base ks base.Int small h = (omega arith, omega arith)
 small_base ks base.Mutex small h = (omega arith, omega arith)
 small_base ks base.Cond small h = (omega arith, omega arith)
 small_base ks base.Barrier small h = (omega arith, omega arith)
+small_base ks base.RwLock small h = (omega arith, omega arith)
 
 -- so many elements, each of so many cells
 pub record AreElements (cells element : ℕ) : Type 0 where

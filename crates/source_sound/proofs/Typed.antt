@@ -108,6 +108,7 @@ base_pointee known n le (specifier.PthreadT at) b e = let is : base.Int ≡ b = 
 base_pointee known n le (specifier.PthreadMutexT at) b e = let is : base.Mutex ≡ b = cc in subst (IsFormedPointee n) is tt
 base_pointee known n le (specifier.PthreadCondT at) b e = let is : base.Cond ≡ b = cc in subst (IsFormedPointee n) is tt
 base_pointee known n le (specifier.PthreadBarrierT at) b e = let is : base.Barrier ≡ b = cc in subst (IsFormedPointee n) is tt
+base_pointee known n le (specifier.PthreadRwlockT at) b e = let is : base.RwLock ≡ b = cc in subst (IsFormedPointee n) is tt
 
 pointed_formed : (n k : ℕ) (b : BaseType) → IsFormedPointee n b → IsFormedLayered n (replicate (suc k) layer.Pointer) b
 pointed_formed n zero b ok = ok
@@ -120,6 +121,7 @@ complete_formed known n (base.Struct k) ok e = ok
 complete_formed known n base.Mutex ok e = tt
 complete_formed known n base.Cond ok e = tt
 complete_formed known n base.Barrier ok e = tt
+complete_formed known n base.RwLock ok e = tt
 
 layers_formed : (known : Known) (n : ℕ) (arrays : List Layer) (stars : ℕ) (b : BaseType) → AreLong arrays → IsFormedPointee n b
     → is_complete_layered known (arrays ++ replicate stars layer.Pointer) b ≡ true → IsFormedLayered n (arrays ++ replicate stars layer.Pointer) b
@@ -195,6 +197,7 @@ based known needs (specifier.PthreadT at) e v = (base.Int, refl, λ is. refl)
 based known needs (specifier.PthreadMutexT at) e v = (base.Mutex, refl, λ is. refl)
 based known needs (specifier.PthreadCondT at) e v = (base.Cond, refl, λ is. refl)
 based known needs (specifier.PthreadBarrierT at) e v = (base.Barrier, refl, λ is. refl)
+based known needs (specifier.PthreadRwlockT at) e v = (base.RwLock, refl, λ is. refl)
 
 layers_complete : (known : Known) (arrays : List Layer) (stars : ℕ) (b : BaseType) → AreLong arrays → ((stars == 0) ≡ true → is_complete_base known b ≡ true)
     → is_complete_layered known (arrays ++ replicate stars layer.Pointer) b ≡ true
@@ -234,6 +237,7 @@ scalar_layered [] (base.Struct k) is = absurd is
 scalar_layered [] base.Mutex is = absurd is
 scalar_layered [] base.Cond is = absurd is
 scalar_layered [] base.Barrier is = absurd is
+scalar_layered [] base.RwLock is = absurd is
 scalar_layered (layer.Pointer ∷ ls) b is = refl
 scalar_layered (layer.Array n ∷ ls) b is = absurd is
 
@@ -257,6 +261,7 @@ scalar_base known (specifier.PthreadT at) b k e c = let is : base.Int ≡ b = cc
 scalar_base known (specifier.PthreadMutexT at) b k e c = let no : ⊥ = cc in absurd no
 scalar_base known (specifier.PthreadCondT at) b k e c = let no : ⊥ = cc in absurd no
 scalar_base known (specifier.PthreadBarrierT at) b k e c = let no : ⊥ = cc in absurd no
+scalar_base known (specifier.PthreadRwlockT at) b k e c = let no : ⊥ = cc in absurd no
 
 bare_tells : (known : Known) (s : Specifier) (stars : ℕ) (o : Option BaseType) (t : ObjectType) → base_of known s ≡ o → ((stars == 0) && is_kept_specifier s) ≡ false
     → complete_by known (type_by o stars (Some [])) ≡ Some t → StarsTell stars t
@@ -279,6 +284,7 @@ target_base n (base.Struct k) ok = ok
 target_base n base.Mutex ok = tt
 target_base n base.Cond ok = tt
 target_base n base.Barrier ok = tt
+target_base n base.RwLock ok = tt
 
 target_layered : (n : ℕ) (ls : List Layer) (b : BaseType) → IsFormedLayered n ls b → IsFormedTarget n (layered_target ls b)
 target_layered n [] b ok = tt
@@ -302,6 +308,7 @@ passed_formed known n le (specifier.PthreadT at) zero b can e = let is : base.In
 passed_formed known n le (specifier.PthreadMutexT at) zero b can e = let is : base.Mutex ≡ b = cc in subst (IsFormedBase n) is tt
 passed_formed known n le (specifier.PthreadCondT at) zero b can e = let is : base.Cond ≡ b = cc in subst (IsFormedBase n) is tt
 passed_formed known n le (specifier.PthreadBarrierT at) zero b can e = let is : base.Barrier ≡ b = cc in subst (IsFormedBase n) is tt
+passed_formed known n le (specifier.PthreadRwlockT at) zero b can e = let is : base.RwLock ≡ b = cc in subst (IsFormedBase n) is tt
 
 base_tells : (b : BaseType) → false ≡ is_pointing (type_operand (starred 0 b))
 base_tells base.Int = refl
@@ -310,6 +317,7 @@ base_tells (base.Struct k) = refl
 base_tells base.Mutex = refl
 base_tells base.Cond = refl
 base_tells base.Barrier = refl
+base_tells base.RwLock = refl
 
 pub starred_tells : (stars : ℕ) (b : BaseType) → nat_lt 0 stars ≡ is_pointing (type_operand (starred stars b))
 starred_tells zero b = base_tells b
@@ -337,6 +345,7 @@ param_known known n le q none can =
     passed_no_struct (specifier.PthreadMutexT at) zero b v e = let is : base.Mutex ≡ b = cc in subst (λ x. type_struct (starred 0 x) ≡ None) is refl
     passed_no_struct (specifier.PthreadCondT at) zero b v e = let is : base.Cond ≡ b = cc in subst (λ x. type_struct (starred 0 x) ≡ None) is refl
     passed_no_struct (specifier.PthreadBarrierT at) zero b v e = let is : base.Barrier ≡ b = cc in subst (λ x. type_struct (starred 0 x) ≡ None) is refl
+    passed_no_struct (specifier.PthreadRwlockT at) zero b v e = let is : base.RwLock ≡ b = cc in subst (λ x. type_struct (starred 0 x) ≡ None) is refl
 
     param_based : (s : Specifier) (stars : ℕ) → specifier_faults known (stars == 0) s ≡ [] → cannot_pass s stars ≡ false → (b : BaseType) × (base_of known s ≡ Some b)
     param_based (specifier.Int at) stars e v = (base.Int, refl)
@@ -348,3 +357,4 @@ param_known known n le q none can =
     param_based (specifier.PthreadMutexT at) stars e v = (base.Mutex, refl)
     param_based (specifier.PthreadCondT at) stars e v = (base.Cond, refl)
     param_based (specifier.PthreadBarrierT at) stars e v = (base.Barrier, refl)
+    param_based (specifier.PthreadRwlockT at) stars e v = (base.RwLock, refl)

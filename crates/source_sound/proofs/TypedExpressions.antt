@@ -108,6 +108,7 @@ module _ (n : ℕ) where
   no_void_specifier known (specifier.PthreadMutexT at) b e v = refl
   no_void_specifier known (specifier.PthreadCondT at) b e v = refl
   no_void_specifier known (specifier.PthreadBarrierT at) b e v = refl
+  no_void_specifier known (specifier.PthreadRwlockT at) b e v = refl
 
   complete_starred : (known : Known) (s : Specifier) (stars : ℕ) (b : BaseType) → specifier_faults known (stars == 0) s ≡ [] → base_of known s ≡ Some b → is_void (starred stars b) ≡ false → is_complete known (starred stars b) ≡ true
   complete_starred known s zero b h e v = complete_specifier known s b h (no_void_specifier known s b e v) e
@@ -456,6 +457,11 @@ module _ (n : ℕ) where
   library_good known w library.BarrierInit format es at here' target is fit c f args = plain_given known (wanted_by library.BarrierInit) (given_by library.BarrierInit) es (fit (same_count (count_of es) (length (wanted_by library.BarrierInit)) at c))
   library_good known w library.BarrierWait format es at here' target is fit c f args = plain_given known (wanted_by library.BarrierWait) (given_by library.BarrierWait) es (fit (same_count (count_of es) (length (wanted_by library.BarrierWait)) at c))
   library_good known w library.BarrierDestroy format es at here' target is fit c f args = plain_given known (wanted_by library.BarrierDestroy) (given_by library.BarrierDestroy) es (fit (same_count (count_of es) (length (wanted_by library.BarrierDestroy)) at c))
+  library_good known w library.RwInit format es at here' target is fit c f args = plain_given known (wanted_by library.RwInit) (given_by library.RwInit) es (fit (same_count (count_of es) (length (wanted_by library.RwInit)) at c))
+  library_good known w library.RwRdLock format es at here' target is fit c f args = plain_given known (wanted_by library.RwRdLock) (given_by library.RwRdLock) es (fit (same_count (count_of es) (length (wanted_by library.RwRdLock)) at c))
+  library_good known w library.RwWrLock format es at here' target is fit c f args = plain_given known (wanted_by library.RwWrLock) (given_by library.RwWrLock) es (fit (same_count (count_of es) (length (wanted_by library.RwWrLock)) at c))
+  library_good known w library.RwUnlock format es at here' target is fit c f args = plain_given known (wanted_by library.RwUnlock) (given_by library.RwUnlock) es (fit (same_count (count_of es) (length (wanted_by library.RwUnlock)) at c))
+  library_good known w library.RwDestroy format es at here' target is fit c f args = plain_given known (wanted_by library.RwDestroy) (given_by library.RwDestroy) es (fit (same_count (count_of es) (length (wanted_by library.RwDestroy)) at c))
   library_good known w library.Free format es at here' target is fit c f args = plain_given known (wanted_by library.Free) (given_by library.Free) es (fit (same_count (count_of es) (length (wanted_by library.Free)) at c))
   library_good known w library.GetChar format es at here' target is fit c f args = plain_given known (wanted_by library.GetChar) (given_by library.GetChar) es (fit (same_count (count_of es) (length (wanted_by library.GetChar)) at c))
   library_good known w library.PutChar format es at here' target is fit c f args = plain_given known (wanted_by library.PutChar) (given_by library.PutChar) es (fit (same_count (count_of es) (length (wanted_by library.PutChar)) at c))

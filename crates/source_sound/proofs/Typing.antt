@@ -29,6 +29,7 @@ base_pointee n (base.Struct k) h = h
 base_pointee n base.Mutex h = h
 base_pointee n base.Cond h = h
 base_pointee n base.Barrier h = h
+base_pointee n base.RwLock h = h
 
 pub to_pointee : (n : ℕ) (ls : List Layer) (b : BaseType) → IsFormedLayered n ls b → IsFormedLayered n (layer.Pointer ∷ ls) b
 to_pointee n [] b h = base_pointee n b h
@@ -42,6 +43,7 @@ from_pointee n [] (base.Struct k) h v = h
 from_pointee n [] base.Mutex h v = h
 from_pointee n [] base.Cond h v = h
 from_pointee n [] base.Barrier h v = h
+from_pointee n [] base.RwLock h v = h
 from_pointee n (layer.Pointer ∷ ls) b h v = h
 from_pointee n (layer.Array m ∷ ls) b h v = h
 
@@ -91,6 +93,7 @@ module _ (n : ℕ) where
   base_good base.Mutex = tt
   base_good base.Cond = tt
   base_good base.Barrier = tt
+  base_good base.RwLock = tt
 
   place_operand : (ls : List Layer) (b : BaseType) → IsPlaceType ls b → IsGoodOperand (layered_operand ls b)
   place_operand [] b h = base_good b

@@ -8,7 +8,7 @@ use Rattle.rr_base.specs.declared.layout.CellKind.TheVariants as kind
 use Rattle.c_text.specs.Texts.{Text}
 use Rattle.c_tree.specs.declared.expr.PrefixOp.{PrefixOp}
 use Rattle.c_tree.specs.declared.expr.PrefixOp.TheVariants as prefix_op
-use Rattle.c_tree.specs.Tree.{Exp, comma, assign, conditional, binary, prefix, sizeof_exp, sizeof_type, cast, index, member, arrow, post_increment, post_decrement, named, call, number, letter, text, null, paren, Init, value, braces, mutex_start, cond_start, Inits, no_init, and_init}
+use Rattle.c_tree.specs.Tree.{Exp, comma, assign, conditional, binary, prefix, sizeof_exp, sizeof_type, cast, index, member, arrow, post_increment, post_decrement, named, call, number, letter, text, null, paren, Init, value, braces, mutex_start, cond_start, rwlock_start, Inits, no_init, and_init}
 use Rattle.rr_base.specs.declared.position.Position.{Position}
 use Rattle.c_types.specs.declared.types.BaseType.{BaseType}
 use Rattle.c_types.specs.declared.types.BaseType.TheVariants as base
@@ -42,6 +42,7 @@ module _ (Good : ℕ → Type 0) where
   IsWord kind.Mutex w = Unit {0}
   IsWord kind.Cond w = Unit {0}
   IsWord kind.Barrier w = Unit {0}
+  IsWord kind.Rw w = Unit {0}
 
   -- a word for each cell
   abbrev pub AreWords : List CellKind → List ℕ → Type 0
@@ -62,6 +63,7 @@ module _ (Good : ℕ → Type 0) where
   zero_word kind.Mutex = tt
   zero_word kind.Cond = tt
   zero_word kind.Barrier = tt
+  zero_word kind.Rw = tt
 
   pub zeros : (ks : List CellKind) → AreWords ks (replicate (length ks) 0)
   zeros [] = tt
@@ -191,6 +193,7 @@ module _ (Good : ℕ → Type 0) where
     layers_value [] base.Mutex a e own h g = absurd (true≢false (sym h))
     layers_value [] base.Cond a e own h g = absurd (true≢false (sym h))
     layers_value [] base.Barrier a e own h g = absurd (true≢false (sym h))
+    layers_value [] base.RwLock a e own h g = absurd (true≢false (sym h))
     layers_value (layer.Pointer ∷ ls) b a e own h g = (address_good e (not_nil (is_constant_address known e) _ _ g), tt)
     layers_value (layer.Array m ∷ ls) b a e own h g = absurd (true≢false (sym h))
 
@@ -211,12 +214,14 @@ module _ (Good : ℕ → Type 0) where
         same_bases base.Mutex base.Mutex h = refl
         same_bases base.Cond base.Cond h = refl
         same_bases base.Barrier base.Barrier h = refl
+        same_bases base.RwLock base.RwLock h = refl
         same_bases base.Int _ h = absurd (true≢false (sym h))
         same_bases base.Void _ h = absurd (true≢false (sym h))
         same_bases (base.Struct j) _ h = absurd (true≢false (sym h))
         same_bases base.Mutex _ h = absurd (true≢false (sym h))
         same_bases base.Cond _ h = absurd (true≢false (sym h))
         same_bases base.Barrier _ h = absurd (true≢false (sym h))
+        same_bases base.RwLock _ h = absurd (true≢false (sym h))
     base_start c (l ∷ ls) b h g = absurd (true≢false (sym h))
 
     -- ---- the parts that braces start
@@ -291,6 +296,7 @@ module _ (Good : ℕ → Type 0) where
     has_parts [] base.Mutex h = no_part (typed_by [] base.Mutex) (λ j. refl)
     has_parts [] base.Cond h = no_part (typed_by [] base.Cond) (λ j. refl)
     has_parts [] base.Barrier h = no_part (typed_by [] base.Barrier) (λ j. refl)
+    has_parts [] base.RwLock h = no_part (typed_by [] base.RwLock) (λ j. refl)
     has_parts [] (base.Struct k) h =
         let is = structs k h in
         record {
@@ -324,6 +330,7 @@ module _ (Good : ℕ → Type 0) where
           padded_are (kinds_of_type s.kinds t) (parts_words s known (Some t) 0 is) (subst (λ ks. AreFirst ks (parts_words s known (Some t) 0 is)) (sym parts.cells) first)
       start_good w t at (mutex_start here) h g = base_start base.Mutex t.layers t.base (not_nil (may_be_base base.Mutex (Some t)) _ _ g) (tt, tt)
       start_good w t at (cond_start here) h g = base_start base.Cond t.layers t.base (not_nil (may_be_base base.Cond (Some t)) _ _ g) (tt, tt)
+      start_good w t at (rwlock_start here) h g = base_start base.RwLock t.layers t.base (not_nil (may_be_base base.RwLock (Some t)) _ _ g) (tt, tt)
 
       inits_good : (t : ObjectType) (k : ℕ) (ts : List ObjectType) (at : Position) (is : Inits) → ArePartsFrom t k ts → AllWithin ts → inits_faults known true (Some t) k at is ≡ [] → AreFirst (members_kinds s.kinds ts) (parts_words s known (Some t) k is)
       inits_good t k ts at no_init are within g = tt

@@ -48,6 +48,7 @@ module _ (p : Program) (home : ℕ → Option ℕ) (f : Function) where
   accepted n [] base.Mutex a v q g e = let no : ⊥ = cc in absurd no
   accepted n [] base.Cond a v q g e = let no : ⊥ = cc in absurd no
   accepted n [] base.Barrier a v q g e = let no : ⊥ = cc in absurd no
+  accepted n [] base.RwLock a v q g e = let no : ⊥ = cc in absurd no
   accepted n (layer.Pointer ∷ ls) b a v q g e = (g.pointer (compatible_pointer (record { layers = ls; base = b }) a e), g.pointer_sound)
   accepted n (layer.Array m ∷ ls) b a v q g e = let no : ⊥ = cc in absurd no
 

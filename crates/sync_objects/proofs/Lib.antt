@@ -4,4 +4,6 @@ pub mod Packings
 pub mod Ranges
 pub mod Soundness
 pub mod Starts
+pub mod Readers
 pub mod RowsOf
+pub mod RwRows

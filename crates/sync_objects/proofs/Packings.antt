@@ -1,9 +1,9 @@
 -- Words and packed states: each part of a word is read back.
-use Rattle.std.proofs.Common.{◌≡◌, ℕ, suc, ◌+◌, ◌*◌, ◌/◌, ◌%◌, ◌^◌, ◌<◌, refl, ap, arith, add-one}
+use Rattle.std.proofs.Common.{◌≡◌, ℕ, suc, ◌+◌, ◌*◌, ◌/◌, ◌%◌, ◌^◌, ◌<◌, refl, ap, ◌∙◌, arith, add-one}
 use Rattle.sync_objects.specs.declared.kind.ObjKind.{ObjKind}
 use Rattle.sync_objects.specs.declared.kind.ObjKind.TheVariants as kind
-use Rattle.sync_objects.specs.States.{Free, HeldBy, Epoch, Waits, Idle, Closed, Begun, Ended, Joined, Shut, Started, Counts, Running, Halted, Trapped, Position, Open, StateOf}
-use Rattle.sync_objects.specs.Packing.{packed, unpacked, slot_of, lock_of, barrier_of, threads_of}
+use Rattle.sync_objects.specs.States.{Free, HeldBy, Epoch, Waits, LockState, Shared, Idle, Closed, Begun, Ended, Joined, Shut, Started, Counts, Running, Halted, Trapped, Position, Open, StateOf}
+use Rattle.sync_objects.specs.Packing.{packed, unpacked, slot_of, lock_of, barrier_of, threads_of, rw_of, packed_lock}
 use Rattle.sync_objects.specs.Sound.{IsSoundState}
 use Rattle.sync_objects.specs.Words.{number_of, state_of, word_of}
 
@@ -35,12 +35,24 @@ started_parts f = let e : f + 6 ≡ suc (suc (suc (suc (suc (suc f))))) = omega 
 pub held_parts : (t : ℕ) → lock_of (t + 1) ≡ HeldBy t
 held_parts t = ap lock_of (add-one t)
 
+lock_parts : (s : LockState) → lock_of (packed_lock s) ≡ s
+lock_parts Free = refl
+lock_parts (HeldBy t) = held_parts t
+
+rw_parts : (r : ℕ) (s : LockState) → r < 2 ^ 16 → rw_of (r + 65536 * packed_lock s) ≡ Shared r s
+rw_parts r s h =
+    let e1 : (r + 65536 * packed_lock s) % 65536 ≡ r = omega arith in
+    let e2 : (r + 65536 * packed_lock s) / 65536 ≡ packed_lock s = omega arith in
+    let e3 : lock_of ((r + 65536 * packed_lock s) / 65536) ≡ s = ap lock_of e2 ∙ lock_parts s in
+    cc
+
 -- a sound state is read back from its number
 pub unpacked-packed : (k : ObjKind) (number : ℕ) (s : StateOf k) → IsSoundState k number s → unpacked k (packed k s) ≡ s
 unpacked-packed kind.Mutex number Free h = refl
 unpacked-packed kind.Mutex number (HeldBy t) h = held_parts t
 unpacked-packed kind.Cond number (Epoch e) h = refl
 unpacked-packed kind.Barrier number (Waits c a g) h = barrier_parts c a g (omega arith) (omega arith)
+unpacked-packed kind.Rw number (Shared r w) h = rw_parts r w h.0
 unpacked-packed kind.Weak number Free h = refl
 unpacked-packed kind.Weak number (HeldBy t) h = held_parts t
 unpacked-packed kind.Slot number Idle h = refl
@@ -63,6 +75,8 @@ packed-fits kind.Mutex number Free n h = omega arith
 packed-fits kind.Mutex number (HeldBy t) n h = omega arith
 packed-fits kind.Cond number (Epoch e) n h = omega arith
 packed-fits kind.Barrier number (Waits c a g) n h = omega arith
+packed-fits kind.Rw number (Shared r Free) n h = omega arith
+packed-fits kind.Rw number (Shared r (HeldBy t)) n h = omega arith
 packed-fits kind.Weak number Free n h = omega arith
 packed-fits kind.Weak number (HeldBy t) n h = omega arith
 packed-fits kind.Slot number Idle n h = omega arith

@@ -8,13 +8,14 @@ use Rattle.sync_objects.specs.declared.object.ObjId.TheVariants as object
 use Rattle.sync_objects.specs.declared.operation.Op.{Op}
 use Rattle.sync_objects.specs.declared.operation.Op.TheVariants as op
 use Rattle.sync_objects.specs.Names.{name_of, kind_of, object_kind}
-use Rattle.sync_objects.specs.States.{Free, HeldBy, Epoch, Waits, may_count, is_idle, is_closed, is_begun, is_ended, is_joined, is_started, Idle, Closed, Begun, Ended, Joined, Shut, Started, Counts, is_running, is_halted, is_trapped, Position, Open, StateOf}
+use Rattle.sync_objects.specs.States.{LockState, Free, HeldBy, is_free, is_held_by, Shared, reads, holds, is_unheld, Epoch, Waits, may_count, is_idle, is_closed, is_begun, is_ended, is_joined, is_started, Idle, Closed, Begun, Ended, Joined, Shut, Started, Counts, is_running, is_halted, is_trapped, Position, Open, StateOf}
 use Rattle.sync_objects.specs.Packing.{packed, unpacked, shown}
 use Rattle.sync_objects.specs.Advance.{Advances, after_move, advanced}
 use Rattle.sync_objects.specs.Table.{Move, NoRow, Moves, first_row, rows}
-use Rattle.sync_objects.specs.Sound.{IsSoundState, IsSoundWord, IsInRange}
+use Rattle.sync_objects.specs.Sound.{IsSoundLock, IsSoundRw, IsSoundState, IsSoundWord, IsInRange}
 use Rattle.sync_objects.specs.Start.{start_state, packed_start, start_word}
 use Rattle.sync_objects.specs.Words.{number_of, word_of}
+use Rattle.sync_objects.proofs.Readers.{joins_readers}
 use Rattle.sync_objects.proofs.Packings.{number_of-word_of, state_of-word_of, unpacked-packed, packed-fits}
 
 -- a word made of a sound state is sound
@@ -31,6 +32,7 @@ start_is_sound_state : (o : ObjId) → IsSoundState (object_kind o) 0 (start_sta
 start_is_sound_state (object.Mutex cell) = tt
 start_is_sound_state (object.Cond cell) = omega arith
 start_is_sound_state (object.Barrier cell) = (omega arith, omega arith, omega arith, omega arith)
+start_is_sound_state (object.Rw cell) = (omega arith, tt)
 start_is_sound_state (object.Weak lock stripe) = tt
 start_is_sound_state (object.Slot zero) = tt
 start_is_sound_state (object.Slot (suc k)) = tt
@@ -61,6 +63,20 @@ either_row : (k : ObjKind) (number : ℕ) (b : Bool) (x y : Move (StateOf k)) �
 either_row k number true x y h g = h refl
 either_row k number false x y h g = g refl
 
+-- read-write locks
+
+lessened : (b : Bool) (r k : ℕ) → r < 2 ^ 16 → (if b then r - k else r) < 2 ^ 16
+lessened true r k h = omega arith
+lessened false r k h = h
+
+freed : (b : Bool) (s : LockState) → IsSoundLock s → IsSoundLock (if b then Free else s)
+freed true s h = tt
+freed false s h = h
+
+left_false : (a b : Bool) → (a || b) ≡ false → a ≡ false
+left_false true b e = cc
+left_false false b e = refl
+
 -- each row that fits a sound state leaves a sound one, with one more operation
 pub row_is_sound : (o : Op) (t number : ℕ) (s : StateOf (kind_of (name_of o))) → t < 16 → IsInRange o → IsSoundState (kind_of (name_of o)) number s → SoundMove (kind_of (name_of o)) (number + 1) (first_row (rows o t) s)
 row_is_sound op.Lock t number Free small range h = small
@@ -78,6 +94,19 @@ row_is_sound (op.BarrierInit n) t number (Waits c a g) small range h =
     either_row kind.Barrier (number + 1) (may_count n (Waits c a g)) _ _ (λ e. grind (arith, nat_tests)) (λ _. (h.0, h.1, h.2, omega arith))
 row_is_sound op.Arrive t number (Waits c a g) small range h = grind (arith, nat_tests)
 row_is_sound (op.Pass generation) t number (Waits c a g) small range h = either_row kind.Barrier (number + 1) (not (g == generation)) _ _ (λ _. (h.0, h.1, h.2, omega arith)) (λ _. tt)
+row_is_sound op.RdLock t number (Shared r w) small range h =
+    either_row kind.Rw (number + 1) (holds t (Shared r w)) _ _
+    (λ _. h)
+    (λ e. either_row kind.Rw (number + 1) (is_free w) _ _ (λ _. (joins_readers t r small h.0 (left_false (reads t (Shared r w)) (is_held_by t w) e), h.1)) (λ _. tt))
+row_is_sound op.WrLock t number (Shared r w) small range h =
+    either_row kind.Rw (number + 1) (holds t (Shared r w)) _ _
+    (λ _. h)
+    (λ _. either_row kind.Rw (number + 1) (is_unheld (Shared r w)) _ _ (λ _. (h.0, small)) (λ _. tt))
+row_is_sound op.RwUnlock t number (Shared r w) small range h =
+    either_row kind.Rw (number + 1) (holds t (Shared r w)) _ _
+    (λ _. (lessened (reads t (Shared r w)) r (2 ^ t) h.0, freed (is_held_by t w) w h.1))
+    (λ _. h)
+row_is_sound op.RwInit t number (Shared r w) small range h = either_row kind.Rw (number + 1) (is_unheld (Shared r w)) _ _ (λ _. h) (λ _. h)
 row_is_sound op.Take t number Free small range h = small
 row_is_sound op.Take t number (HeldBy u) small range h = tt
 row_is_sound op.Retake t number Free small range h = small

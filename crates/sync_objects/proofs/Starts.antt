@@ -15,6 +15,10 @@ pub starts-Barrier : (cell : ℕ) → packed_start (object.Barrier cell) ≡ 0
 unfolding packed_start
 starts-Barrier cell = refl
 
+pub starts-Rw : (cell : ℕ) → packed_start (object.Rw cell) ≡ 0
+unfolding packed_start
+starts-Rw cell = refl
+
 pub starts-Weak : (lock stripe : ℕ) → packed_start (object.Weak lock stripe) ≡ 0
 unfolding packed_start
 starts-Weak lock stripe = refl
@@ -44,4 +48,4 @@ pub starts-Output : packed_start object.Output ≡ 0
 unfolding packed_start
 starts-Output = refl
 
-pub ruleset starts = (starts-Mutex, starts-Cond, starts-Barrier, starts-Weak, starts-first_slot, starts-other_slot, starts-Threads, starts-Halt, starts-Input, starts-Output)
+pub ruleset starts = (starts-Mutex, starts-Cond, starts-Barrier, starts-Rw, starts-Weak, starts-first_slot, starts-other_slot, starts-Threads, starts-Halt, starts-Input, starts-Output)

@@ -2,7 +2,7 @@
 use Rattle.std.specs.Prelude.{ℕ, zero, suc, ◌+◌, ◌*◌, ◌/◌, ◌%◌}
 use Rattle.sync_objects.specs.declared.kind.ObjKind.{ObjKind}
 use Rattle.sync_objects.specs.declared.kind.ObjKind.TheVariants as kind
-use Rattle.sync_objects.specs.States.{LockState, Free, HeldBy, CondState, Epoch, BarrierState, Waits, SlotState, Idle, Closed, Begun, Ended, Joined, Shut, Started, ThreadsState, Counts, HaltState, Running, Halted, Trapped, InputState, Position, OutputState, Open, StateOf}
+use Rattle.sync_objects.specs.States.{LockState, Free, HeldBy, CondState, Epoch, BarrierState, Waits, RwState, Shared, SlotState, Idle, Closed, Begun, Ended, Joined, Shut, Started, ThreadsState, Counts, HaltState, Running, Halted, Trapped, InputState, Position, OutputState, Open, StateOf}
 use Rattle.sync_objects.specs.Words.{state_of}
 
 -- 0 when free, else the number of the holding thread and one more
@@ -17,6 +17,10 @@ packed_cond (Epoch epoch) = epoch
 -- 5 bits of count, 5 bits of threads that have come, then the generation
 abbrev pub packed_barrier : BarrierState → ℕ
 packed_barrier (Waits count arrived generation) = count + 32 * arrived + 1024 * generation
+
+-- 16 bits of readers, the lowest that of thread 0, then 0 or one more than the writer
+abbrev pub packed_rw : RwState → ℕ
+packed_rw (Shared readers writer) = readers + 65536 * packed_lock writer
 
 -- 0 to 5 without a function, and from 6 on the started function
 abbrev pub packed_slot : SlotState → ℕ
@@ -51,6 +55,7 @@ abbrev pub packed : (k : ObjKind) → StateOf k → ℕ
 packed kind.Mutex = packed_lock
 packed kind.Cond = packed_cond
 packed kind.Barrier = packed_barrier
+packed kind.Rw = packed_rw
 packed kind.Weak = packed_lock
 packed kind.Slot = packed_slot
 packed kind.Threads = packed_threads
@@ -70,6 +75,10 @@ cond_of n = Epoch n
 -- a count and those that came are each below 32 here
 abbrev pub barrier_of : ℕ → BarrierState
 barrier_of n = Waits (n % 32) (n / 32 % 32) (n / 1024)
+
+-- the low 16 bits are the readers
+abbrev pub rw_of : ℕ → RwState
+rw_of n = Shared (n % 65536) (lock_of (n / 65536))
 
 -- each number from 6 on shows a started function
 abbrev pub slot_of : ℕ → SlotState
@@ -104,6 +113,7 @@ abbrev pub unpacked : (k : ObjKind) → ℕ → StateOf k
 unpacked kind.Mutex = lock_of
 unpacked kind.Cond = cond_of
 unpacked kind.Barrier = barrier_of
+unpacked kind.Rw = rw_of
 unpacked kind.Weak = lock_of
 unpacked kind.Slot = slot_of
 unpacked kind.Threads = threads_of

@@ -4,7 +4,7 @@ use Rattle.sync_objects.specs.declared.kind.ObjKind.{ObjKind}
 use Rattle.sync_objects.specs.declared.kind.ObjKind.TheVariants as kind
 use Rattle.sync_objects.specs.declared.operation.Op.{Op}
 use Rattle.sync_objects.specs.declared.operation.Op.TheVariants as op
-use Rattle.sync_objects.specs.States.{LockState, Free, HeldBy, BarrierState, Waits, SlotState, Started, ThreadsState, Counts, CondState, Epoch, InputState, Position, StateOf}
+use Rattle.sync_objects.specs.States.{LockState, Free, HeldBy, BarrierState, Waits, RwState, Shared, SlotState, Started, ThreadsState, Counts, CondState, Epoch, InputState, Position, StateOf}
 use Rattle.sync_objects.specs.Packing.{packed, shown}
 use Rattle.sync_objects.specs.Words.{number_of, state_of}
 
@@ -21,6 +21,10 @@ IsSoundCond number (Epoch epoch) = epoch ≤ number
 abbrev pub IsSoundBarrier : ℕ → BarrierState → Type 0
 IsSoundBarrier number (Waits count arrived generation) =
     (count ≤ 16) × (arrived < max count 1) × (generation < 2 ^ 22) × (generation ≤ number)
+
+-- who holds it, for reading or for writing, is among the 16 threads
+abbrev pub IsSoundRw : RwState → Type 0
+IsSoundRw (Shared readers writer) = (readers < 2 ^ 16) × IsSoundLock writer
 
 -- a started function has a number below 2^20
 abbrev pub IsSoundSlot : SlotState → Type 0
@@ -40,6 +44,7 @@ abbrev pub IsSoundState : (k : ObjKind) → ℕ → StateOf k → Type 0
 IsSoundState kind.Mutex number s = IsSoundLock s
 IsSoundState kind.Cond number s = IsSoundCond number s
 IsSoundState kind.Barrier number s = IsSoundBarrier number s
+IsSoundState kind.Rw number s = IsSoundRw s
 IsSoundState kind.Weak number s = IsSoundLock s
 IsSoundState kind.Slot number s = IsSoundSlot s
 IsSoundState kind.Threads number s = IsSoundThreads s

@@ -3,7 +3,7 @@ use Rattle.std.specs.Prelude.{ℕ, zero, suc}
 use Rattle.sync_objects.specs.declared.object.ObjId.{ObjId}
 use Rattle.sync_objects.specs.declared.object.ObjId.TheVariants as object
 use Rattle.sync_objects.specs.Names.{object_kind}
-use Rattle.sync_objects.specs.States.{Free, Waits, Idle, Begun, Counts, Running, Epoch, Position, Open, StateOf}
+use Rattle.sync_objects.specs.States.{Free, Waits, Shared, Idle, Begun, Counts, Running, Epoch, Position, Open, StateOf}
 use Rattle.sync_objects.specs.Packing.{packed}
 use Rattle.sync_objects.specs.Words.{word_of}
 
@@ -12,6 +12,7 @@ abbrev pub start_state : (o : ObjId) → StateOf (object_kind o)
 start_state (object.Mutex cell) = Free
 start_state (object.Cond cell) = Epoch 0
 start_state (object.Barrier cell) = Waits 0 0 0
+start_state (object.Rw cell) = Shared 0 Free
 start_state (object.Weak lock stripe) = Free
 start_state (object.Slot zero) = Begun
 start_state (object.Slot (suc k)) = Idle

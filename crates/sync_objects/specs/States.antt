@@ -1,5 +1,5 @@
 -- The states of synchronisation objects, and what the table of operations asks of them and does to them.
-use Rattle.std.specs.Prelude.{ℕ, ◌+◌, ◌-◌, ◌^◌, ◌==◌, ◌&&◌, not, nat_lt, nat_le, Bool, true, false, ℤ, pos}
+use Rattle.std.specs.Prelude.{ℕ, ◌+◌, ◌-◌, ◌/◌, ◌%◌, ◌^◌, ◌==◌, ◌&&◌, ◌||◌, not, nat_lt, nat_le, Bool, true, false, if◌then◌else◌, ℤ, pos}
 use Rattle.sync_objects.specs.declared.kind.ObjKind.{ObjKind}
 use Rattle.sync_objects.specs.declared.kind.ObjKind.TheVariants as kind
 
@@ -73,6 +73,42 @@ generation_differs g (Waits count arrived generation) = not (generation == g)
 -- what a thread that waits is told when it comes
 abbrev pub the_generation : BarrierState → ℤ
 the_generation (Waits count arrived generation) = pos generation
+
+-- a read-write lock: the threads that hold it for reading, thread t as 2 ^ t in a sum, and who holds it for writing
+pub data RwState : Type 0 where
+  Shared : (readers : ℕ) → (writer : LockState) → RwState
+
+-- thread t holds the lock for reading
+abbrev pub reads : ℕ → RwState → Bool
+reads t (Shared readers writer) = readers / 2 ^ t % 2 == 1
+
+-- thread t holds the lock for writing
+abbrev pub writes : ℕ → RwState → Bool
+writes t (Shared readers writer) = is_held_by t writer
+
+-- thread t holds the lock one way or the other
+abbrev pub holds : ℕ → RwState → Bool
+holds t s = reads t s || writes t s
+
+-- nobody holds it for writing, so it can be held for reading
+abbrev pub has_no_writer : RwState → Bool
+has_no_writer (Shared readers writer) = is_free writer
+
+-- nobody holds it, so it can be held for writing
+abbrev pub is_unheld : RwState → Bool
+is_unheld (Shared readers writer) = (readers == 0) && is_free writer
+
+-- thread t holds it for reading as well as those that do
+abbrev pub read_too : ℕ → RwState → RwState
+read_too t (Shared readers writer) = Shared (readers + 2 ^ t) writer
+
+-- thread t holds it for writing
+abbrev pub written_by : ℕ → RwState → RwState
+written_by t (Shared readers writer) = Shared readers (HeldBy t)
+
+-- thread t holds it no more
+abbrev pub let_go_by : ℕ → RwState → RwState
+let_go_by t (Shared readers writer) = Shared (if reads t (Shared readers writer) then readers - 2 ^ t else readers) (if is_held_by t writer then Free else writer)
 
 -- a slot, which is the life of one thread: its function was started or the slot closed, the thread has begun, has
 -- ended, was joined. A shut slot was first closed and then started, so its thread never runs
@@ -194,6 +230,7 @@ abbrev pub StateOf : ObjKind → Type 0
 StateOf kind.Mutex = LockState
 StateOf kind.Cond = CondState
 StateOf kind.Barrier = BarrierState
+StateOf kind.Rw = RwState
 StateOf kind.Weak = LockState
 StateOf kind.Slot = SlotState
 StateOf kind.Threads = ThreadsState

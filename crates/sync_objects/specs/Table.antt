@@ -5,7 +5,7 @@ use Rattle.std.specs.Prelude.{ℕ, ◌&&◌, ◌||◌, Bool, true, if◌then◌e
 use Rattle.sync_objects.specs.declared.operation.Op.{Op}
 use Rattle.sync_objects.specs.declared.operation.Op.TheVariants as op
 use Rattle.sync_objects.specs.Names.{name_of, kind_of}
-use Rattle.sync_objects.specs.States.{Free, HeldBy, is_free, is_held_by, epoch_differs, signalled, the_epoch, may_count, counting, counts_none, is_last_to_come, is_worn_out, all_came, one_more_came, generation_differs, the_generation, Closed, Begun, Ended, Joined, Shut, Started, is_idle, is_closed, is_begun, is_ended, is_joined, is_started, the_function, has_drawn_below, has_drawn, has_live, one_drawn, one_left, the_drawn, Halted, Trapped, is_running, is_halted, is_trapped, has_left, one_read, the_position, StateOf}
+use Rattle.sync_objects.specs.States.{Free, HeldBy, is_free, is_held_by, epoch_differs, signalled, the_epoch, may_count, counting, counts_none, is_last_to_come, is_worn_out, all_came, one_more_came, generation_differs, the_generation, holds, has_no_writer, is_unheld, read_too, written_by, let_go_by, Closed, Begun, Ended, Joined, Shut, Started, is_idle, is_closed, is_begun, is_ended, is_joined, is_started, the_function, has_drawn_below, has_drawn, has_live, one_drawn, one_left, the_drawn, Halted, Trapped, is_running, is_halted, is_trapped, has_left, one_read, the_position, StateOf}
 
 -- a row: the states that it fits, the state after it, and its answer
 pub data Row (S : Type 0) : Type 0 where
@@ -92,6 +92,23 @@ rows op.Arrive t =
     ∷ row any one_more_came the_generation
     ∷ []
 rows (op.Pass generation) t = row (generation_differs generation) same (says done) ∷ []
+-- a read-write lock, which at first nobody holds
+rows op.RdLock t =
+    row (holds t) same (says misuse)
+    ∷ row has_no_writer (read_too t) (says done)
+    ∷ []
+rows op.WrLock t =
+    row (holds t) same (says misuse)
+    ∷ row is_unheld (written_by t) (says done)
+    ∷ []
+rows op.RwUnlock t =
+    row (holds t) (let_go_by t) (says done)
+    ∷ row any same (says misuse)
+    ∷ []
+rows op.RwInit t =
+    row is_unheld same (says done)
+    ∷ row any same (says misuse)
+    ∷ []
 -- a stripe of a weak lock, at first free
 rows op.Take t = row is_free (to (HeldBy t)) (says done) ∷ []
 rows op.Retake t = row is_free (to (HeldBy t)) (says done) ∷ []

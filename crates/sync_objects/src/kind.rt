@@ -4,6 +4,8 @@ pub enum ObjKind {
     Mutex,
     Cond,
     Barrier,
+    /// A read-write lock.
+    Rw,
     Weak,
     Slot,
     Threads,

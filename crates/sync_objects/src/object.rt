@@ -4,15 +4,17 @@ ghost use Rattle.sync_objects.specs.Sound.{IsSoundWord};
 ghost use Rattle.sync_objects.specs.Start.{packed_start, start_word};
 
 use crate::kind::ObjKind;
-use crate::rows::{halt, lock, slot, threads};
+use crate::rows::{halt, lock, rwlock, slot, threads};
 use crate::word::word_of;
 
-/// A synchronisation object. Mutexes, conditions and barriers are named by their cell.
+/// A synchronisation object. Mutexes, conditions, barriers and read-write locks are named by their cell.
 #[derive(Clone, Copy, Debug, PartialEq, Eq, Hash)]
 pub enum ObjId {
     Mutex(u32),
     Cond(u32),
     Barrier(u32),
+    /// A read-write lock.
+    Rw(u32),
     /// A stripe of a weak lock.
     Weak { lock: u16, stripe: u8 },
     /// The life of one thread.
@@ -36,6 +38,7 @@ impl ObjId {
             ObjId::Mutex(_) => ObjKind::Mutex,
             ObjId::Cond(_) => ObjKind::Cond,
             ObjId::Barrier(_) => ObjKind::Barrier,
+            ObjId::Rw(_) => ObjKind::Rw,
             ObjId::Weak { .. } => ObjKind::Weak,
             ObjId::Slot(_) => ObjKind::Slot,
             ObjId::Threads => ObjKind::Threads,
@@ -62,6 +65,7 @@ fn packed_start(obj: ObjId) -> u32
     match obj {
         ObjId::Mutex(_) | ObjId::Weak { .. } => lock::FREE,
         ObjId::Cond(_) | ObjId::Barrier(_) => 0,
+        ObjId::Rw(_) => rwlock::UNHELD,
         ObjId::Slot(slot) => if slot == 0 { slot::BEGUN } else { slot::IDLE },
         ObjId::Threads => threads::START,
         ObjId::Halt => halt::RUNNING,

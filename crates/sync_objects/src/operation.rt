@@ -24,6 +24,13 @@ pub enum Op {
     Arrive,
     /// A thread that came in this generation goes on.
     Pass { generation: u32 },
+    /// A thread holds a read-write lock for reading, maybe beside others.
+    RdLock,
+    /// A thread holds a read-write lock for writing, which no other thread holds.
+    WrLock,
+    /// A thread holds a read-write lock no more.
+    RwUnlock,
+    RwInit,
     /// A thread takes a stripe of a weak lock.
     Take,
     /// A thread takes a stripe again that was taken from it.
@@ -71,6 +78,10 @@ pub enum OpName {
     BarrierInit,
     Arrive,
     Pass,
+    RdLock,
+    WrLock,
+    RwUnlock,
+    RwInit,
     Take,
     Retake,
     Give,
@@ -105,6 +116,10 @@ impl Op {
             Op::BarrierInit { .. } => OpName::BarrierInit,
             Op::Arrive => OpName::Arrive,
             Op::Pass { .. } => OpName::Pass,
+            Op::RdLock => OpName::RdLock,
+            Op::WrLock => OpName::WrLock,
+            Op::RwUnlock => OpName::RwUnlock,
+            Op::RwInit => OpName::RwInit,
             Op::Take => OpName::Take,
             Op::Retake => OpName::Retake,
             Op::Give => OpName::Give,
@@ -134,6 +149,7 @@ impl OpName {
             OpName::Lock | OpName::TryLock | OpName::Unlock | OpName::MutexInit => ObjKind::Mutex,
             OpName::CondEnter | OpName::CondWake | OpName::Signal => ObjKind::Cond,
             OpName::BarrierInit | OpName::Arrive | OpName::Pass => ObjKind::Barrier,
+            OpName::RdLock | OpName::WrLock | OpName::RwUnlock | OpName::RwInit => ObjKind::Rw,
             OpName::Take | OpName::Retake | OpName::Give | OpName::Revoke => ObjKind::Weak,
             OpName::Start | OpName::Begin | OpName::End | OpName::Join | OpName::Close =>
                 ObjKind::Slot,

@@ -8,5 +8,6 @@ pub mod halt;
 pub mod input;
 pub mod lock;
 pub mod moved;
+pub mod rwlock;
 pub mod slot;
 pub mod threads;

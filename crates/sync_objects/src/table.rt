@@ -7,7 +7,7 @@ ghost use Rattle.sync_objects.specs.Words.{number_of, state_of};
 
 use crate::operation::Op;
 use crate::rows::moved::Moved;
-use crate::rows::{barrier, condition, halt, input, lock, slot, threads};
+use crate::rows::{barrier, condition, halt, input, lock, rwlock, slot, threads};
 use crate::word;
 
 /// What the operation by this thread makes of the word of its object, with its answer, or None exactly where the
@@ -30,6 +30,7 @@ pub fn advance(op: Op, thread: u8, word: u64) -> Option<(u64, i64)>
 }
 
 fn moved(op: Op, thread: u8, word: u64) -> Option<Moved>
+    requires thread { thread < 16 }
     requires range { IsInRange op }
     requires number { number_of word < 2 ^ 32 - 1 }
     requires sound { IsSoundWord (kind_of (name_of op)) word }
@@ -47,6 +48,10 @@ fn moved(op: Op, thread: u8, word: u64) -> Option<Moved>
         Op::BarrierInit { count } => Some(barrier::init(count, state)),
         Op::Arrive => Some(barrier::arrive(state)),
         Op::Pass { generation } => barrier::pass(generation, state),
+        Op::RdLock => rwlock::read_lock(thread, state),
+        Op::WrLock => rwlock::write_lock(thread, state),
+        Op::RwUnlock => Some(rwlock::unlock(thread, state)),
+        Op::RwInit => Some(rwlock::init(state)),
         Op::Take | Op::Retake => lock::take(thread, state),
         Op::Give | Op::Revoke => lock::give(thread, state),
         Op::Draw { slots } => threads::draw(slots, state),
@@ -79,6 +84,11 @@ mod tests {
         assert_eq!(rt; again, Some((word_of(2, 4), -2)));
         let tried = advance(Op::TryLock, 2, word_of(1, 4));
         assert_eq!(rt; tried, Some((word_of(2, 4), 16)));
+        // a read-write lock that thread 3 reads: with thread 5, once more by thread 3, and by a writer
+        let both = advance(Op::RdLock, 5, word_of(1, 8));
+        assert_eq!(rt; both, Some((word_of(2, 8 + 32), 0)));
+        assert_eq!(rt; advance(Op::RdLock, 3, word_of(1, 8)), Some((word_of(2, 8), -2)));
+        assert_eq!(rt; advance(Op::WrLock, 5, word_of(1, 8)), None);
         // two slots, two threads drawn, one of them live
         let drawn = advance(Op::Draw { slots: 2 }, 0, word_of(5, 2 + 32));
         assert_eq!(rt; drawn, Some((word_of(6, 2 + 32), 0)));

@@ -1,4 +1,5 @@
-use order_log::{LogFault, is_name, read_log, write_log, write_log_1};
+use order_log::{Log, LogFault, fits_version_1, is_name, read_log, write_log, write_log_1};
+use rr_base::{Bytes, List};
 use std::alloc::{AllocError, Global};
 use std::test::Fail;
 
@@ -10,6 +11,9 @@ const START_2: &[u8] =
 const BANK: &[u8] =
     b"chimera log 1\nslots 8\ncells 16384\nlimit 16777216\nprofile all\ninput 0\n\n0 1 draw T\n0 4 start s1\n0 5 draw T\n0 8 start s2\n1 0 begin s1\n1 3 lock m16\n1 8 unlock m16\n1 10 end s1\n0 10 join s1\n1 11 leave T\n2 0 begin s2\n2 3 lock m16\n2 8 unlock m16\n2 10 end s2\n0 12 join s2\n0 13 lock m16\n0 15 print O\n0 16 unlock m16\n0 17 halt H\n2 11 leave T\n3 0 close s3\n4 0 close s4\n5 0 close s5\n6 0 close s6\n7 0 close s7\n";
 
+const LOCKS: &[u8] =
+    b"0 1 rwinit r4\n1 3 rdlock r4\n1 5 rwunlock r4\n0 5 wrlock r4194303\n";
+
 /// What reading answers: so many entries, or the fault's line.
 #[derive(Clone, Copy, Debug, PartialEq, Eq)]
 enum Answer {
@@ -20,12 +24,16 @@ enum Answer {
 }
 
 // What follows the start of a log, with what reading answers.
-static RESTS: [(&[u8], Answer); 45] = [
+static RESTS: [(&[u8], Answer); 46] = [
     (
         b"profile all\ninput 0\n\n0 1 halt H\n1 0 close s1\n",
         Answer::Read(2),
     ),
     (b"profile all\ninput 0\n\n0 01 halt H\n", Answer::Syntax(8)),
+    (
+        b"profile all\ninput 0\n\n1 3 rdlock r4\n",
+        Answer::Syntax(8),
+    ),
     (b"profile all\ninput 0\n\n00 1 halt H\n", Answer::Syntax(8)),
     (b"profile all\ninput 0\n\n8 0 close s7\n", Answer::Limit(8)),
     (b"profile all\ninput 0\n\n0 0 close s8\n", Answer::Limit(8)),
@@ -149,7 +157,7 @@ static HEADS: [(&[u8], Answer); 13] = [
 ];
 
 // Entries of a log of version 2, of which the first stands in line 8, with what reading answers.
-static LINES: [(&[u8], Answer); 22] = [
+static LINES: [(&[u8], Answer); 26] = [
     (b"1 3 take w0.0-3\n1 12 give w0.0-3\n", Answer::Read(8)),
     (b"1 3 take w0.0\n1 3 take w0.1\n", Answer::Syntax(9)),
     (b"1 3 take w0.0-1\n1 3 take w0.2-3\n", Answer::Syntax(9)),
@@ -180,6 +188,11 @@ static LINES: [(&[u8], Answer); 22] = [
     (b"1 3 retake w0.0-1\n", Answer::Syntax(8)),
     (b"1 3 revoke w0.0-1\n", Answer::Syntax(8)),
     (b"1 3 lock m0-1\n", Answer::Syntax(8)),
+    // read-write locks
+    (LOCKS, Answer::Read(4)),
+    (b"1 3 rdlock r4194304\n", Answer::Limit(8)),
+    (b"1 3 rdlock m4\n", Answer::Syntax(8)),
+    (b"1 3 lock r4\n", Answer::Syntax(8)),
 ];
 
 fn answer_to(alloc: Global, bytes: &[u8]) -> Answer {
@@ -248,7 +261,16 @@ fn answers_each_prefix(rt: HostRuntime) -> Result<(), Fail> {
     Ok(())
 }
 
-/// A text of every operation is written as it was read.
+// Nothing where version 1 can't say the log.
+fn in_version_1(alloc: Global, log: &Log) -> Result<Bytes, AllocError> {
+    if fits_version_1(log) {
+        write_log_1(alloc, log)
+    } else {
+        Ok(List::new(alloc))
+    }
+}
+
+/// A text of every operation but those of read-write locks is written as it was read.
 #[test]
 fn writes_what_it_reads(rt: HostRuntime) -> Result<(), Fail> {
     let text = past_start(
@@ -261,7 +283,7 @@ fn writes_what_it_reads(rt: HostRuntime) -> Result<(), Fail> {
         log.setup().input().as_slice(),
         b"\x00\x09\x6a\xff\xe0".as_slice()
     );
-    assert_eq!(rt; write_log_1(rt.alloc(), &log)?.as_slice(), text.as_slice());
+    assert_eq!(rt; in_version_1(rt.alloc(), &log)?.as_slice(), text.as_slice());
     Ok(())
 }
 
@@ -279,8 +301,18 @@ fn writes_both_versions(rt: HostRuntime) -> Result<(), Fail> {
     for text in [&apart, &shared] {
         let log = read_log(rt.alloc(), text.as_slice())?;
         assert_eq!(rt; write_log(rt.alloc(), &log)?.as_slice(), shared.as_slice());
-        assert_eq!(rt; write_log_1(rt.alloc(), &log)?.as_slice(), apart.as_slice());
+        assert_eq!(rt; in_version_1(rt.alloc(), &log)?.as_slice(), apart.as_slice());
     }
+    Ok(())
+}
+
+/// Read-write locks have words in version 2 alone.
+#[test]
+fn writes_read_write_locks(rt: HostRuntime) -> Result<(), Fail> {
+    let text = joined(rt.alloc(), START_2, LOCKS)?;
+    let log = read_log(rt.alloc(), text.as_slice())?;
+    assert!(rt; !fits_version_1(&log));
+    assert_eq!(rt; write_log(rt.alloc(), &log)?.as_slice(), text.as_slice());
     Ok(())
 }
 

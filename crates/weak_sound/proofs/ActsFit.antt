@@ -93,6 +93,11 @@ module _ (fn : Function) (is : List Instr) (ls : List LoopInfo) (rs : List Regio
   library_value_same into call.BarrierInit = value_same into false
   library_value_same into call.BarrierWait = value_same into false
   library_value_same into call.BarrierDestroy = value_same into false
+  library_value_same into call.RwInit = value_same into false
+  library_value_same into call.RwRdLock = value_same into false
+  library_value_same into call.RwWrLock = value_same into false
+  library_value_same into call.RwUnlock = value_same into false
+  library_value_same into call.RwDestroy = value_same into false
   library_value_same into call.Free = refl
   library_value_same into call.GetChar = value_same into false
   library_value_same into (call.Print format) = value_same into false
@@ -119,6 +124,11 @@ module _ (fn : Function) (is : List Instr) (ls : List LoopInfo) (rs : List Regio
     starts_same call.BarrierInit = refl
     starts_same call.BarrierWait = refl
     starts_same call.BarrierDestroy = refl
+    starts_same call.RwInit = refl
+    starts_same call.RwRdLock = refl
+    starts_same call.RwWrLock = refl
+    starts_same call.RwUnlock = refl
+    starts_same call.RwDestroy = refl
     starts_same call.Free = refl
     starts_same call.GetChar = refl
     starts_same (call.Print format) = refl

@@ -10,7 +10,7 @@ use Rattle.sync_objects.specs.declared.object.ObjId.TheVariants as object
 use Rattle.sync_objects.specs.declared.operation.Op.{Op}
 use Rattle.sync_objects.specs.declared.operation.Op.TheVariants as op
 use Rattle.abstract_machine.specs.Cells.{result_cell, size_of, access_kind, is_size, cells_in}
-use Rattle.abstract_machine.specs.Library.{Caller, argument, slot_in, count_in, is_misuse, is_serial, is_joinable, join_thread_due, at_cell, cell_of, create_due, join_due, exit_due, mutex_due, wait_due_at, print_due, most_printed, printed_piece, library_due}
+use Rattle.abstract_machine.specs.Library.{Caller, argument, slot_in, count_in, is_misuse, is_serial, is_joinable, join_thread_due, at_cell, cell_of, create_due, join_due, exit_due, mutex_due, rwlock_due, wait_due_at, print_due, most_printed, printed_piece, library_due}
 use Rattle.abstract_machine.specs.Limits.{most_frames}
 use Rattle.abstract_machine.specs.Pointers.{resolved}
 use Rattle.abstract_machine.specs.Registers.{register, words_of}
@@ -130,6 +130,10 @@ module _ (code : Code) (s : SetupView) (t : ℕ) (th : Thread) (f : ℕ) (obj : 
   mutex_starts_none w o ws zero kept ne h = no_start_at (cell_of w ws 0 kind.Mutex) (λ k. due.Operate o (object.Mutex k)) f obj (λ k. ne f k) h
   mutex_starts_none w o ws (suc n) kept ne h = no_start_if (is_misuse kept) (due.Trap trap.MutexMisuse) due.Quiet f obj (λ e. cc) (λ e. cc) h
 
+  rwlock_starts_none : (w : Caller) (o : Op) (ws : List ℕ) (n : ℕ) (kept : ℤ) → ((g c : ℕ) → due.Operate o (object.Rw c) ≡ due.Operate (op.Start g) obj → ⊥) → IsStart (rwlock_due w o ws n kept) f obj → ⊥
+  rwlock_starts_none w o ws zero kept ne h = no_start_at (cell_of w ws 0 kind.Rw) (λ k. due.Operate o (object.Rw k)) f obj (λ k. ne f k) h
+  rwlock_starts_none w o ws (suc n) kept ne h = no_start_if (is_misuse kept) (due.Trap trap.RwMisuse) due.Quiet f obj (λ e. cc) (λ e. cc) h
+
   wait_starts_none : (c m n : ℕ) (kept : ℤ) → IsStart (wait_due_at c m n kept) f obj → ⊥
   wait_starts_none c m zero kept h = cc
   wait_starts_none c m (suc zero) kept h = cc
@@ -186,6 +190,11 @@ module _ (code : Code) (s : SetupView) (t : ℕ) (th : Thread) (f : ℕ) (obj : 
       no_start_if (is_misuse kept) (due.Trap trap.BarrierMisuse) _ f obj (λ e. cc)
       (λ e. no_start_if (is_serial kept) due.Quiet (at_cell (cell_of w ws 0 kind.Barrier) (λ c. due.Operate (op.Pass (count_in kept)) (object.Barrier c))) f obj (λ e2. cc) (λ e2. no_start_at (cell_of w ws 0 kind.Barrier) (λ c. due.Operate (op.Pass (count_in kept)) (object.Barrier c)) f obj (λ j e3. cc) e2) e) h
   call_starts w call.BarrierDestroy ws n kept h = asks_starts_none w ws kind.Barrier h
+  call_starts w call.RwInit ws n kept h = rwlock_starts_none w op.RwInit ws n kept (λ g c e. cc) h
+  call_starts w call.RwRdLock ws n kept h = rwlock_starts_none w op.RdLock ws n kept (λ g c e. cc) h
+  call_starts w call.RwWrLock ws n kept h = rwlock_starts_none w op.WrLock ws n kept (λ g c e. cc) h
+  call_starts w call.RwUnlock ws n kept h = rwlock_starts_none w op.RwUnlock ws n kept (λ g c e. cc) h
+  call_starts w call.RwDestroy ws n kept h = asks_starts_none w ws kind.Rw h
   call_starts w call.Free ws n kept h = cc
   call_starts w call.GetChar ws n kept h = cc
   call_starts w (call.Print format) ws n kept h = print_starts_none w (length (printed_piece format ws)) h

@@ -25,6 +25,7 @@ same_kinds kind.Pointer kind.Pointer e = refl
 same_kinds kind.Mutex kind.Mutex e = refl
 same_kinds kind.Cond kind.Cond e = refl
 same_kinds kind.Barrier kind.Barrier e = refl
+same_kinds kind.Rw kind.Rw e = refl
 same_kinds _ _ e = cc
 
 kind_found : (o : Option CellKind) (want : CellKind) → is_kind o want ≡ true → o ≡ Some want

@@ -13,7 +13,7 @@ use Rattle.sync_objects.specs.declared.object.ObjId.TheVariants as object
 use Rattle.sync_objects.specs.declared.operation.Op.{Op}
 use Rattle.sync_objects.specs.declared.operation.Op.TheVariants as op
 use Rattle.abstract_machine.specs.Cells.{argument_cell, result_cell, access_kind, size_of, is_size, cells_in}
-use Rattle.abstract_machine.specs.Library.{Caller, argument, slot_in, is_misuse, is_serial, is_joinable, join_thread_due, at_cell, cell_of, create_due, join_due, exit_due, mutex_due, wait_due_at, print_due, most_printed, printed_piece, library_due, count_in}
+use Rattle.abstract_machine.specs.Library.{Caller, argument, slot_in, is_misuse, is_serial, is_joinable, join_thread_due, at_cell, cell_of, create_due, join_due, exit_due, mutex_due, rwlock_due, wait_due_at, print_due, most_printed, printed_piece, library_due, count_in}
 use Rattle.abstract_machine.specs.Pointers.{site_at, kind_in, resolved}
 use Rattle.abstract_machine.specs.Registers.{register, words_of}
 use Rattle.abstract_machine.specs.Values.{number, word}
@@ -101,6 +101,10 @@ mutex_stores_none : (w : Caller) (o : Op) (ws : List ℕ) (n : ℕ) (kept : ℤ)
 mutex_stores_none w o ws zero kept c v h = no_store_at (cell_of w ws 0 kind.Mutex) (λ k. due.Operate o (object.Mutex k)) c v (λ k e. cc) h
 mutex_stores_none w o ws (suc n) kept c v h = no_store_if (is_misuse kept) (due.Trap trap.MutexMisuse) due.Quiet c v (λ e. cc) (λ e. cc) h
 
+rwlock_stores_none : (w : Caller) (o : Op) (ws : List ℕ) (n : ℕ) (kept : ℤ) (c v : ℕ) → IsStore (rwlock_due w o ws n kept) c v → ⊥
+rwlock_stores_none w o ws zero kept c v h = no_store_at (cell_of w ws 0 kind.Rw) (λ k. due.Operate o (object.Rw k)) c v (λ k e. cc) h
+rwlock_stores_none w o ws (suc n) kept c v h = no_store_if (is_misuse kept) (due.Trap trap.RwMisuse) due.Quiet c v (λ e. cc) (λ e. cc) h
+
 wait_stores_none : (c m n : ℕ) (kept : ℤ) (d v : ℕ) → IsStore (wait_due_at c m n kept) d v → ⊥
 wait_stores_none c m zero kept d v h = cc
 wait_stores_none c m (suc zero) kept d v h = cc
@@ -146,6 +150,11 @@ may_store w call.BarrierWait ws (suc n) kept k v h =
     no_store_if (is_misuse kept) (due.Trap trap.BarrierMisuse) _ k v (λ e. cc)
     (λ e. no_store_if (is_serial kept) due.Quiet (at_cell (cell_of w ws 0 kind.Barrier) (λ c. due.Operate (op.Pass (count_in kept)) (object.Barrier c))) k v (λ e2. cc) (λ e2. no_store_at (cell_of w ws 0 kind.Barrier) (λ c. due.Operate (op.Pass (count_in kept)) (object.Barrier c)) k v (λ j e3. cc) e2) e) h
 may_store w call.BarrierDestroy ws n kept k v h = asks_stores_none w ws kind.Barrier k v h
+may_store w call.RwInit ws n kept k v h = rwlock_stores_none w op.RwInit ws n kept k v h
+may_store w call.RwRdLock ws n kept k v h = rwlock_stores_none w op.RdLock ws n kept k v h
+may_store w call.RwWrLock ws n kept k v h = rwlock_stores_none w op.WrLock ws n kept k v h
+may_store w call.RwUnlock ws n kept k v h = rwlock_stores_none w op.RwUnlock ws n kept k v h
+may_store w call.RwDestroy ws n kept k v h = asks_stores_none w ws kind.Rw k v h
 may_store w call.Free ws n kept k v h = cc
 may_store w call.GetChar ws n kept k v h = cc
 may_store w (call.Print format) ws n kept k v h = print_stores_none w (length (printed_piece format ws)) k v h

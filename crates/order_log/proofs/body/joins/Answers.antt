@@ -1,5 +1,5 @@
 use Rattle.std.proofs.Common.{sym, ◌∙◌}
-use Rattle.order_log.proofs.Runs.{joins_last}
+use Rattle.order_log.proofs.Groups.{joins_last}
 use Rattle.order_log.proofs.body.joins.Goals as goal
 
 pub returns-in-Some : goal.returns-in-Some

@@ -4,7 +4,7 @@ use Rattle.profiles.specs.Profile.{Text}
 use Rattle.profiles.specs.declared.profile.Profile.{Profile}
 use Rattle.sync_objects.specs.declared.entry.Entry.{Entry}
 use Rattle.sync_objects.specs.Setup.{SetupView}
-use Rattle.order_log.specs.Text.{number_text, hex_text, profile_lines, runs_of, run_line, text_of}
+use Rattle.order_log.specs.Text.{number_text, hex_text, profile_lines, groups_of, group_line, text_of}
 use Rattle.order_log.proofs.Written.{written}
 use Rattle.order_log.proofs.write.write_in.Goals as goal
 
@@ -32,4 +32,4 @@ returns c =
     (c.in_ok-push_number_line-4.ensures ∙ ap (following c.push_profile_lines.new.out (codes "input ")) size)
     (c.in_ok-push_hex.ensures ∙ ap (λ (bs : List ℕ). c.push_number_line-4.new.out ++ hex_text bs) input)
     c.in_ok-push-2.ensures.ok
-    (c.in_ok-push_entry_lines.ensures ∙ ap (λ (es : List Entry). c.push-2.new.self ++ text_of (map run_line (runs_of c.args.version es))) entries)
+    (c.in_ok-push_entry_lines.ensures ∙ ap (λ (es : List Entry). c.push-2.new.self ++ text_of (map group_line (groups_of c.args.version es))) entries)

@@ -14,8 +14,8 @@ use Rattle.sync_objects.specs.declared.kind.ObjKind.TheVariants as kind
 use Rattle.sync_objects.specs.Names.{kind_of, object_kind, Fits}
 use Rattle.order_log.specs.declared.version.Version.{Version}
 use Rattle.order_log.specs.declared.version.Version.TheVariants as version
-use Rattle.order_log.specs.Text.{are_alike, is_next, continues, shares, Run, onto_run, runs_of}
-use Rattle.order_log.specs.Line.{may_share, next_object, next_entry, stripes_after, entries_of, IsRun}
+use Rattle.order_log.specs.Text.{are_alike, is_next, continues, shares, Group, onto_group, groups_of}
+use Rattle.order_log.specs.Line.{may_share, next_object, next_entry, stripes_after, entries_of, IsGroup}
 use Rattle.order_log.specs.Recogniser.{joins}
 
 -- ---- two entries
@@ -82,16 +82,6 @@ IsChain w e more = 0 < more → GoesOn w e
 pub chain_none : (w : Version) (e : Entry) → IsChain w e 0
 chain_none w e lt = absurd (omega arith)
 
-alike_shares : (o : OpName) → are_alike o o ≡ true → may_share o ≡ true
-alike_shares op.Take e = refl
-alike_shares op.Give e = refl
-alike_shares _ e = absurd cc
-
-shares_alike : (o : OpName) → may_share o ≡ true → are_alike o o ≡ true
-shares_alike op.Take e = refl
-shares_alike op.Give e = refl
-shares_alike _ e = absurd cc
-
 shares_kind : (o : OpName) → may_share o ≡ true → kind_of o ≡ kind.Weak
 shares_kind op.Take e = refl
 shares_kind op.Give e = refl
@@ -110,7 +100,7 @@ sharing_kind e h fit = sym fit ∙ shares_kind e.op h
 
 -- takes and gives go on in version 2
 pub goes_on_two : (e : Entry) → may_share e.op ≡ true → Fits e.op e.obj → GoesOn version.Two e
-goes_on_two e h fit = continues_by e (next_entry e) refl refl (shares_alike e.op h) (weak_next e.obj (sharing_kind e h fit))
+goes_on_two e h fit = continues_by e (next_entry e) refl refl h (weak_next e.obj (sharing_kind e h fit))
 
 -- what goes on is a take or a give of a stripe, in version 2
 pub GoesOn-two : (w : Version) (e : Entry) → GoesOn w e → w ≡ version.Two
@@ -119,48 +109,48 @@ GoesOn-two version.Two e h = refl
 
 pub GoesOn-sharing : (w : Version) (e : Entry) → GoesOn w e → may_share e.op ≡ true
 GoesOn-sharing version.One e h = absurd cc
-GoesOn-sharing version.Two e h = alike_shares e.op (alike_goes e h).0
+GoesOn-sharing version.Two e h = (alike_goes e h).0
 
 GoesOn-kind : (w : Version) (e : Entry) → GoesOn w e → object_kind e.obj ≡ kind.Weak
 GoesOn-kind version.One e h = absurd cc
 GoesOn-kind version.Two e h = next_kind e.obj (alike_goes e h).1
 
-pub IsRun_chain : (w : Version) (r : Run) → IsChain w r.first r.more → IsRun r
-IsRun_chain w r chain some = GoesOn-kind w r.first (chain some)
+pub IsGroup_chain : (w : Version) (r : Group) → IsChain w r.first r.more → IsGroup r
+IsGroup_chain w r chain some = GoesOn-kind w r.first (chain some)
 
 -- ---- the entries of a line make that line
 
--- what an entry in front makes of runs: one that begins with it
-pub record Begins (e : Entry) (rs : List Run) : Type 0 where
+-- what an entry in front makes of groups: one that begins with it
+pub record Begins (e : Entry) (rs : List Group) : Type 0 where
   pub more : ℕ
-  pub others : List Run
-  pub runs : rs ≡ record { first = e; more = more } ∷ others
+  pub others : List Group
+  pub groups : rs ≡ record { first = e; more = more } ∷ others
 
-begins : (w : Version) (e : Entry) (rs : List Run) → Begins e (onto_run w e rs)
-begins w e [] = record { more = 0; others = []; runs = refl }
+begins : (w : Version) (e : Entry) (rs : List Group) → Begins e (onto_group w e rs)
+begins w e [] = record { more = 0; others = []; groups = refl }
 begins w e (r ∷ rs) = by (shares w e r.first)
   where
     by : (t : Bool) → Begins e (cond t (record { first = e; more = suc r.more } ∷ rs) (record { first = e; more = 0 } ∷ r ∷ rs))
-    by true = record { more = suc r.more; others = rs; runs = refl }
-    by false = record { more = 0; others = r ∷ rs; runs = refl }
+    by true = record { more = suc r.more; others = rs; groups = refl }
+    by false = record { more = 0; others = r ∷ rs; groups = refl }
 
 -- an entry that has the next line to go on with, or not
-onto_shared : (w : Version) (e : Entry) (r : Run) (rs : List Run) → shares w e r.first ≡ true → onto_run w e (r ∷ rs) ≡ record { first = e; more = suc r.more } ∷ rs
+onto_shared : (w : Version) (e : Entry) (r : Group) (rs : List Group) → shares w e r.first ≡ true → onto_group w e (r ∷ rs) ≡ record { first = e; more = suc r.more } ∷ rs
 onto_shared w e r rs h = cond-true (shares w e r.first) _ _ h
 
-onto_other : (w : Version) (e : Entry) (r : Run) (rs : List Run) → shares w e r.first ≡ false → onto_run w e (r ∷ rs) ≡ record { first = e; more = 0 } ∷ r ∷ rs
+onto_other : (w : Version) (e : Entry) (r : Group) (rs : List Group) → shares w e r.first ≡ false → onto_group w e (r ∷ rs) ≡ record { first = e; more = 0 } ∷ r ∷ rs
 onto_other w e r rs h = cond-false (shares w e r.first) _ _ h
 
-pub runs_chain : (w : Version) (e : Entry) (more : ℕ) → IsChain w e more → runs_of w (e ∷ stripes_after e more) ≡ record { first = e; more = more } ∷ []
-runs_chain w e zero chain = refl
-runs_chain w e (suc more) chain =
+pub groups_chain : (w : Version) (e : Entry) (more : ℕ) → IsChain w e more → groups_of w (e ∷ stripes_after e more) ≡ record { first = e; more = more } ∷ []
+groups_chain w e zero chain = refl
+groups_chain w e (suc more) chain =
     let on : GoesOn w e = chain (omega arith) in
-    let rest = runs_chain w (next_entry e) more (λ some. goes_on_next w e on) in
-    ap (onto_run w e) rest ∙ onto_shared w e (record { first = next_entry e; more = more }) [] on
+    let rest = groups_chain w (next_entry e) more (λ some. goes_on_next w e on) in
+    ap (onto_group w e) rest ∙ onto_shared w e (record { first = next_entry e; more = more }) [] on
 
 -- ---- lines after lines
 
-onto_append : (w : Version) (e : Entry) (rs qs : List Run) (r : Run) → onto_run w e ((r ∷ rs) ++ qs) ≡ onto_run w e (r ∷ rs) ++ qs
+onto_append : (w : Version) (e : Entry) (rs qs : List Group) (r : Group) → onto_group w e ((r ∷ rs) ++ qs) ≡ onto_group w e (r ∷ rs) ++ qs
 onto_append w e rs qs r = by (shares w e r.first)
   where
     by : (t : Bool) → cond t (record { first = e; more = suc r.more } ∷ (rs ++ qs)) (record { first = e; more = 0 } ∷ r ∷ (rs ++ qs))
@@ -168,24 +158,24 @@ onto_append w e rs qs r = by (shares w e r.first)
     by true = refl
     by false = refl
 
-onto_begun : (w : Version) (e f : Entry) (rs : List Run) → shares w e f ≡ false → Begins f rs → onto_run w e rs ≡ record { first = e; more = 0 } ∷ rs
+onto_begun : (w : Version) (e f : Entry) (rs : List Group) → shares w e f ≡ false → Begins f rs → onto_group w e rs ≡ record { first = e; more = 0 } ∷ rs
 onto_begun w e f rs other b =
-    ap (onto_run w e) b.runs ∙ onto_other w e (record { first = f; more = b.more }) b.others other ∙ ap (λ (qs : List Run). record { first = e; more = 0 } ∷ qs) (sym b.runs)
+    ap (onto_group w e) b.groups ∙ onto_other w e (record { first = f; more = b.more }) b.others other ∙ ap (λ (qs : List Group). record { first = e; more = 0 } ∷ qs) (sym b.groups)
 
-onto_both : (w : Version) (e f : Entry) (rs qs : List Run) → Begins f rs → onto_run w e (rs ++ qs) ≡ onto_run w e rs ++ qs
+onto_both : (w : Version) (e f : Entry) (rs qs : List Group) → Begins f rs → onto_group w e (rs ++ qs) ≡ onto_group w e rs ++ qs
 onto_both w e f rs qs b =
-    ap (λ (ps : List Run). onto_run w e (ps ++ qs)) b.runs ∙ onto_append w e b.others qs (record { first = f; more = b.more }) ∙ ap (λ (ps : List Run). onto_run w e ps ++ qs) (sym b.runs)
+    ap (λ (ps : List Group). onto_group w e (ps ++ qs)) b.groups ∙ onto_append w e b.others qs (record { first = f; more = b.more }) ∙ ap (λ (ps : List Group). onto_group w e ps ++ qs) (sym b.groups)
 
 -- where the second list doesn't go on with the last line of the first, each has its own lines
-pub runs_append : (w : Version) (es : List Entry) (f : Entry) (fs : List Entry) → joins w es f ≡ false → runs_of w (es ++ f ∷ fs) ≡ runs_of w es ++ runs_of w (f ∷ fs)
-runs_append w [] f fs h = refl
-runs_append w (e ∷ []) f fs h = onto_begun w e f (runs_of w (f ∷ fs)) h (begins w f (runs_of w fs))
-runs_append w (e ∷ g ∷ es) f fs h =
-    ap (onto_run w e) (runs_append w (g ∷ es) f fs h) ∙ onto_both w e g (runs_of w (g ∷ es)) (runs_of w (f ∷ fs)) (begins w g (runs_of w es))
+pub groups_append : (w : Version) (es : List Entry) (f : Entry) (fs : List Entry) → joins w es f ≡ false → groups_of w (es ++ f ∷ fs) ≡ groups_of w es ++ groups_of w (f ∷ fs)
+groups_append w [] f fs h = refl
+groups_append w (e ∷ []) f fs h = onto_begun w e f (groups_of w (f ∷ fs)) h (begins w f (groups_of w fs))
+groups_append w (e ∷ g ∷ es) f fs h =
+    ap (onto_group w e) (groups_append w (g ∷ es) f fs h) ∙ onto_both w e g (groups_of w (g ∷ es)) (groups_of w (f ∷ fs)) (begins w g (groups_of w es))
 
 -- a line that begins where it has to is one line more
-pub runs_more : (w : Version) (es : List Entry) (r : Run) → joins w es r.first ≡ false → IsChain w r.first r.more → runs_of w (es ++ entries_of r) ≡ runs_of w es ++ r ∷ []
-runs_more w es r other chain = runs_append w es r.first (stripes_after r.first r.more) other ∙ ap (λ (rs : List Run). runs_of w es ++ rs) (runs_chain w r.first r.more chain)
+pub groups_more : (w : Version) (es : List Entry) (r : Group) → joins w es r.first ≡ false → IsChain w r.first r.more → groups_of w (es ++ entries_of r) ≡ groups_of w es ++ r ∷ []
+groups_more w es r other chain = groups_append w es r.first (stripes_after r.first r.more) other ∙ ap (λ (rs : List Group). groups_of w es ++ rs) (groups_chain w r.first r.more chain)
 
 joins_push : (w : Version) (es : List Entry) (e f : Entry) → joins w (es ++ e ∷ []) f ≡ shares w e f
 joins_push w [] e f = refl
@@ -202,20 +192,20 @@ joins_last w (g ∷ h ∷ es) e f is =
 -- ---- the lines of entries
 
 -- each line begins where it has to, after the entries before it
-abbrev pub Follow : Version → List Entry → List Run → Type 0
+abbrev pub Follow : Version → List Entry → List Group → Type 0
 Follow w es [] = Unit {0}
 Follow w es (r ∷ rs) = (joins w es r.first ≡ false) × IsChain w r.first r.more × Follow w (es ++ entries_of r) rs
 
 -- the same but for where the first begins
-abbrev FollowOn : Version → List Entry → List Run → Type 0
+abbrev FollowOn : Version → List Entry → List Group → Type 0
 FollowOn w es [] = Unit {0}
 FollowOn w es (r ∷ rs) = IsChain w r.first r.more × Follow w (es ++ entries_of r) rs
 
-abbrev pub entries_in : List Run → List Entry
+abbrev pub entries_in : List Group → List Entry
 entries_in [] = []
 entries_in (r ∷ rs) = entries_of r ++ entries_in rs
 
-one_follows : (w : Version) (f : Entry) (rs : List Run) → ((es : List Entry) → FollowOn w es rs) → (es : List Entry) → FollowOn w es (onto_run w f rs)
+one_follows : (w : Version) (f : Entry) (rs : List Group) → ((es : List Entry) → FollowOn w es rs) → (es : List Entry) → FollowOn w es (onto_group w f rs)
 one_follows w f [] others es = (chain_none w f, tt)
 one_follows w f (r ∷ rs) others es = by (shares w f r.first) refl
   where
@@ -230,19 +220,19 @@ one_follows w f (r ∷ rs) others es = by (shares w f r.first) refl
         let rest = others (es ++ f ∷ []) in
         (chain_none w f, (joins_push w es f r.first ∙ is, rest.0, rest.1))
 
-follow_on : (w : Version) (fs : List Entry) (es : List Entry) → FollowOn w es (runs_of w fs)
+follow_on : (w : Version) (fs : List Entry) (es : List Entry) → FollowOn w es (groups_of w fs)
 follow_on w [] es = tt
-follow_on w (f ∷ fs) es = one_follows w f (runs_of w fs) (follow_on w fs) es
+follow_on w (f ∷ fs) es = one_follows w f (groups_of w fs) (follow_on w fs) es
 
-follow_first : (w : Version) (rs : List Run) → FollowOn w [] rs → Follow w [] rs
+follow_first : (w : Version) (rs : List Group) → FollowOn w [] rs → Follow w [] rs
 follow_first w [] h = tt
 follow_first w (r ∷ rs) h = (refl, h.0, h.1)
 
 -- the lines of entries begin where they have to
-pub runs_follow : (w : Version) (fs : List Entry) → Follow w [] (runs_of w fs)
-runs_follow w fs = follow_first w (runs_of w fs) (follow_on w fs [])
+pub groups_follow : (w : Version) (fs : List Entry) → Follow w [] (groups_of w fs)
+groups_follow w fs = follow_first w (groups_of w fs) (follow_on w fs [])
 
-one_in : (w : Version) (f : Entry) (fs : List Entry) (rs : List Run) → entries_in rs ≡ fs → entries_in (onto_run w f rs) ≡ f ∷ fs
+one_in : (w : Version) (f : Entry) (fs : List Entry) (rs : List Group) → entries_in rs ≡ fs → entries_in (onto_group w f rs) ≡ f ∷ fs
 one_in w f fs [] e = ap (λ (es : List Entry). f ∷ es) e
 one_in w f fs (r ∷ rs) e = by (shares w f r.first) refl
   where
@@ -251,9 +241,9 @@ one_in w f fs (r ∷ rs) e = by (shares w f r.first) refl
     by false is = ap (λ (es : List Entry). f ∷ es) e
 
 -- and have all of them
-pub entries_in-runs : (w : Version) (fs : List Entry) → entries_in (runs_of w fs) ≡ fs
-entries_in-runs w [] = refl
-entries_in-runs w (f ∷ fs) = one_in w f fs (runs_of w fs) (entries_in-runs w fs)
+pub entries_in-groups : (w : Version) (fs : List Entry) → entries_in (groups_of w fs) ≡ fs
+entries_in-groups w [] = refl
+entries_in-groups w (f ∷ fs) = one_in w f fs (groups_of w fs) (entries_in-groups w fs)
 
 -- ---- the line at the front
 
@@ -262,21 +252,21 @@ abbrev pub more_after : Version → Entry → List Entry → ℕ
 more_after w e [] = 0
 more_after w e (f ∷ fs) = cond (shares w e f) (suc (more_after w f fs)) 0
 
-runs_lead : (w : Version) (e : Entry) (es : List Entry) → runs_of w (e ∷ es) ≡ record { first = e; more = more_after w e es } ∷ runs_of w (drop (more_after w e es) es)
-runs_lead w e [] = refl
-runs_lead w e (f ∷ fs) = by (shares w e f) refl (runs_lead w f fs)
+groups_lead : (w : Version) (e : Entry) (es : List Entry) → groups_of w (e ∷ es) ≡ record { first = e; more = more_after w e es } ∷ groups_of w (drop (more_after w e es) es)
+groups_lead w e [] = refl
+groups_lead w e (f ∷ fs) = by (shares w e f) refl (groups_lead w f fs)
   where
     rest : ℕ
     rest = more_after w f fs
 
-    by : (t : Bool) → shares w e f ≡ t → runs_of w (f ∷ fs) ≡ record { first = f; more = rest } ∷ runs_of w (drop rest fs)
-        → runs_of w (e ∷ f ∷ fs) ≡ record { first = e; more = cond t (suc rest) 0 } ∷ runs_of w (drop (cond t (suc rest) 0) (f ∷ fs))
-    by true is others = ap (onto_run w e) others ∙ onto_shared w e (record { first = f; more = rest }) (runs_of w (drop rest fs)) is
-    by false is others = onto_begun w e f (runs_of w (f ∷ fs)) is (begins w f (runs_of w fs))
+    by : (t : Bool) → shares w e f ≡ t → groups_of w (f ∷ fs) ≡ record { first = f; more = rest } ∷ groups_of w (drop rest fs)
+        → groups_of w (e ∷ f ∷ fs) ≡ record { first = e; more = cond t (suc rest) 0 } ∷ groups_of w (drop (cond t (suc rest) 0) (f ∷ fs))
+    by true is others = ap (onto_group w e) others ∙ onto_shared w e (record { first = f; more = rest }) (groups_of w (drop rest fs)) is
+    by false is others = onto_begun w e f (groups_of w (f ∷ fs)) is (begins w f (groups_of w fs))
 
 -- the line of the first entry, and those after it
-pub lead_is : (w : Version) (e : Entry) (es : List Entry) (more : ℕ) → more_after w e es ≡ more → runs_of w (e ∷ es) ≡ record { first = e; more = more } ∷ runs_of w (drop more es)
-lead_is w e es more h = runs_lead w e es ∙ ap (λ (k : ℕ). record { first = e; more = k } ∷ runs_of w (drop k es)) h
+pub lead_is : (w : Version) (e : Entry) (es : List Entry) (more : ℕ) → more_after w e es ≡ more → groups_of w (e ∷ es) ≡ record { first = e; more = more } ∷ groups_of w (drop more es)
+lead_is w e es more h = groups_lead w e es ∙ ap (λ (k : ℕ). record { first = e; more = k } ∷ groups_of w (drop k es)) h
 
 -- the count, one entry on
 pub lead_more : (w : Version) (first e d : Entry) (es : List Entry) (i : ℕ) → i < length es → shares w e (get_or es i d) ≡ true → more_after w first es ≡ i + more_after w e (drop i es)

@@ -6,7 +6,8 @@ ghost use Rattle.order_log.specs.Text as text;
 use crate::version::Version;
 use sync_objects::{Entry, ObjId, OpName};
 
-fn are_alike(first: OpName, second: OpName) -> bool
+/// Whether both are takes, or both gives.
+pub fn are_alike(first: OpName, second: OpName) -> bool
     ensures { result ≡ text.are_alike first second }
 {
     matches!(
@@ -52,8 +53,8 @@ pub fn shares(version: Version, first: &Entry, second: &Entry) -> bool
 /// How many entries stand in the line of the first, after it.
 pub fn sharing(version: Version, first: &Entry, rest: &[Entry]) -> usize
     ensures within { result ≤ length rest.now }
-    ensures run { text.runs_of version (first.now ∷ rest.now)
-        ≡ record { first = first.now; more = result } ∷ text.runs_of version (drop result rest.now) }
+    ensures group { text.groups_of version (first.now ∷ rest.now)
+        ≡ record { first = first.now; more = result } ∷ text.groups_of version (drop result rest.now) }
 {
     let mut more = 0;
     let mut before = first;

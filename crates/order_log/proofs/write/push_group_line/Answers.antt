@@ -4,8 +4,8 @@ use Rattle.std.proofs.lemmas.Result.{on_ok_weaker}
 use Rattle.profiles.specs.Profile.{Text}
 use Rattle.order_log.specs.Text.{number_text}
 use Rattle.order_log.proofs.Written.{alone_written, range_written}
-use Rattle.order_log.proofs.write.push_run_line.Goals as goal
-use Rattle.order_log.proofs.write.push_run_line.Goals.{then-more-gt0+in_ok-push_numbered, else-more-gt0}
+use Rattle.order_log.proofs.write.push_group_line.Goals as goal
+use Rattle.order_log.proofs.write.push_group_line.Goals.{then-more-gt0+in_ok-push_numbered, else-more-gt0}
 
 pub returns : goal.returns
 returns c =

@@ -1,1 +1,0 @@
-pthread_rwlock_t l;
