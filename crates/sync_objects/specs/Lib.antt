@@ -1,5 +1,6 @@
 pub mod Advance
 pub mod Laws
+pub mod Modes
 pub mod Moved
 pub mod Names
 pub mod Packing

@@ -6,6 +6,7 @@
 mod entry;
 mod kind;
 mod laws;
+mod mode;
 mod object;
 mod operation;
 mod rows;
@@ -16,6 +17,7 @@ mod word;
 pub use entry::{Entry, Noted};
 pub use kind::ObjKind;
 pub use laws::{law_advanced, law_held, law_shown};
+pub use mode::Mode;
 pub use object::{ObjId, start_word};
 pub use operation::{Op, OpName, fits};
 pub use setup::Setup;

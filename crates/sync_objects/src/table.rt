@@ -87,7 +87,10 @@ mod tests {
         // a read-write lock that thread 3 reads: with thread 5, once more by thread 3, and by a writer
         let both = advance(Op::RdLock, 5, word_of(1, 8));
         assert_eq!(rt; both, Some((word_of(2, 8 + 32), 0)));
-        assert_eq!(rt; advance(Op::RdLock, 3, word_of(1, 8)), Some((word_of(2, 8), -2)));
+        assert_eq!(rt;
+            advance(Op::RdLock, 3, word_of(1, 8)),
+            Some((word_of(2, 8), -2))
+        );
         assert_eq!(rt; advance(Op::WrLock, 5, word_of(1, 8)), None);
         // two slots, two threads drawn, one of them live
         let drawn = advance(Op::Draw { slots: 2 }, 0, word_of(5, 2 + 32));
