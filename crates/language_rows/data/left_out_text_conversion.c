@@ -1,0 +1,1 @@
+int main(void) { printf("%s\n", 0); return 0; }
