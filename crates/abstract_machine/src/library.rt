@@ -452,14 +452,7 @@ pub fn library_due(
         LibraryCall::RwInit => rwlock_due(caller, Op::RwInit, registers, arguments, made, kept),
         LibraryCall::RwRdLock => rwlock_due(caller, Op::RdLock, registers, arguments, made, kept),
         LibraryCall::RwWrLock => rwlock_due(caller, Op::WrLock, registers, arguments, made, kept),
-        LibraryCall::RwUnlock => rwlock_due(
-            caller,
-            Op::RwUnlock,
-            registers,
-            arguments,
-            made,
-            kept,
-        ),
+        LibraryCall::RwUnlock => rwlock_due(caller, Op::RwUnlock, registers, arguments, made, kept),
         LibraryCall::RwDestroy => asks_for(caller, registers, arguments, CellKind::Rw),
         LibraryCall::GetChar => Due::Operate {
             op: Op::GetChar {

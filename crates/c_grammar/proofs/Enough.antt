@@ -111,7 +111,7 @@ module _ (limit : ℕ) (env : (n : Phrase) → Parser (TreeOf n)) (s : Shrinks e
       either (λ o. o ≡ Got a rest → length rest < length us) (passes test us) (run limit env g us) (run limit env k us) (run_fewer g h.0 us a rest) (run_fewer k h.1 us a rest) e
 
 all_eat : (n : Phrase) → eats n ≡ true → Eats (rules n)
-all_eat (phrase.specifier l) e = (tt, (tt, (tt, (tt, (tt, (tt, (tt, tt)))))))
+all_eat (phrase.specifier l) e = (tt, (tt, (tt, (tt, (tt, (tt, (tt, (tt, tt))))))))
 all_eat (phrase.declaration l) e = inl refl
 all_eat (phrase.statement l) e = (tt, (tt, (tt, (tt, (tt, (tt, (tt, (tt, (tt, inr (λ x. tt))))))))))
 all_eat phrase.member e = inl refl
@@ -129,7 +129,7 @@ shrinks limit (suc m) = record {
 -- ---- enough is left
 
 guarded : (n : Phrase) → Guarded (rank n) (rules n)
-guarded (phrase.specifier l) = (tt, (tt, (tt, (tt, (tt, (tt, (tt, tt)))))))
+guarded (phrase.specifier l) = (tt, (tt, (tt, (tt, (tt, (tt, (tt, (tt, tt))))))))
 guarded (phrase.stars l n) = (tt, tt)
 guarded (phrase.type_name l) = (omega arith, inr (λ s. (omega arith, inr (λ n. tt))))
 guarded (phrase.expression l) = (omega arith, inr (λ e. (tt, tt)))
@@ -149,7 +149,7 @@ guarded (phrase.maybe_expression l stop) = (tt, (omega arith, inr (λ e. tt)))
 guarded (phrase.raising_stars l n) = (tt, tt)
 guarded (phrase.declarator l) = (omega arith, inr (λ n. tt))
 guarded (phrase.lengths l es) = (tt, tt)
-guarded (phrase.initial l) = (tt, (tt, (tt, (omega arith, inr (λ e. tt)))))
+guarded (phrase.initial l) = (tt, (tt, (tt, (tt, (omega arith, inr (λ e. tt))))))
 guarded (phrase.more_initials l is) = (tt, tt)
 guarded (phrase.object l) = (omega arith, inr (λ d. (omega arith, inr (λ o. tt))))
 guarded (phrase.object_past l d) = (tt, tt)

@@ -139,7 +139,7 @@ sound (phrase.specifier l) ms = (
       λ v2 p2 m2 e2. (λ v3 p3 m3 e3. (m1, e, (m2, (p2, e2), (p3, e3))), (m1, e, (m2, (p2, e2), refl))),
       (λ v3 p3 m3 e3. (m1, e, (m1, refl, (p3, e3))), (m1, e, (m1, refl, refl))),
     ),
-    (λ v at mid e. e, (λ v at m1 e x p2 m2 e2. (m1, e, e2), (λ v at mid e. e, (λ v at mid e. e, (λ v at mid e. e, λ v at mid e. e))))),
+    (λ v at mid e. e, (λ v at m1 e x p2 m2 e2. (m1, e, e2), (λ v at mid e. e, (λ v at mid e. e, (λ v at mid e. e, (λ v at mid e. e, λ v at mid e. e)))))),
   ),
 )
 sound (phrase.stars l n) ms = (λ v at m1 e k m2 h. (suc h.0, omega (arith, h.1), (m1, (at, e), h.2)), (0, same_level n, refl))
@@ -198,7 +198,7 @@ sound (phrase.lengths l es) ms = (
   λ v at m1 e x m2 h v2 p2 m3 d all m4 k. (x ∷ k.0, more_after es x k.0 all k.1, (h.0, (m1, (at, e), (m2, h.1, (m3, (p2, d), k.2))))),
   ([], none_after es, refl),
 )
-sound (phrase.initial l) ms = (λ v at m1 e i m2 h r m3 k. braces_hold l i at ms m1 m2 m3 e h r k, (λ v at m1 e. e, (λ v at m1 e. e, λ e m1 h. h)))
+sound (phrase.initial l) ms = (λ v at m1 e i m2 h r m3 k. braces_hold l i at ms m1 m2 m3 e h r k, (λ v at m1 e. e, (λ v at m1 e. e, (λ v at m1 e. e, λ e m1 h. h))))
 sound (phrase.more_initials l is) ms = (
   λ v at m1 e. (
     ([], true, ap (λ z. initials z true) (none_after is), (ms, refl, (at, e))),

@@ -84,7 +84,10 @@ static WORDS: [(&[u8], Word); 23] = [
     (b"pthread_rwlock_t", Word::PthreadRwlockT),
     (b"PTHREAD_MUTEX_INITIALIZER", Word::PthreadMutexInitializer),
     (b"PTHREAD_COND_INITIALIZER", Word::PthreadCondInitializer),
-    (b"PTHREAD_RWLOCK_INITIALIZER", Word::PthreadRwlockInitializer),
+    (
+        b"PTHREAD_RWLOCK_INITIALIZER",
+        Word::PthreadRwlockInitializer,
+    ),
 ];
 
 // Words that stand for a blank.

@@ -82,11 +82,8 @@ fn cells_of_base(base: BaseType, structs: &[List<CellKind>]) -> usize
             Some(kinds) => kinds.len(),
             None => 0,
         },
-        BaseType::Int
-        | BaseType::Mutex
-        | BaseType::Cond
-        | BaseType::Barrier
-        | BaseType::RwLock => 1,
+        BaseType::Int | BaseType::Mutex | BaseType::Cond | BaseType::Barrier | BaseType::RwLock =>
+            1,
     }
 }
 
@@ -145,11 +142,8 @@ fn size_of_base(base: BaseType, sizes: &[u32]) -> u32
     match base {
         BaseType::Void => 0,
         BaseType::Struct(number) => sizes.get(number).copied().unwrap_or(0),
-        BaseType::Int
-        | BaseType::Mutex
-        | BaseType::Cond
-        | BaseType::Barrier
-        | BaseType::RwLock => 1,
+        BaseType::Int | BaseType::Mutex | BaseType::Cond | BaseType::Barrier | BaseType::RwLock =>
+            1,
     }
 }
 

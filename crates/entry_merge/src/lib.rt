@@ -16,17 +16,18 @@ use rr_base::List;
 use std::alloc::{AllocError, Global};
 use sync_objects::{Entry, Noted, ObjId};
 
-/// How many entries of each object were taken.
-type Counts = IndexMap<ObjId, u64>;
+/// How many entries of each object came before.
+pub type Counts = IndexMap<ObjId, u64>;
 
-fn count_of(counts: &Counts, obj: ObjId) -> u64
+/// How many entries of the object came before; 0 where none is counted.
+pub fn count_of(counts: &Counts, obj: ObjId) -> u64
     ensures { result ≡ count_in counts.now obj }
 {
     counts.get(&obj).copied().unwrap_or(0)
 }
 
-// One more entry of the object is taken. More of them than 64 bits can count don't fit into memory.
-fn count_up(counts: &mut Counts, obj: ObjId) -> Result<(), AllocError>
+/// One more entry of the object has come. More of them than 64 bits can count don't fit into memory.
+pub fn count_up(counts: &mut Counts, obj: ObjId) -> Result<(), AllocError>
     ensures { OnOk result (AreCounted counts.old obj counts.new) }
 {
     let count = count_of(counts, obj).checked_add(1).ok_or(AllocError)?;

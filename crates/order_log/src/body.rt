@@ -11,8 +11,8 @@ ghost use Rattle.order_log.specs.Text.{Group, stripe_of};
 
 use crate::entry::{LineGroup, group_in, stripe_of};
 use crate::fault::LogFault;
-use crate::reader::{Reader, next_line};
 use crate::group::shares;
+use crate::reader::{Reader, next_line};
 use crate::version::Version;
 use rr_base::List;
 use std::alloc::{AllocError, Global};

@@ -4,9 +4,9 @@ ghost use Rattle.std.specs.Prelude.{◌≡◌, ℕ, Some, min, nat_lt, option_ma
 ghost use Rattle.order_log.specs.Line as line;
 ghost use Rattle.order_log.specs.Text.{stripe_of};
 
+use crate::group::are_alike;
 use crate::operation::op_in;
 use crate::part::{cut, number};
-use crate::group::are_alike;
 use crate::version::Version;
 use sync_objects::{Entry, ObjId, OpName, fits};
 

@@ -6,6 +6,7 @@
 mod body;
 mod entry;
 mod fault;
+mod group;
 mod head;
 mod hex;
 mod laws;
@@ -15,7 +16,6 @@ mod pairs;
 mod part;
 mod read;
 mod reader;
-mod group;
 mod version;
 mod write;
 

@@ -6,9 +6,9 @@ ghost use Rattle.order_log.specs.declared.version.Version.TheVariants as version
 ghost use Rattle.order_log.specs.Text.{number_text, hex_digit, hex_text, object_text, entry_line, pair_line, profile_lines, group_line, groups_of, CanSay, text_of, text_in, log_text};
 
 use crate::entry::stripe_of;
+use crate::group::sharing;
 use crate::log::Log;
 use crate::operation::op_text;
-use crate::group::sharing;
 use crate::version::Version;
 use profiles::Profile;
 use rr_base::{Bytes, List};

@@ -4,10 +4,10 @@ use Rattle.std.specs.Option.{option_map_or}
 use Rattle.std.specs.Map.{lookup}
 use Rattle.indexmap.specs.IndexMap.{get}
 use Rattle.sync_objects.specs.declared.object.ObjId.{ObjId}
-use Rattle.sync_objects.specs.contracts.object.ObjIdPartialEq.TheImpl
 use Rattle.runs.specs.Same.{same_object}
 use Rattle.runs.proofs.SameEntries.{same_object-true}
 use Rattle.entry_merge.specs.Counts.{count_in}
+use Rattle.entry_merge.proofs.Objects.{eq, eq_is_same, lookup_same}
 use Rattle.entry_merge.proofs.count_up.Goals as goal
 
 abbrev value_or_zero : Option ℕ → ℕ
@@ -18,17 +18,6 @@ raised : (counts : ObjId → Option ℕ) (o p : ObjId) (count : ℕ) (b : Bool) 
     value_or_zero (cond b (Some count) (counts p)) ≡ (if b then suc (value_or_zero (counts p)) else value_or_zero (counts p))
 raised counts o p count true same is = is ∙ ap (λ q. suc (value_or_zero (counts q))) (same_object-true o p (sym same))
 raised counts o p count false same is = refl
-
--- the derived test of equality
-abbrev eq : ObjId → ObjId → Bool
-eq = TheImpl.ghosts.eq
-
-eq_is_same : (o p : ObjId) → eq o p ≡ same_object o p
-eq_is_same o p = search rules
-
-lookup_same : (t u : ObjId → Bool) → ((o : ObjId) → t o ≡ u o) → (es : List (ObjId × ℕ)) → lookup t es ≡ lookup u es
-lookup_same t u same [] = refl
-lookup_same t u same (e ∷ es) = ap (λ b. cond b (Some e.1) (lookup t es)) (same e.0) ∙ ap (λ o. cond (u e.0) (Some e.1) o) (lookup_same t u same es)
 
 pub returns : goal.returns
 returns c p =
