@@ -2,6 +2,5 @@ pub mod Core
 pub mod Meaning
 pub mod Runs
 pub mod Sound
-pub mod SourceRuns
 pub mod View
 pub mod Within

@@ -1,5 +1,5 @@
-//! The core tree of a C source: what the source does, with names and types settled. It stands on `rr_base`, `c_tree`,
-//! `abstract_machine`, whose operators, calls and events it shares, and `runs`. What a core tree does is defined by
+//! The core tree of a C source: what the source does, with names and types settled. It stands on `rr_base`, `c_tree` and
+//! `abstract_machine`, whose operators, calls and events it shares. What one thread of a core tree does is defined by
 //! recursion on it.
 #![tactic(auto)]
 

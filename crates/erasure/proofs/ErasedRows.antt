@@ -12,7 +12,7 @@ use Rattle.flow_code.specs.declared.code.Code.{Code}
 use Rattle.flow_code.specs.Threads.{Frame}
 use Rattle.c_core.specs.Runs.{done}
 use Rattle.source_runs.specs.RunEvents.{without_stripes}
-use Rattle.c_core.specs.SourceRuns.{ThreadTransition, own, stops, bytes_of}
+use Rattle.source_runs.specs.SourceRuns.{ThreadTransition, own, stops, bytes_of}
 use Rattle.erasure.proofs.Bare.{frame_with, bare_frame}
 
 -- ---- transitions

@@ -33,7 +33,7 @@ use Rattle.core_run.specs.Walks.{joined, walk_of, out_of}
 use Rattle.runs.specs.Labels.{Label, Go, Revoke, Stop, Close, label_thread}
 use Rattle.runs.specs.Steps.{State, stepped}
 use Rattle.source_runs.specs.RunEvents.{printed_at, event_of, transition_of, transition_at, transitions_on, transitions_from, is_of_stripe, without_stripes}
-use Rattle.c_core.specs.SourceRuns.{own, ThreadTransition, printed_by, bytes_of}
+use Rattle.source_runs.specs.SourceRuns.{own, ThreadTransition, printed_by, bytes_of}
 use Rattle.source_runs.specs.WalkEvents.{labels_of_walk}
 use Rattle.source_runs.proofs.Arrives.{printed_so}
 use Rattle.source_runs.proofs.Printing.{walk_prints}

@@ -22,7 +22,7 @@ use Rattle.core_run.specs.Walks.{walk_of}
 use Rattle.runs.specs.Labels.{Label}
 use Rattle.runs.specs.Steps.{State}
 use Rattle.sync_objects.specs.declared.entry.Entry.{Entry}
-use Rattle.c_core.specs.SourceRuns.{IsSourceRun}
+use Rattle.source_runs.specs.SourceRuns.{IsSourceRun}
 use Rattle.source_runs.specs.WalkEvents.{labels_of_walk}
 use Rattle.source_runs.proofs.Proper.{HasEvents}
 use Rattle.source_runs.proofs.StartWorlds.{made_run}

@@ -27,7 +27,7 @@ use Rattle.thread_flow.specs.Starts.{start_thread}
 use Rattle.core_run.specs.Walks.{walk_of, out_of}
 use Rattle.runs.specs.Labels.{Label}
 use Rattle.runs.specs.Steps.{State}
-use Rattle.c_core.specs.SourceRuns.{IsSourceRun, bytes_of}
+use Rattle.source_runs.specs.SourceRuns.{IsSourceRun, bytes_of}
 use Rattle.source_runs.proofs.Proper.{HasEvents, run_proper}
 use Rattle.source_runs.proofs.Starts.{starts_run}
 use Rattle.erasure.specs.Erased.{erased_events, erased_walk, IsAnywhere}

@@ -6,7 +6,7 @@ use Rattle.flow_code.specs.declared.code.Code.{Code}
 use Rattle.c_core.specs.Runs.{Run}
 use Rattle.runs.specs.Labels.{Label}
 use Rattle.source_runs.specs.RunEvents.{events_of_run, without_stripes}
-use Rattle.c_core.specs.SourceRuns.{ThreadTransition}
+use Rattle.source_runs.specs.SourceRuns.{ThreadTransition}
 use Rattle.source_runs.specs.WalkEvents.{events_of_walk}
 
 -- the events of a run from the start, without those of stripes

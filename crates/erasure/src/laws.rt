@@ -21,7 +21,7 @@ ghost use Rattle.thread_flow.specs.Starts.{start_thread};
 ghost use Rattle.core_run.specs.Walks.{walk_of, out_of};
 ghost use Rattle.runs.specs.Labels.{Label};
 ghost use Rattle.runs.specs.Steps.{State};
-ghost use Rattle.c_core.specs.SourceRuns.{ThreadTransition, IsSourceRun, bytes_of};
+ghost use Rattle.source_runs.specs.SourceRuns.{ThreadTransition, IsSourceRun, bytes_of};
 ghost use Rattle.source_runs.specs.ThreadEvents.{own_events, IsPartOf};
 ghost use Rattle.erasure.specs.Erased.{erased_events, erased_walk, IsAnywhere};
 

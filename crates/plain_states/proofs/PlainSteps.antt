@@ -40,7 +40,7 @@ use Rattle.source_runs.proofs.NoStripes.{no_lock}
 use Rattle.source_runs.proofs.Outcomes.{Operated, operated_inv, loaded_inv, marked_inv, allowed_inv}
 use Rattle.source_runs.proofs.Phases.{event_ends}
 use Rattle.source_runs.proofs.Proper.{is_trap}
-use Rattle.c_core.specs.SourceRuns.{is_last}
+use Rattle.source_runs.specs.SourceRuns.{is_last}
 use Rattle.source_runs.proofs.Worlds.{IsStripe, not_stripe}
 use Rattle.erasure.proofs.Bare.{HasObjects}
 use Rattle.erasure.proofs.Steps.{IsNoTrap}

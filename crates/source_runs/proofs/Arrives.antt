@@ -15,7 +15,7 @@ use Rattle.c_core.specs.Runs.{Run, does, traps, ends}
 use Rattle.lower_sound.specs.Follows.{Comes, here, quietly, IsFull, Prints, Follows}
 use Rattle.thread_flow.specs.Pieces.{piece_at}
 use Rattle.source_runs.specs.RunEvents.{printed_at}
-use Rattle.c_core.specs.SourceRuns.{IsBeforeEntry}
+use Rattle.source_runs.specs.SourceRuns.{IsBeforeEntry}
 use Rattle.source_runs.proofs.Makings.{IsAt, event, full}
 use Rattle.source_runs.proofs.Proper.{IsEvent, HasEvents}
 

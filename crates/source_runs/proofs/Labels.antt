@@ -17,7 +17,7 @@ use Rattle.core_run.proofs.Lawful.{effect_go, effect_revoke, effect_stop, effect
 use Rattle.runs.specs.Labels.{Label, Go, Revoke, Stop, Close, label_thread}
 use Rattle.runs.specs.Steps.{Effect, Leaves, outcome}
 use Rattle.source_runs.specs.RunEvents.{transition_of, is_of_stripe}
-use Rattle.c_core.specs.SourceRuns.{Transition, own, stops, closes, Progress, waits, goes, over, World, words_after, standing_after, cell_count, MayDo}
+use Rattle.source_runs.specs.SourceRuns.{Transition, own, stops, closes, Progress, waits, goes, over, World, words_after, standing_after, cell_count, MayDo}
 use Rattle.source_runs.proofs.Makings.{IsMaking, IsProgress}
 use Rattle.source_runs.proofs.Outcomes.{Operated, operated_inv, allowed_inv}
 use Rattle.source_runs.proofs.OwnSteps.{IsStep, IsPassed, own_step, allows, shows_after, shows_passed}

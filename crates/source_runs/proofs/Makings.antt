@@ -14,7 +14,7 @@ use Rattle.core_run.specs.Machine.{may_revoke}
 use Rattle.core_run.specs.Words.{has_object}
 use Rattle.c_core.specs.Runs.{Run, does, traps, ends}
 use Rattle.source_runs.specs.RunEvents.{printed_at}
-use Rattle.c_core.specs.SourceRuns.{Progress, waits, goes, over}
+use Rattle.source_runs.specs.SourceRuns.{Progress, waits, goes, over}
 use Rattle.source_runs.proofs.Proper.{IsEvent}
 
 module _ (code : Code) (s : SetupView) (MayFill : Run → Type 0) (Makes : ℕ → Run → Thread → Type 0) where

@@ -22,7 +22,7 @@ use Rattle.runs.specs.Labels.{Label, Go, Revoke, Stop, Close, label_thread}
 use Rattle.runs.specs.Steps.{State, Leaves, outcome, stepped, run}
 use Rattle.runs.proofs.Swap.{steps_of}
 use Rattle.source_runs.specs.RunEvents.{transition_of, transition_at, transitions_on, transitions_from, event_of, is_stripe, is_of_stripe, without_stripes}
-use Rattle.c_core.specs.SourceRuns.{own, ThreadTransition}
+use Rattle.source_runs.specs.SourceRuns.{own, ThreadTransition}
 use Rattle.source_runs.proofs.Outcomes.{operated_inv, allowed_inv}
 
 module _ (code : Code) (s : SetupView) (none : code.locks ≡ []) where

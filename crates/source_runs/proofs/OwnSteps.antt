@@ -31,7 +31,7 @@ use Rattle.thread_flow.specs.Pieces.{piece_next}
 use Rattle.core_run.specs.Machine.{Told, accessed, access_of, marked, action_effect, machine}
 use Rattle.runs.specs.Steps.{Leaves, outcome}
 use Rattle.source_runs.specs.RunEvents.{answer_in, answer_of, printed_at, event_of, is_stripe, is_of_stripe}
-use Rattle.c_core.specs.SourceRuns.{Progress, goes, over, World, own, operated, acted, words_after, rest_after, is_last, cell_count, Allows, IsAllowed, Answers, ComesNext, IsFull}
+use Rattle.source_runs.specs.SourceRuns.{Progress, goes, over, World, own, operated, acted, words_after, rest_after, is_last, cell_count, Allows, IsAllowed, Answers, ComesNext, IsFull}
 use Rattle.source_runs.proofs.Makings.{IsAtEvent, IsAtStripe, IsAt, event, stripe, full, IsProgress}
 use Rattle.source_runs.proofs.Outcomes.{Operated, operated_inv, loaded_inv, stored_inv, marked_inv}
 use Rattle.source_runs.proofs.Phases.{event_begins, event_ends}

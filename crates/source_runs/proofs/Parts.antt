@@ -8,7 +8,7 @@ use Rattle.abstract_machine.specs.declared.event.Action.{Action}
 use Rattle.c_core.specs.Core.{Program}
 use Rattle.c_core.specs.Runs.{Run, does, traps, ends, Event, done, trapped, events}
 use Rattle.c_core.specs.Meaning.{run_of}
-use Rattle.c_core.specs.SourceRuns.{Transition, own, stops, closes, Progress, waits, goes, over, World, ThreadTransition, after, is_last, rest_after, standing_after, ComesNext, IsFull, MayDo, IsRunFrom, start_standing, start_world, IsSourceRun}
+use Rattle.source_runs.specs.SourceRuns.{Transition, own, stops, closes, Progress, waits, goes, over, World, ThreadTransition, after, is_last, rest_after, standing_after, ComesNext, IsFull, MayDo, IsRunFrom, start_standing, start_world, IsSourceRun}
 use Rattle.source_runs.specs.ThreadEvents.{event_in, own_events, IsPartOf}
 
 -- what a thread that stands there may still do by itself

@@ -32,7 +32,7 @@ use Rattle.flow_code.proofs.Counts.{action_counts, stepped_is, operate_after}
 use Rattle.flow_code.proofs.Dues.{operate_by_code}
 use Rattle.flow_code.proofs.Goings.{ThreadOperates, runs, slot_ends, thread_ends, thread_goes}
 use Rattle.flow_code.proofs.Settle.{action_is}
-use Rattle.c_core.specs.SourceRuns.{is_last}
+use Rattle.source_runs.specs.SourceRuns.{is_last}
 use Rattle.source_runs.proofs.Proper.{is_trap, IsEvent}
 
 module _ (code : Code) (s : SetupView) (t : ℕ) (th : Thread) where

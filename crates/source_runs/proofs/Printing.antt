@@ -34,7 +34,7 @@ use Rattle.runs.specs.Walk.{AllOf, part}
 use Rattle.runs.proofs.Apart.{thread_of_label}
 use Rattle.runs.proofs.Swap.{load_inv, change_inv, steps_of}
 use Rattle.source_runs.specs.RunEvents.{event_of, transition_of, transition_at, transitions_on, transitions_from}
-use Rattle.c_core.specs.SourceRuns.{ThreadTransition, printed_by, bytes_of}
+use Rattle.source_runs.specs.SourceRuns.{ThreadTransition, printed_by, bytes_of}
 use Rattle.source_runs.specs.WalkEvents.{part_labels, labels_on, labels_from, events_of_walk}
 use Rattle.source_runs.proofs.WalkRuns.{then_inv, part_runs}
 

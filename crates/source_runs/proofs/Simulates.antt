@@ -16,7 +16,7 @@ use Rattle.runs.specs.Labels.{Label, label_thread}
 use Rattle.runs.specs.Steps.{State, stepped, run}
 use Rattle.runs.proofs.Swap.{steps_of}
 use Rattle.source_runs.specs.RunEvents.{transition_of, transition_at, transitions_on, transitions_from, without_stripes}
-use Rattle.c_core.specs.SourceRuns.{Progress, World, ThreadTransition, after, standing_after, cell_count, IsRunFrom}
+use Rattle.source_runs.specs.SourceRuns.{Progress, World, ThreadTransition, after, standing_after, cell_count, IsRunFrom}
 use Rattle.source_runs.proofs.Labels.{IsDone, of_source, of_stripe, label_step}
 use Rattle.source_runs.proofs.Makings.{IsMaking, IsProgress}
 use Rattle.source_runs.proofs.Worlds.{Shows}

@@ -17,7 +17,7 @@ use Rattle.source_runs.specs.RunEvents.{events_of_run}
 use Rattle.source_runs.specs.WalkEvents.{labels_of_walk, events_of_walk}
 use Rattle.source_runs.proofs.Printing.{walk_prints}
 use Rattle.source_runs.proofs.WalkRuns.{walk_is_run}
-use Rattle.c_core.specs.SourceRuns.{IsSourceRun, IsBeforeEntry, bytes_of}
+use Rattle.source_runs.specs.SourceRuns.{IsSourceRun, IsBeforeEntry, bytes_of}
 use Rattle.source_runs.proofs.Arrives.{MakesRun}
 use Rattle.source_runs.proofs.NoStripes.{all_kept}
 use Rattle.source_runs.proofs.Starts.{making, starts_run}

@@ -23,7 +23,7 @@ use Rattle.core_run.proofs.ThreadRanges.{start_thread_is}
 use Rattle.runs.specs.Labels.{Label}
 use Rattle.runs.specs.Steps.{State}
 use Rattle.source_runs.specs.RunEvents.{events_of_run, without_stripes}
-use Rattle.c_core.specs.SourceRuns.{global_word, start_cell, start_standing, start_world, cell_count, IsSourceRun}
+use Rattle.source_runs.specs.SourceRuns.{global_word, start_cell, start_standing, start_world, cell_count, IsSourceRun}
 use Rattle.source_runs.proofs.Makings.{IsMaking, IsProgress}
 use Rattle.source_runs.proofs.Simulates.{Matches, simulates}
 use Rattle.source_runs.proofs.Worlds.{is_had}

@@ -17,7 +17,7 @@ use Rattle.core_run.specs.Machine.{Told, start_state}
 use Rattle.thread_flow.specs.Starts.{start_thread}
 use Rattle.thread_flow.specs.Starts as flow_starts
 use Rattle.core_run.proofs.ThreadRanges.{start_thread_is}
-use Rattle.c_core.specs.SourceRuns.{IsBeforeEntry}
+use Rattle.source_runs.specs.SourceRuns.{IsBeforeEntry}
 use Rattle.source_runs.proofs.Arrives.{MakesRun, arrives_at}
 use Rattle.source_runs.proofs.Makings.{IsMaking}
 use Rattle.source_runs.proofs.NoStripes.{no_lock}

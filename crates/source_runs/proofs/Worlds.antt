@@ -21,7 +21,7 @@ use Rattle.core_run.specs.Words.{cells_of, has_object, place_of}
 use Rattle.core_run.proofs.Places.{place_past, place_apart}
 use Rattle.runs.specs.Same.{same_object}
 use Rattle.runs.proofs.SameEntries.{same_object-true, same_object-refl}
-use Rattle.c_core.specs.SourceRuns.{World, word_after, operated, acted, cell_count, IsThere}
+use Rattle.source_runs.specs.SourceRuns.{World, word_after, operated, acted, cell_count, IsThere}
 
 abbrev pub IsStripe : ObjId → Type 0
 IsStripe (object.Weak lock stripe) = Unit {0}

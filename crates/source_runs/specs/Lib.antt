@@ -1,3 +1,4 @@
 pub mod RunEvents
+pub mod SourceRuns
 pub mod ThreadEvents
 pub mod WalkEvents

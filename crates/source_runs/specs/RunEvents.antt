@@ -20,7 +20,7 @@ use Rattle.thread_flow.specs.Pieces.{piece_next}
 use Rattle.core_run.specs.Walks.{joined}
 use Rattle.runs.specs.Labels.{Label, Go, Revoke, Stop, Close, label_thread}
 use Rattle.runs.specs.Steps.{State, stepped}
-use Rattle.c_core.specs.SourceRuns.{Transition, own, stops, closes, ThreadTransition}
+use Rattle.source_runs.specs.SourceRuns.{Transition, own, stops, closes, ThreadTransition}
 
 -- an operation that isn't allowed counts as answered by 0
 abbrev pub answer_in : Advance → ℤ

@@ -2,7 +2,7 @@
 use Rattle.std.specs.Prelude.{◌≡◌, ℕ, nat_eq, if◌then◌else◌, ℤ, List, [], ◌∷◌, ◌++◌, ◌⊎◌}
 use Rattle.rr_base.specs.declared.trap.Trap.TheVariants as trap
 use Rattle.c_core.specs.Runs.{Run, Event, done, trapped, events}
-use Rattle.c_core.specs.SourceRuns.{Transition, own, stops, closes, ThreadTransition}
+use Rattle.source_runs.specs.SourceRuns.{Transition, own, stops, closes, ThreadTransition}
 
 -- a stop or a close is no event of the thread's own
 abbrev pub event_in : Transition → List Event

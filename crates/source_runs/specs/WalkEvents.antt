@@ -7,7 +7,7 @@ use Rattle.core_run.specs.Machine.{Told, machine, start_state}
 use Rattle.runs.specs.Labels.{Label, Go, label_of}
 use Rattle.runs.specs.Steps.{State, count_of}
 use Rattle.runs.specs.Walk.{part}
-use Rattle.c_core.specs.SourceRuns.{ThreadTransition}
+use Rattle.source_runs.specs.SourceRuns.{ThreadTransition}
 use Rattle.source_runs.specs.RunEvents.{events_of_run}
 
 module _ (code : Code) (s : SetupView) where

@@ -14,7 +14,7 @@ ghost use Rattle.core_run.specs.Walks.{walk_of, out_of};
 ghost use Rattle.runs.specs.Labels.{Label};
 ghost use Rattle.runs.specs.Steps.{State};
 ghost use Rattle.source_runs.specs.RunEvents.{events_of_run};
-ghost use Rattle.c_core.specs.SourceRuns.{ThreadTransition, IsSourceRun, IsBeforeEntry, bytes_of};
+ghost use Rattle.source_runs.specs.SourceRuns.{ThreadTransition, IsSourceRun, IsBeforeEntry, bytes_of};
 ghost use Rattle.source_runs.specs.ThreadEvents.{own_events, IsPartOf};
 ghost use Rattle.source_runs.specs.WalkEvents.{labels_of_walk, events_of_walk};
 

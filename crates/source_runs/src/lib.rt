@@ -1,6 +1,6 @@
 //! Each run of the machine of a source's code is a run of the source. This crate joins `lower_sound`, whose `law_events`
 //! tells what one thread of the code makes, and `core_run`, the machine of all threads. What a run of a source is stands in
-//! `SourceRuns` of `c_core`.
+//! `specs/SourceRuns.antt`.
 #![tactic(auto)]
 
 mod laws;

@@ -25,7 +25,7 @@ ghost use Rattle.runs.specs.Labels.{Label};
 ghost use Rattle.runs.specs.Merge.{written_merge};
 ghost use Rattle.runs.specs.Steps.{State};
 ghost use Rattle.source_runs.specs.RunEvents.{events_of_run};
-ghost use Rattle.c_core.specs.SourceRuns.{IsSourceRun, IsBeforeEntry, bytes_of};
+ghost use Rattle.source_runs.specs.SourceRuns.{IsSourceRun, IsBeforeEntry, bytes_of};
 ghost use Rattle.source_runs.specs.WalkEvents.{events_of_walk};
 
 /// Each run of the code of a text that is read as a source without a fault, in any interleaving, with any stops and closes, is

@@ -11,7 +11,7 @@ use Rattle.front.proofs.Sources.{source_sound}
 use Rattle.front.specs.Plain.{plain_code}
 use Rattle.race_free.proofs.Ends.{log_walks}
 use Rattle.runs.specs.Merge.{written_merge}
-use Rattle.c_core.specs.SourceRuns.{IsSourceRun, bytes_of}
+use Rattle.source_runs.specs.SourceRuns.{IsSourceRun, bytes_of}
 use Rattle.weak_code.specs.Weakened.{weakened}
 use Rattle.weak_facts.specs.Ranges.{ranges_of}
 use Rattle.text_runs.proofs.law_text_log.Goals as goal

@@ -1,4 +1,4 @@
-use Rattle.c_core.specs.SourceRuns.{IsBeforeEntry}
+use Rattle.source_runs.specs.SourceRuns.{IsBeforeEntry}
 use Rattle.source_runs.proofs.Parts.{parts}
 use Rattle.source_runs.proofs.laws.law_own_events.Goals as goal
 
