@@ -14,3 +14,4 @@ pub mod Settle
 pub mod Shapes
 mod StripeRows
 pub mod ValidParts
+pub mod Scanning

@@ -63,11 +63,8 @@ fn address_at(kind: CellKind, word: u64) -> Option<u64>
 {
     match kind {
         CellKind::Pointer => { if word == 0 { None } else { Some(word) } }
-        CellKind::Whole
-        | CellKind::Mutex
-        | CellKind::Cond
-        | CellKind::Barrier
-        | CellKind::Rw => None,
+        CellKind::Whole | CellKind::Mutex | CellKind::Cond | CellKind::Barrier | CellKind::Rw =>
+            None,
     }
 }
 

@@ -1,5 +1,5 @@
 // Which stripes of weak locks a region takes.
-ghost use Rattle.std.specs.Prelude.{◌≡◌, ◌≤◌, ◌<◌, ◌-◌, ◌+ℤ◌, pos, length, slice_get};
+ghost use Rattle.std.specs.Prelude.{◌≡◌, ◌≤◌, ◌<◌, ℕ, ◌+◌, ◌-◌, ◌*◌, ◌/◌, ◌^◌, min, ◌+ℤ◌, pos, length, slice_get};
 ghost use Rattle.std.specs.List.{list_any};
 ghost use Rattle.std.specs.Option.{option_copied};
 ghost use Rattle.rr_base.specs.Words.{length_of};
@@ -90,7 +90,47 @@ fn cell_wants(code: &Code, word: PtrWord, lock: u32, stripe: u32) -> bool
 }
 
 #[tactic(auto, using(crate::proofs::Counting::any_step))]
-// Whether the stripe guards a cell of the word's object from one offset to before another.
+// Whether the stripe guards one of the word's cells from one offset to before another, each of which is looked at.
+fn scan(code: &Code, word: PtrWord, first: u16, following: u16, lock: u32, stripe: u32) -> bool
+    requires { following ≤ length_of word }
+    ensures { result ≡ any_from (λ offset. spec.guards code.now word offset lock stripe) (following - first) first }
+{
+    for offset in first..following {
+        if guards(code, word, offset, lock, stripe) {
+            return true;
+        }
+    }
+    false
+}
+
+// The first cell, in an object of so many, that lies in this eighth or in a later one.
+fn first_in_eighth(eighth: u64, cells: u16) -> u16
+    requires { eighth ≤ 2 ^ 32 }
+    ensures { result ≡ min ((eighth * cells + 7) / 8) cells }
+{
+    let first = (eighth * u64::from(cells) + 7) / 8;
+    first.min(u64::from(cells)) as u16
+}
+
+// From which cell to before which other the cells lie that a lock guards by this stripe, in an object of so many.
+#[tactic(auto, using(crate::proofs::Scanning::in_eighth))]
+fn cells_of_stripe(stripes: u8, stripe: u32, cells: u16) -> (u16, u16)
+    ensures guarded { (offset : ℕ) → offset < cells → spec.stripe_at stripes offset cells ≡ stripe → (result.0 ≤ offset) × (offset < result.1) }
+    ensures within { result.1 ≤ cells }
+{
+    if stripes != 8 {
+        return (0, cells);
+    }
+    let stripe = u64::from(stripe);
+    (
+        first_in_eighth(stripe, cells),
+        first_in_eighth(stripe + 1, cells),
+    )
+}
+
+// Whether the stripe guards a cell of the word's object from one offset to before another. Only cells that lie in the stripe
+// are looked at.
+#[tactic(auto, using(crate::proofs::Scanning::no_lock, crate::proofs::Scanning::other_site, crate::proofs::Scanning::in_stripe))]
 fn guards_any(
     code: &Code,
     word: PtrWord,
@@ -102,12 +142,14 @@ fn guards_any(
     requires { following ≤ length_of word }
     ensures { result ≡ any_from (λ offset. spec.guards code.now word offset lock stripe) (following - first) first }
 {
-    for offset in first..following {
-        if guards(code, word, offset, lock, stripe) {
-            return true;
-        }
+    let Some(info) = code.locks.get(lock as usize) else {
+        return false;
+    };
+    if info.site != word.site() {
+        return false;
     }
-    false
+    let (from, to) = cells_of_stripe(info.stripes, stripe, word.length());
+    scan(code, word, first.max(from), following.min(to), lock, stripe)
 }
 
 // The number, but at least 0 and at most so many.
