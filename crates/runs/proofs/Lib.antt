@@ -16,3 +16,8 @@ pub mod Solo
 pub mod Locked
 pub mod Written
 pub mod Numbered
+pub mod InTime
+pub mod Histories
+pub mod SameEvents
+pub mod NthEvents
+pub mod OrderRows

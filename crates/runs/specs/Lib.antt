@@ -6,3 +6,4 @@ pub mod Merge
 pub mod Walk
 pub mod Ordered
 pub mod Paths
+pub mod Places

@@ -1,17 +1,21 @@
 //! The theory of runs over any thread language: two steps that change places, a thread's step that leads, merges of
-//! lists of entries, the walk that they stand for, and accesses ordered by a lock. It stands on `sync_objects`
-//! alone. It promises its laws of every machine that is lawful, whatever its threads compute.
+//! lists of entries, the walk that they stand for, accesses ordered by a lock, in whatever ways its threads hold it,
+//! and what that order means: it is that of the run, and of each other run with the same lists. It stands on
+//! `sync_objects` alone. It promises its laws of every machine that is lawful, whatever its threads compute.
 #![tactic(auto)]
 
 ghost use Rattle.std.specs.Prelude.{◌≡◌, ◌≢◌, ◌<◌, ◌↔◌, ℕ, Bool, true, List, Some, map, length};
 ghost use Rattle.sync_objects.specs.declared.entry.Entry.{Entry};
 ghost use Rattle.sync_objects.specs.declared.entry.Noted.{Noted};
+ghost use Rattle.sync_objects.specs.declared.mode.Mode.{Mode};
 ghost use Rattle.sync_objects.specs.declared.object.ObjId.{ObjId};
+ghost use Rattle.sync_objects.specs.Modes.{excludes};
 ghost use Rattle.runs.specs.Labels.{Label};
 ghost use Rattle.runs.specs.Laws.{IsLawful, IsRaceFree, NoAccess};
 ghost use Rattle.runs.specs.Merge.{IsMerge, lists_from, written_merge};
 ghost use Rattle.runs.specs.Ordered.{Event, event_access, event_at, event_thread, IsHeldBy, Ordered, state_at};
 ghost use Rattle.runs.specs.Paths.{AreComparable, BeginsLike, path, StopsBefore};
+ghost use Rattle.runs.specs.Places.{ComeInOrder, IsNth};
 ghost use Rattle.runs.specs.Steps.{AllEnded, entries_of, Machine, number_at, run, State, trace};
 ghost use Rattle.runs.specs.Walk.{IsSoloRun, walk};
 
@@ -81,12 +85,13 @@ pub fn law_prefixes<T>()
 {}
 
 /// An access and a later event of another thread, each made while its thread holds one lock, are ordered by
-/// operations that pass something on. The two may hold it in two ways that exclude each other.
+/// operations that pass something on, where the modes in which the two hold it exclude each other.
 pub fn law_ordered_by_lock<T>()
     ensures { (machine : Machine T) (start before after : State T) (labels : List Label) (i j : ℕ) (first second : Event) →
-        (lock : ObjId) (first_holds second_holds : ℕ → State T → Bool) →
+        (lock : ObjId) (holds : Mode → ℕ → State T → Bool) (first_mode second_mode : Mode) →
         IsLawful machine →
-        IsHeldBy machine lock first_holds second_holds start →
+        IsHeldBy machine lock holds start →
+        excludes first_mode second_mode ≡ true →
         i < j →
         event_at machine labels start i ≡ Some first →
         event_at machine labels start j ≡ Some second →
@@ -94,7 +99,46 @@ pub fn law_ordered_by_lock<T>()
         event_thread first ≢ event_thread second →
         state_at machine labels start i ≡ Some before →
         state_at machine labels start j ≡ Some after →
-        first_holds (event_thread first) before ≡ true →
-        second_holds (event_thread second) after ≡ true →
+        holds first_mode (event_thread first) before ≡ true →
+        holds second_mode (event_thread second) after ≡ true →
         Ordered (event_at machine labels start) i j }
+{}
+
+/// Places of a run that are ordered by operations stand in this order in it.
+pub fn law_order_is_in_time<T>()
+    ensures { (machine : Machine T) (start : State T) (labels : List Label) (i j : ℕ) →
+        IsLawful machine →
+        Ordered (event_at machine labels start) i j →
+        i < j }
+{}
+
+/// In two runs from one state whose threads have equal lists of entries, and all of whose threads have ended, each
+/// thread makes the same events: its event number n of the one run is its event number n of the other.
+pub fn law_same_events<T>()
+    ensures { (machine : Machine T) (start end other_end : State T) (labels other : List Label) (i t n : ℕ) (event : Event) →
+        IsLawful machine →
+        IsRaceFree machine start →
+        run machine labels start ≡ Some end →
+        run machine other start ≡ Some other_end →
+        AllEnded machine end →
+        AllEnded machine other_end →
+        ((t : ℕ) → entries_of t (trace machine labels start) ≡ entries_of t (trace machine other start)) →
+        IsNth (event_at machine labels start) t n event i →
+        (place : ℕ) × IsNth (event_at machine other start) t n event place }
+{}
+
+/// Events that are ordered in one of two such runs come in the same order in the other one.
+pub fn law_same_order<T>()
+    ensures { (machine : Machine T) (start end other_end : State T) (labels other : List Label) (i j t n u k : ℕ) (first second : Event) →
+        IsLawful machine →
+        IsRaceFree machine start →
+        run machine labels start ≡ Some end →
+        run machine other start ≡ Some other_end →
+        AllEnded machine end →
+        AllEnded machine other_end →
+        ((t : ℕ) → entries_of t (trace machine labels start) ≡ entries_of t (trace machine other start)) →
+        IsNth (event_at machine labels start) t n first i →
+        IsNth (event_at machine labels start) u k second j →
+        Ordered (event_at machine labels start) i j →
+        ComeInOrder (event_at machine other start) t n first u k second }
 {}
