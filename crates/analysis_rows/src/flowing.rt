@@ -1,25 +1,41 @@
 ghost use Rattle.std.specs.Prelude.{◌≡◌, true, IfOk};
 ghost use Rattle.lockset_flow.specs.Flow.{all_sized};
 
-use crate::made::{add, library};
+use crate::made::{READS_FORMAL, WRITES_FORMAL, add, library};
 use abstract_machine::LibraryCall;
-use facts::{LockPath, Minus, RelLocks, argument_names};
+use facts::{Held, LockPath, Minus, RelLocks, argument_names};
 use flow_code::{Act, Code, Function, Instr, is_valid};
 use lockset_flow::{FlowFacts, flow_function};
 use rr_base::{Bytes, List};
 use std::alloc::{AllocError, Global};
 use std::test::Fail;
+use sync_objects::Mode;
 
-// The mutex to which the first formal points, and the one two cells after it.
+// The lock to which the first formal points.
 const FIRST: LockPath = LockPath::Formal {
     index: 0,
     offset: 0,
 };
 
-const THIRD: LockPath = LockPath::Formal {
-    index: 0,
-    offset: 2,
+// The one two cells after it.
+const READS_THIRD: Held = Held {
+    path: LockPath::Formal {
+        index: 0,
+        offset: 2,
+    },
+    mode: Mode::Read,
 };
+
+const WRITES_THIRD: Held = Held {
+    path: LockPath::Formal {
+        index: 0,
+        offset: 2,
+    },
+    mode: Mode::Write,
+};
+
+// A lock that may be written under may be read under too.
+const TAKEN: &[Held] = &[READS_FORMAL, WRITES_FORMAL];
 
 /// What the function under test does.
 #[derive(Clone, Copy, Debug)]
@@ -34,6 +50,12 @@ enum Body {
     Waits,
     /// It tries to lock its mutex.
     Tries,
+    /// It locks its read-write lock for reading, loads, and unlocks it.
+    Reads,
+    /// It locks its read-write lock for writing, stores, and unlocks it.
+    Writes,
+    /// It locks its read-write lock for writing, and gives one back that it doesn't know.
+    GivesUnknownBack,
     /// It calls a function that takes a lock.
     Calls,
 }
@@ -51,20 +73,48 @@ fn push_rest(alloc: Global, instrs: &mut List<Instr>, body: Body) -> Result<(), 
             )?;
             add(instrs, library(alloc, LibraryCall::MutexUnlock, &[0])?)
         }
-        Body::GivesUnknown => {
+        Body::GivesUnknown => push_unknown(alloc, instrs, LibraryCall::MutexUnlock),
+        Body::GivesUnknownBack => push_unknown(alloc, instrs, LibraryCall::RwUnlock),
+        Body::Reads => {
             add(
                 instrs,
                 Act::LoadCell {
-                    into: 2,
-                    through: 0,
+                    into: 3,
+                    through: 1,
                 },
             )?;
-            add(instrs, library(alloc, LibraryCall::MutexUnlock, &[2])?)
+            add(instrs, library(alloc, LibraryCall::RwUnlock, &[0])?)
+        }
+        Body::Writes => {
+            add(
+                instrs,
+                Act::StoreCell {
+                    through: 1,
+                    from: 3,
+                },
+            )?;
+            add(instrs, library(alloc, LibraryCall::RwUnlock, &[0])?)
         }
         Body::Loops => push_loop(alloc, instrs),
         Body::Waits => add(instrs, library(alloc, LibraryCall::CondWait, &[1, 0])?),
         Body::Tries | Body::Calls => Ok(()),
     }
+}
+
+// A lock that no name leads to is given back.
+fn push_unknown(
+    alloc: Global,
+    instrs: &mut List<Instr>,
+    call: LibraryCall,
+) -> Result<(), AllocError> {
+    add(
+        instrs,
+        Act::LoadCell {
+            into: 2,
+            through: 0,
+        },
+    )?;
+    add(instrs, library(alloc, call, &[2])?)
 }
 
 fn push_loop(alloc: Global, instrs: &mut List<Instr>) -> Result<(), AllocError> {
@@ -84,6 +134,8 @@ fn push_loop(alloc: Global, instrs: &mut List<Instr>) -> Result<(), AllocError> 
 fn first(alloc: Global, body: Body) -> Result<Act, AllocError> {
     match body {
         Body::Tries => library(alloc, LibraryCall::MutexTryLock, &[0]),
+        Body::Reads => library(alloc, LibraryCall::RwRdLock, &[0]),
+        Body::Writes | Body::GivesUnknownBack => library(alloc, LibraryCall::RwWrLock, &[0]),
         Body::Calls => Ok(Act::Call {
             function: 0,
             arguments: List::from_slice(alloc, &[0, 1])?,
@@ -152,7 +204,7 @@ fn code_of(alloc: Global, body: Body) -> Result<Code, AllocError> {
 fn exits(alloc: Global) -> Result<Vec<RelLocks>, AllocError>
     ensures { IfOk result (λ v. all_sized v.items ≡ true) }
 {
-    let plus = List::from_slice(alloc, &[THIRD])?;
+    let plus = List::from_slice(alloc, &[READS_THIRD, WRITES_THIRD])?;
     let mut exits = Vec::new(alloc);
     exits.push(RelLocks {
         plus,
@@ -172,12 +224,13 @@ fn facts_of(alloc: Global, code: &Code, exits: &[RelLocks]) -> Result<Option<Flo
         return Ok(None);
     };
     let names = argument_names(alloc, function)?;
-    let facts = flow_function(alloc, function, names.as_slice(), exits, &[FIRST, THIRD])?;
+    let top = [READS_FORMAL, WRITES_FORMAL, READS_THIRD, WRITES_THIRD];
+    let facts = flow_function(alloc, function, names.as_slice(), exits, &top)?;
     Ok(Some(facts))
 }
 
 // Whether these locks are held, and no others may have been given back; `None` is any lock.
-fn are(locks: &RelLocks, held: &[LockPath], gone: Option<&[LockPath]>) -> bool {
+fn are(locks: &RelLocks, held: &[Held], gone: Option<&[LockPath]>) -> bool {
     let plus_is = locks.plus.as_slice() == held;
     let minus_is = match (&locks.minus, gone) {
         (Minus::All, None) => true,
@@ -193,7 +246,7 @@ fn flow_to(
     body: Body,
     exits: &[RelLocks],
     at: usize,
-    held: &[LockPath],
+    held: &[Held],
     gone: Option<&[LockPath]>,
 ) -> Result<bool, AllocError>
     requires { all_sized exits.now ≡ true }
@@ -213,15 +266,20 @@ fn flow_to(
 fn locks_flow(rt: HostRuntime) -> Result<(), Fail> {
     let alloc = rt.alloc();
     let exits = exits(alloc)?;
-    let rows: [(Body, usize, &[LockPath], Option<&[LockPath]>); 8] = [
+    let rows: [(Body, usize, &[Held], Option<&[LockPath]>); 13] = [
         (Body::Guards, 0, &[], Some(&[])),
-        (Body::Guards, 1, &[FIRST], Some(&[])),
+        (Body::Guards, 1, TAKEN, Some(&[])),
         (Body::Guards, 3, &[], Some(&[FIRST])),
         (Body::GivesUnknown, 3, &[], None),
         (Body::Loops, 1, &[], Some(&[FIRST])),
-        (Body::Waits, 2, &[FIRST], Some(&[FIRST])),
+        (Body::Waits, 2, TAKEN, Some(&[FIRST])),
         (Body::Tries, 1, &[], Some(&[])),
-        (Body::Calls, 1, &[THIRD], None),
+        (Body::Reads, 1, &[READS_FORMAL], Some(&[])),
+        (Body::Reads, 3, &[], Some(&[FIRST])),
+        (Body::Writes, 1, TAKEN, Some(&[])),
+        (Body::Writes, 3, &[], Some(&[FIRST])),
+        (Body::GivesUnknownBack, 3, &[], None),
+        (Body::Calls, 1, &[READS_THIRD, WRITES_THIRD], None),
     ];
     for &(body, at, held, gone) in &rows {
         let found = flow_to(alloc, body, &exits, at, held, gone)?;

@@ -1,15 +1,16 @@
 ghost use Rattle.std.specs.Prelude.{◌≡◌, ℕ, [], ◌<◌, length, slice_get, slice_index_or, Some, IfOk};
 ghost use Rattle.flow_code.specs.declared.code.Function.{Function};
 
-use crate::made::{instrs, library};
+use crate::made::{READS_FORMAL, WRITES_FORMAL, instrs, library};
 use abstract_machine::LibraryCall;
-use facts::{AccessAt, Guarded, LockPath, Minus, Pair, PointsTo, RelLocks, Summary};
+use facts::{AccessAt, Guarded, Held, LockPath, Minus, Pair, PointsTo, RelLocks, Summary};
 use flow_code::{Act, Code, Function};
 use race_pairs::pairs;
 use rr_base::{List, Place};
 use std::alloc::{AllocError, Global};
 use std::process::Abort;
 use std::test::Fail;
+use sync_objects::Mode;
 
 const INC: u32 = 0;
 
@@ -23,19 +24,43 @@ const X: Place = Place { site: 1, class: 0 };
 
 const Y: Place = Place { site: 2, class: 3 };
 
-const NO_LOCKS: &[LockPath] = &[];
+const NO_LOCKS: &[Held] = &[];
 
-const GLOBAL: &[LockPath] = &[LockPath::Cell(7)];
+// The lock in cell 7, held for reading.
+const READ: Held = Held {
+    path: LockPath::Cell(7),
+    mode: Mode::Read,
+};
 
-const OTHER_GLOBAL: &[LockPath] = &[LockPath::Cell(6), LockPath::Cell(8)];
+// The same, held for writing.
+const WRITTEN: Held = Held {
+    path: LockPath::Cell(7),
+    mode: Mode::Write,
+};
 
-const FORMAL: &[LockPath] = &[LockPath::Formal {
-    index: 0,
-    offset: 0,
-}];
+const GLOBAL: &[Held] = &[READ, WRITTEN];
+
+const READ_GLOBAL: &[Held] = &[READ];
+
+const OTHER_GLOBAL: &[Held] = &[
+    Held {
+        path: LockPath::Cell(6),
+        mode: Mode::Read,
+    },
+    Held {
+        path: LockPath::Cell(6),
+        mode: Mode::Write,
+    },
+    Held {
+        path: LockPath::Cell(8),
+        mode: Mode::Read,
+    },
+];
+
+const FORMAL: &[Held] = &[READS_FORMAL, WRITES_FORMAL];
 
 /// An access of a summary: its function and instruction there, whether it stores, and the locks that are held.
-type Seen = (u32, u32, bool, &'static [LockPath]);
+type Seen = (u32, u32, bool, &'static [Held]);
 
 /// The accesses of the summaries of the four functions, and the pairs: a place, and two accesses.
 #[derive(Clone, Copy)]
@@ -235,7 +260,27 @@ static ROWS: [Row; 5] = [
 ];
 
 // More of them, in a table of its own, since a function that names one pays for its rows.
-static MORE_ROWS: [Row; 6] = [
+static MORE_ROWS: [Row; 8] = [
+    // Of one lock, those who read under it may meet, and who writes under it is alone.
+    Row {
+        summaries: [
+            &[(INC, 0, false, READ_GLOBAL), (INC, 1, true, GLOBAL)],
+            &[(MAIN, 3, true, READ_GLOBAL)],
+            &[],
+            &[],
+        ],
+        want: &[(X, (INC, 0), (MAIN, 3))],
+    },
+    // A lock for writing on one side, and another one on the other.
+    Row {
+        summaries: [
+            &[(INC, 0, false, READ_GLOBAL)],
+            &[(MAIN, 3, true, OTHER_GLOBAL)],
+            &[],
+            &[],
+        ],
+        want: &[(X, (INC, 0), (MAIN, 3))],
+    },
     // Two functions with which threads begin.
     Row {
         summaries: [

@@ -1,26 +1,31 @@
-use crate::made::{START, add, library};
+use crate::made::{
+    READS_FIRST_CELL, READS_FORMAL, START, WRITES_FIRST_CELL, WRITES_FORMAL, add, library,
+};
 use abstract_machine::LibraryCall;
-use facts::{Guarded, LockPath, Minus, RelLocks, Summary};
+use facts::{AccessAt, Guarded, Held, LockPath, Minus, Pair, RelLocks, Summary};
 use flow_code::{Act, Code, Function, Instr, Work, is_valid};
 use lockset_summary::summaries;
-use rr_base::{CellKind, Layout, List, PtrWord, Site};
+use points_to::solve;
+use race_pairs::pairs;
+use rr_base::{CellKind, Layout, List, Place, PtrWord, Site};
 use std::alloc::{AllocError, Global};
 use std::process::Abort;
 use std::test::Fail;
 
-// The addresses of the globals: a mutex, and two numbers.
-const MUTEX: u64 = (1 << 54) + (1 << 16);
+// The addresses of the globals: a lock, and two numbers.
+const LOCK: u64 = (1 << 54) + (1 << 16);
 
 const NUMBER: u64 = (2 << 54) + (1 << 32) + (1 << 16);
 
 const THREAD: u64 = (3 << 54) + (2 << 32) + (1 << 16);
 
-const HELD: &[LockPath] = &[LockPath::Cell(0)];
+const HELD: &[Held] = &[READS_FIRST_CELL, WRITES_FIRST_CELL];
 
-const HANDED: &[LockPath] = &[LockPath::Formal {
-    index: 0,
-    offset: 0,
-}];
+const READ_HELD: &[Held] = &[READS_FIRST_CELL];
+
+const GONE: &[LockPath] = &[LockPath::Cell(0)];
+
+const HANDED: &[Held] = &[READS_FORMAL, WRITES_FORMAL];
 
 /// What is expected of an access: where it is made, whether it stores, which locks are held there, and which may have
 /// been given back; `None` is any lock.
@@ -29,7 +34,7 @@ struct Want {
     function: u32,
     instr: u32,
     store: bool,
-    plus: &'static [LockPath],
+    plus: &'static [Held],
     minus: Option<&'static [LockPath]>,
 }
 
@@ -41,14 +46,23 @@ enum Program {
     /// Function 0 takes the mutex of its formal, 1 gives one back that it doesn't know, 2 calls both with the mutex, and
     /// stores after each call.
     Formals,
+    /// Function 0 takes a read-write lock for reading, loads and gives it back. `main` starts it, takes the lock for
+    /// writing, stores and gives it back.
+    ReaderAndWriter,
+    /// The same, where `main` takes the lock for reading too.
+    TwoReaders,
+}
+
+fn address_into(into: u32, word: u64) -> Act {
+    Act::Compute {
+        into,
+        work: Work::Address(PtrWord::from_word(word)),
+    }
 }
 
 // Register 1 gets an address.
 fn address(word: u64) -> Act {
-    Act::Compute {
-        into: 1,
-        work: Work::Address(PtrWord::from_word(word)),
-    }
+    address_into(1, word)
 }
 
 fn store() -> Act {
@@ -67,16 +81,19 @@ fn call(alloc: Global, function: u32, arguments: &[u32]) -> Result<Act, AllocErr
     })
 }
 
-fn give_back(alloc: Global, instrs: &mut List<Instr>) -> Result<(), AllocError> {
-    add(instrs, address(MUTEX))?;
-    add(instrs, library(alloc, LibraryCall::MutexUnlock, &[1])?)?;
+// Two instructions: the call, with the address of the lock.
+fn of_lock(alloc: Global, instrs: &mut List<Instr>, call: LibraryCall) -> Result<(), AllocError> {
+    add(instrs, address(LOCK))?;
+    add(instrs, library(alloc, call, &[1])?)?;
     Ok(())
 }
 
+fn give_back(alloc: Global, instrs: &mut List<Instr>) -> Result<(), AllocError> {
+    of_lock(alloc, instrs, LibraryCall::MutexUnlock)
+}
+
 fn take(alloc: Global, instrs: &mut List<Instr>) -> Result<(), AllocError> {
-    add(instrs, address(MUTEX))?;
-    add(instrs, library(alloc, LibraryCall::MutexLock, &[1])?)?;
-    Ok(())
+    of_lock(alloc, instrs, LibraryCall::MutexLock)
 }
 
 fn start_and_join(alloc: Global, instrs: &mut List<Instr>) -> Result<(), AllocError> {
@@ -131,7 +148,7 @@ fn call_and_store(
     instrs: &mut List<Instr>,
     function: u32,
 ) -> Result<(), AllocError> {
-    add(instrs, address(MUTEX))?;
+    add(instrs, address(LOCK))?;
     add(instrs, call(alloc, function, &[1])?)?;
     add(instrs, address(NUMBER))?;
     add(instrs, store())?;
@@ -163,6 +180,46 @@ fn push_formals(
     }
 }
 
+// Function 0 reads a number under a read-write lock, and `main`, which starts it, writes it where it has taken the lock by
+// this call. Each address has a register of its own.
+fn push_readers(
+    alloc: Global,
+    instrs: &mut List<Instr>,
+    function: usize,
+    call: LibraryCall,
+) -> Result<(), AllocError> {
+    match function {
+        0 => {
+            of_lock(alloc, instrs, LibraryCall::RwRdLock)?;
+            add(instrs, address_into(3, NUMBER))?;
+            add(
+                instrs,
+                Act::LoadCell {
+                    into: 2,
+                    through: 3,
+                },
+            )?;
+            of_lock(alloc, instrs, LibraryCall::RwUnlock)
+        }
+        3 => {
+            add(instrs, address_into(4, THREAD))?;
+            let start = LibraryCall::Create { function: 0 };
+            add(instrs, library(alloc, start, &[4, 4])?)?;
+            of_lock(alloc, instrs, call)?;
+            add(instrs, address_into(3, NUMBER))?;
+            add(
+                instrs,
+                Act::StoreCell {
+                    through: 3,
+                    from: 2,
+                },
+            )?;
+            of_lock(alloc, instrs, LibraryCall::RwUnlock)
+        }
+        _ => Ok(()),
+    }
+}
+
 fn push_instrs(
     alloc: Global,
     instrs: &mut List<Instr>,
@@ -172,11 +229,15 @@ fn push_instrs(
     match program {
         Program::Threads => push_threads(alloc, instrs, function)?,
         Program::Formals => push_formals(alloc, instrs, function)?,
+        Program::ReaderAndWriter => {
+            push_readers(alloc, instrs, function, LibraryCall::RwWrLock)?
+        }
+        Program::TwoReaders => push_readers(alloc, instrs, function, LibraryCall::RwRdLock)?,
     }
     add(instrs, Act::Return { value: None })
 }
 
-// Registers 0 and 1 are pointers, and 2 is a number. Each function but `main` has one formal.
+// Register 2 is a number, and the others are pointers. Each function but `main` has one formal.
 fn function(alloc: Global, program: Program, index: usize) -> Result<Function, AllocError> {
     let mut instrs = List::new(alloc);
     push_instrs(alloc, &mut instrs, program, index)?;
@@ -185,8 +246,8 @@ fn function(alloc: Global, program: Program, index: usize) -> Result<Function, A
         name: List::from_slice(alloc, name)?,
         line: 1,
         formals: if index == 3 { 0 } else { 1 },
-        registers: 3,
-        pointers: List::from_slice(alloc, &[true, true, false])?,
+        registers: 5,
+        pointers: List::from_slice(alloc, &[true, true, false, true, true])?,
         gives_pointer: index != 3,
         instrs,
         loops: List::new(alloc),
@@ -223,8 +284,15 @@ fn sites(alloc: Global, kinds: &[CellKind]) -> Result<List<Site>, AllocError> {
     Ok(sites)
 }
 
+fn lock_kind(program: Program) -> CellKind {
+    match program {
+        Program::Threads | Program::Formals => CellKind::Mutex,
+        Program::ReaderAndWriter | Program::TwoReaders => CellKind::Rw,
+    }
+}
+
 fn code_of(alloc: Global, program: Program) -> Result<Code, AllocError> {
-    let kinds = [CellKind::Mutex, CellKind::Whole, CellKind::Whole];
+    let kinds = [lock_kind(program), CellKind::Whole, CellKind::Whole];
     let functions = functions(alloc, program)?;
     let sites = sites(alloc, &kinds)?;
     Ok(Code {
@@ -246,12 +314,7 @@ fn summaries_of(alloc: Global, program: Program) -> Result<Option<List<Summary>>
     Ok(Some(summaries))
 }
 
-fn paths_are(
-    plus: &List<LockPath>,
-    minus: &Minus,
-    held: &[LockPath],
-    gone: Option<&[LockPath]>,
-) -> bool {
+fn locks_are(plus: &List<Held>, minus: &Minus, held: &[Held], gone: Option<&[LockPath]>) -> bool {
     let minus_is = match (minus, gone) {
         (Minus::All, None) => true,
         (Minus::Listed(paths), Some(gone)) => paths.as_slice() == gone,
@@ -264,7 +327,7 @@ fn is_wanted(access: &Guarded, want: Want) -> bool {
     access.function == want.function
         && access.instr == want.instr
         && access.store == want.store
-        && paths_are(&access.plus, &access.minus, want.plus, want.minus)
+        && locks_are(&access.plus, &access.minus, want.plus, want.minus)
 }
 
 fn are_wanted(accesses: &[Guarded], wants: &[Want]) -> bool {
@@ -282,7 +345,7 @@ fn are_wanted(accesses: &[Guarded], wants: &[Want]) -> bool {
 fn agrees(
     summaries: &Option<List<Summary>>,
     function: usize,
-    held: &[LockPath],
+    held: &[Held],
     gone: Option<&[LockPath]>,
     wants: &[Want],
 ) -> bool {
@@ -293,7 +356,7 @@ fn agrees(
         return false;
     };
     let RelLocks { plus, minus } = &summary.exit;
-    paths_are(plus, minus, held, gone) && are_wanted(summary.guarded.as_slice(), wants)
+    locks_are(plus, minus, held, gone) && are_wanted(summary.guarded.as_slice(), wants)
 }
 
 // The second instruction of function 0, which stores without a lock.
@@ -354,7 +417,7 @@ const JOIN_SECOND: Want = Want {
 
 /// The locks at a function's exit, those that may have been given back by then, and its accesses.
 type Found = (
-    &'static [LockPath],
+    &'static [Held],
     Option<&'static [LockPath]>,
     &'static [Want],
 );
@@ -362,8 +425,8 @@ type Found = (
 // What is found of each function of the two programs.
 static THREADS: [Found; 4] = [
     (&[], Some(&[]), &[FREE]),
-    (&[], Some(HELD), &[ALONE]),
-    (&[], Some(HELD), &[UNDER]),
+    (&[], Some(GONE), &[ALONE]),
+    (&[], Some(GONE), &[UNDER]),
     (
         &[],
         Some(&[]),
@@ -375,6 +438,42 @@ static THREADS: [Found; 4] = [
             JOIN_SECOND,
         ],
     ),
+];
+
+// The load under a lock that is held for reading.
+const READ: Want = Want {
+    function: 0,
+    instr: 3,
+    store: false,
+    plus: READ_HELD,
+    minus: Some(&[]),
+};
+
+const WRITTEN: Want = Want {
+    function: 3,
+    instr: 5,
+    store: true,
+    plus: HELD,
+    minus: Some(&[]),
+};
+
+const WRITTEN_AS_READER: Want = Want {
+    plus: READ_HELD,
+    ..WRITTEN
+};
+
+static READER_AND_WRITER: [Found; 4] = [
+    (&[], Some(GONE), &[READ]),
+    (&[], Some(&[]), &[]),
+    (&[], Some(&[]), &[]),
+    (&[], Some(GONE), &[START_FIRST, WRITTEN]),
+];
+
+static TWO_READERS: [Found; 4] = [
+    (&[], Some(GONE), &[READ]),
+    (&[], Some(&[]), &[]),
+    (&[], Some(&[]), &[]),
+    (&[], Some(GONE), &[START_FIRST, WRITTEN_AS_READER]),
 ];
 
 static FORMALS: [Found; 4] = [
@@ -408,4 +507,65 @@ fn functions_with_threads_are_summarised(rt: HostRuntime) -> Result<(), Fail> {
 #[test]
 fn functions_with_formals_are_summarised(rt: HostRuntime) -> Result<(), Fail> {
     check_program(&rt, rt.alloc(), Program::Formals, &FORMALS)
+}
+
+#[test]
+fn functions_with_a_reader_and_a_writer_are_summarised(rt: HostRuntime) -> Result<(), Fail> {
+    check_program(
+        &rt,
+        rt.alloc(),
+        Program::ReaderAndWriter,
+        &READER_AND_WRITER,
+    )
+}
+
+#[test]
+fn functions_with_two_readers_are_summarised(rt: HostRuntime) -> Result<(), Fail> {
+    check_program(&rt, rt.alloc(), Program::TwoReaders, &TWO_READERS)
+}
+
+// The pairs of a program's accesses, if its code is valid.
+fn pairs_of(alloc: Global, program: Program) -> Result<Option<List<Pair>>, AllocError> {
+    let code = code_of(alloc, program)?;
+    if !is_valid(&code) {
+        return Ok(None);
+    }
+    let points = solve(alloc, &code)?;
+    let summaries = summaries(alloc, &code)?;
+    let pairs = pairs(alloc, &code, &points, &summaries)?;
+    Ok(Some(pairs))
+}
+
+fn check_pairs(
+    rt: &impl Abort,
+    alloc: Global,
+    program: Program,
+    want: &[Pair],
+) -> Result<(), Fail> {
+    let Some(found) = pairs_of(alloc, program)? else {
+        panic!(rt; "{program:?} is not valid");
+    };
+    assert_eq!(rt; found.as_slice(), want, "{program:?}");
+    Ok(())
+}
+
+#[test]
+fn a_writer_shuts_a_reader_out(rt: HostRuntime) -> Result<(), Fail> {
+    check_pairs(&rt, rt.alloc(), Program::ReaderAndWriter, &[])
+}
+
+#[test]
+fn two_readers_may_race(rt: HostRuntime) -> Result<(), Fail> {
+    let want = Pair {
+        place: Place { site: 2, class: 0 },
+        first: AccessAt {
+            function: 0,
+            instr: 3,
+        },
+        second: AccessAt {
+            function: 3,
+            instr: 5,
+        },
+    };
+    check_pairs(&rt, rt.alloc(), Program::TwoReaders, &[want])
 }

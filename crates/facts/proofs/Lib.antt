@@ -1,3 +1,5 @@
+pub mod HeldSets
+pub mod ItemSets
 pub mod Orders
 pub mod Summaries
 pub mod Tables

@@ -1,98 +1,81 @@
--- Two lists of paths that ascend, merged, are their union.
+-- Two lists that ascend, merged, are their union.
 use Rattle.std.proofs.Common.{◌≡◌, ℕ, ◌≤◌, Bool, true, false, List, [], ◌∷◌, ◌++◌, length, drop, refl, sym, ap, ◌∙◌, subst}
-use Rattle.std.specs.Prelude.{◌&&◌, if◌then◌else◌}
-use Rattle.std.proofs.lemmas.Bool.{true≢false}
+use Rattle.std.specs.Prelude.{if◌then◌else◌}
 use Rattle.std.proofs.lemmas.List.{drop_all}
-use Rattle.facts.specs.declared.locks.LockPath.{LockPath}
-use Rattle.facts.specs.Locks.{is_less, is_same, with, union, are_ascending}
-use Rattle.facts.specs.Merges.{comes_first, before_path, after_path, merge}
-use Rattle.facts.proofs.PathSets.{less_other}
-use Rattle.facts.proofs.Orders.{path_irr, path_trans, path_same}
+use Rattle.facts.specs.Merges.{before_item, after_item, merge}
+use Rattle.facts.specs.Sets.{Orders, comes_first, are_ascending, with, union}
+use Rattle.facts.proofs.ItemSets.{irr, less_other, ascending_parts, past_less}
 
-pub ascending_step : (p : LockPath) (ps : List LockPath) → are_ascending (p ∷ ps) ≡ (comes_first p ps && are_ascending ps)
-ascending_step p [] = refl
-ascending_step p (q ∷ ps) = refl
+module _ {X : Type 0} (less same : X → X → Bool) (o : Orders less same) where
+  not_back : (p q : X) → less p q ≡ true → less q p ≡ false
+  not_back p q h = by (less q p) refl
+    where
+      by : (b : Bool) → less q p ≡ b → less q p ≡ false
+      by true e = absurd (irr less same o p (o.along p q p h e))
+      by false e = e
 
-both : (a b : Bool) → (a && b) ≡ true → (a ≡ true) × (b ≡ true)
-both true b h = (refl, h)
-both false b h = absurd (true≢false (sym h))
+  not_same : (p q : X) → less p q ≡ true → same q p ≡ false
+  not_same p q h = by (same q p) refl
+    where
+      by : (b : Bool) → same q p ≡ b → same q p ≡ false
+      by true e = absurd (irr less same o p (subst (λ z. less p z ≡ true) (o.same_is q p e) h))
+      by false e = e
 
-pub parts : (p : LockPath) (ps : List LockPath) → are_ascending (p ∷ ps) ≡ true → (comes_first p ps ≡ true) × (are_ascending ps ≡ true)
-parts p ps h = both (comes_first p ps) (are_ascending ps) (sym (ascending_step p ps) ∙ h)
+  -- none of what comes after an item comes before it
+  none_before : (p : X) (qs : List X) → comes_first less p qs ≡ true → (before_item less p qs ≡ []) × (after_item less same p qs ≡ qs)
+  none_before p [] h = (refl, refl)
+  none_before p (q ∷ qs) h = (
+    ap (λ b. if b then q ∷ before_item less p qs else []) (not_back p q h),
+    ap (λ b. if b then after_item less same p qs else if same q p then qs else q ∷ qs) (not_back p q h) ∙ ap (λ b. if b then qs else q ∷ qs) (not_same p q h),
+  )
 
-not_back : (p q : LockPath) → is_less p q ≡ true → is_less q p ≡ false
-not_back p q h = by (is_less q p) refl
-  where
-    by : (b : Bool) → is_less q p ≡ b → is_less q p ≡ false
-    by true e = absurd (path_irr p (path_trans p q p h e))
-    by false e = e
+  first_with : (q : X) (rs : List X) → comes_first less q rs ≡ true → with less same q rs ≡ q ∷ rs
+  first_with q [] h = refl
+  first_with q (r ∷ rs) h = ap (λ b. if b then q ∷ r ∷ rs else if same q r then r ∷ rs else r ∷ with less same q rs) h
 
-not_same : (p q : LockPath) → is_less p q ≡ true → is_same q p ≡ false
-not_same p q h = by (is_same q p) refl
-  where
-    by : (b : Bool) → is_same q p ≡ b → is_same q p ≡ false
-    by true e = absurd (path_irr p (subst (λ z. is_less p z ≡ true) (path_same q p e) h))
-    by false e = e
+  first_merge : (q p : X) (ps qs : List X) → less q p ≡ true → comes_first less q qs ≡ true → comes_first less q (merge less same (p ∷ ps) qs) ≡ true
+  first_merge q p ps [] lt h = lt
+  first_merge q p ps (x ∷ qs) lt h = by (less x p)
+    where
+      by : (b : Bool) → comes_first less q ((if b then x ∷ before_item less p qs else []) ++ p ∷ merge less same ps (after_item less same p (x ∷ qs))) ≡ true
+      by true = h
+      by false = lt
 
--- none of what comes after a path comes before it
-none_before : (p : LockPath) (qs : List LockPath) → comes_first p qs ≡ true → (before_path p qs ≡ []) × (after_path p qs ≡ qs)
-none_before p [] h = (refl, refl)
-none_before p (q ∷ qs) h = (
-  ap (λ b. if b then q ∷ before_path p qs else []) (not_back p q h),
-  ap (λ b. if b then after_path p qs else if is_same q p then qs else q ∷ qs) (not_back p q h) ∙ ap (λ b. if b then qs else q ∷ qs) (not_same p q h),
-)
+  with_merge : (ps : List X) (q : X) (qs : List X) → comes_first less q qs ≡ true → with less same q (merge less same ps qs) ≡ merge less same ps (q ∷ qs)
+  with_merge [] q qs h = first_with q qs h
+  with_merge (p ∷ ps) q qs h = by (with_merge ps q qs h) (less q p) refl (same q p) refl
+    where
+      joined : with less same q (merge less same ps qs) ≡ merge less same ps (q ∷ qs) → (b : Bool) → less q p ≡ false → same q p ≡ b → with less same q (merge less same (p ∷ ps) qs) ≡ p ∷ merge less same ps (if b then qs else q ∷ qs)
+      joined rest true n e =
+          let equal = o.same_is q p e in
+          let none = none_before p qs (subst (λ z. comes_first less z qs ≡ true) equal h) in
+          ap (with less same q) (ap (λ z. z ++ p ∷ merge less same ps (after_item less same p qs)) none.0 ∙ ap (λ z. p ∷ merge less same ps z) none.1)
+          ∙ ap (λ b. if b then q ∷ p ∷ merge less same ps qs else if same q p then p ∷ merge less same ps qs else p ∷ with less same q (merge less same ps qs)) n
+          ∙ ap (λ b. if b then p ∷ merge less same ps qs else p ∷ with less same q (merge less same ps qs)) e
+      joined rest false n e =
+          let lt = less_other less same o q p n e in
+          let none = none_before p qs (past_less less same o p q qs lt h) in
+          ap (with less same q) (ap (λ z. z ++ p ∷ merge less same ps (after_item less same p qs)) none.0 ∙ ap (λ z. p ∷ merge less same ps z) none.1)
+          ∙ ap (λ b. if b then q ∷ p ∷ merge less same ps qs else if same q p then p ∷ merge less same ps qs else p ∷ with less same q (merge less same ps qs)) n
+          ∙ ap (λ b. if b then p ∷ merge less same ps qs else p ∷ with less same q (merge less same ps qs)) e
+          ∙ ap (λ z. p ∷ z) rest
 
-first_with : (q : LockPath) (rs : List LockPath) → comes_first q rs ≡ true → with q rs ≡ q ∷ rs
-first_with q [] h = refl
-first_with q (r ∷ rs) h = ap (λ b. if b then q ∷ r ∷ rs else if is_same q r then r ∷ rs else r ∷ with q rs) h
+      by : with less same q (merge less same ps qs) ≡ merge less same ps (q ∷ qs) → (l : Bool) → less q p ≡ l → (s : Bool) → same q p ≡ s → with less same q (merge less same (p ∷ ps) qs) ≡ merge less same (p ∷ ps) (q ∷ qs)
+      by rest true e s g =
+          first_with q (merge less same (p ∷ ps) qs) (first_merge q p ps qs e h)
+          ∙ sym (ap (λ b. (if b then q ∷ before_item less p qs else []) ++ p ∷ merge less same ps (if b then after_item less same p qs else if same q p then qs else q ∷ qs)) e)
+      by rest false e s g =
+          joined rest s e g
+          ∙ sym (ap (λ b. (if b then q ∷ before_item less p qs else []) ++ p ∷ merge less same ps (if b then after_item less same p qs else if same q p then qs else q ∷ qs)) e ∙ ap (λ b. p ∷ merge less same ps (if b then qs else q ∷ qs)) g)
 
-first_merge : (q p : LockPath) (ps qs : List LockPath) → is_less q p ≡ true → comes_first q qs ≡ true → comes_first q (merge (p ∷ ps) qs) ≡ true
-first_merge q p ps [] lt h = lt
-first_merge q p ps (x ∷ qs) lt h = by (is_less x p)
-  where
-    by : (b : Bool) → comes_first q ((if b then x ∷ before_path p qs else []) ++ p ∷ merge ps (after_path p (x ∷ qs))) ≡ true
-    by true = h
-    by false = lt
+  no_others : (ps : List X) → merge less same ps [] ≡ ps
+  no_others [] = refl
+  no_others (p ∷ ps) = ap (λ z. p ∷ z) (no_others ps)
 
-trans_first : (p q : LockPath) (qs : List LockPath) → is_less p q ≡ true → comes_first q qs ≡ true → comes_first p qs ≡ true
-trans_first p q [] lt h = refl
-trans_first p q (x ∷ qs) lt h = path_trans p q x lt h
+  pub merged_union : (ps qs : List X) → are_ascending less qs ≡ true → merge less same ps qs ≡ union less same ps qs
+  merged_union ps [] h = no_others ps
+  merged_union ps (q ∷ qs) h = let a = ascending_parts less same o q qs h in sym (with_merge ps q qs a.0) ∙ ap (with less same q) (merged_union ps qs a.1)
 
-with_merge : (ps : List LockPath) (q : LockPath) (qs : List LockPath) → comes_first q qs ≡ true → with q (merge ps qs) ≡ merge ps (q ∷ qs)
-with_merge [] q qs h = first_with q qs h
-with_merge (p ∷ ps) q qs h = by (with_merge ps q qs h) (is_less q p) refl (is_same q p) refl
-  where
-    joined : with q (merge ps qs) ≡ merge ps (q ∷ qs) → (b : Bool) → is_less q p ≡ false → is_same q p ≡ b → with q (merge (p ∷ ps) qs) ≡ p ∷ merge ps (if b then qs else q ∷ qs)
-    joined rest true n e =
-        let same = path_same q p e in
-        let none = none_before p qs (subst (λ z. comes_first z qs ≡ true) same h) in
-        ap (with q) (ap (λ z. z ++ p ∷ merge ps (after_path p qs)) none.0 ∙ ap (λ z. p ∷ merge ps z) none.1)
-        ∙ ap (λ b. if b then q ∷ p ∷ merge ps qs else if is_same q p then p ∷ merge ps qs else p ∷ with q (merge ps qs)) n
-        ∙ ap (λ b. if b then p ∷ merge ps qs else p ∷ with q (merge ps qs)) e
-    joined rest false n e =
-        let lt = less_other q p n e in
-        let none = none_before p qs (trans_first p q qs lt h) in
-        ap (with q) (ap (λ z. z ++ p ∷ merge ps (after_path p qs)) none.0 ∙ ap (λ z. p ∷ merge ps z) none.1)
-        ∙ ap (λ b. if b then q ∷ p ∷ merge ps qs else if is_same q p then p ∷ merge ps qs else p ∷ with q (merge ps qs)) n
-        ∙ ap (λ b. if b then p ∷ merge ps qs else p ∷ with q (merge ps qs)) e
-        ∙ ap (λ z. p ∷ z) rest
-
-    by : with q (merge ps qs) ≡ merge ps (q ∷ qs) → (l : Bool) → is_less q p ≡ l → (s : Bool) → is_same q p ≡ s → with q (merge (p ∷ ps) qs) ≡ merge (p ∷ ps) (q ∷ qs)
-    by rest true e s g =
-        first_with q (merge (p ∷ ps) qs) (first_merge q p ps qs e h)
-        ∙ sym (ap (λ b. (if b then q ∷ before_path p qs else []) ++ p ∷ merge ps (if b then after_path p qs else if is_same q p then qs else q ∷ qs)) e)
-    by rest false e s g =
-        joined rest s e g
-        ∙ sym (ap (λ b. (if b then q ∷ before_path p qs else []) ++ p ∷ merge ps (if b then after_path p qs else if is_same q p then qs else q ∷ qs)) e ∙ ap (λ b. p ∷ merge ps (if b then qs else q ∷ qs)) g)
-
-no_others : (ps : List LockPath) → merge ps [] ≡ ps
-no_others [] = refl
-no_others (p ∷ ps) = ap (λ z. p ∷ z) (no_others ps)
-
-pub merged_union : (ps qs : List LockPath) → are_ascending qs ≡ true → merge ps qs ≡ union ps qs
-merged_union ps [] h = no_others ps
-merged_union ps (q ∷ qs) h = let a = parts q qs h in sym (with_merge ps q qs a.0) ∙ ap (with q) (merged_union ps qs a.1)
-
--- once all paths have been gone through, the others that are left make it whole
-pub merged_end : (ps qs out rest new : List LockPath) (n : ℕ) → length ps ≤ n → new ≡ out ++ rest → out ++ merge (drop n ps) rest ≡ merge ps qs → are_ascending qs ≡ true → new ≡ union ps qs
-merged_end ps qs out rest new n le is was h = is ∙ ap (λ z. out ++ merge z rest) (sym (drop_all n ps le)) ∙ was ∙ merged_union ps qs h
+  -- once all items have been gone through, the others that are left make it whole
+  pub merged_end : (ps qs out rest new : List X) (n : ℕ) → length ps ≤ n → new ≡ out ++ rest → out ++ merge less same (drop n ps) rest ≡ merge less same ps qs → are_ascending less qs ≡ true → new ≡ union less same ps qs
+  merged_end ps qs out rest new n le is was h = is ∙ ap (λ z. out ++ merge less same z rest) (sym (drop_all n ps le)) ∙ was ∙ merged_union ps qs h

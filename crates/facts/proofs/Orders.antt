@@ -1,17 +1,19 @@
 -- The orders of paths, guarded accesses and pairs are strict.
 use Rattle.std.proofs.Common.{◌≡◌, ℕ, nat_lt, ◌&&◌, ◌||◌, ◌==◌, Bool, true, false, List, [], ◌∷◌, refl, sym, ap, ◌∙◌, subst, ◌⊎◌, inl, inr, arith}
 use Rattle.facts.specs.declared.locks.Guarded.{Guarded}
+use Rattle.facts.specs.declared.locks.Held.{Held}
 use Rattle.facts.specs.declared.locks.LockPath.{LockPath}
-use Rattle.facts.specs.declared.locks.LockPath.TheVariants.{Cell, Formal}
 use Rattle.facts.specs.declared.locks.Minus.{Minus}
 use Rattle.facts.specs.declared.locks.Minus.TheVariants.{All, Listed}
 use Rattle.facts.specs.declared.locks.RelLocks.{RelLocks}
 use Rattle.facts.specs.declared.pair.AccessAt.{AccessAt}
 use Rattle.facts.specs.declared.pair.Pair.{Pair}
 use Rattle.rr_base.specs.declared.layout.Place.{Place}
-use Rattle.facts.specs.Locks.{is_less, is_same}
+use Rattle.facts.specs.Locks.{is_less, is_same, held_less, held_same}
 use Rattle.facts.specs.Pairs.{pair_less, place_less, place_same, access_less, access_same}
-use Rattle.facts.specs.Summaries.{paths_less, paths_same, minus_less, locks_less, first_less, number_of, locks_of, guarded_less}
+use Rattle.facts.specs.Summaries.{paths_same, plus_less, plus_same, minus_less, locks_less, first_less, number_of, locks_of, guarded_less}
+use Rattle.facts.proofs.ItemSets as items
+use Rattle.facts.proofs.TotalOrders.{orders_paths, orders_held}
 
 -- ---- one order after another
 
@@ -52,89 +54,51 @@ then_irr l s m a b e = go (or_cases l (s && m) e)
 -- ---- paths
 
 pub path_irr : (p : LockPath) → is_less p p ≡ true → ⊥
-path_irr (Cell a) e = absurd (grind (arith, e))
-path_irr (Formal i m) e = absurd (grind (arith, e))
+path_irr p e = items.irr is_less is_same orders_paths p e
 
 pub path_trans : (p q r : LockPath) → is_less p q ≡ true → is_less q r ≡ true → is_less p r ≡ true
-path_trans (Cell a) (Cell b) (Cell c) d e = grind (arith, d, e)
-path_trans (Cell a) (Cell b) (Formal k o) d e = refl
-path_trans (Cell a) (Formal j n) (Cell c) d e = absurd (cc e)
-path_trans (Cell a) (Formal j n) (Formal k o) d e = refl
-path_trans (Formal i m) (Cell b) r d e = absurd (cc d)
-path_trans (Formal i m) (Formal j n) (Cell c) d e = absurd (cc e)
-path_trans (Formal i m) (Formal j n) (Formal k o) d e = grind (arith, d, e)
-
-eq_of : (a b : ℕ) → (a == b) ≡ true → a ≡ b
-eq_of a b e = grind (arith, e)
+path_trans p q r d e = orders_paths.along p q r d e
 
 pub path_same : (p q : LockPath) → is_same p q ≡ true → p ≡ q
-path_same (Cell a) (Cell b) e = ap Cell (eq_of a b e)
-path_same (Cell a) (Formal j n) e = absurd (cc e)
-path_same (Formal i m) (Cell b) e = absurd (cc e)
-path_same (Formal i m) (Formal j n) e = let d = both_cases (i == j) (m == n) e in ap (λ x. Formal x m) (eq_of i j d.0) ∙ ap (λ x. Formal j x) (eq_of m n d.1)
-
-eq_self : (a : ℕ) → (a == a) ≡ true
-eq_self a = grind arith
+path_same p q e = orders_paths.same_is p q e
 
 pub path_self : (p : LockPath) → is_same p p ≡ true
-path_self (Cell a) = eq_self a
-path_self (Formal i m) = and_true (i == i) (m == m) (eq_self i) (eq_self m)
-  where
-    and_true : (a b : Bool) → a ≡ true → b ≡ true → a && b ≡ true
-    and_true true b d e = e
-    and_true false b d e = absurd (cc d)
-
-paths_irr : (ps : List LockPath) → paths_less ps ps ≡ true → ⊥
-paths_irr [] e = absurd (cc e)
-paths_irr (p ∷ ps) e = then_irr (is_less p p) (is_same p p) (paths_less ps ps) (path_irr p) (paths_irr ps) e
+path_self p = orders_paths.same_self p
 
 pub paths_same_eq : (ps qs : List LockPath) → paths_same ps qs ≡ true → ps ≡ qs
-paths_same_eq [] [] e = refl
-paths_same_eq [] (q ∷ qs) e = absurd (cc e)
-paths_same_eq (p ∷ ps) [] e = absurd (cc e)
-paths_same_eq (p ∷ ps) (q ∷ qs) e = let d = both_cases (is_same p q) (paths_same ps qs) e in ap (λ x. x ∷ ps) (path_same p q d.0) ∙ ap (λ xs. q ∷ xs) (paths_same_eq ps qs d.1)
+paths_same_eq ps qs e = items.same_lists is_less is_same orders_paths ps qs e
 
 pub paths_self : (ps : List LockPath) → paths_same ps ps ≡ true
-paths_self [] = refl
-paths_self (p ∷ ps) = subst (λ b. b && paths_same ps ps ≡ true) (sym (path_self p)) (paths_self ps)
+paths_self ps = items.list_self is_less is_same orders_paths ps
 
-paths_trans : (ps qs rs : List LockPath) → paths_less ps qs ≡ true → paths_less qs rs ≡ true → paths_less ps rs ≡ true
-paths_trans ps [] rs d e = absurd (no ps d)
-  where
-    no : (xs : List LockPath) → paths_less xs [] ≡ true → ⊥
-    no [] h = absurd (cc h)
-    no (x ∷ xs) h = absurd (cc h)
-paths_trans [] (q ∷ qs) [] d e = absurd (cc e)
-paths_trans [] (q ∷ qs) (r ∷ rs) d e = refl
-paths_trans (p ∷ ps) (q ∷ qs) [] d e = absurd (cc e)
-paths_trans (p ∷ ps) (q ∷ qs) (r ∷ rs) d e =
-    then_trans (is_less p q) (is_same p q) (paths_less ps qs) (is_less q r) (is_same q r) (paths_less qs rs) (is_less p r) (is_same p r) (paths_less ps rs)
-    (path_trans p q r)
-    (λ a b. subst (λ x. is_less p x ≡ true) (path_same q r b) a)
-    (λ a b. subst (λ x. is_less x r ≡ true) (sym (path_same p q a)) b)
-    (λ a b. subst (λ x. is_same p x ≡ true) (path_same q r b) a)
-    (paths_trans ps qs rs) d e
+-- ---- locks
+
+pub plus_same_eq : (hs ks : List Held) → plus_same hs ks ≡ true → hs ≡ ks
+plus_same_eq hs ks e = items.same_lists held_less held_same orders_held hs ks e
+
+pub plus_self : (hs : List Held) → plus_same hs hs ≡ true
+plus_self hs = items.list_self held_less held_same orders_held hs
 
 minus_irr : (m : Minus) → minus_less m m ≡ true → ⊥
 minus_irr All e = absurd (cc e)
-minus_irr (Listed ps) e = paths_irr ps e
+minus_irr (Listed ps) e = items.list_irr is_less is_same orders_paths ps e
 
 minus_trans : (l m n : Minus) → minus_less l m ≡ true → minus_less m n ≡ true → minus_less l n ≡ true
 minus_trans All m n d e = absurd (cc d)
 minus_trans (Listed ps) All n d e = absurd (cc e)
 minus_trans (Listed ps) (Listed qs) All d e = refl
-minus_trans (Listed ps) (Listed qs) (Listed rs) d e = paths_trans ps qs rs d e
+minus_trans (Listed ps) (Listed qs) (Listed rs) d e = items.list_trans is_less is_same orders_paths ps qs rs d e
 
 locks_irr : (l : RelLocks) → locks_less l l ≡ true → ⊥
-locks_irr l e = then_irr (paths_less l.plus l.plus) (paths_same l.plus l.plus) (minus_less l.minus l.minus) (paths_irr l.plus) (minus_irr l.minus) e
+locks_irr l e = then_irr (plus_less l.plus l.plus) (plus_same l.plus l.plus) (minus_less l.minus l.minus) (items.list_irr held_less held_same orders_held l.plus) (minus_irr l.minus) e
 
 locks_trans : (l m n : RelLocks) → locks_less l m ≡ true → locks_less m n ≡ true → locks_less l n ≡ true
 locks_trans l m n d e =
-    then_trans (paths_less l.plus m.plus) (paths_same l.plus m.plus) (minus_less l.minus m.minus) (paths_less m.plus n.plus) (paths_same m.plus n.plus) (minus_less m.minus n.minus) (paths_less l.plus n.plus) (paths_same l.plus n.plus) (minus_less l.minus n.minus)
-    (paths_trans l.plus m.plus n.plus)
-    (λ a b. subst (λ x. paths_less l.plus x ≡ true) (paths_same_eq m.plus n.plus b) a)
-    (λ a b. subst (λ x. paths_less x n.plus ≡ true) (sym (paths_same_eq l.plus m.plus a)) b)
-    (λ a b. subst (λ x. paths_same l.plus x ≡ true) (paths_same_eq m.plus n.plus b) a)
+    then_trans (plus_less l.plus m.plus) (plus_same l.plus m.plus) (minus_less l.minus m.minus) (plus_less m.plus n.plus) (plus_same m.plus n.plus) (minus_less m.minus n.minus) (plus_less l.plus n.plus) (plus_same l.plus n.plus) (minus_less l.minus n.minus)
+    (items.list_trans held_less held_same orders_held l.plus m.plus n.plus)
+    (λ a b. subst (λ x. plus_less l.plus x ≡ true) (plus_same_eq m.plus n.plus b) a)
+    (λ a b. subst (λ x. plus_less x n.plus ≡ true) (sym (plus_same_eq l.plus m.plus a)) b)
+    (λ a b. subst (λ x. plus_same l.plus x ≡ true) (plus_same_eq m.plus n.plus b) a)
     (minus_trans l.minus m.minus n.minus) d e
 
 -- ---- guarded accesses

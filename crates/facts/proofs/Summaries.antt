@@ -4,50 +4,21 @@ use Rattle.std.specs.Prelude.{◌↔◌, slice_get, Some}
 use Rattle.std.specs.List.{list_all, Contains}
 use Rattle.flow_code.specs.declared.code.Code.{Code}
 use Rattle.facts.specs.declared.locks.Guarded.{Guarded}
-use Rattle.facts.specs.declared.locks.LockPath.{LockPath}
+use Rattle.facts.specs.declared.locks.Held.{Held}
 use Rattle.facts.specs.declared.locks.Minus.{Minus}
 use Rattle.facts.specs.declared.locks.Minus.TheVariants.{All, Listed}
 use Rattle.facts.specs.declared.locks.RelLocks.{RelLocks}
 use Rattle.facts.specs.declared.locks.Summary.{Summary}
 use Rattle.facts.specs.declared.pair.Pair.{Pair}
-use Rattle.facts.specs.Locks.{is_less, is_same, has, are_ascending, minus_ascends, ascends, MinusBelow, Below, Points, PointsBelow}
+use Rattle.facts.specs.Locks.{held_ascend, minus_ascends, ascends, MinusBelow, Below, Points, PointsBelow}
 use Rattle.facts.specs.Pairs.{pair_less, pairs_ascend, ArePairs}
 use Rattle.facts.specs.PointsTo.{Tables}
 use Rattle.facts.specs.Summaries.{ListsKnown, AllListsKnown, AreGreatest, in_order, guarded_less, guarded_ascend, IsSummary, AreSummaries}
 use Rattle.profiles.proofs.Ascending as ascending
 use Rattle.profiles.proofs.Ascending.{and_left, and_right}
-use Rattle.facts.proofs.Orders.{path_irr, path_trans, path_same, path_self, guarded_irr, guarded_trans, pair_irr, pair_trans}
-
--- ---- sets of paths
-
-up : (ps : List LockPath) → are_ascending ps ≡ true → ascending.Up is_less path_irr path_trans ps
-up [] e = tt
-up (p ∷ []) e = (tt, tt)
-up (p ∷ q ∷ ps) e =
-    let u = up (q ∷ ps) (and_right (is_less p q) (are_ascending (q ∷ ps)) e) in
-    let l = and_left (is_less p q) (are_ascending (q ∷ ps)) e in
-    ((l, ascending.before_less is_less path_irr path_trans p q ps l u.0), u)
-
-has_in : (p : LockPath) (ps : List LockPath) → has p ps ≡ true → ascending.In is_less path_irr path_trans p ps
-has_in p [] e = absurd (cc e)
-has_in p (q ∷ ps) e = go (λ h. has_in p ps h) (is_same p q) refl e
-  where
-    go : (has p ps ≡ true → ascending.In is_less path_irr path_trans p ps) → (b : Bool) → is_same p q ≡ b → has p (q ∷ ps) ≡ true → ascending.In is_less path_irr path_trans p (q ∷ ps)
-    go rec true is h = inl (path_same p q is)
-    go rec false is h = inr (rec (subst (λ c. c || has p ps ≡ true) is h))
-
-in_has : (p : LockPath) (ps : List LockPath) → ascending.In is_less path_irr path_trans p ps → has p ps ≡ true
-in_has p [] i = absurd i
-in_has p (q ∷ ps) (inl e) = subst (λ x. is_same p x || has p ps ≡ true) e (subst (λ c. c || has p ps ≡ true) (sym (path_self p)) refl)
-in_has p (q ∷ ps) (inr i) = either (is_same p q) (has p ps) (in_has p ps i)
-  where
-    either : (a b : Bool) → b ≡ true → a || b ≡ true
-    either true b e = refl
-    either false b e = e
-
-pub one_paths : (ps qs : List LockPath) → are_ascending ps ≡ true → are_ascending qs ≡ true → ((p : LockPath) → has p ps ≡ true → has p qs ≡ true) → ((p : LockPath) → has p qs ≡ true → has p ps ≡ true) → ps ≡ qs
-one_paths ps qs a b f g =
-    ascending.one_list is_less path_irr path_trans ps qs (up ps a) (up qs b) (λ z i. has_in z qs (f z (in_has z ps i))) (λ z i. has_in z ps (g z (in_has z qs i)))
+use Rattle.facts.proofs.HeldSets.{one_plus}
+use Rattle.facts.proofs.Orders.{guarded_irr, guarded_trans, pair_irr, pair_trans}
+use Rattle.facts.proofs.PathSets.{one_paths}
 
 -- ---- locks that are below each other
 
@@ -59,8 +30,8 @@ one_minus (Listed xs) (Listed ys) f g a b = ap Listed (one_paths xs ys a b g f)
 
 pub one_locks : (l m : RelLocks) → Below l m → Below m l → ascends l ≡ true → ascends m ≡ true → l ≡ m
 one_locks l m f g a b =
-    both (one_paths l.plus m.plus (and_left (are_ascending l.plus) (minus_ascends l.minus) a) (and_left (are_ascending m.plus) (minus_ascends m.minus) b) f.plus g.plus)
-    (one_minus l.minus m.minus f.minus g.minus (and_right (are_ascending l.plus) (minus_ascends l.minus) a) (and_right (are_ascending m.plus) (minus_ascends m.minus) b))
+    both (one_plus l.plus m.plus (and_left (held_ascend l.plus) (minus_ascends l.minus) a) (and_left (held_ascend m.plus) (minus_ascends m.minus) b) f.plus g.plus)
+    (one_minus l.minus m.minus f.minus g.minus (and_right (held_ascend l.plus) (minus_ascends l.minus) a) (and_right (held_ascend m.plus) (minus_ascends m.minus) b))
   where
     both : l.plus ≡ m.plus → l.minus ≡ m.minus → l ≡ m
     both e d = ap (λ x. record { plus = x; minus = l.minus }) e ∙ ap (λ x. record { plus = m.plus; minus = x }) d
@@ -102,7 +73,7 @@ there (z ∷ xs) [] k x e h = absurd (omega (arith, e))
 there (z ∷ xs) (y ∷ ys) zero x e h = (y, refl)
 there (z ∷ xs) (y ∷ ys) (suc k) x e h = there xs ys k x (omega (arith, e)) h
 
-pub one_greatest : (code : Code) (tops : List (List LockPath)) (xs ys : List Points) → length tops ≡ length code.functions → AreGreatest code tops xs → AreGreatest code tops ys → xs ≡ ys
+pub one_greatest : (code : Code) (tops : List (List Held)) (xs ys : List Points) → length tops ≡ length code.functions → AreGreatest code tops xs → AreGreatest code tops ys → xs ≡ ys
 one_greatest code tops xs ys n g h =
     one_all xs ys (g.solves.long ∙ sym h.solves.long)
     (λ f x y i j.
@@ -113,21 +84,21 @@ one_greatest code tops xs ys n g h =
     (s.long ∙ sym t.long, h.most xs g.solves f y x j i, g.most ys h.solves f x y i j))
     g.ordered h.ordered
 
--- ---- the paths that functions know
+-- ---- the locks that functions know
 
-one_tops_from : (code : Code) (n : ℕ) (ps qs : List (List LockPath)) → length ps ≡ length qs → ((f : ℕ) (xs : List LockPath) → slice_get ps f ≡ Some xs → ListsKnown code (n + f) xs) → ((f : ℕ) (xs : List LockPath) → slice_get qs f ≡ Some xs → ListsKnown code (n + f) xs) → ps ≡ qs
+one_tops_from : (code : Code) (n : ℕ) (ps qs : List (List Held)) → length ps ≡ length qs → ((f : ℕ) (xs : List Held) → slice_get ps f ≡ Some xs → ListsKnown code (n + f) xs) → ((f : ℕ) (xs : List Held) → slice_get qs f ≡ Some xs → ListsKnown code (n + f) xs) → ps ≡ qs
 one_tops_from code n [] [] e f g = refl
 one_tops_from code n [] (q ∷ qs) e f g = absurd (omega (arith, e))
 one_tops_from code n (p ∷ ps) [] e f g = absurd (omega (arith, e))
 one_tops_from code n (p ∷ ps) (q ∷ qs) e f g =
     let a = f zero p refl in
     let b = g zero q refl in
-    let h : p ≡ q = one_paths p q a.ascending b.ascending (λ z i. (b.of z).1 ((a.of z).0 i)) (λ z i. (a.of z).1 ((b.of z).0 i)) in
+    let h : p ≡ q = one_plus p q a.ascending b.ascending (λ z i. (b.of z).1 ((a.of z).0 i)) (λ z i. (a.of z).1 ((b.of z).0 i)) in
     let step : (k : ℕ) → n + suc k ≡ suc n + k = λ k. omega arith in
     let t : ps ≡ qs = one_tops_from code (suc n) ps qs (omega (arith, e)) (λ k xs i. subst (λ m. ListsKnown code m xs) (step k) (f (suc k) xs i)) (λ k xs i. subst (λ m. ListsKnown code m xs) (step k) (g (suc k) xs i)) in
     ap (λ z. z ∷ ps) h ∙ ap (λ zs. q ∷ zs) t
 
-one_tops : (code : Code) (ps qs : List (List LockPath)) → AllListsKnown code ps → AllListsKnown code qs → ps ≡ qs
+one_tops : (code : Code) (ps qs : List (List Held)) → AllListsKnown code ps → AllListsKnown code qs → ps ≡ qs
 one_tops code ps qs a b = let first : (k : ℕ) → k ≡ 0 + k = λ k. omega arith in one_tops_from code 0 ps qs (a.0 ∙ sym b.0) (λ f xs i. subst (λ m. ListsKnown code m xs) (first f) (a.1 f xs i)) (λ f xs i. subst (λ m. ListsKnown code m xs) (first f) (b.1 f xs i))
 
 -- ---- guarded accesses

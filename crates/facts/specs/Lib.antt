@@ -6,4 +6,5 @@ pub mod Merges
 pub mod Pairs
 pub mod Paths
 pub mod PointsTo
+pub mod Sets
 pub mod Summaries

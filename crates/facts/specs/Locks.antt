@@ -1,13 +1,16 @@
 -- Relative locksets: which locks a function holds at each of its points beside those
 -- that its caller held at its entry, and which it may have given back.
 use Rattle.std.specs.Prelude.{◌≡◌, ℕ, ◌+◌, nat_lt, ◌==◌, ◌&&◌, ◌||◌, Bool, true, false, not, if◌then◌else◌, List, [], ◌∷◌, map, length, Option, Some, None, slice_get}
-use Rattle.std.specs.List.{list_all, list_any, filter, Contains}
+use Rattle.std.specs.List.{list_all, filter, Contains}
 use Rattle.flow_code.specs.declared.act.Act.{Act}
 use Rattle.flow_code.specs.declared.act.Act.TheVariants as act
 use Rattle.flow_code.specs.declared.act.Instr.{Instr}
 use Rattle.abstract_machine.specs.declared.library_call.LibraryCall.{LibraryCall}
 use Rattle.abstract_machine.specs.declared.library_call.LibraryCall.TheVariants as call
 use Rattle.flow_code.specs.declared.code.Function.{Function}
+use Rattle.sync_objects.specs.declared.mode.Mode.{Mode}
+use Rattle.sync_objects.specs.declared.mode.Mode.TheVariants.{Read, Write}
+use Rattle.facts.specs.declared.locks.Held.{Held}
 use Rattle.facts.specs.declared.locks.LockPath.{LockPath}
 use Rattle.facts.specs.declared.locks.LockPath.TheVariants.{Cell, Formal}
 use Rattle.facts.specs.declared.locks.Minus.{Minus}
@@ -15,7 +18,8 @@ use Rattle.facts.specs.declared.locks.Minus.TheVariants.{All, Listed}
 use Rattle.facts.specs.declared.locks.RelLocks.{RelLocks}
 use Rattle.facts.specs.declared.locks.Naming.{Naming}
 use Rattle.facts.specs.declared.locks.Naming.TheVariants.{Unknown, Nowhere, Named}
-use Rattle.facts.specs.Paths.{naming_at, names_cell, actual_of, substituted, are_small, are_sized, may_be}
+use Rattle.facts.specs.Paths.{naming_at, names_cell, actual_of, substituted, is_small, are_small, is_sized, are_sized, may_be}
+use Rattle.facts.specs.Sets as sets
 
 -- ---- sets of paths, as lists that ascend: cells first, then formals by index and offset
 
@@ -34,23 +38,67 @@ is_same _ _ = false
 
 -- the path itself is in the set, not one that may be it
 abbrev pub has : LockPath → List LockPath → Bool
-has p qs = list_any (is_same p) qs
+has p qs = sets.has is_same p qs
 
 -- the paths and one more, in its place
 abbrev pub with : LockPath → List LockPath → List LockPath
-with p [] = p ∷ []
-with p (q ∷ qs) = if is_less p q then p ∷ q ∷ qs else if is_same p q then q ∷ qs else q ∷ with p qs
+with p qs = sets.with is_less is_same p qs
 
--- all paths of both sets, each once, if the first ascends
+-- all paths of both sets
 abbrev pub union : List LockPath → List LockPath → List LockPath
-union ps [] = ps
-union ps (q ∷ qs) = with q (union ps qs)
+union ps qs = sets.union is_less is_same ps qs
 
 -- a set's list has no path twice, and one order only
 abbrev pub are_ascending : List LockPath → Bool
-are_ascending [] = true
-are_ascending (p ∷ []) = true
-are_ascending (p ∷ q ∷ ps) = is_less p q && are_ascending (q ∷ ps)
+are_ascending ps = sets.are_ascending is_less ps
+
+-- ---- sets of locks that are held: each path in the ways in which it is, Read before Write
+
+-- Read before Write
+abbrev pub mode_less : Mode → Mode → Bool
+mode_less Read Read = false
+mode_less Read Write = true
+mode_less Write other = false
+
+-- both are one way
+abbrev pub mode_same : Mode → Mode → Bool
+mode_same Read Read = true
+mode_same Read Write = false
+mode_same Write Read = false
+mode_same Write Write = true
+
+-- by path, then by mode
+abbrev pub held_less : Held → Held → Bool
+held_less h k = is_less h.path k.path || (is_same h.path k.path && mode_less h.mode k.mode)
+
+-- one path in one way
+abbrev pub held_same : Held → Held → Bool
+held_same h k = is_same h.path k.path && mode_same h.mode k.mode
+
+-- the lock is in the set, in this way
+abbrev pub has_held : Held → List Held → Bool
+has_held h ks = sets.has held_same h ks
+
+-- the locks and one more, in its place
+abbrev pub with_held : Held → List Held → List Held
+with_held h ks = sets.with held_less held_same h ks
+
+-- all locks of both sets
+abbrev pub union_held : List Held → List Held → List Held
+union_held hs ks = sets.union held_less held_same hs ks
+
+-- a set's list has no lock twice in one way, and one order only
+abbrev pub held_ascend : List Held → Bool
+held_ascend hs = sets.are_ascending held_less hs
+
+-- the lock of this path, held in this way
+abbrev pub held_as : Mode → LockPath → Held
+held_as mode p = record { path = p; mode = mode }
+
+-- the locks and one more, held in this way; who may write may read as well
+abbrev pub taken : Mode → LockPath → List Held → List Held
+taken Read p hs = with_held (held_as Read p) hs
+taken Write p hs = with_held (held_as Write p) (with_held (held_as Read p) hs)
 
 -- ---- what holds after an instruction
 
@@ -58,10 +106,10 @@ are_ascending (p ∷ q ∷ ps) = is_less p q && are_ascending (q ∷ ps)
 abbrev pub is_clear : List LockPath → LockPath → Bool
 is_clear qs p = list_all (λ q. not (may_be p q)) qs
 
--- locks that are surely still held once these may have been given back
-abbrev pub without : Minus → List LockPath → List LockPath
-without All ps = []
-without (Listed qs) ps = filter (is_clear qs) ps
+-- locks that are surely still held, in whatever way, once these may have been given back
+abbrev pub without : Minus → List Held → List Held
+without All hs = []
+without (Listed qs) hs = filter (λ h. is_clear qs h.path) hs
 
 -- what may have been given back by the one or by the other
 abbrev pub both : Minus → Minus → Minus
@@ -74,9 +122,9 @@ abbrev pub nothing : RelLocks
 nothing = record { plus = []; minus = Listed [] }
 
 -- a lock that isn't known by name tells nothing when it is taken
-abbrev pub locked : Naming → RelLocks → RelLocks
-locked (Named q) l = record { plus = with q l.plus; minus = l.minus }
-locked _ l = l
+abbrev pub locked : Mode → Naming → RelLocks → RelLocks
+locked mode (Named q) l = record { plus = taken mode q l.plus; minus = l.minus }
+locked mode _ l = l
 
 -- and any lock may be the one that is given back
 abbrev pub unlocked : Naming → RelLocks → RelLocks
@@ -91,10 +139,15 @@ abbrev pub and_path : Option LockPath → List LockPath → List LockPath
 and_path None ps = ps
 and_path (Some p) ps = if names_cell p then with p ps else ps
 
--- a path that the caller doesn't know is left out, and so is one that leads to no cell
-abbrev pub plus_seen : List (Option LockPath) → List LockPath → List LockPath
+-- the lock is added, held in this way, if its path is known and leads to a cell
+abbrev pub and_held : Mode → Option LockPath → List Held → List Held
+and_held mode None hs = hs
+and_held mode (Some p) hs = if names_cell p then with_held (held_as mode p) hs else hs
+
+-- a lock whose path the caller doesn't know is left out, and so is one whose path leads to no cell
+abbrev pub plus_seen : List (Option LockPath) → List Held → List Held
 plus_seen actuals [] = []
-plus_seen actuals (p ∷ ps) = and_path (substituted p actuals) (plus_seen actuals ps)
+plus_seen actuals (h ∷ hs) = and_held h.mode (substituted h.path actuals) (plus_seen actuals hs)
 
 -- a path that the caller doesn't know may be any lock
 abbrev pub minus_with : Option LockPath → Minus → Minus
@@ -115,7 +168,7 @@ minus_seen actuals (Listed ps) = listed_seen actuals ps
 -- the caller's locks, where it held these as it called and the called function has had those since its entry
 abbrev pub through : List (Option LockPath) → RelLocks → RelLocks → RelLocks
 through actuals callee l = record {
-  plus = union (without (minus_seen actuals callee.minus) l.plus) (plus_seen actuals callee.plus);
+  plus = union_held (without (minus_seen actuals callee.minus) l.plus) (plus_seen actuals callee.plus);
   minus = both l.minus (minus_seen actuals callee.minus);
 }
 
@@ -124,18 +177,26 @@ abbrev pub minus_is_small : Minus → Bool
 minus_is_small All = true
 minus_is_small (Listed ps) = are_small ps
 
+-- the paths of these locks are small
+abbrev pub held_are_small : List Held → Bool
+held_are_small hs = list_all (λ h. is_small h.path) hs
+
 -- all numbers in its paths are below 2^31, so sums fit 32 bits
 abbrev pub locks_are_small : RelLocks → Bool
-locks_are_small l = are_small l.plus && minus_is_small l.minus
+locks_are_small l = held_are_small l.plus && minus_is_small l.minus
 
 -- the paths are such as functions name
 abbrev pub minus_is_sized : Minus → Bool
 minus_is_sized All = true
 minus_is_sized (Listed ps) = are_sized ps
 
+-- the paths of these locks are such as functions name
+abbrev pub held_are_sized : List Held → Bool
+held_are_sized hs = list_all (λ h. is_sized h.path) hs
+
 -- its paths are of cells that objects can have
 abbrev pub locks_are_sized : RelLocks → Bool
-locks_are_sized l = are_sized l.plus && minus_is_sized l.minus
+locks_are_sized l = held_are_sized l.plus && minus_is_sized l.minus
 
 -- what is known of each argument of the call at the k-th instruction
 abbrev pub actuals_at : Function → ℕ → List ℕ → List (Option LockPath)
@@ -143,12 +204,15 @@ actuals_at f k arguments = map (λ r. actual_of (naming_at f k r)) arguments
 
 -- ---- instructions
 
--- POSIX calls that take or give a mutex; a trylock tells nothing
+-- POSIX calls that take or give back a mutex or a read-write lock; a trylock tells nothing
 abbrev pub after_library : Function → ℕ → LibraryCall → List ℕ → RelLocks → RelLocks
-after_library f k call.MutexLock (m ∷ []) l = locked (naming_at f k m) l
+after_library f k call.MutexLock (m ∷ []) l = locked Write (naming_at f k m) l
 after_library f k call.MutexUnlock (m ∷ []) l = unlocked (naming_at f k m) l
 -- a wait gives its mutex back and takes it again
-after_library f k call.CondWait (c ∷ m ∷ []) l = locked (naming_at f k m) (unlocked (naming_at f k m) l)
+after_library f k call.CondWait (c ∷ m ∷ []) l = locked Write (naming_at f k m) (unlocked (naming_at f k m) l)
+after_library f k call.RwRdLock (m ∷ []) l = locked Read (naming_at f k m) l
+after_library f k call.RwWrLock (m ∷ []) l = locked Write (naming_at f k m) l
+after_library f k call.RwUnlock (m ∷ []) l = unlocked (naming_at f k m) l
 after_library f k _ _ l = l
 
 -- without an exit the called function isn't there
@@ -184,11 +248,11 @@ MinusBelow (Listed ps) (Listed qs) = (p : LockPath) → has p qs ≡ true → ha
 
 -- l knows no more than m
 pub record Below (l m : RelLocks) : Type 0 where
-  pub plus : (p : LockPath) → has p l.plus ≡ true → has p m.plus ≡ true
+  pub plus : (h : Held) → has_held h l.plus ≡ true → has_held h m.plus ≡ true
   pub minus : MinusBelow l.minus m.minus
 
 -- all locks that the function could know are held, none given back
-abbrev pub topmost : List LockPath → RelLocks
+abbrev pub topmost : List Held → RelLocks
 topmost top = record { plus = top; minus = Listed [] }
 
 -- the locks before each instruction, and those at the exit
@@ -196,8 +260,8 @@ pub record Points : Type 0 where
   pub before : List RelLocks
   pub exit : RelLocks
 
--- Nothing is known at the entry, no path but those of `top` is held, and each point knows no more than each way to it tells.
-pub record IsSolution (exits : List RelLocks) (f : Function) (top : List LockPath) (x : Points) : Type 0 where
+-- Nothing is known at the entry, no lock but those of `top` is held, and each point knows no more than each way to it tells.
+pub record IsSolution (exits : List RelLocks) (f : Function) (top : List Held) (x : Points) : Type 0 where
   pub long : length x.before ≡ length f.instrs
   pub entry : (l : RelLocks) → slice_get x.before 0 ≡ Some l → Below l nothing
   pub within : (k : ℕ) (l : RelLocks) → slice_get x.before k ≡ Some l → Below l (topmost top)
@@ -217,10 +281,10 @@ minus_ascends (Listed ps) = are_ascending ps
 
 -- both of its lists are in the order of sets
 abbrev pub ascends : RelLocks → Bool
-ascends l = are_ascending l.plus && minus_ascends l.minus
+ascends l = held_ascend l.plus && minus_ascends l.minus
 
--- the greatest solution, its paths in order
-pub record IsGreatest (exits : List RelLocks) (f : Function) (top : List LockPath) (x : Points) : Type 0 where
+-- the greatest solution, its locks in order
+pub record IsGreatest (exits : List RelLocks) (f : Function) (top : List Held) (x : Points) : Type 0 where
   pub solves : IsSolution exits f top x
   pub most : (y : Points) → IsSolution exits f top y → PointsBelow y x
   pub in_order : list_all ascends x.before ≡ true

@@ -1,24 +1,19 @@
--- How two lists of paths that ascend are made one.
-use Rattle.std.specs.Prelude.{Bool, true, if◌then◌else◌, List, [], ◌∷◌, ◌++◌}
-use Rattle.facts.specs.declared.locks.LockPath.{LockPath}
-use Rattle.facts.specs.Locks.{is_less, is_same}
+-- How two lists that ascend are made one.
+use Rattle.std.specs.Prelude.{Bool, if◌then◌else◌, List, [], ◌∷◌, ◌++◌}
 
--- the path comes before the first of the others, if there is one
-abbrev pub comes_first : LockPath → List LockPath → Bool
-comes_first p [] = true
-comes_first p (q ∷ qs) = is_less p q
+module _ {X : Type 0} (less : X → X → Bool) where
+  -- those in front that come before x
+  abbrev pub before_item : X → List X → List X
+  before_item x [] = []
+  before_item x (y ∷ ys) = if less y x then y ∷ before_item x ys else []
 
--- those in front that come before p
-abbrev pub before_path : LockPath → List LockPath → List LockPath
-before_path p [] = []
-before_path p (q ∷ qs) = if is_less q p then q ∷ before_path p qs else []
+module _ {X : Type 0} (less same : X → X → Bool) where
+  -- those from the first on that comes after x
+  abbrev pub after_item : X → List X → List X
+  after_item x [] = []
+  after_item x (y ∷ ys) = if less y x then after_item x ys else if same y x then ys else y ∷ ys
 
--- those from the first on that comes after p
-abbrev pub after_path : LockPath → List LockPath → List LockPath
-after_path p [] = []
-after_path p (q ∷ qs) = if is_less q p then after_path p qs else if is_same q p then qs else q ∷ qs
-
--- the union of two sets in one pass, with each path once
-abbrev pub merge : List LockPath → List LockPath → List LockPath
-merge [] qs = qs
-merge (p ∷ ps) qs = before_path p qs ++ p ∷ merge ps (after_path p qs)
+  -- the union of two sets in one pass, with each item once
+  abbrev pub merge : List X → List X → List X
+  merge [] ys = ys
+  merge (x ∷ xs) ys = before_item less x ys ++ x ∷ merge xs (after_item x ys)

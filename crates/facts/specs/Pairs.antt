@@ -1,5 +1,6 @@
--- Race pairs: accesses of one place by two threads, one of them a store, that share no global lock. A thread runs `main` or
--- a function that some `pthread_create` names; but for `main` such a function may run on two threads at once.
+-- Race pairs: accesses of one place by two threads, one of them a store, that share no global lock; a lock that both hold
+-- for reading alone doesn't count. A thread runs `main` or a function that some `pthread_create` names; but for `main` such a
+-- function may run on two threads at once.
 use Rattle.std.specs.Prelude.{◌≡◌, ℕ, nat_lt, ◌==◌, ◌&&◌, ◌||◌, Bool, true, false, not, List, [], ◌∷◌, Option, Some, None, slice_get}
 use Rattle.std.specs.List.{list_any, Contains}
 use Rattle.rr_base.specs.declared.layout.Place.{Place}
@@ -11,12 +12,14 @@ use Rattle.flow_code.specs.Next.{act_in}
 use Rattle.flow_code.specs.Threads.{is_main, instrs_in}
 use Rattle.facts.specs.Accesses.{Access, access_of}
 use Rattle.facts.specs.declared.locks.Guarded.{Guarded}
+use Rattle.sync_objects.specs.declared.mode.Mode.TheVariants.{Read, Write}
+use Rattle.facts.specs.declared.locks.Held.{Held}
 use Rattle.facts.specs.declared.locks.LockPath.{LockPath}
 use Rattle.facts.specs.declared.locks.LockPath.TheVariants.{Cell, Formal}
 use Rattle.facts.specs.declared.locks.Summary.{Summary}
 use Rattle.facts.specs.declared.pair.AccessAt.{AccessAt}
 use Rattle.facts.specs.declared.pair.Pair.{Pair}
-use Rattle.facts.specs.Locks.{has}
+use Rattle.facts.specs.Locks.{mode_same, has_held, held_as}
 use Rattle.facts.specs.PointsTo.{Tables, list_at}
 
 -- ---- roots
@@ -68,9 +71,13 @@ abbrev pub is_global_lock : LockPath → Bool
 is_global_lock (Cell c) = true
 is_global_lock (Formal i n) = false
 
--- both hold one global lock
-abbrev pub share_lock : List LockPath → List LockPath → Bool
-share_lock ps qs = list_any (λ p. is_global_lock p && has p qs) ps
+-- a global lock is held for writing, which the others have in any way
+abbrev pub shuts_out : Held → List Held → Bool
+shuts_out h ks = mode_same h.mode Write && is_global_lock h.path && has_held (held_as Read h.path) ks
+
+-- both hold one global lock, and not both for reading alone
+abbrev pub share_lock : List Held → List Held → Bool
+share_lock hs ks = list_any (λ h. shuts_out h ks) hs || list_any (λ k. shuts_out k hs) ks
 
 -- where in the code a guarded access is made
 abbrev pub stands : Guarded → AccessAt

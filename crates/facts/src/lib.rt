@@ -15,14 +15,16 @@ mod pair;
 mod paths;
 mod points;
 mod relative;
+mod sets;
 
 pub use access::{places_of, through};
 pub use blocks::{block_starts, constant_at};
 pub use constraint::{Constraint, Node};
 pub use laws::{law_one_list_of_pairs, law_one_points_to, law_one_summaries};
-pub use locks::{Guarded, LockPath, Minus, Naming, RelLocks, Summary};
+pub use locks::{Guarded, Held, LockPath, Minus, Naming, RelLocks, Summary};
 pub use moves::amounts;
 pub use names::argument_names;
 pub use pair::{AccessAt, Pair};
-pub use paths::{add_path, add_paths, has_path, substitute};
+pub use paths::substitute;
 pub use points::PointsTo;
+pub use sets::{SetItem, add_item, add_items, ascend, has_item, merged};

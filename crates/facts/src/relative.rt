@@ -5,10 +5,12 @@ ghost use Rattle.facts.specs.Locks as spec;
 ghost use Rattle.facts.specs.Paths.{are_small, are_small_actuals};
 ghost use Rattle.facts.specs.declared.locks.Minus.TheVariants.{Listed};
 
-use crate::locks::{LockPath, Minus, Naming, RelLocks};
-use crate::paths::{add_path, add_paths, ascend, merged, substitute};
+use crate::locks::{Held, LockPath, Minus, Naming, RelLocks};
+use crate::paths::substitute;
+use crate::sets::{add_item, add_items, ascend, merged};
 use rr_base::List;
 use std::alloc::{AllocError, Global};
+use sync_objects::Mode;
 
 // Whether the path is none of these, whatever they lead to.
 fn is_clear(gone: &[LockPath], path: LockPath) -> bool
@@ -22,28 +24,39 @@ fn is_clear(gone: &[LockPath], path: LockPath) -> bool
     true
 }
 
-// The paths that are none of these.
-fn cleared(
-    alloc: Global,
-    paths: &[LockPath],
-    gone: &[LockPath],
-) -> Result<List<LockPath>, AllocError>
-    ensures { IfOk result (λ kept. kept ≡ filter (spec.is_clear gone.now) paths.now) }
+// The locks whose paths are none of these.
+fn cleared(alloc: Global, plus: &[Held], gone: &[LockPath]) -> Result<List<Held>, AllocError>
+    ensures { IfOk result (λ kept. kept ≡ filter (λ h. spec.is_clear gone.now h.path) plus.now) }
 {
-    let kept: Vec<LockPath> = paths
+    let kept: Vec<Held> = plus
         .iter()
         .copied()
-        .filter(|path| is_clear(gone, *path))
+        .filter(|held| is_clear(gone, held.path))
         .collect(alloc)?;
     Ok(List::from_vec(kept))
 }
 
-// Adds a path, if there is one and it can lead to a cell.
-fn add_if_cell(paths: &mut List<LockPath>, path: Option<LockPath>) -> Result<(), AllocError>
-    ensures { OnOk result (paths.new ≡ spec.and_path path paths.old) }
+// The lock is held in this way, and for reading in any case.
+fn take(plus: &mut List<Held>, mode: Mode, path: LockPath) -> Result<(), AllocError>
+    ensures { OnOk result (plus.new ≡ spec.taken mode path plus.old) }
+{
+    let read = Held {
+        path,
+        mode: Mode::Read,
+    };
+    add_item(plus, read)?;
+    match mode {
+        Mode::Read => Ok(()),
+        Mode::Write => add_item(plus, Held { path, mode }),
+    }
+}
+
+// Adds a lock that is held so, if its path is known and can lead to a cell.
+fn add_held(plus: &mut List<Held>, mode: Mode, path: Option<LockPath>) -> Result<(), AllocError>
+    ensures { OnOk result (plus.new ≡ spec.and_held mode path plus.old) }
 {
     match path {
-        Some(path) if path.names_cell() => add_path(paths, path),
+        Some(path) if path.names_cell() => add_item(plus, Held { path, mode }),
         _ => Ok(()),
     }
 }
@@ -52,19 +65,30 @@ fn add_if_cell(paths: &mut List<LockPath>, path: Option<LockPath>) -> Result<(),
 fn plus_seen(
     alloc: Global,
     actuals: &[Option<LockPath>],
-    paths: &[LockPath],
-) -> Result<List<LockPath>, AllocError>
-    requires paths { are_small paths.now ≡ true }
+    plus: &[Held],
+) -> Result<List<Held>, AllocError>
+    requires plus { spec.held_are_small plus.now ≡ true }
     requires actuals { are_small_actuals actuals.now ≡ true }
-    ensures { IfOk result (λ seen. seen ≡ spec.plus_seen actuals.now paths.now) }
+    ensures { IfOk result (λ seen. seen ≡ spec.plus_seen actuals.now plus.now) }
 {
     let mut seen = List::new(alloc);
-    let mut left = paths.len();
+    let mut left = plus.len();
     while left > 0 {
         left -= 1;
-        add_if_cell(&mut seen, substitute(paths[left], actuals))?;
+        let held = plus[left];
+        add_held(&mut seen, held.mode, substitute(held.path, actuals))?;
     }
     Ok(seen)
+}
+
+// Adds a path, if it can lead to a cell.
+fn add_if_cell(paths: &mut List<LockPath>, path: LockPath) -> Result<(), AllocError>
+    ensures { OnOk result (paths.new ≡ spec.and_path (Some path) paths.old) }
+{
+    if path.names_cell() {
+        add_item(paths, path)?;
+    }
+    Ok(())
 }
 
 // The locks that a called function may have given back, as its caller sees them.
@@ -81,10 +105,9 @@ fn listed_seen(
     let mut left = paths.len();
     while left > 0 {
         left -= 1;
-        let path = substitute(paths[left], actuals);
-        if path.is_none() {
+        let Some(path) = substitute(paths[left], actuals) else {
             return Ok(Minus::All);
-        }
+        };
         add_if_cell(&mut seen, path)?;
     }
     Ok(Minus::Listed(seen))
@@ -119,17 +142,17 @@ impl Minus {
             return Ok(Minus::Listed(joined));
         }
         let mut joined = paths.copied(alloc)?;
-        add_paths(&mut joined, others.as_slice())?;
+        add_items(&mut joined, others.as_slice())?;
         Ok(Minus::Listed(joined))
     }
 
-    // The paths that are none of these locks.
-    fn kept(&self, alloc: Global, paths: &[LockPath]) -> Result<List<LockPath>, AllocError>
-        ensures { IfOk result (λ kept. kept ≡ spec.without self.now paths.now) }
+    // The locks that are none of these.
+    fn kept(&self, alloc: Global, plus: &[Held]) -> Result<List<Held>, AllocError>
+        ensures { IfOk result (λ kept. kept ≡ spec.without self.now plus.now) }
     {
         match self {
             Minus::All => Ok(List::new(alloc)),
-            Minus::Listed(gone) => cleared(alloc, paths, gone.as_slice()),
+            Minus::Listed(gone) => cleared(alloc, plus, gone.as_slice()),
         }
     }
 
@@ -141,7 +164,7 @@ impl Minus {
             return Ok(Minus::All);
         };
         let mut paths = paths.copied(alloc)?;
-        add_path(&mut paths, path)?;
+        add_item(&mut paths, path)?;
         Ok(Minus::Listed(paths))
     }
 
@@ -168,15 +191,15 @@ impl RelLocks {
         Ok(RelLocks { plus, minus })
     }
 
-    /// The locks once one of this name was taken.
-    pub fn locked(&self, alloc: Global, naming: Naming) -> Result<RelLocks, AllocError>
-        ensures { IfOk result (λ locks. locks ≡ spec.locked naming self.now) }
+    /// The locks once one of this name was taken in this way.
+    pub fn locked(&self, alloc: Global, mode: Mode, naming: Naming) -> Result<RelLocks, AllocError>
+        ensures { IfOk result (λ locks. locks ≡ spec.locked mode naming self.now) }
     {
         let Naming::Named(path) = naming else {
             return self.copied(alloc);
         };
         let mut plus = self.plus.copied(alloc)?;
-        add_path(&mut plus, path)?;
+        take(&mut plus, mode, path)?;
         let minus = self.minus.copied(alloc)?;
         Ok(RelLocks { plus, minus })
     }
@@ -214,7 +237,7 @@ impl RelLocks {
         let gone = callee.minus.seen(alloc, actuals)?;
         let mut plus = gone.kept(alloc, self.plus.as_slice())?;
         let taken = plus_seen(alloc, actuals, callee.plus.as_slice())?;
-        add_paths(&mut plus, taken.as_slice())?;
+        add_items(&mut plus, taken.as_slice())?;
         let minus = self.minus.joined(alloc, &gone)?;
         Ok(RelLocks { plus, minus })
     }

@@ -1,11 +1,14 @@
 -- What an instruction makes of locks: it rises with what was known before it, and it is told by the names of arguments.
-use Rattle.std.proofs.Common.{◌≡◌, ℕ, true, List, [], ◌∷◌, map, refl, sym, ap, ◌∙◌, ⊎_elim, Option, Some, None}
+use Rattle.std.proofs.Common.{◌≡◌, ℕ, Bool, true, List, [], ◌∷◌, map, refl, sym, ap, ◌∙◌, ⊎_elim, Option, Some, None}
 use Rattle.std.specs.Prelude.{slice_get}
 use Rattle.flow_code.specs.declared.act.Act.{Act}
 use Rattle.flow_code.specs.declared.act.Act.TheVariants as act
 use Rattle.abstract_machine.specs.declared.library_call.LibraryCall.{LibraryCall}
 use Rattle.abstract_machine.specs.declared.library_call.LibraryCall.TheVariants as call
 use Rattle.flow_code.specs.declared.code.Function.{Function}
+use Rattle.sync_objects.specs.declared.mode.Mode.{Mode}
+use Rattle.sync_objects.specs.declared.mode.Mode.TheVariants.{Read, Write}
+use Rattle.facts.specs.declared.locks.Held.{Held}
 use Rattle.facts.specs.declared.locks.LockPath.{LockPath}
 use Rattle.facts.specs.declared.locks.Minus.{Minus}
 use Rattle.facts.specs.declared.locks.Minus.TheVariants.{All, Listed}
@@ -13,26 +16,31 @@ use Rattle.facts.specs.declared.locks.Naming.{Naming}
 use Rattle.facts.specs.declared.locks.Naming.TheVariants.{Unknown, Nowhere, Named}
 use Rattle.facts.specs.declared.locks.RelLocks.{RelLocks}
 use Rattle.facts.specs.Paths.{naming_at, actual_of, arguments_of}
-use Rattle.facts.specs.Locks.{is_same, has, with, is_clear, without, locked, unlocked, plus_seen, minus_seen, through, actuals_at, after_library, after_call, after, Below}
-use Rattle.facts.proofs.PathSets.{has-with, has_filter, filter_has}
+use Rattle.facts.specs.Locks.{held_less, held_same, has_held, with_held, held_as, taken, is_clear, without, locked, unlocked, plus_seen, minus_seen, through, actuals_at, after_library, after_call, after, Below}
+use Rattle.facts.proofs.HeldSets.{has-with, has_filter, filter_has}
+use Rattle.facts.proofs.TotalOrders.{orders_held}
 use Rattle.lockset_flow.specs.Rounds.{library_by, after_by}
 use Rattle.lockset_flow.proofs.Meets.{below_refl, both_mono, union_mono, or_cases, or_first, or_second}
 
 -- ---- it rises
 
-with_mono : (q : LockPath) (ps qs : List LockPath) → ((p : LockPath) → has p ps ≡ true → has p qs ≡ true) → (p : LockPath) → has p (with q ps) ≡ true → has p (with q qs) ≡ true
-with_mono q ps qs h p i =
-    has-with p q qs ∙
-    ⊎_elim (λ (j : is_same p q ≡ true). or_first (is_same p q) (has p qs) j) (λ (j : has p ps ≡ true). or_second (is_same p q) (has p qs) (h p j)) (or_cases (is_same p q) (has p ps) (sym (has-with p q ps) ∙ i))
+with_mono : (k : Held) (hs ls : List Held) → ((h : Held) → has_held h hs ≡ true → has_held h ls ≡ true) → (h : Held) → has_held h (with_held k hs) ≡ true → has_held h (with_held k ls) ≡ true
+with_mono k hs ls f h i =
+    has-with h k ls ∙
+    ⊎_elim (λ (j : held_same h k ≡ true). or_first (held_same h k) (has_held h ls) j) (λ (j : has_held h hs ≡ true). or_second (held_same h k) (has_held h ls) (f h j)) (or_cases (held_same h k) (has_held h hs) (sym (has-with h k hs) ∙ i))
 
-filter_mono : (m : Minus) (ps qs : List LockPath) → ((p : LockPath) → has p ps ≡ true → has p qs ≡ true) → (p : LockPath) → has p (without m ps) ≡ true → has p (without m qs) ≡ true
-filter_mono All ps qs h p i = i
-filter_mono (Listed gone) ps qs h p i = let r = has_filter (is_clear gone) p ps i in filter_has (is_clear gone) p qs (h p r.0) r.1
+taken_mono : (mode : Mode) (q : LockPath) (hs ls : List Held) → ((h : Held) → has_held h hs ≡ true → has_held h ls ≡ true) → (h : Held) → has_held h (taken mode q hs) ≡ true → has_held h (taken mode q ls) ≡ true
+taken_mono Read q hs ls f h i = with_mono (held_as Read q) hs ls f h i
+taken_mono Write q hs ls f h i = with_mono (held_as Write q) (with_held (held_as Read q) hs) (with_held (held_as Read q) ls) (with_mono (held_as Read q) hs ls f) h i
 
-locked_mono : (n : Naming) (l m : RelLocks) → Below l m → Below (locked n l) (locked n m)
-locked_mono Unknown l m h = h
-locked_mono Nowhere l m h = h
-locked_mono (Named q) l m h = record { plus = with_mono q l.plus m.plus h.plus; minus = h.minus }
+filter_mono : (m : Minus) (hs ls : List Held) → ((h : Held) → has_held h hs ≡ true → has_held h ls ≡ true) → (h : Held) → has_held h (without m hs) ≡ true → has_held h (without m ls) ≡ true
+filter_mono All hs ls f h i = i
+filter_mono (Listed gone) hs ls f h i = let t : Held → Bool = λ k. is_clear gone k.path in let r = has_filter t h hs i in filter_has t h ls (f h r.0) r.1
+
+locked_mono : (mode : Mode) (n : Naming) (l m : RelLocks) → Below l m → Below (locked mode n l) (locked mode n m)
+locked_mono mode Unknown l m h = h
+locked_mono mode Nowhere l m h = h
+locked_mono mode (Named q) l m h = record { plus = taken_mono mode q l.plus m.plus h.plus; minus = h.minus }
 
 unlocked_mono : (n : Naming) (l m : RelLocks) → Below l m → Below (unlocked n l) (unlocked n m)
 unlocked_mono Unknown l m h = below_refl _
@@ -41,7 +49,7 @@ unlocked_mono (Named q) l m h = record { plus = filter_mono (Listed (q ∷ [])) 
 
 through_mono : (actuals : List (Option LockPath)) (e l m : RelLocks) → Below l m → Below (through actuals e l) (through actuals e m)
 through_mono actuals e l m h = record {
-  plus = union_mono (without (minus_seen actuals e.minus) l.plus) (without (minus_seen actuals e.minus) m.plus) (plus_seen actuals e.plus) (filter_mono (minus_seen actuals e.minus) l.plus m.plus h.plus);
+  plus = union_mono held_less held_same orders_held (without (minus_seen actuals e.minus) l.plus) (without (minus_seen actuals e.minus) m.plus) (plus_seen actuals e.plus) (filter_mono (minus_seen actuals e.minus) l.plus m.plus h.plus);
   minus = both_mono l.minus m.minus (minus_seen actuals e.minus) h.minus;
 }
 
@@ -51,14 +59,14 @@ call_mono actuals (Some e) l m h = through_mono actuals e l m h
 
 library_mono : (f : Function) (k : ℕ) (c : LibraryCall) (arguments : List ℕ) (l m : RelLocks) → Below l m → Below (after_library f k c arguments l) (after_library f k c arguments m)
 library_mono f k call.MutexLock [] l m h = h
-library_mono f k call.MutexLock (r ∷ []) l m h = locked_mono (naming_at f k r) l m h
+library_mono f k call.MutexLock (r ∷ []) l m h = locked_mono Write (naming_at f k r) l m h
 library_mono f k call.MutexLock (r ∷ q ∷ rest) l m h = h
 library_mono f k call.MutexUnlock [] l m h = h
 library_mono f k call.MutexUnlock (r ∷ []) l m h = unlocked_mono (naming_at f k r) l m h
 library_mono f k call.MutexUnlock (r ∷ q ∷ rest) l m h = h
 library_mono f k call.CondWait [] l m h = h
 library_mono f k call.CondWait (r ∷ []) l m h = h
-library_mono f k call.CondWait (r ∷ q ∷ []) l m h = locked_mono (naming_at f k q) (unlocked (naming_at f k q) l) (unlocked (naming_at f k q) m) (unlocked_mono (naming_at f k q) l m h)
+library_mono f k call.CondWait (r ∷ q ∷ []) l m h = locked_mono Write (naming_at f k q) (unlocked (naming_at f k q) l) (unlocked (naming_at f k q) m) (unlocked_mono (naming_at f k q) l m h)
 library_mono f k call.CondWait (r ∷ q ∷ s ∷ rest) l m h = h
 library_mono f k (call.Create g) arguments l m h = h
 library_mono f k call.Join arguments l m h = h
@@ -75,9 +83,15 @@ library_mono f k call.BarrierInit arguments l m h = h
 library_mono f k call.BarrierWait arguments l m h = h
 library_mono f k call.BarrierDestroy arguments l m h = h
 library_mono f k call.RwInit arguments l m h = h
-library_mono f k call.RwRdLock arguments l m h = h
-library_mono f k call.RwWrLock arguments l m h = h
-library_mono f k call.RwUnlock arguments l m h = h
+library_mono f k call.RwRdLock [] l m h = h
+library_mono f k call.RwRdLock (r ∷ []) l m h = locked_mono Read (naming_at f k r) l m h
+library_mono f k call.RwRdLock (r ∷ q ∷ rest) l m h = h
+library_mono f k call.RwWrLock [] l m h = h
+library_mono f k call.RwWrLock (r ∷ []) l m h = locked_mono Write (naming_at f k r) l m h
+library_mono f k call.RwWrLock (r ∷ q ∷ rest) l m h = h
+library_mono f k call.RwUnlock [] l m h = h
+library_mono f k call.RwUnlock (r ∷ []) l m h = unlocked_mono (naming_at f k r) l m h
+library_mono f k call.RwUnlock (r ∷ q ∷ rest) l m h = h
 library_mono f k call.RwDestroy arguments l m h = h
 library_mono f k call.Free arguments l m h = h
 library_mono f k call.GetChar arguments l m h = h
@@ -126,9 +140,15 @@ library_same f k call.BarrierInit arguments l = refl
 library_same f k call.BarrierWait arguments l = refl
 library_same f k call.BarrierDestroy arguments l = refl
 library_same f k call.RwInit arguments l = refl
-library_same f k call.RwRdLock arguments l = refl
-library_same f k call.RwWrLock arguments l = refl
-library_same f k call.RwUnlock arguments l = refl
+library_same f k call.RwRdLock [] l = refl
+library_same f k call.RwRdLock (r ∷ []) l = refl
+library_same f k call.RwRdLock (r ∷ q ∷ rest) l = refl
+library_same f k call.RwWrLock [] l = refl
+library_same f k call.RwWrLock (r ∷ []) l = refl
+library_same f k call.RwWrLock (r ∷ q ∷ rest) l = refl
+library_same f k call.RwUnlock [] l = refl
+library_same f k call.RwUnlock (r ∷ []) l = refl
+library_same f k call.RwUnlock (r ∷ q ∷ rest) l = refl
 library_same f k call.RwDestroy arguments l = refl
 library_same f k call.Free arguments l = refl
 library_same f k call.GetChar arguments l = refl

@@ -6,7 +6,7 @@ use Rattle.std.proofs.lemmas.Option.{same_Some, slice_get_within, slice_get-get_
 use Rattle.std.proofs.lemmas.Bool.{cases_lt}
 use Rattle.flow_code.specs.declared.act.Instr.{Instr}
 use Rattle.flow_code.specs.declared.code.Function.{Function}
-use Rattle.facts.specs.declared.locks.LockPath.{LockPath}
+use Rattle.facts.specs.declared.locks.Held.{Held}
 use Rattle.facts.specs.declared.locks.Naming.{Naming}
 use Rattle.facts.specs.declared.locks.RelLocks.{RelLocks}
 use Rattle.facts.specs.Paths.{naming_at, actual_of, arguments_of, namings_from, argument_namings, are_small_actuals}
@@ -93,7 +93,7 @@ relaxed_row exits f k to i old a b o changed at one from here is sized same fall
     down_to : (j : ℕ) (c d : RelLocks) → (j ≡ to) × (meet_of b o ≡ c) → slice_get old.before j ≡ Some d → Below c d
     down_to j c d e h = subst (λ z. Below z d) e.1 (subst (λ z. Below (meet_of b o) z) (same_Some b d (sym here ∙ ap (slice_get old.before) (sym e.0) ∙ h)) (meet_down b o))
 
-    above_to : (top : List LockPath) (y : Points) → IsSolution exits f top y → PointsBelow y old → (j : ℕ) (c d : RelLocks) → slice_get y.before j ≡ Some c → (j ≡ to) × (meet_of b o ≡ d) → Below c d
+    above_to : (top : List Held) (y : Points) → IsSolution exits f top y → PointsBelow y old → (j : ℕ) (c d : RelLocks) → slice_get y.before j ≡ Some c → (j ≡ to) × (meet_of b o ≡ d) → Below c d
     above_to top y s l j c d g e =
         let lt : k < length y.before = omega (arith, s.long, slice_get_within f.instrs k i at) in
         let m = slice_get-get_or y.before k nothing lt in
@@ -120,7 +120,7 @@ relaxed_exit exits f k i old new a changed at ret from h = subst (λ z. Relaxes 
   falls = falls_exit changed old (meet_of old.exit a) h.1 h.2;
 })
   where
-    above_exit : (top : List LockPath) (y : Points) → IsSolution exits f top y → PointsBelow y old → Below y.exit a
+    above_exit : (top : List Held) (y : Points) → IsSolution exits f top y → PointsBelow y old → Below y.exit a
     above_exit top y s l =
         let lt : k < length y.before = omega (arith, s.long, slice_get_within f.instrs k i at) in
         let m = slice_get-get_or y.before k nothing lt in

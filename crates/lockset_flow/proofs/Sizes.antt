@@ -13,6 +13,9 @@ use Rattle.flow_code.specs.declared.work.Work.TheVariants as work
 use Rattle.std.proofs.lemmas.Option.{same_Some}
 use Rattle.flow_code.specs.Next.{act_in}
 use Rattle.abstract_machine.specs.Pointers.{directed}
+use Rattle.sync_objects.specs.declared.mode.Mode.{Mode}
+use Rattle.sync_objects.specs.declared.mode.Mode.TheVariants.{Read, Write}
+use Rattle.facts.specs.declared.locks.Held.{Held}
 use Rattle.facts.specs.declared.locks.LockPath.{LockPath}
 use Rattle.facts.specs.declared.locks.LockPath.TheVariants.{Cell, Formal}
 use Rattle.facts.specs.declared.locks.Minus.{Minus}
@@ -22,10 +25,10 @@ use Rattle.facts.specs.declared.locks.Naming.TheVariants.{Unknown, Nowhere, Name
 use Rattle.facts.specs.declared.locks.RelLocks.{RelLocks}
 use Rattle.facts.specs.Blocks.{begins_block, assigns, constant_at}
 use Rattle.facts.specs.Paths.{Root, global, formal, Known, known_on, known_on_by, at_cells, known_of, known_formal, known_at, is_never_assigned, most_cells, path_to, naming_of, naming_at, actual_of, names_cell, following, substituted, is_small, are_small, is_small_actual, are_small_actuals, is_sized, are_sized}
-use Rattle.facts.specs.Locks.{with, union, is_clear, without, both, locked, unlocked, and_path, plus_seen, minus_with, listed_seen, minus_seen, through, after_call, minus_is_small, locks_are_small, minus_is_sized, locks_are_sized}
+use Rattle.facts.specs.Locks.{is_less, is_same, with, held_less, held_same, with_held, union_held, held_as, taken, is_clear, without, both, locked, unlocked, and_path, and_held, plus_seen, minus_with, listed_seen, minus_seen, through, after_call, minus_is_small, held_are_small, locks_are_small, minus_is_sized, held_are_sized, locks_are_sized}
 use Rattle.lockset_flow.specs.Flow.{all_sized}
 use Rattle.lockset_flow.specs.Rounds.{library_by, after_by}
-use Rattle.lockset_flow.proofs.Meets.{and_both, both_and, and_sized, sized_union, sized_filter, both_sized}
+use Rattle.lockset_flow.proofs.Meets.{and_both, both_and, all_with, all_union, all_filter, both_sized}
 
 pub all_get : {X : Type 0} (t : X → Bool) (xs : List X) (k : ℕ) (x : X) → list_all t xs ≡ true → slice_get xs k ≡ Some x → t x ≡ true
 all_get t [] k x h g = cc
@@ -146,12 +149,16 @@ all_small : (ps : List LockPath) → are_sized ps ≡ true → are_small ps ≡ 
 all_small [] h = refl
 all_small (p ∷ ps) h = let r = and_both (is_sized p) (are_sized ps) h in both_and (is_small p) (are_small ps) (sized_small p r.0) (all_small ps r.1)
 
+held_small : (hs : List Held) → held_are_sized hs ≡ true → held_are_small hs ≡ true
+held_small [] h = refl
+held_small (k ∷ ks) h = let r = and_both (is_sized k.path) (held_are_sized ks) h in both_and (is_small k.path) (held_are_small ks) (sized_small k.path r.0) (held_small ks r.1)
+
 minus_small : (m : Minus) → minus_is_sized m ≡ true → minus_is_small m ≡ true
 minus_small All h = refl
 minus_small (Listed ps) h = all_small ps h
 
 locks_small : (l : RelLocks) → locks_are_sized l ≡ true → locks_are_small l ≡ true
-locks_small l h = let r = and_both (are_sized l.plus) (minus_is_sized l.minus) h in both_and (are_small l.plus) (minus_is_small l.minus) (all_small l.plus r.0) (minus_small l.minus r.1)
+locks_small l h = let r = and_both (held_are_sized l.plus) (minus_is_sized l.minus) h in both_and (held_are_small l.plus) (minus_is_small l.minus) (held_small l.plus r.0) (minus_small l.minus r.1)
 
 pub exits_small : (ls : List RelLocks) → all_sized ls ≡ true → list_all locks_are_small ls ≡ true
 exits_small [] h = refl
@@ -163,35 +170,39 @@ named_sized : (q : LockPath) → naming_fits (Named q) ≡ true → is_sized q �
 named_sized (Cell c) h = let a : c < 2 ^ 23 = grind (arith, h) in let b : c < 2 ^ 31 = omega arith in grind (arith, b)
 named_sized (Formal i n) h = h
 
-locked_sized : (n : Naming) (l : RelLocks) → naming_fits n ≡ true → locks_are_sized l ≡ true → locks_are_sized (locked n l) ≡ true
-locked_sized Unknown l h s = s
-locked_sized Nowhere l h s = s
-locked_sized (Named q) l h s = let r = and_both (are_sized l.plus) (minus_is_sized l.minus) s in and_locks (locked (Named q) l) (and_sized q l.plus (named_sized q h) r.0) r.1
-  where
-    and_locks : (m : RelLocks) → are_sized m.plus ≡ true → minus_is_sized m.minus ≡ true → locks_are_sized m ≡ true
-    and_locks m a b = both_and (are_sized m.plus) (minus_is_sized m.minus) a b
+with_held_sized : (mode : Mode) (q : LockPath) (hs : List Held) → is_sized q ≡ true → held_are_sized hs ≡ true → held_are_sized (with_held (held_as mode q) hs) ≡ true
+with_held_sized mode q hs h s = all_with held_less held_same (λ (k : Held). is_sized k.path) (held_as mode q) hs h s
 
-without_sized : (m : Minus) (ps : List LockPath) → are_sized ps ≡ true → are_sized (without m ps) ≡ true
-without_sized All ps h = refl
-without_sized (Listed qs) ps h = sized_filter (is_clear qs) ps h
+taken_sized : (mode : Mode) (q : LockPath) (hs : List Held) → is_sized q ≡ true → held_are_sized hs ≡ true → held_are_sized (taken mode q hs) ≡ true
+taken_sized Read q hs h s = with_held_sized Read q hs h s
+taken_sized Write q hs h s = with_held_sized Write q (with_held (held_as Read q) hs) h (with_held_sized Read q hs h s)
+
+locked_sized : (mode : Mode) (n : Naming) (l : RelLocks) → naming_fits n ≡ true → locks_are_sized l ≡ true → locks_are_sized (locked mode n l) ≡ true
+locked_sized mode Unknown l h s = s
+locked_sized mode Nowhere l h s = s
+locked_sized mode (Named q) l h s = let r = and_both (held_are_sized l.plus) (minus_is_sized l.minus) s in both_and (held_are_sized (taken mode q l.plus)) (minus_is_sized l.minus) (taken_sized mode q l.plus (named_sized q h) r.0) r.1
+
+without_sized : (m : Minus) (hs : List Held) → held_are_sized hs ≡ true → held_are_sized (without m hs) ≡ true
+without_sized All hs h = refl
+without_sized (Listed qs) hs h = all_filter (λ (k : Held). is_sized k.path) (λ k. is_clear qs k.path) hs h
 
 unlocked_sized : (n : Naming) (l : RelLocks) → naming_fits n ≡ true → locks_are_sized l ≡ true → locks_are_sized (unlocked n l) ≡ true
 unlocked_sized Unknown l h s = refl
 unlocked_sized Nowhere l h s = s
 unlocked_sized (Named q) l h s =
-    let r = and_both (are_sized l.plus) (minus_is_sized l.minus) s in
-    both_and (are_sized (without (Listed (q ∷ [])) l.plus)) (minus_is_sized (both l.minus (Listed (q ∷ [])))) (without_sized (Listed (q ∷ [])) l.plus r.0) (both_sized l.minus (Listed (q ∷ [])) r.1 (both_and (is_sized q) true (named_sized q h) refl))
+    let r = and_both (held_are_sized l.plus) (minus_is_sized l.minus) s in
+    both_and (held_are_sized (without (Listed (q ∷ [])) l.plus)) (minus_is_sized (both l.minus (Listed (q ∷ [])))) (without_sized (Listed (q ∷ [])) l.plus r.0) (both_sized l.minus (Listed (q ∷ [])) r.1 (both_and (is_sized q) true (named_sized q h) refl))
 
 library_sized : (c : LibraryCall) (names : List Naming) (l : RelLocks) → namings_fit names ≡ true → locks_are_sized l ≡ true → locks_are_sized (library_by c names l) ≡ true
 library_sized call.MutexLock [] l h s = s
-library_sized call.MutexLock (n ∷ []) l h s = locked_sized n l (and_both (naming_fits n) true h).0 s
+library_sized call.MutexLock (n ∷ []) l h s = locked_sized Write n l (and_both (naming_fits n) true h).0 s
 library_sized call.MutexLock (n ∷ m ∷ rest) l h s = s
 library_sized call.MutexUnlock [] l h s = s
 library_sized call.MutexUnlock (n ∷ []) l h s = unlocked_sized n l (and_both (naming_fits n) true h).0 s
 library_sized call.MutexUnlock (n ∷ m ∷ rest) l h s = s
 library_sized call.CondWait [] l h s = s
 library_sized call.CondWait (n ∷ []) l h s = s
-library_sized call.CondWait (n ∷ m ∷ []) l h s = let r = (and_both (naming_fits m) true (and_both (naming_fits n) (namings_fit (m ∷ [])) h).1).0 in locked_sized m (unlocked m l) r (unlocked_sized m l r s)
+library_sized call.CondWait (n ∷ m ∷ []) l h s = let r = (and_both (naming_fits m) true (and_both (naming_fits n) (namings_fit (m ∷ [])) h).1).0 in locked_sized Write m (unlocked m l) r (unlocked_sized m l r s)
 library_sized call.CondWait (n ∷ m ∷ o ∷ rest) l h s = s
 library_sized (call.Create g) names l h s = s
 library_sized call.Join names l h s = s
@@ -208,9 +219,15 @@ library_sized call.BarrierInit names l h s = s
 library_sized call.BarrierWait names l h s = s
 library_sized call.BarrierDestroy names l h s = s
 library_sized call.RwInit names l h s = s
-library_sized call.RwRdLock names l h s = s
-library_sized call.RwWrLock names l h s = s
-library_sized call.RwUnlock names l h s = s
+library_sized call.RwRdLock [] l h s = s
+library_sized call.RwRdLock (n ∷ []) l h s = locked_sized Read n l (and_both (naming_fits n) true h).0 s
+library_sized call.RwRdLock (n ∷ m ∷ rest) l h s = s
+library_sized call.RwWrLock [] l h s = s
+library_sized call.RwWrLock (n ∷ []) l h s = locked_sized Write n l (and_both (naming_fits n) true h).0 s
+library_sized call.RwWrLock (n ∷ m ∷ rest) l h s = s
+library_sized call.RwUnlock [] l h s = s
+library_sized call.RwUnlock (n ∷ []) l h s = unlocked_sized n l (and_both (naming_fits n) true h).0 s
+library_sized call.RwUnlock (n ∷ m ∷ rest) l h s = s
 library_sized call.RwDestroy names l h s = s
 library_sized call.Free names l h s = s
 library_sized call.GetChar names l h s = s
@@ -261,12 +278,20 @@ and_path_sized None ps h s = s
 and_path_sized (Some q) ps h s = go (names_cell q) h
   where
     go : (b : Bool) → (not b || is_sized q) ≡ true → are_sized (if b then with q ps else ps) ≡ true
-    go true e = and_sized q ps e s
+    go true e = all_with is_less is_same is_sized q ps e s
     go false e = s
 
-plus_seen_sized : (actuals : List (Option LockPath)) (ps : List LockPath) → list_all actual_fits actuals ≡ true → are_sized ps ≡ true → are_sized (plus_seen actuals ps) ≡ true
+and_held_sized : (mode : Mode) (o : Option LockPath) (hs : List Held) → seen_fits o ≡ true → held_are_sized hs ≡ true → held_are_sized (and_held mode o hs) ≡ true
+and_held_sized mode None hs h s = s
+and_held_sized mode (Some q) hs h s = go (names_cell q) h
+  where
+    go : (b : Bool) → (not b || is_sized q) ≡ true → held_are_sized (if b then with_held (held_as mode q) hs else hs) ≡ true
+    go true e = with_held_sized mode q hs e s
+    go false e = s
+
+plus_seen_sized : (actuals : List (Option LockPath)) (hs : List Held) → list_all actual_fits actuals ≡ true → held_are_sized hs ≡ true → held_are_sized (plus_seen actuals hs) ≡ true
 plus_seen_sized actuals [] h s = refl
-plus_seen_sized actuals (p ∷ ps) h s = let r = and_both (is_sized p) (are_sized ps) s in and_path_sized (substituted p actuals) (plus_seen actuals ps) (substituted_fits actuals p h r.0) (plus_seen_sized actuals ps h r.1)
+plus_seen_sized actuals (k ∷ ks) h s = let r = and_both (is_sized k.path) (held_are_sized ks) s in and_held_sized k.mode (substituted k.path actuals) (plus_seen actuals ks) (substituted_fits actuals k.path h r.0) (plus_seen_sized actuals ks h r.1)
 
 minus_with_sized : (o : Option LockPath) (m : Minus) → seen_fits o ≡ true → minus_is_sized m ≡ true → minus_is_sized (minus_with o m) ≡ true
 minus_with_sized None m h s = refl
@@ -283,10 +308,10 @@ minus_seen_sized actuals (Listed ps) h s = listed_seen_sized actuals ps h s
 
 through_sized : (actuals : List (Option LockPath)) (e l : RelLocks) → list_all actual_fits actuals ≡ true → locks_are_sized e ≡ true → locks_are_sized l ≡ true → locks_are_sized (through actuals e l) ≡ true
 through_sized actuals e l h s t =
-    let a = and_both (are_sized e.plus) (minus_is_sized e.minus) s in
-    let b = and_both (are_sized l.plus) (minus_is_sized l.minus) t in
-    both_and (are_sized (union (without (minus_seen actuals e.minus) l.plus) (plus_seen actuals e.plus))) (minus_is_sized (both l.minus (minus_seen actuals e.minus)))
-    (sized_union (without (minus_seen actuals e.minus) l.plus) (plus_seen actuals e.plus) (without_sized (minus_seen actuals e.minus) l.plus b.0) (plus_seen_sized actuals e.plus h a.0))
+    let a = and_both (held_are_sized e.plus) (minus_is_sized e.minus) s in
+    let b = and_both (held_are_sized l.plus) (minus_is_sized l.minus) t in
+    both_and (held_are_sized (union_held (without (minus_seen actuals e.minus) l.plus) (plus_seen actuals e.plus))) (minus_is_sized (both l.minus (minus_seen actuals e.minus)))
+    (all_union held_less held_same (λ (k : Held). is_sized k.path) (without (minus_seen actuals e.minus) l.plus) (plus_seen actuals e.plus) (without_sized (minus_seen actuals e.minus) l.plus b.0) (plus_seen_sized actuals e.plus h a.0))
     (both_sized l.minus (minus_seen actuals e.minus) b.1 (minus_seen_sized actuals e.minus h a.1))
 
 call_sized : (actuals : List (Option LockPath)) (exits : List RelLocks) (g : ℕ) (l : RelLocks) → list_all actual_fits actuals ≡ true → all_sized exits ≡ true → locks_are_sized l ≡ true → locks_are_sized (after_call actuals (slice_get exits g) l) ≡ true

@@ -7,7 +7,8 @@ use Rattle.flow_code.specs.declared.act.Instr.{Instr}
 use Rattle.abstract_machine.specs.declared.library_call.LibraryCall.{LibraryCall}
 use Rattle.abstract_machine.specs.declared.library_call.LibraryCall.TheVariants as call
 use Rattle.flow_code.specs.declared.code.Function.{Function}
-use Rattle.facts.specs.declared.locks.LockPath.{LockPath}
+use Rattle.sync_objects.specs.declared.mode.Mode.TheVariants.{Read, Write}
+use Rattle.facts.specs.declared.locks.Held.{Held}
 use Rattle.facts.specs.declared.locks.Minus.{Minus}
 use Rattle.facts.specs.declared.locks.Minus.TheVariants.{All, Listed}
 use Rattle.facts.specs.declared.locks.Naming.{Naming}
@@ -15,15 +16,18 @@ use Rattle.facts.specs.declared.locks.RelLocks.{RelLocks}
 use Rattle.facts.specs.Paths.{actual_of}
 use Rattle.lockset_flow.specs.declared.next.Successors.{Successors}
 use Rattle.lockset_flow.specs.declared.next.Successors.TheVariants as next
-use Rattle.facts.specs.Locks.{has, both, locked, unlocked, after_call, nothing, topmost, after, successors, returns, Below, Points, PointsBelow, IsSolution, ascends, locks_are_sized}
+use Rattle.facts.specs.Locks.{has_held, both, locked, unlocked, after_call, nothing, topmost, after, successors, returns, Below, Points, PointsBelow, IsSolution, ascends, locks_are_sized}
 
 -- ---- the locks after an instruction, where the arguments have these names
 
 -- a condition wait unlocks its mutex and locks it again
 abbrev pub library_by : LibraryCall → List Naming → RelLocks → RelLocks
-library_by call.MutexLock (n ∷ []) l = locked n l
+library_by call.MutexLock (n ∷ []) l = locked Write n l
 library_by call.MutexUnlock (n ∷ []) l = unlocked n l
-library_by call.CondWait (c ∷ n ∷ []) l = locked n (unlocked n l)
+library_by call.CondWait (c ∷ n ∷ []) l = locked Write n (unlocked n l)
+library_by call.RwRdLock (n ∷ []) l = locked Read n l
+library_by call.RwWrLock (n ∷ []) l = locked Write n l
+library_by call.RwUnlock (n ∷ []) l = unlocked n l
 library_by _ _ l = l
 
 -- a call changes the locks as its function's exit tells
@@ -36,7 +40,7 @@ after_by exits names _ l = l
 
 -- what both know
 abbrev pub meet_of : RelLocks → RelLocks → RelLocks
-meet_of l m = record { plus = filter (λ p. has p m.plus) l.plus; minus = both l.minus m.minus }
+meet_of l m = record { plus = filter (λ h. has_held h m.plus) l.plus; minus = both l.minus m.minus }
 
 -- how much locks can still fall
 abbrev pub minus_weight : Minus → ℕ
@@ -64,13 +68,13 @@ grows (Listed ps) (Listed qs) = nat_lt (length ps) (length qs)
 
 -- ---- points
 
--- nothing at the entry, else all paths that may be held
-abbrev pub start_row : List LockPath → ℕ → RelLocks
+-- nothing at the entry, else all locks that may be held
+abbrev pub start_row : List Held → ℕ → RelLocks
 start_row top zero = nothing
 start_row top (suc k) = topmost top
 
 -- the first n points as they are before the rounds
-abbrev pub starts : List LockPath → ℕ → List RelLocks
+abbrev pub starts : List Held → ℕ → List RelLocks
 starts top zero = []
 starts top (suc n) = starts top n ++ start_row top n ∷ []
 
@@ -127,19 +131,19 @@ FallsTo false old new = points_weight new ≡ points_weight old
 pub record Relaxes (exits : List RelLocks) (f : Function) (Met : Points → Type 0) (old new : Points) (changed : Bool) : Type 0 where
   pub long : length new.before ≡ length old.before
   pub down : PointsBelow new old
-  pub above : (top : List LockPath) (y : Points) → IsSolution exits f top y → PointsBelow y old → PointsBelow y new
+  pub above : (top : List Held) (y : Points) → IsSolution exits f top y → PointsBelow y old → PointsBelow y new
   pub met : changed ≡ false → (new ≡ old) × Met new
   pub good : AllGood old → AllGood new
   pub falls : FallsTo changed old new
 
 -- the first points of the rounds, and those at their end
-abbrev pub starting : List LockPath → ℕ → Points
+abbrev pub starting : List Held → ℕ → Points
 starting top n = record { before = starts top n; exit = topmost top }
 
 -- what the rounds come to: all ways are met, no solution lost
 pub record Settled (exits : List RelLocks) (f : Function) (old new : Points) : Type 0 where
   pub long : length new.before ≡ length old.before
   pub down : PointsBelow new old
-  pub above : (top : List LockPath) (y : Points) → IsSolution exits f top y → PointsBelow y old → PointsBelow y new
+  pub above : (top : List Held) (y : Points) → IsSolution exits f top y → PointsBelow y old → PointsBelow y new
   pub met : MetAll exits f new
   pub good : AllGood old → AllGood new

@@ -10,6 +10,7 @@ use abstract_machine::LibraryCall;
 use facts::{Naming, RelLocks};
 use flow_code::Act;
 use std::alloc::{AllocError, Global};
+use sync_objects::Mode;
 
 // The locks after a library call; a wait gives its mutex back and takes it again.
 fn after_library(
@@ -21,11 +22,16 @@ fn after_library(
     ensures { IfOk result (λ l. l ≡ library_by call.now names.now locks.now) }
 {
     match (call, names) {
-        (LibraryCall::MutexLock, [mutex]) => locks.locked(alloc, *mutex),
-        (LibraryCall::MutexUnlock, [mutex]) => locks.unlocked(alloc, *mutex),
+        (LibraryCall::MutexLock | LibraryCall::RwWrLock, [lock]) => {
+            locks.locked(alloc, Mode::Write, *lock)
+        }
+        (LibraryCall::RwRdLock, [lock]) => locks.locked(alloc, Mode::Read, *lock),
+        (LibraryCall::MutexUnlock | LibraryCall::RwUnlock, [lock]) => {
+            locks.unlocked(alloc, *lock)
+        }
         (LibraryCall::CondWait, [_, mutex]) => {
             let waiting = locks.unlocked(alloc, *mutex)?;
-            waiting.locked(alloc, *mutex)
+            waiting.locked(alloc, Mode::Write, *mutex)
         }
         _ => locks.copied(alloc),
     }

@@ -4,15 +4,15 @@ ghost use Rattle.std.specs.List.{Contains};
 ghost use Rattle.flow_code.specs.declared.act.Instr.{Instr as Step};
 ghost use Rattle.flow_code.specs.declared.code.Function.{Function as Caller};
 ghost use Rattle.facts.specs.declared.locks.RelLocks.{RelLocks as Locks};
-ghost use Rattle.facts.specs.Locks.{IsGreatest, successors, returns, are_ascending};
-ghost use Rattle.facts.specs.Paths.{argument_namings, are_sized};
+ghost use Rattle.facts.specs.Locks.{IsGreatest, successors, returns, held_ascend, held_are_sized};
+ghost use Rattle.facts.specs.Paths.{argument_namings};
 ghost use Rattle.lockset_flow.specs.Flow.{FlowsWithin, AreSized, all_sized};
 ghost use Rattle.lockset_flow.specs.Rounds.{Agree, Leaves, MetAt, MetAll, Relaxes, Settled};
 
 use crate::effect::after;
 use crate::flow_facts::FlowFacts;
 use crate::next::{Successors, next_of};
-use facts::{LockPath, Naming, RelLocks};
+use facts::{Held, Naming, RelLocks};
 use flow_code::Function;
 use rr_base::List;
 use std::alloc::{AllocError, Global};
@@ -127,18 +127,18 @@ fn settle(
 }
 
 /// The locks at all points of a function, where these are the names of the arguments of its instructions, the functions
-/// of the code have these exits, and these paths may be held: the greatest solution.
+/// of the code have these exits, and these locks may be held: the greatest solution.
 pub fn flow_function(
     alloc: Global,
     function: &Function,
     names: &[List<Naming>],
     exits: &[RelLocks],
-    top: &[LockPath],
+    top: &[Held],
 ) -> Result<FlowFacts, AllocError>
     requires flows { FlowsWithin function.now }
     requires names { names.now ≡ argument_namings function.now }
-    requires ascending { are_ascending top.now ≡ true }
-    requires top { are_sized top.now ≡ true }
+    requires ascending { held_ascend top.now ≡ true }
+    requires top { held_are_sized top.now ≡ true }
     requires exits { all_sized exits.now ≡ true }
     ensures greatest { IfOk result (λ x. IsGreatest exits.now function.now top.now x) }
     ensures sized { IfOk result (λ x. AreSized x) }

@@ -5,7 +5,7 @@ ghost use Rattle.facts.specs.declared.locks.RelLocks.{RelLocks as Locks};
 ghost use Rattle.lockset_flow.specs.Rounds.{meet_of, weight, start_row, starting, with_row, with_exit};
 
 use crate::meeting::meet;
-use facts::{LockPath, Minus, RelLocks};
+use facts::{Held, Minus, RelLocks};
 use rr_base::List;
 use std::alloc::{AllocError, Global};
 use std::marker::Model;
@@ -36,7 +36,7 @@ fn none(alloc: Global) -> RelLocks
 }
 
 // All that may be known.
-fn most(alloc: Global, top: &[LockPath]) -> Result<RelLocks, AllocError>
+fn most(alloc: Global, top: &[Held]) -> Result<RelLocks, AllocError>
     ensures { IfOk result (λ l. l ≡ topmost top.now) }
 {
     let plus = List::from_slice(alloc, top)?;
@@ -47,7 +47,7 @@ fn most(alloc: Global, top: &[LockPath]) -> Result<RelLocks, AllocError>
 }
 
 // What is known before an instruction as the rounds start.
-fn row_at(alloc: Global, k: usize, top: &[LockPath]) -> Result<RelLocks, AllocError>
+fn row_at(alloc: Global, k: usize, top: &[Held]) -> Result<RelLocks, AllocError>
     ensures { IfOk result (λ l. l ≡ start_row top.now k) }
 {
     if k == 0 {
@@ -58,8 +58,8 @@ fn row_at(alloc: Global, k: usize, top: &[LockPath]) -> Result<RelLocks, AllocEr
 }
 
 impl FlowFacts {
-    /// Nothing is known before the first of so many instructions, and all these paths everywhere else.
-    pub fn start(alloc: Global, points: usize, top: &[LockPath]) -> Result<FlowFacts, AllocError>
+    /// Nothing is known before the first of so many instructions, and all these locks everywhere else.
+    pub fn start(alloc: Global, points: usize, top: &[Held]) -> Result<FlowFacts, AllocError>
         ensures { IfOk result (λ x. x ≡ starting top.now points) }
     {
         let mut rows = Vec::new(alloc);

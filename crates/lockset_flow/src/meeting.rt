@@ -1,45 +1,21 @@
 //! Meets: what two sets of locks both know.
 ghost use Rattle.std.specs.Prelude.{◌≡◌, ◌<◌, ◌≤◌, true, false, length, IfOk, OnOk};
 ghost use Rattle.std.specs.List.{filter, list_all};
-ghost use Rattle.facts.specs.Locks.{has, both, are_ascending};
-ghost use Rattle.lockset_flow.specs.Meeting.{starts_after, from_path, begins_with_path};
+ghost use Rattle.facts.specs.Locks.{has, has_held, held_ascend, both};
+ghost use Rattle.lockset_flow.specs.Meeting.{from_item, begins_with_item};
 ghost use Rattle.lockset_flow.specs.Rounds.{meet_of, minus_weight, weight, grows as grows_of};
 
-use facts::{LockPath, Minus, RelLocks, has_path};
+use facts::{Held, LockPath, Minus, RelLocks, SetItem, ascend, has_item};
 use rr_base::List;
 use std::alloc::{AllocError, Global};
 
-// Whether the paths ascend.
-fn ascend(paths: &[LockPath]) -> bool
-    ensures { result ≡ are_ascending paths.now }
+// The items from the first on that doesn't come before this one.
+fn from<'a, T: SetItem>(items: &'a [T], item: T) -> &'a [T]
+    ensures { result.now ≡ from_item T.less item items.now }
 {
-    let mut rest = paths;
+    let mut rest = items;
     while let [first, more @ ..] = rest {
-        if !comes_first(*first, more) {
-            return false;
-        }
-        rest = more;
-    }
-    true
-}
-
-// Whether the path comes before the first of the others, if there is one.
-fn comes_first(path: LockPath, others: &[LockPath]) -> bool
-    ensures { result ≡ starts_after path others.now }
-{
-    match others {
-        [first, ..] => path.is_less(*first),
-        [] => true,
-    }
-}
-
-// The paths from the first on that doesn't come before this one.
-fn from<'a>(paths: &'a [LockPath], path: LockPath) -> &'a [LockPath]
-    ensures { result.now ≡ from_path path paths.now }
-{
-    let mut rest = paths;
-    while let [first, more @ ..] = rest {
-        if !first.is_less(path) {
+        if !first.is_less(item) {
             return rest;
         }
         rest = more;
@@ -47,64 +23,56 @@ fn from<'a>(paths: &'a [LockPath], path: LockPath) -> &'a [LockPath]
     rest
 }
 
-fn begins_with(paths: &[LockPath], path: LockPath) -> bool
-    ensures { result ≡ begins_with_path path paths.now }
+fn begins_with<T: SetItem>(items: &[T], item: T) -> bool
+    ensures { result ≡ begins_with_item T.same item items.now }
 {
-    match paths {
-        [first, ..] => path.is_same(*first),
+    match items {
+        [first, ..] => item.is_same(*first),
         [] => false,
     }
 }
 
-// The paths that the others have too, where both ascend, by one walk through both.
-fn kept_in_order(
-    alloc: Global,
-    paths: &[LockPath],
-    others: &[LockPath],
-) -> Result<List<LockPath>, AllocError>
-    requires paths { are_ascending paths.now ≡ true }
-    requires others { are_ascending others.now ≡ true }
-    ensures { IfOk result (λ kept. kept ≡ filter (λ p. has p others.now) paths.now) }
+// The locks that the others have too, where both ascend, by one walk through both.
+fn kept_in_order(alloc: Global, plus: &[Held], others: &[Held]) -> Result<List<Held>, AllocError>
+    requires plus { held_ascend plus.now ≡ true }
+    requires others { held_ascend others.now ≡ true }
+    ensures { IfOk result (λ kept. kept ≡ filter (λ h. has_held h others.now) plus.now) }
 {
     let mut kept = List::new(alloc);
     let mut rest = others;
-    for path in paths {
-        rest = from(rest, *path);
-        if begins_with(rest, *path) {
-            kept.push(*path)?;
+    for held in plus {
+        rest = from(rest, *held);
+        if begins_with(rest, *held) {
+            kept.push(*held)?;
         }
     }
     Ok(kept)
 }
 
-// The paths that the others have too. The analyses' paths ascend; any others are looked up one by one.
-fn kept(
-    alloc: Global,
-    paths: &[LockPath],
-    others: &[LockPath],
-) -> Result<List<LockPath>, AllocError>
-    ensures { IfOk result (λ kept. kept ≡ filter (λ p. has p others.now) paths.now) }
+// The locks that the others have too. The analyses' locks ascend; any others are looked up one by one.
+fn kept(alloc: Global, plus: &[Held], others: &[Held]) -> Result<List<Held>, AllocError>
+    ensures { IfOk result (λ kept. kept ≡ filter (λ h. has_held h others.now) plus.now) }
 {
-    if ascend(paths) && ascend(others) {
-        return kept_in_order(alloc, paths, others);
+    if ascend(plus) && ascend(others) {
+        return kept_in_order(alloc, plus, others);
     }
-    let kept: Vec<LockPath> = paths
+    let kept: Vec<Held> = plus
         .iter()
         .copied()
-        .filter(|path| has_path(others, *path))
+        .filter(|held| has_item(others, *held))
         .collect(alloc)?;
     Ok(List::from_vec(kept))
 }
 
-// Keeps the paths that the others have too, and tells whether one went.
-fn keep(alloc: Global, paths: &mut List<LockPath>, others: &[LockPath]) -> Result<bool, AllocError>
-    ensures value { OnOk result (paths.new ≡ filter (λ p. has p others.now) paths.old) }
-    ensures same { IfOk result (λ went. went ≡ false → paths.new ≡ paths.old) }
-    ensures falls { IfOk result (λ went. went ≡ true → length paths.new < length paths.old) }
+// Keeps the locks that the others have too, and tells whether one went.
+fn keep(alloc: Global, plus: &mut List<Held>, others: &[Held]) -> Result<bool, AllocError>
+    ensures value { OnOk result (plus.new ≡ filter (λ h. has_held h others.now) plus.old) }
+    ensures same { IfOk result (λ went. went ≡ false → plus.new ≡ plus.old) }
+    ensures falls { IfOk result (λ went. went ≡ true → length plus.new < length plus.old) }
 {
-    let kept = kept(alloc, paths.as_slice(), others)?;
-    let went = kept.len() < paths.len();
-    *paths = kept;
+    let kept = kept(alloc, plus.as_slice(), others)?;
+    let went = kept.len() < plus.len();
+    *plus = kept;
     Ok(went)
 }
 

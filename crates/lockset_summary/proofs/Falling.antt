@@ -7,7 +7,7 @@ use Rattle.std.proofs.lemmas.Option.{same_Some, slice_get_within}
 use Rattle.rr_base.proofs.Lists.{slice_get_inside, slice_get-set_other, slice_get-set_within}
 use Rattle.flow_code.specs.declared.code.Code.{Code}
 use Rattle.flow_code.specs.declared.code.Function.{Function}
-use Rattle.facts.specs.declared.locks.LockPath.{LockPath}
+use Rattle.facts.specs.declared.locks.Held.{Held}
 use Rattle.facts.specs.declared.locks.RelLocks.{RelLocks}
 use Rattle.facts.specs.Locks.{ascends, topmost, Points, Below, IsSolution, IsGreatest}
 use Rattle.facts.specs.Summaries.{AllListsKnown, AreSolution, exits_of}
@@ -27,11 +27,11 @@ small_set [] k l h i = tt
 small_set (e ∷ es) zero l h i = (i, h.1)
 small_set (e ∷ es) (suc k) l h i = (h.0, small_set es k l h.1 i)
 
-small_tops : (ts : List (List LockPath)) → AreSmall (topmost_exits ts)
+small_tops : (ts : List (List Held)) → AreSmall (topmost_exits ts)
 small_tops [] = tt
 small_tops (t ∷ ts) = (omega arith, small_tops ts)
 
-module _ (code : Code) (tops : List (List LockPath)) (tops_known : AllListsKnown code tops) where
+module _ (code : Code) (tops : List (List Held)) (tops_known : AllListsKnown code tops) where
   -- the most that exits may know
   pub start_falling : (exits : List RelLocks) → exits ≡ topmost_exits tops → AreFalling code tops exits
   start_falling exits is = subst (AreFalling code tops) (sym is) record {
@@ -66,7 +66,7 @@ module _ (code : Code) (tops : List (List LockPath)) (tops_known : AllListsKnown
   }
 
   -- one exit falls
-  module _ (exits : List RelLocks) (f : ℕ) (fn : Function) (top : List LockPath) (x : Points) (a : AreFalling code tops exits) (at : slice_get code.functions f ≡ Some fn) (mine : slice_get tops f ≡ Some top) (g : IsGreatest exits fn top x) where
+  module _ (exits : List RelLocks) (f : ℕ) (fn : Function) (top : List Held) (x : Points) (a : AreFalling code tops exits) (at : slice_get code.functions f ≡ Some fn) (mine : slice_get tops f ≡ Some top) (g : IsGreatest exits fn top x) where
     of_new : (h : ℕ) (e : RelLocks) → slice_get (slice_set exits f x.exit) h ≡ Some e → ((h ≡ f) × (x.exit ≡ e)) ⊎ (slice_get exits h ≡ Some e)
     of_new h e i = ⊎_elim
         (λ (z : h ≡ f). inl (z, same_Some x.exit e (sym (slice_get-set_within exits f x.exit (omega (arith, slice_get_within code.functions f fn at, a.from.long))) ∙ ap (slice_get (slice_set exits f x.exit)) (sym z) ∙ i)))
@@ -93,7 +93,7 @@ module _ (code : Code) (tops : List (List LockPath)) (tops_known : AllListsKnown
           (of_new h t j);
     }
 
-    still : (h : ℕ) (fn2 : Function) (top2 : List LockPath) (y : Points) (e : RelLocks) → slice_get code.functions h ≡ Some fn2 → slice_get tops h ≡ Some top2 → slice_get (slice_set exits f x.exit) h ≡ Some e → IsSolution (slice_set exits f x.exit) fn2 top2 y → Below y.exit e
+    still : (h : ℕ) (fn2 : Function) (top2 : List Held) (y : Points) (e : RelLocks) → slice_get code.functions h ≡ Some fn2 → slice_get tops h ≡ Some top2 → slice_get (slice_set exits f x.exit) h ≡ Some e → IsSolution (slice_set exits f x.exit) fn2 top2 y → Below y.exit e
     still h fn2 top2 y e at2 mine2 there s =
         let r : IsSolution exits fn2 top2 y = solution_rises (slice_set exits f x.exit) exits fn2 top2 y lowered s in
         ⊎_elim
@@ -128,7 +128,7 @@ module _ (code : Code) (tops : List (List LockPath)) (tops_known : AllListsKnown
         (λ (z : weights (slice_set exits f x.exit) < weights exits). omega arith)
         (exits_fall (slice_set exits f x.exit) exits lowered (falls_to small).from.ascending a.from.ascending (falls_to small).small)
 
-  pub lower_by : (exits zs new : List RelLocks) (f : ℕ) (x : Points) (e : RelLocks) → AreFalling code tops exits → f < length code.functions → zs ≡ exits → ((fn : Function) (top : List LockPath) → slice_get code.functions f ≡ Some fn → slice_get tops f ≡ Some top → IsGreatest zs fn top x) → e ≡ x.exit → IsSmallMinus e.minus → new ≡ slice_set exits f e → AreFalling code tops new × (weights new ≤ weights exits)
+  pub lower_by : (exits zs new : List RelLocks) (f : ℕ) (x : Points) (e : RelLocks) → AreFalling code tops exits → f < length code.functions → zs ≡ exits → ((fn : Function) (top : List Held) → slice_get code.functions f ≡ Some fn → slice_get tops f ≡ Some top → IsGreatest zs fn top x) → e ≡ x.exit → IsSmallMinus e.minus → new ≡ slice_set exits f e → AreFalling code tops new × (weights new ≤ weights exits)
   lower_by exits zs new f x e a lt same greatest is small set =
       let fn = slice_get_inside code.functions f lt in
       let top = slice_get_inside tops f (omega (arith, lt, tops_known.0)) in

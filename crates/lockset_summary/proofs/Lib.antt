@@ -1,4 +1,5 @@
 pub mod Sets
+pub mod BothWays
 pub mod Rises
 pub mod Whole
 pub mod Rounds

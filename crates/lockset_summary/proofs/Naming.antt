@@ -1,4 +1,4 @@
--- The mutex of which a library call speaks, by the names of the call's arguments.
+-- The mutex or read-write lock of which a library call speaks, by the names of the call's arguments.
 use Rattle.std.proofs.Common.{◌≡◌, ◌≢◌, ◌+◌, ℕ, zero, suc, subst, List, [], ◌∷◌, length, get_or, map, refl, sym, ap, ◌∙◌, ◌++◌, ◌≤◌, take, add-one, arith, Option, Some}
 use Rattle.std.specs.Prelude.{slice_get}
 use Rattle.abstract_machine.specs.declared.library_call.LibraryCall.{LibraryCall}
@@ -12,8 +12,8 @@ use Rattle.facts.specs.declared.locks.LockPath.{LockPath}
 use Rattle.std.proofs.lemmas.Option.{same_Some}
 use Rattle.facts.specs.Locks.{actuals_at}
 use Rattle.facts.specs.Paths.{naming_at, namings_from, argument_namings, arguments_of, actual_of}
-use Rattle.facts.specs.Summaries.{mutex_of, naming_in, mutex_naming}
-use Rattle.lockset_summary.specs.Names.{only_name, second_name, mutex_name}
+use Rattle.facts.specs.Summaries.{lock_register, naming_in, lock_naming}
+use Rattle.lockset_summary.specs.Names.{only_name, second_name, lock_name}
 
 pub only_is : (ns : List Naming) (d : Naming) → length ns ≡ 1 → get_or ns 0 d ≡ only_name ns
 only_is [] d h = absurd (omega (arith, h))
@@ -37,46 +37,56 @@ not_second (m ∷ []) h = refl
 not_second (m ∷ n ∷ []) h = absurd (h refl)
 not_second (m ∷ n ∷ o ∷ ns) h = refl
 
-pub mutex_named : (f : Function) (k : ℕ) (c : LibraryCall) (arguments : List ℕ) → mutex_name c (map (naming_at f k) arguments) ≡ naming_in f k (mutex_of c arguments)
-mutex_named f k call.MutexInit [] = refl
-mutex_named f k call.MutexInit (m ∷ []) = refl
-mutex_named f k call.MutexInit (m ∷ n ∷ rs) = refl
-mutex_named f k call.MutexLock [] = refl
-mutex_named f k call.MutexLock (m ∷ []) = refl
-mutex_named f k call.MutexLock (m ∷ n ∷ rs) = refl
-mutex_named f k call.MutexUnlock [] = refl
-mutex_named f k call.MutexUnlock (m ∷ []) = refl
-mutex_named f k call.MutexUnlock (m ∷ n ∷ rs) = refl
-mutex_named f k call.MutexTryLock [] = refl
-mutex_named f k call.MutexTryLock (m ∷ []) = refl
-mutex_named f k call.MutexTryLock (m ∷ n ∷ rs) = refl
-mutex_named f k call.MutexDestroy [] = refl
-mutex_named f k call.MutexDestroy (m ∷ []) = refl
-mutex_named f k call.MutexDestroy (m ∷ n ∷ rs) = refl
-mutex_named f k call.CondWait [] = refl
-mutex_named f k call.CondWait (c ∷ []) = refl
-mutex_named f k call.CondWait (c ∷ m ∷ []) = refl
-mutex_named f k call.CondWait (c ∷ m ∷ n ∷ rs) = refl
-mutex_named f k (call.Create g) arguments = refl
-mutex_named f k call.Join arguments = refl
-mutex_named f k call.Exit arguments = refl
-mutex_named f k call.SelfNumber arguments = refl
-mutex_named f k call.SameThread arguments = refl
-mutex_named f k call.CondInit arguments = refl
-mutex_named f k call.CondSignal arguments = refl
-mutex_named f k call.CondDestroy arguments = refl
-mutex_named f k call.BarrierInit arguments = refl
-mutex_named f k call.BarrierWait arguments = refl
-mutex_named f k call.BarrierDestroy arguments = refl
-mutex_named f k call.RwInit arguments = refl
-mutex_named f k call.RwRdLock arguments = refl
-mutex_named f k call.RwWrLock arguments = refl
-mutex_named f k call.RwUnlock arguments = refl
-mutex_named f k call.RwDestroy arguments = refl
-mutex_named f k call.Free arguments = refl
-mutex_named f k call.GetChar arguments = refl
-mutex_named f k (call.Print format) arguments = refl
-mutex_named f k call.PutChar arguments = refl
+pub lock_named : (f : Function) (k : ℕ) (c : LibraryCall) (arguments : List ℕ) → lock_name c (map (naming_at f k) arguments) ≡ naming_in f k (lock_register c arguments)
+lock_named f k call.MutexInit [] = refl
+lock_named f k call.MutexInit (m ∷ []) = refl
+lock_named f k call.MutexInit (m ∷ n ∷ rs) = refl
+lock_named f k call.MutexLock [] = refl
+lock_named f k call.MutexLock (m ∷ []) = refl
+lock_named f k call.MutexLock (m ∷ n ∷ rs) = refl
+lock_named f k call.MutexUnlock [] = refl
+lock_named f k call.MutexUnlock (m ∷ []) = refl
+lock_named f k call.MutexUnlock (m ∷ n ∷ rs) = refl
+lock_named f k call.MutexTryLock [] = refl
+lock_named f k call.MutexTryLock (m ∷ []) = refl
+lock_named f k call.MutexTryLock (m ∷ n ∷ rs) = refl
+lock_named f k call.MutexDestroy [] = refl
+lock_named f k call.MutexDestroy (m ∷ []) = refl
+lock_named f k call.MutexDestroy (m ∷ n ∷ rs) = refl
+lock_named f k call.CondWait [] = refl
+lock_named f k call.CondWait (c ∷ []) = refl
+lock_named f k call.CondWait (c ∷ m ∷ []) = refl
+lock_named f k call.CondWait (c ∷ m ∷ n ∷ rs) = refl
+lock_named f k (call.Create g) arguments = refl
+lock_named f k call.Join arguments = refl
+lock_named f k call.Exit arguments = refl
+lock_named f k call.SelfNumber arguments = refl
+lock_named f k call.SameThread arguments = refl
+lock_named f k call.CondInit arguments = refl
+lock_named f k call.CondSignal arguments = refl
+lock_named f k call.CondDestroy arguments = refl
+lock_named f k call.BarrierInit arguments = refl
+lock_named f k call.BarrierWait arguments = refl
+lock_named f k call.BarrierDestroy arguments = refl
+lock_named f k call.RwInit [] = refl
+lock_named f k call.RwInit (m ∷ []) = refl
+lock_named f k call.RwInit (m ∷ n ∷ rs) = refl
+lock_named f k call.RwRdLock [] = refl
+lock_named f k call.RwRdLock (m ∷ []) = refl
+lock_named f k call.RwRdLock (m ∷ n ∷ rs) = refl
+lock_named f k call.RwWrLock [] = refl
+lock_named f k call.RwWrLock (m ∷ []) = refl
+lock_named f k call.RwWrLock (m ∷ n ∷ rs) = refl
+lock_named f k call.RwUnlock [] = refl
+lock_named f k call.RwUnlock (m ∷ []) = refl
+lock_named f k call.RwUnlock (m ∷ n ∷ rs) = refl
+lock_named f k call.RwDestroy [] = refl
+lock_named f k call.RwDestroy (m ∷ []) = refl
+lock_named f k call.RwDestroy (m ∷ n ∷ rs) = refl
+lock_named f k call.Free arguments = refl
+lock_named f k call.GetChar arguments = refl
+lock_named f k (call.Print format) arguments = refl
+lock_named f k call.PutChar arguments = refl
 
 -- ---- the names of the arguments of an instruction
 
@@ -102,8 +112,8 @@ actuals_there f k (r ∷ rs) = ap (λ z. actual_of (naming_at f k r) ∷ z) (act
 
 -- ---- what an instruction's names tell
 
-pub name_is : (f : Function) (k : ℕ) (i : Instr) (c : LibraryCall) (arguments : List ℕ) (into : Option ℕ) (ns : List Naming) (n : Naming) → i.act ≡ act.Library c arguments into → ns ≡ map (naming_at f k) (arguments_of i.act) → n ≡ mutex_name c ns → n ≡ mutex_naming f k i.act
-name_is f k i c arguments into ns n is e h = h ∙ ap (mutex_name c) (e ∙ ap (λ a. map (naming_at f k) (arguments_of a)) is) ∙ mutex_named f k c arguments ∙ ap (mutex_naming f k) (sym is)
+pub name_is : (f : Function) (k : ℕ) (i : Instr) (c : LibraryCall) (arguments : List ℕ) (into : Option ℕ) (ns : List Naming) (n : Naming) → i.act ≡ act.Library c arguments into → ns ≡ map (naming_at f k) (arguments_of i.act) → n ≡ lock_name c ns → n ≡ lock_naming f k i.act
+name_is f k i c arguments into ns n is e h = h ∙ ap (lock_name c) (e ∙ ap (λ a. map (naming_at f k) (arguments_of a)) is) ∙ lock_named f k c arguments ∙ ap (lock_naming f k) (sym is)
 
 pub actuals_are : (f : Function) (k : ℕ) (i : Instr) (g : ℕ) (arguments : List ℕ) (into : Option ℕ) (ns : List Naming) (made zs : List (Option LockPath)) → i.act ≡ act.Call g arguments into → ns ≡ map (naming_at f k) (arguments_of i.act) → made ≡ map actual_of ns → zs ≡ made → zs ≡ actuals_at f k arguments
 actuals_are f k i g arguments into ns made zs is e h j = j ∙ h ∙ ap (map actual_of) (e ∙ ap (λ a. map (naming_at f k) (arguments_of a)) is) ∙ actuals_there f k arguments

@@ -8,6 +8,7 @@ use Rattle.rr_base.proofs.Lists.{slice_get_inside}
 use Rattle.flow_code.specs.declared.code.Code.{Code}
 use Rattle.flow_code.specs.declared.code.Function.{Function}
 use Rattle.facts.specs.declared.locks.Guarded.{Guarded}
+use Rattle.facts.specs.declared.locks.Held.{Held}
 use Rattle.facts.specs.declared.locks.LockPath.{LockPath}
 use Rattle.facts.specs.declared.locks.LockPath.TheVariants.{Cell, Formal}
 use Rattle.facts.specs.declared.locks.Minus.{Minus}
@@ -15,7 +16,7 @@ use Rattle.facts.specs.declared.locks.Minus.TheVariants.{All, Listed}
 use Rattle.facts.specs.declared.locks.RelLocks.{RelLocks}
 use Rattle.facts.specs.declared.locks.Summary.{Summary}
 use Rattle.facts.specs.Paths.{is_sized, are_sized}
-use Rattle.facts.specs.Locks.{has, are_ascending, ascends, topmost, Points, IsGreatest, locks_are_sized, minus_is_sized}
+use Rattle.facts.specs.Locks.{has, has_held, held_ascend, held_are_sized, ascends, topmost, Points, IsGreatest, locks_are_sized, minus_is_sized}
 use Rattle.facts.specs.Summaries.{AllListsKnown, exits_of, AreGreatest, AreSummaries}
 use Rattle.lockset_flow.specs.Flow.{all_sized}
 use Rattle.lockset_summary.specs.Collecting.{AreCollected}
@@ -24,6 +25,7 @@ use Rattle.lockset_summary.specs.Guarding.{AreReady, AreMade, AreAllMet}
 use Rattle.lockset_summary.proofs.Insertion.{row_is}
 use Rattle.lockset_summary.proofs.Narrow.{point_within, exit_within, locks_known, closed}
 use Rattle.lockset_summary.proofs.Order.{same_exits, exits_itself}
+use Rattle.facts.proofs.TotalOrders.{orders_paths, orders_held}
 use Rattle.lockset_summary.proofs.Sets.{has_first, has_later}
 use Rattle.lockset_summary.proofs.Small.{IsModest, knows_modest}
 use Rattle.lockset_summary.proofs.Whole.{exit_from, long_exits, top_at, long_tops, next_above, first_above, exits_ascend, whole, exits_fall}
@@ -36,14 +38,18 @@ modest_sized (Formal i n) h = grind (arith, h)
 
 paths_sized : (ps : List LockPath) → ((p : LockPath) → has p ps ≡ true → IsModest p) → are_sized ps ≡ true
 paths_sized [] h = refl
-paths_sized (p ∷ ps) h = and_from (is_sized p) (are_sized ps) (modest_sized p (h p (has_first p p ps refl))) (paths_sized ps (λ q k. h q (has_later q p ps k)))
+paths_sized (p ∷ ps) h = and_from (is_sized p) (are_sized ps) (modest_sized p (h p (has_first orders_paths p p ps refl))) (paths_sized ps (λ q k. h q (has_later orders_paths q p ps k)))
+
+held_sized : (hs : List Held) → ((h : Held) → has_held h hs ≡ true → IsModest h.path) → held_are_sized hs ≡ true
+held_sized [] f = refl
+held_sized (h ∷ hs) f = and_from (is_sized h.path) (held_are_sized hs) (modest_sized h.path (f h (has_first orders_held h h hs refl))) (held_sized hs (λ k i. f k (has_later orders_held k h hs i)))
 
 minus_sized : (code : Code) (f : ℕ) (m : Minus) → IsMinusKnown code f m → minus_is_sized m ≡ true
 minus_sized code f All h = refl
 minus_sized code f (Listed ps) h = paths_sized ps (λ p k. knows_modest code (h p k))
 
 locks_sized : (code : Code) (f : ℕ) (l : RelLocks) → AreLocksKnown code f l → locks_are_sized l ≡ true
-locks_sized code f l h = and_from (are_sized l.plus) (minus_is_sized l.minus) (paths_sized l.plus (λ p k. knows_modest code (h.plus p k))) (minus_sized code f l.minus h.minus)
+locks_sized code f l h = and_from (held_are_sized l.plus) (minus_is_sized l.minus) (held_sized l.plus (λ p k. knows_modest code (h.plus p k))) (minus_sized code f l.minus h.minus)
 
 every_sized : (ls : List RelLocks) → ((g : ℕ) (e : RelLocks) → slice_get ls g ≡ Some e → locks_are_sized e ≡ true) → all_sized ls ≡ true
 every_sized [] h = refl
@@ -52,18 +58,18 @@ every_sized (l ∷ ls) h = and_from (locks_are_sized l) (all_sized ls) (h 0 l re
 pub exits_sized : (code : Code) (exits : List RelLocks) → ((g : ℕ) (e : RelLocks) → slice_get exits g ≡ Some e → AreLocksKnown code g e) → all_sized exits ≡ true
 exits_sized code exits h = every_sized exits (λ g e k. locks_sized code g e (h g e k))
 
-pub top_sized : (code : Code) (tops : List (List LockPath)) (f : ℕ) (top : List LockPath) → AllListsKnown code tops → slice_get tops f ≡ Some top → are_sized top ≡ true
-top_sized code tops f top k at = paths_sized top (λ p h. knows_modest code (((k.1 f top at).of p).0 h))
+pub top_sized : (code : Code) (tops : List (List Held)) (f : ℕ) (top : List Held) → AllListsKnown code tops → slice_get tops f ≡ Some top → held_are_sized top ≡ true
+top_sized code tops f top k at = held_sized top (λ p h. knows_modest code (((k.1 f top at).of p).0 h))
 
 -- ---- what each round keeps
 
-module _ (code : Code) (tops : List (List LockPath)) (tops_known : AllListsKnown code tops) where
-  topmost_known : (f : ℕ) (top : List LockPath) → slice_get tops f ≡ Some top → AreLocksKnown code f (topmost top)
+module _ (code : Code) (tops : List (List Held)) (tops_known : AllListsKnown code tops) where
+  topmost_known : (f : ℕ) (top : List Held) → slice_get tops f ≡ Some top → AreLocksKnown code f (topmost top)
   topmost_known f top at = record { plus = λ p h. ((tops_known.1 f top at).of p).0 h; minus = λ p h. cc }
 
-  all_ascend : (ts : List (List LockPath)) → ((f : ℕ) (top : List LockPath) → slice_get ts f ≡ Some top → are_ascending top ≡ true) → list_all ascends (topmost_exits ts) ≡ true
+  all_ascend : (ts : List (List Held)) → ((f : ℕ) (top : List Held) → slice_get ts f ≡ Some top → held_ascend top ≡ true) → list_all ascends (topmost_exits ts) ≡ true
   all_ascend [] h = refl
-  all_ascend (t ∷ ts) h = and_from (ascends (topmost t)) (list_all ascends (topmost_exits ts)) (and_from (are_ascending t) true (h 0 t refl) refl) (all_ascend ts (λ f top at. h (suc f) top at))
+  all_ascend (t ∷ ts) h = and_from (ascends (topmost t)) (list_all ascends (topmost_exits ts)) (and_from (held_ascend t) true (h 0 t refl) refl) (all_ascend ts (λ f top at. h (suc f) top at))
 
   pub starts_above : AreAbove code tops (topmost_exits tops)
   starts_above = record {
@@ -126,24 +132,24 @@ get_appended (x ∷ xs) y z zero h = inl h
 get_appended (x ∷ xs) y z (suc j) h = ⊎_elim (λ e. inl e) (λ (e : (j ≡ length xs) × (y ≡ z)). inr (ap suc e.0, e.1)) (get_appended xs y z j h)
 
 -- the points of the first functions
-pub record AreFirstGreatest (code : Code) (tops : List (List LockPath)) (exits : List RelLocks) (count : ℕ) (xs : List Points) : Type 0 where
+pub record AreFirstGreatest (code : Code) (tops : List (List Held)) (exits : List RelLocks) (count : ℕ) (xs : List Points) : Type 0 where
   pub long : length xs ≡ count
-  pub each : (f : ℕ) (fn : Function) (top : List LockPath) (x : Points) → slice_get code.functions f ≡ Some fn → slice_get tops f ≡ Some top → slice_get xs f ≡ Some x → IsGreatest exits fn top x
+  pub each : (f : ℕ) (fn : Function) (top : List Held) (x : Points) → slice_get code.functions f ≡ Some fn → slice_get tops f ≡ Some top → slice_get xs f ≡ Some x → IsGreatest exits fn top x
 
-pub no_points : (code : Code) (tops : List (List LockPath)) (exits : List RelLocks) → AreFirstGreatest code tops exits 0 []
+pub no_points : (code : Code) (tops : List (List Held)) (exits : List RelLocks) → AreFirstGreatest code tops exits 0 []
 no_points code tops exits = record { long = refl; each = λ f fn top x i j k. cc }
 
 long_appended : {X : Type 0} (xs : List X) (y : X) → length (xs ++ y ∷ []) ≡ length xs + 1
 long_appended [] y = refl
 long_appended (x ∷ xs) y = let e = long_appended xs y in omega (arith, e)
 
-pub more_points : (code : Code) (tops : List (List LockPath)) (exits : List RelLocks) (k : ℕ) (xs : List Points) (y : Points) → AreFirstGreatest code tops exits k xs → ((fn : Function) (top : List LockPath) → slice_get code.functions k ≡ Some fn → slice_get tops k ≡ Some top → IsGreatest exits fn top y) → AreFirstGreatest code tops exits (k + 1) (xs ++ y ∷ [])
+pub more_points : (code : Code) (tops : List (List Held)) (exits : List RelLocks) (k : ℕ) (xs : List Points) (y : Points) → AreFirstGreatest code tops exits k xs → ((fn : Function) (top : List Held) → slice_get code.functions k ≡ Some fn → slice_get tops k ≡ Some top → IsGreatest exits fn top y) → AreFirstGreatest code tops exits (k + 1) (xs ++ y ∷ [])
 more_points code tops exits k xs y a g = record {
   long = long_appended xs y ∙ ap (λ n. n + 1) a.long;
   each = λ f fn top x i j h. ⊎_elim (λ e. a.each f fn top x i j e) (λ (e : (f ≡ length xs) × (y ≡ x)). let n = e.0 ∙ a.long in subst (IsGreatest exits fn top) e.1 (g fn top (ap (slice_get code.functions) (sym n) ∙ i) (ap (slice_get tops) (sym n) ∙ j))) (get_appended xs y x f h);
 }
 
-pub all_points : (code : Code) (tops : List (List LockPath)) (exits : List RelLocks) (k n : ℕ) (xs : List Points) → AreFirstGreatest code tops exits k xs → n ≡ length code.functions → n ≤ k → k ≤ n → AreEachGreatest code tops exits xs
+pub all_points : (code : Code) (tops : List (List Held)) (exits : List RelLocks) (k n : ℕ) (xs : List Points) → AreFirstGreatest code tops exits k xs → n ≡ length code.functions → n ≤ k → k ≤ n → AreEachGreatest code tops exits xs
 all_points code tops exits k n xs a e le ge = record { long = a.long ∙ omega (arith, e); each = a.each }
 
 -- ---- exits that are copied
@@ -195,7 +201,7 @@ more_summaries xs rows k n ss x e row a here at is there = record {
   guarded = λ f s h. ⊎_elim (λ g. a.guarded f s g) (λ (g : (f ≡ length ss) × (record { exit = e; guarded = row } ≡ s)). ap (slice_get rows) (g.0 ∙ a.long) ∙ there ∙ ap (λ (z : Summary). Some z.guarded) g.1) (get_appended ss (record { exit = e; guarded = row }) s f h);
 }
 
-pub are_summaries : (code : Code) (tops : List (List LockPath)) (xs : List Points) (rows : List (List Guarded)) (ss : List Summary) → AllListsKnown code tops → AreGreatest code tops xs → AreMade code xs rows → AreAllMet code xs rows → AreCollected xs rows (length xs) ss → AreSummaries code ss
+pub are_summaries : (code : Code) (tops : List (List Held)) (xs : List Points) (rows : List (List Guarded)) (ss : List Summary) → AllListsKnown code tops → AreGreatest code tops xs → AreMade code xs rows → AreAllMet code xs rows → AreCollected xs rows (length xs) ss → AreSummaries code ss
 are_summaries code tops xs rows ss known greatest made met c = record {
   tops = tops;
   known = known;

@@ -1,39 +1,40 @@
 -- The order of guarded accesses is total and transitive.
 use Rattle.std.proofs.Common.{◌≡◌, ℕ, Bool, true, false, ◌&&◌, ◌||◌, List, [], ◌∷◌, refl, sym, ap, ap₂, ◌∙◌, subst, arith, ◌⊎◌, inl, inr, ⊎_elim, nat_lt, ◌==◌}
 use Rattle.std.proofs.lemmas.Bool.{and_parts, and_from, or_parts, and_cases}
-use Rattle.facts.specs.declared.locks.LockPath.{LockPath}
+use Rattle.facts.specs.declared.locks.Held.{Held}
 use Rattle.facts.specs.declared.locks.Minus.{Minus}
 use Rattle.facts.specs.declared.locks.Minus.TheVariants.{All, Listed}
 use Rattle.facts.specs.declared.locks.RelLocks.{RelLocks}
 use Rattle.facts.specs.declared.locks.Guarded.{Guarded}
-use Rattle.facts.specs.Locks.{is_less, is_same}
-use Rattle.facts.specs.Summaries.{paths_less, paths_same, minus_less, locks_less, locks_of, first_less, number_of, guarded_less}
+use Rattle.facts.specs.Sets as sets
+use Rattle.facts.specs.Sets.{Orders}
+use Rattle.facts.specs.Summaries.{plus_less, plus_same, minus_less, locks_less, locks_of, first_less, number_of, guarded_less}
 use Rattle.lockset_summary.specs.Exits.{minus_same, locks_same, all_same}
-use Rattle.facts.proofs.Orders.{path_same, path_self, paths_same_eq, paths_self}
-use Rattle.facts.proofs.PathSets.{less_other}
-use Rattle.lockset_summary.proofs.Sets.{or_first, or_second}
+use Rattle.facts.proofs.TotalOrders.{orders_paths, orders_held}
+use Rattle.lockset_summary.proofs.Sets.{or_first, or_second, less_other, all_same_eq, all_same_self}
 
--- ---- paths
+-- ---- lists
 
-paths_other : (ps qs : List LockPath) → paths_less ps qs ≡ false → (ps ≡ qs) ⊎ (paths_less qs ps ≡ true)
-paths_other [] [] h = inl refl
-paths_other [] (q ∷ qs) h = cc
-paths_other (p ∷ ps) [] h = inr refl
-paths_other (p ∷ ps) (q ∷ qs) h = go (and_cases (is_same p q) (paths_less ps qs) o.1) (is_same p q) refl (paths_other ps qs)
-  where
-    o : (is_less p q ≡ false) × ((is_same p q && paths_less ps qs) ≡ false)
-    o = or_parts (is_less p q) (is_same p q && paths_less ps qs) h
+module _ {X : Type 0} {less same : X → X → Bool} (o : Orders less same) where
+  list_other : (xs ys : List X) → sets.list_less less same xs ys ≡ false → (xs ≡ ys) ⊎ (sets.list_less less same ys xs ≡ true)
+  list_other [] [] h = inl refl
+  list_other [] (y ∷ ys) h = cc
+  list_other (x ∷ xs) [] h = inr refl
+  list_other (x ∷ xs) (y ∷ ys) h = go (and_cases (same x y) (sets.list_less less same xs ys) a.1) (same x y) refl (list_other xs ys)
+    where
+      a : (less x y ≡ false) × ((same x y && sets.list_less less same xs ys) ≡ false)
+      a = or_parts (less x y) (same x y && sets.list_less less same xs ys) h
 
-    rest : p ≡ q → (paths_less ps qs ≡ false → (ps ≡ qs) ⊎ (paths_less qs ps ≡ true)) → paths_less ps qs ≡ false → (p ∷ ps ≡ q ∷ qs) ⊎ ((is_less q p || (is_same q p && paths_less qs ps)) ≡ true)
-    rest e f l = ⊎_elim
-        (λ (z : ps ≡ qs). inl (ap₂ (λ a b. a ∷ b) e z))
-        (λ (z : paths_less qs ps ≡ true). inr (or_second (is_less q p) (is_same q p && paths_less qs ps) (and_from (is_same q p) (paths_less qs ps) (subst (λ y. is_same y p ≡ true) e (path_self p)) z)))
-        (f l)
+      rest : x ≡ y → (sets.list_less less same xs ys ≡ false → (xs ≡ ys) ⊎ (sets.list_less less same ys xs ≡ true)) → sets.list_less less same xs ys ≡ false → (x ∷ xs ≡ y ∷ ys) ⊎ ((less y x || (same y x && sets.list_less less same ys xs)) ≡ true)
+      rest e f l = ⊎_elim
+          (λ (z : xs ≡ ys). inl (ap₂ (λ a b. a ∷ b) e z))
+          (λ (z : sets.list_less less same ys xs ≡ true). inr (or_second (less y x) (same y x && sets.list_less less same ys xs) (and_from (same y x) (sets.list_less less same ys xs) (subst (λ w. same w x ≡ true) e (o.same_self x)) z)))
+          (f l)
 
-    go : (is_same p q ≡ false) ⊎ (paths_less ps qs ≡ false) → (b : Bool) → is_same p q ≡ b → (paths_less ps qs ≡ false → (ps ≡ qs) ⊎ (paths_less qs ps ≡ true)) → (p ∷ ps ≡ q ∷ qs) ⊎ ((is_less q p || (is_same q p && paths_less qs ps)) ≡ true)
-    go (inl x) b e f = inr (or_first (is_less q p) (is_same q p && paths_less qs ps) (less_other p q o.0 x))
-    go (inr x) true e f = rest (path_same p q e) f x
-    go (inr x) false e f = inr (or_first (is_less q p) (is_same q p && paths_less qs ps) (less_other p q o.0 e))
+      go : (same x y ≡ false) ⊎ (sets.list_less less same xs ys ≡ false) → (b : Bool) → same x y ≡ b → (sets.list_less less same xs ys ≡ false → (xs ≡ ys) ⊎ (sets.list_less less same ys xs ≡ true)) → (x ∷ xs ≡ y ∷ ys) ⊎ ((less y x || (same y x && sets.list_less less same ys xs)) ≡ true)
+      go (inl z) b e f = inr (or_first (less y x) (same y x && sets.list_less less same ys xs) (less_other o x y a.0 z))
+      go (inr z) true e f = rest (o.same_is x y e) f z
+      go (inr z) false e f = inr (or_first (less y x) (same y x && sets.list_less less same ys xs) (less_other o x y a.0 e))
 
 -- ---- locks
 
@@ -41,24 +42,24 @@ minus_other : (m n : Minus) → minus_less m n ≡ false → (m ≡ n) ⊎ (minu
 minus_other All All h = inl refl
 minus_other All (Listed qs) h = inr refl
 minus_other (Listed ps) All h = cc
-minus_other (Listed ps) (Listed qs) h = ⊎_elim (λ e. inl (ap Listed e)) (λ l. inr l) (paths_other ps qs h)
+minus_other (Listed ps) (Listed qs) h = ⊎_elim (λ e. inl (ap Listed e)) (λ l. inr l) (list_other orders_paths ps qs h)
 
 locks_other : (l m : RelLocks) → locks_less l m ≡ false → (l ≡ m) ⊎ (locks_less m l ≡ true)
-locks_other l m h = ⊎_elim same (λ (z : paths_less m.plus l.plus ≡ true). inr (or_first (paths_less m.plus l.plus) (paths_same m.plus l.plus && minus_less m.minus l.minus) z)) (paths_other l.plus m.plus o.0)
+locks_other l m h = ⊎_elim same (λ (z : plus_less m.plus l.plus ≡ true). inr (or_first (plus_less m.plus l.plus) (plus_same m.plus l.plus && minus_less m.minus l.minus) z)) (list_other orders_held l.plus m.plus o.0)
   where
-    o : (paths_less l.plus m.plus ≡ false) × ((paths_same l.plus m.plus && minus_less l.minus m.minus) ≡ false)
-    o = or_parts (paths_less l.plus m.plus) (paths_same l.plus m.plus && minus_less l.minus m.minus) h
+    o : (plus_less l.plus m.plus ≡ false) × ((plus_same l.plus m.plus && minus_less l.minus m.minus) ≡ false)
+    o = or_parts (plus_less l.plus m.plus) (plus_same l.plus m.plus && minus_less l.minus m.minus) h
 
-    both : (p q : List LockPath) (m n : Minus) → p ≡ q → m ≡ n → ◌≡◌ {A = RelLocks} (record { plus = p; minus = m }) (record { plus = q; minus = n })
+    both : (p q : List Held) (m n : Minus) → p ≡ q → m ≡ n → ◌≡◌ {A = RelLocks} (record { plus = p; minus = m }) (record { plus = q; minus = n })
     both p q m n e g = ap₂ {C = RelLocks} (λ a b. record { plus = a; minus = b }) e g
 
     same : l.plus ≡ m.plus → (l ≡ m) ⊎ (locks_less m l ≡ true)
     same e =
-        let s : paths_same l.plus m.plus ≡ true = subst (λ z. paths_same l.plus z ≡ true) e (paths_self l.plus) in
+        let s : plus_same l.plus m.plus ≡ true = subst (λ z. plus_same l.plus z ≡ true) e (all_same_self orders_held l.plus) in
         let n : minus_less l.minus m.minus ≡ false = ap (λ b. b && minus_less l.minus m.minus) (sym s) ∙ o.1 in
         ⊎_elim
         (λ (z : l.minus ≡ m.minus). inl (both l.plus m.plus l.minus m.minus e z))
-        (λ (z : minus_less m.minus l.minus ≡ true). inr (or_second (paths_less m.plus l.plus) (paths_same m.plus l.plus && minus_less m.minus l.minus) (and_from (paths_same m.plus l.plus) (minus_less m.minus l.minus) (subst (λ y. paths_same y l.plus ≡ true) e (paths_self l.plus)) z)))
+        (λ (z : minus_less m.minus l.minus ≡ true). inr (or_second (plus_less m.plus l.plus) (plus_same m.plus l.plus && minus_less m.minus l.minus) (and_from (plus_same m.plus l.plus) (minus_less m.minus l.minus) (subst (λ y. plus_same y l.plus ≡ true) e (all_same_self orders_held l.plus)) z)))
         (minus_other l.minus m.minus n)
 
 -- ---- accesses
@@ -114,16 +115,16 @@ same_minus : (m n : Minus) → minus_same m n ≡ true → m ≡ n
 same_minus All All h = refl
 same_minus All (Listed qs) h = cc
 same_minus (Listed ps) All h = cc
-same_minus (Listed ps) (Listed qs) h = ap Listed (paths_same_eq ps qs h)
+same_minus (Listed ps) (Listed qs) h = ap Listed (all_same_eq orders_paths ps qs h)
 
 minus_itself : (m : Minus) → minus_same m m ≡ true
 minus_itself All = refl
-minus_itself (Listed ps) = paths_self ps
+minus_itself (Listed ps) = all_same_self orders_paths ps
 
 same_locks : (l m : RelLocks) → locks_same l m ≡ true → l ≡ m
-same_locks l m h = let e = and_parts (paths_same l.plus m.plus) (minus_same l.minus m.minus) h in both l.plus m.plus l.minus m.minus (paths_same_eq l.plus m.plus e.0) (same_minus l.minus m.minus e.1)
+same_locks l m h = let e = and_parts (plus_same l.plus m.plus) (minus_same l.minus m.minus) h in both l.plus m.plus l.minus m.minus (all_same_eq orders_held l.plus m.plus e.0) (same_minus l.minus m.minus e.1)
   where
-    both : (p q : List LockPath) (m n : Minus) → p ≡ q → m ≡ n → ◌≡◌ {A = RelLocks} (record { plus = p; minus = m }) (record { plus = q; minus = n })
+    both : (p q : List Held) (m n : Minus) → p ≡ q → m ≡ n → ◌≡◌ {A = RelLocks} (record { plus = p; minus = m }) (record { plus = q; minus = n })
     both p q m n e g = ap₂ {C = RelLocks} (λ a b. record { plus = a; minus = b }) e g
 
 pub same_exits : (ls ms : List RelLocks) → all_same ls ms ≡ true → ls ≡ ms
@@ -134,4 +135,4 @@ same_exits (l ∷ ls) (m ∷ ms) h = let e = and_parts (locks_same l m) (all_sam
 
 pub exits_itself : (ls : List RelLocks) → all_same ls ls ≡ true
 exits_itself [] = refl
-exits_itself (l ∷ ls) = and_from (locks_same l l) (all_same ls ls) (and_from (paths_same l.plus l.plus) (minus_same l.minus l.minus) (paths_self l.plus) (minus_itself l.minus)) (exits_itself ls)
+exits_itself (l ∷ ls) = and_from (locks_same l l) (all_same ls ls) (and_from (plus_same l.plus l.plus) (minus_same l.minus l.minus) (all_same_self orders_held l.plus) (minus_itself l.minus)) (exits_itself ls)

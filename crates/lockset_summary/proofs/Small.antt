@@ -14,6 +14,7 @@ use Rattle.flow_code.specs.declared.work.Work.TheVariants as work
 use Rattle.flow_code.specs.Next.{act_in}
 use Rattle.abstract_machine.specs.Pointers.{directed}
 use Rattle.facts.specs.Blocks.{begins_block, assigns, constant_at}
+use Rattle.facts.specs.declared.locks.Held.{Held}
 use Rattle.facts.specs.declared.locks.LockPath.{LockPath}
 use Rattle.facts.specs.declared.locks.LockPath.TheVariants.{Cell, Formal}
 use Rattle.facts.specs.declared.locks.Naming.{Naming}
@@ -22,9 +23,10 @@ use Rattle.facts.specs.Paths.{Root, global, formal, Known, is_never_assigned, kn
 use Rattle.facts.specs.declared.locks.Minus.{Minus}
 use Rattle.facts.specs.declared.locks.Minus.TheVariants.{All, Listed}
 use Rattle.facts.specs.declared.locks.RelLocks.{RelLocks}
-use Rattle.facts.specs.Locks.{has, actuals_at, minus_is_small, locks_are_small}
-use Rattle.facts.specs.Summaries.{mutex_naming, naming_in, mutex_of, Knows, own, called}
+use Rattle.facts.specs.Locks.{has, has_held, actuals_at, minus_is_small, held_are_small, locks_are_small}
+use Rattle.facts.specs.Summaries.{lock_naming, naming_in, lock_register, Knows, own, called}
 use Rattle.lockset_summary.specs.Exits.{IsMinusKnown, AreLocksKnown}
+use Rattle.facts.proofs.TotalOrders.{orders_paths, orders_held}
 use Rattle.lockset_summary.proofs.Sets.{has_first, has_later}
 
 -- ---- what a register is known to hold
@@ -178,22 +180,22 @@ naming_is : (f : Function) (k : ℕ) (o : Option ℕ) (q : LockPath) → naming_
 naming_is f k None q h = cc
 naming_is f k (Some m) q h = near_named f k m q h
 
-mutex_near : (f : Function) (k : ℕ) (a : Act) (q : LockPath) → mutex_naming f k a ≡ Named q → IsNear q
-mutex_near f k (act.Library c arguments into) q h = naming_is f k (mutex_of c arguments) q h
-mutex_near f k (act.Compute into w) q h = cc
-mutex_near f k (act.Alloc into site size) q h = cc
-mutex_near f k (act.LoadCell into through) q h = cc
-mutex_near f k (act.StoreCell through from) q h = cc
-mutex_near f k act.Mark q h = cc
-mutex_near f k (act.Call g arguments into) q h = cc
-mutex_near f k (act.Jump to) q h = cc
-mutex_near f k (act.Branch on then_at else_at) q h = cc
-mutex_near f k (act.Return value) q h = cc
-mutex_near f k (act.Take n) q h = cc
-mutex_near f k (act.Give n) q h = cc
+lock_near : (f : Function) (k : ℕ) (a : Act) (q : LockPath) → lock_naming f k a ≡ Named q → IsNear q
+lock_near f k (act.Library c arguments into) q h = naming_is f k (lock_register c arguments) q h
+lock_near f k (act.Compute into w) q h = cc
+lock_near f k (act.Alloc into site size) q h = cc
+lock_near f k (act.LoadCell into through) q h = cc
+lock_near f k (act.StoreCell through from) q h = cc
+lock_near f k act.Mark q h = cc
+lock_near f k (act.Call g arguments into) q h = cc
+lock_near f k (act.Jump to) q h = cc
+lock_near f k (act.Branch on then_at else_at) q h = cc
+lock_near f k (act.Return value) q h = cc
+lock_near f k (act.Take n) q h = cc
+lock_near f k (act.Give n) q h = cc
 
 pub knows_modest : (code : Code) {f : ℕ} {p : LockPath} → Knows code f p → IsModest p
-knows_modest code (own f k fn i q at is) = modest_near q (mutex_near fn k i.act q is)
+knows_modest code (own f k fn i q at is) = modest_near q (lock_near fn k i.act q is)
 knows_modest code (called f k fn i g arguments into p q at is h s n) = modest_substituted p q fn k arguments (knows_modest code h) s n
 
 -- ---- they are small
@@ -204,7 +206,11 @@ modest_small (Formal i n) h = grind (arith, h)
 
 all_small : (ps : List LockPath) → ((p : LockPath) → has p ps ≡ true → IsModest p) → are_small ps ≡ true
 all_small [] h = refl
-all_small (p ∷ ps) h = and_from (is_small p) (are_small ps) (modest_small p (h p (has_first p p ps refl))) (all_small ps (λ q k. h q (has_later q p ps k)))
+all_small (p ∷ ps) h = and_from (is_small p) (are_small ps) (modest_small p (h p (has_first orders_paths p p ps refl))) (all_small ps (λ q k. h q (has_later orders_paths q p ps k)))
+
+held_small : (hs : List Held) → ((h : Held) → has_held h hs ≡ true → IsModest h.path) → held_are_small hs ≡ true
+held_small [] f = refl
+held_small (h ∷ hs) f = and_from (is_small h.path) (held_are_small hs) (modest_small h.path (f h (has_first orders_held h h hs refl))) (held_small hs (λ k i. f k (has_later orders_held k h hs i)))
 
 small_actual : (o : Option LockPath) → IsNearActual o → is_small_actual o ≡ true
 small_actual None h = refl
@@ -223,4 +229,4 @@ small_minus code f All h = refl
 small_minus code f (Listed ps) h = all_small ps (λ p k. knows_modest code (h p k))
 
 pub locks_small : (code : Code) (f : ℕ) (l : RelLocks) → AreLocksKnown code f l → locks_are_small l ≡ true
-locks_small code f l h = and_from (are_small l.plus) (minus_is_small l.minus) (all_small l.plus (λ p k. knows_modest code (h.plus p k))) (small_minus code f l.minus h.minus)
+locks_small code f l h = and_from (held_are_small l.plus) (minus_is_small l.minus) (held_small l.plus (λ p k. knows_modest code (h.plus p k))) (small_minus code f l.minus h.minus)

@@ -7,19 +7,20 @@ use Rattle.std.proofs.lemmas.Option.{same_Some, slice_get_within}
 use Rattle.rr_base.proofs.Lists.{slice_get_inside}
 use Rattle.flow_code.specs.declared.code.Code.{Code}
 use Rattle.flow_code.specs.declared.code.Function.{Function}
-use Rattle.facts.specs.declared.locks.LockPath.{LockPath}
+use Rattle.facts.specs.declared.locks.Held.{Held}
 use Rattle.facts.specs.declared.locks.Minus.{Minus}
 use Rattle.facts.specs.declared.locks.Minus.TheVariants.{All, Listed}
 use Rattle.facts.specs.declared.locks.RelLocks.{RelLocks}
-use Rattle.facts.specs.Locks.{are_ascending, ascends, minus_ascends, topmost, Points, Below, MinusBelow, PointsBelow, IsSolution, after}
+use Rattle.facts.specs.Locks.{held_ascend, ascends, minus_ascends, topmost, Points, Below, MinusBelow, PointsBelow, IsSolution, after}
 use Rattle.facts.specs.Summaries.{exits_of, in_order, AreSolution, AreGreatest}
 use Rattle.lockset_summary.specs.Exits.{AreEachGreatest, ExitsBelow, topmost_exits, minus_weight, weight, weights, IsSmallMinus, AreSmall}
+use Rattle.facts.proofs.TotalOrders.{orders_paths, orders_held}
 use Rattle.lockset_summary.proofs.Sets.{fewer}
 use Rattle.lockset_summary.proofs.Rises.{below_trans, after_rises}
 
 -- ---- one function
 
-pub solution_rises : (es gs : List RelLocks) (f : Function) (top : List LockPath) (x : Points) → ExitsBelow es gs → IsSolution es f top x → IsSolution gs f top x
+pub solution_rises : (es gs : List RelLocks) (f : Function) (top : List Held) (x : Points) → ExitsBelow es gs → IsSolution es f top x → IsSolution gs f top x
 solution_rises es gs f top x h s = record {
   long = s.long;
   entry = s.entry;
@@ -45,18 +46,18 @@ pub long_exits : (xs : List Points) → length (exits_of xs) ≡ length xs
 long_exits [] = refl
 long_exits (x ∷ xs) = ap suc (long_exits xs)
 
-pub top_at : (tops : List (List LockPath)) (g : ℕ) (e : RelLocks) → slice_get (topmost_exits tops) g ≡ Some e → (top : List LockPath) × (slice_get tops g ≡ Some top) × (topmost top ≡ e)
+pub top_at : (tops : List (List Held)) (g : ℕ) (e : RelLocks) → slice_get (topmost_exits tops) g ≡ Some e → (top : List Held) × (slice_get tops g ≡ Some top) × (topmost top ≡ e)
 top_at [] g e h = cc
 top_at (t ∷ ts) zero e h = (t, refl, same_Some (topmost t) e h)
 top_at (t ∷ ts) (suc g) e h = top_at ts g e h
 
-pub long_tops : (tops : List (List LockPath)) → length (topmost_exits tops) ≡ length tops
+pub long_tops : (tops : List (List Held)) → length (topmost_exits tops) ≡ length tops
 long_tops [] = refl
 long_tops (t ∷ ts) = ap suc (long_tops ts)
 
 -- ---- from round to round
 
-module _ (code : Code) (tops : List (List LockPath)) (same : length tops ≡ length code.functions) where
+module _ (code : Code) (tops : List (List Held)) (same : length tops ≡ length code.functions) where
   pub solution_above : (exits : List RelLocks) (xs ys : List Points) → AreEachGreatest code tops exits xs → AreSolution code tops ys → ExitsBelow (exits_of ys) exits → (f : ℕ) (x y : Points) → slice_get xs f ≡ Some x → slice_get ys f ≡ Some y → PointsBelow y x
   solution_above exits xs ys g s h f x y i j =
       let lt : f < length code.functions = omega (arith, slice_get_within ys f y j, s.long) in
@@ -116,7 +117,7 @@ minus_falls : (m n : Minus) → MinusBelow m n → minus_ascends m ≡ true → 
 minus_falls All All h a b s = inl refl
 minus_falls All (Listed qs) h a b s = inr (omega arith)
 minus_falls (Listed ps) All h a b s = absurd h
-minus_falls (Listed ps) (Listed qs) h a b s = ⊎_elim (λ e. inl (ap Listed (sym e))) (λ (l : length qs < length ps). inr (cut (2 ^ 64) (length ps) (length qs) l s)) (fewer ps qs b a h)
+minus_falls (Listed ps) (Listed qs) h a b s = ⊎_elim (λ e. inl (ap Listed (sym e))) (λ (l : length qs < length ps). inr (cut (2 ^ 64) (length ps) (length qs) l s)) (fewer orders_paths ps qs b a h)
   where
     cut : (m a b : ℕ) → b < a → a < m → 1 + (m - a) < 1 + (m - b)
     cut m a b l k = omega arith
@@ -126,17 +127,17 @@ minus_within m n h a b s = ⊎_elim (λ (e : m ≡ n). omega (arith, ap minus_we
 
 locks_fall : (l m : RelLocks) → Below l m → ascends l ≡ true → ascends m ≡ true → IsSmallMinus l.minus → (l ≡ m) ⊎ (weight l < weight m)
 locks_fall l m h a b s =
-    let c = and_parts (are_ascending l.plus) (minus_ascends l.minus) a in
-    let d = and_parts (are_ascending m.plus) (minus_ascends m.minus) b in
+    let c = and_parts (held_ascend l.plus) (minus_ascends l.minus) a in
+    let d = and_parts (held_ascend m.plus) (minus_ascends m.minus) b in
     ⊎_elim
     (λ (e : l.plus ≡ m.plus). ⊎_elim
     (λ (g : l.minus ≡ m.minus). inl (both l.plus m.plus l.minus m.minus e g))
-    (λ (g : minus_weight l.minus < minus_weight m.minus). inr (omega (arith, ap (λ (z : List LockPath). length z) e)))
+    (λ (g : minus_weight l.minus < minus_weight m.minus). inr (omega (arith, ap (λ (z : List Held). length z) e)))
     (minus_falls l.minus m.minus h.minus c.1 d.1 s))
     (λ (g : length l.plus < length m.plus). inr (omega (arith, minus_within l.minus m.minus h.minus c.1 d.1 s)))
-    (fewer m.plus l.plus c.0 d.0 h.plus)
+    (fewer orders_held m.plus l.plus c.0 d.0 h.plus)
   where
-    both : (p q : List LockPath) (m n : Minus) → p ≡ q → m ≡ n → ◌≡◌ {A = RelLocks} (record { plus = p; minus = m }) (record { plus = q; minus = n })
+    both : (p q : List Held) (m n : Minus) → p ≡ q → m ≡ n → ◌≡◌ {A = RelLocks} (record { plus = p; minus = m }) (record { plus = q; minus = n })
     both p q m n e g = ap₂ {C = RelLocks} (λ a b. record { plus = a; minus = b }) e g
 
 pub exits_fall : (es gs : List RelLocks) → ExitsBelow es gs → list_all ascends es ≡ true → list_all ascends gs ≡ true → AreSmall es → (es ≡ gs) ⊎ (weights es < weights gs)

@@ -1,14 +1,16 @@
 -- Rows of paths, one for each function, that grow to what each function knows.
-use Rattle.std.specs.Prelude.{◌≡◌, ℕ, Bool, true, List, [], length, Option, Some, slice_get, slice_index_or}
+use Rattle.std.specs.Prelude.{◌≡◌, ℕ, Bool, true, List, [], ◌∷◌, length, Option, Some, slice_get, slice_index_or}
 use Rattle.flow_code.specs.declared.act.Act.TheVariants as act
 use Rattle.flow_code.specs.declared.act.Instr.{Instr}
 use Rattle.flow_code.specs.declared.code.Code.{Code}
 use Rattle.flow_code.specs.declared.code.Function.{Function}
+use Rattle.sync_objects.specs.declared.mode.Mode.TheVariants.{Read, Write}
+use Rattle.facts.specs.declared.locks.Held.{Held}
 use Rattle.facts.specs.declared.locks.LockPath.{LockPath}
 use Rattle.facts.specs.declared.locks.Naming.TheVariants.{Named}
-use Rattle.facts.specs.Locks.{has, are_ascending, actuals_at}
+use Rattle.facts.specs.Locks.{has, held_as, are_ascending, actuals_at}
 use Rattle.facts.specs.Paths.{substituted, names_cell}
-use Rattle.facts.specs.Summaries.{mutex_naming, Knows}
+use Rattle.facts.specs.Summaries.{lock_naming, Knows}
 use Rattle.lockset_summary.specs.Rounds.{Changes, room}
 
 -- the f-th row; no paths where there is none
@@ -33,7 +35,7 @@ IsSeen f actuals p rows = (q : LockPath) → substituted p actuals ≡ Some q �
 
 -- the rows have what the k-th instruction of the f-th function tells
 pub record IsTold (f k : ℕ) (fn : Function) (i : Instr) (rows : List (List LockPath)) : Type 0 where
-  pub own : (q : LockPath) → mutex_naming fn k i.act ≡ Named q → In rows f q
+  pub own : (q : LockPath) → lock_naming fn k i.act ≡ Named q → In rows f q
   pub called : (g : ℕ) (arguments : List ℕ) (into : Option ℕ) (p q : LockPath) → i.act ≡ act.Call g arguments into → In rows g p → substituted p (actuals_at fn k arguments) ≡ Some q → names_cell q ≡ true → In rows f q
 
 -- of all instructions of the f-th function
@@ -43,6 +45,11 @@ IsAllTold f fn rows = (k : ℕ) (i : Instr) → slice_get fn.instrs k ≡ Some i
 -- of all functions: a round adds nothing more
 abbrev pub AreAllTold : Code → List (List LockPath) → Type 0
 AreAllTold code rows = (f : ℕ) (fn : Function) → slice_get code.functions f ≡ Some fn → IsAllTold f fn rows
+
+-- each of these paths, held for reading and held for writing
+abbrev pub in_both_ways : List LockPath → List Held
+in_both_ways [] = []
+in_both_ways (p ∷ ps) = held_as Read p ∷ held_as Write p ∷ in_both_ways ps
 
 -- a part of a round
 abbrev pub Adds : Code → (List (List LockPath) → Type 0) → List (List LockPath) → List (List LockPath) → Bool → Type 0

@@ -1,11 +1,11 @@
--- The mutex of which a library call speaks, by the names of the call's arguments.
+-- The mutex or read-write lock of which a library call speaks, by the names of the call's arguments.
 use Rattle.std.specs.Prelude.{List, [], ◌∷◌}
 use Rattle.abstract_machine.specs.declared.library_call.LibraryCall.{LibraryCall}
 use Rattle.abstract_machine.specs.declared.library_call.LibraryCall.TheVariants as call
 use Rattle.facts.specs.declared.locks.Naming.{Naming}
 use Rattle.facts.specs.declared.locks.Naming.TheVariants.{Unknown}
 
--- for calls whose one argument is the mutex
+-- for calls whose one argument is the lock
 abbrev pub only_name : List Naming → Naming
 only_name (m ∷ []) = m
 only_name _ = Unknown
@@ -15,12 +15,17 @@ abbrev pub second_name : List Naming → Naming
 second_name (c ∷ m ∷ []) = m
 second_name _ = Unknown
 
--- calls that speak of no mutex have the unknown name
-abbrev pub mutex_name : LibraryCall → List Naming → Naming
-mutex_name call.MutexInit ns = only_name ns
-mutex_name call.MutexLock ns = only_name ns
-mutex_name call.MutexUnlock ns = only_name ns
-mutex_name call.MutexTryLock ns = only_name ns
-mutex_name call.MutexDestroy ns = only_name ns
-mutex_name call.CondWait ns = second_name ns
-mutex_name _ ns = Unknown
+-- calls that speak of no lock have the unknown name
+abbrev pub lock_name : LibraryCall → List Naming → Naming
+lock_name call.MutexInit ns = only_name ns
+lock_name call.MutexLock ns = only_name ns
+lock_name call.MutexUnlock ns = only_name ns
+lock_name call.MutexTryLock ns = only_name ns
+lock_name call.MutexDestroy ns = only_name ns
+lock_name call.CondWait ns = second_name ns
+lock_name call.RwInit ns = only_name ns
+lock_name call.RwRdLock ns = only_name ns
+lock_name call.RwWrLock ns = only_name ns
+lock_name call.RwUnlock ns = only_name ns
+lock_name call.RwDestroy ns = only_name ns
+lock_name _ ns = Unknown

@@ -1,37 +1,38 @@
 // The order of guarded accesses, and when locks are the same.
 ghost use Rattle.std.specs.Prelude.{◌≡◌};
+ghost use Rattle.facts.specs.Sets as sets;
 ghost use Rattle.facts.specs.Summaries as spec;
 ghost use Rattle.lockset_summary.specs.Exits as same;
 
-use facts::{Guarded, LockPath, Minus, RelLocks};
+use facts::{Guarded, Minus, RelLocks, SetItem};
 
 #[tactic(auto, using(crate::proofs::Compared::less_there, crate::proofs::Compared::other_there, crate::proofs::Compared::less_on, crate::proofs::Compared::less_short, crate::proofs::Compared::less_ends))]
-fn paths_less(paths: &[LockPath], others: &[LockPath]) -> bool
-    ensures { result ≡ spec.paths_less paths.now others.now }
+fn list_less<T: SetItem>(items: &[T], others: &[T]) -> bool
+    ensures { result ≡ sets.list_less T.less T.same items.now others.now }
 {
-    for k in 0..paths.len() {
+    for k in 0..items.len() {
         if k >= others.len() {
             return false;
         }
-        if paths[k].is_less(others[k]) {
+        if items[k].is_less(others[k]) {
             return true;
         }
-        if !paths[k].is_same(others[k]) {
+        if !items[k].is_same(others[k]) {
             return false;
         }
     }
-    paths.len() < others.len()
+    items.len() < others.len()
 }
 
 #[tactic(auto, using(crate::proofs::Compared::same_lengths, crate::proofs::Compared::not_same, crate::proofs::Compared::same_on, crate::proofs::Compared::same_ends))]
-fn paths_same(paths: &[LockPath], others: &[LockPath]) -> bool
-    ensures { result ≡ spec.paths_same paths.now others.now }
+fn all_same<T: SetItem>(items: &[T], others: &[T]) -> bool
+    ensures { result ≡ sets.all_same T.same items.now others.now }
 {
-    if paths.len() != others.len() {
+    if items.len() != others.len() {
         return false;
     }
-    for k in 0..paths.len() {
-        if !paths[k].is_same(others[k]) {
+    for k in 0..items.len() {
+        if !items[k].is_same(others[k]) {
             return false;
         }
     }
@@ -46,7 +47,7 @@ fn minus_less(minus: &Minus, other: &Minus) -> bool
     };
     match other {
         Minus::All => true,
-        Minus::Listed(others) => paths_less(paths.as_slice(), others.as_slice()),
+        Minus::Listed(others) => list_less(paths.as_slice(), others.as_slice()),
     }
 }
 
@@ -56,7 +57,7 @@ fn minus_same(minus: &Minus, other: &Minus) -> bool
     match (minus, other) {
         (Minus::All, Minus::All) => true,
         (Minus::Listed(paths), Minus::Listed(others)) => {
-            paths_same(paths.as_slice(), others.as_slice())
+            all_same(paths.as_slice(), others.as_slice())
         }
         _ => false,
     }
@@ -66,15 +67,15 @@ fn minus_same(minus: &Minus, other: &Minus) -> bool
 pub fn locks_same(locks: &RelLocks, others: &RelLocks) -> bool
     ensures { result ≡ same.locks_same locks.now others.now }
 {
-    paths_same(locks.plus.as_slice(), others.plus.as_slice())
+    all_same(locks.plus.as_slice(), others.plus.as_slice())
         && minus_same(&locks.minus, &others.minus)
 }
 
 fn held_less(a: &Guarded, b: &Guarded) -> bool
     ensures { result ≡ spec.locks_less (spec.locks_of a.now) (spec.locks_of b.now) }
 {
-    paths_less(a.plus.as_slice(), b.plus.as_slice())
-        || (paths_same(a.plus.as_slice(), b.plus.as_slice()) && minus_less(&a.minus, &b.minus))
+    list_less(a.plus.as_slice(), b.plus.as_slice())
+        || (all_same(a.plus.as_slice(), b.plus.as_slice()) && minus_less(&a.minus, &b.minus))
 }
 
 fn number_of(store: bool) -> u8

@@ -8,7 +8,7 @@ ghost use Rattle.facts.specs.Locks as locks;
 ghost use Rattle.facts.specs.Locks.{IsGreatest};
 ghost use Rattle.facts.specs.Paths.{argument_namings};
 ghost use Rattle.facts.specs.Summaries.{AllListsKnown, AreGreatest, exits_of as exits_in};
-ghost use Rattle.facts.specs.declared.locks.LockPath.{LockPath as Path};
+ghost use Rattle.facts.specs.declared.locks.Held.{Held as Lock};
 ghost use Rattle.facts.specs.declared.locks.RelLocks.{RelLocks as Locks};
 ghost use Rattle.lockset_summary.specs.Exits.{AreEachGreatest, AreFalling, AreLocksKnown, AreSmall, IsSmallMinus, topmost_exits, all_same, weights};
 ghost use Rattle.lockset_summary.specs.Guarding.{AreReady};
@@ -17,14 +17,14 @@ ghost use Rattle.lockset_summary.specs.Visits.{IsOrder};
 use crate::compare::locks_same;
 use crate::names::names_of;
 use crate::visits::function_at;
-use facts::{LockPath, Minus, Naming, RelLocks};
+use facts::{Held, Minus, Naming, RelLocks};
 use flow_code::Code;
 use lockset_flow::{FlowFacts, flow_function};
 use rr_base::List;
 use std::alloc::{AllocError, Global};
 
 // The most that a function's exit may know.
-fn topmost(alloc: Global, top: &List<LockPath>) -> Result<RelLocks, AllocError>
+fn topmost(alloc: Global, top: &List<Held>) -> Result<RelLocks, AllocError>
     ensures { IfOk result (λ l. l ≡ locks.topmost top.now) }
 {
     let plus = top.copied(alloc)?;
@@ -35,7 +35,7 @@ fn topmost(alloc: Global, top: &List<LockPath>) -> Result<RelLocks, AllocError>
 }
 
 #[tactic(auto, using(crate::proofs::Naming::map_more, crate::proofs::Naming::map_all))]
-fn start(alloc: Global, tops: &[List<LockPath>]) -> Result<List<RelLocks>, AllocError>
+fn start(alloc: Global, tops: &[List<Held>]) -> Result<List<RelLocks>, AllocError>
     ensures { IfOk result (λ exits. exits ≡ topmost_exits tops.now) }
 {
     let mut exits = List::new(alloc);
@@ -104,7 +104,7 @@ fn are_exits(exits: &[RelLocks], points: &[FlowFacts]) -> bool
     true
 }
 
-fn top_at(tops: &[List<LockPath>], f: usize) -> &List<LockPath>
+fn top_at(tops: &[List<Held>], f: usize) -> &List<Held>
     requires { f < length tops.now }
     ensures { slice_get tops.now f ≡ Some result.now }
 {
@@ -116,7 +116,7 @@ fn flow_at(
     alloc: Global,
     code: &Code,
     names: &[List<List<Naming>>],
-    tops: &[List<LockPath>],
+    tops: &[List<Held>],
     exits: &[RelLocks],
     f: usize,
 ) -> Result<FlowFacts, AllocError>
@@ -125,7 +125,7 @@ fn flow_at(
     requires tops { AllListsKnown code.now tops.now }
     requires exits { (g : ℕ) (e : Locks) → slice_get exits.now g ≡ Some e → AreLocksKnown code.now g e }
     requires within { f < length code.now.functions }
-    ensures { IfOk result (λ x. (fn : Routine) (top : Listed Path) → slice_get code.now.functions f ≡ Some fn → slice_get tops.now f ≡ Some top → IsGreatest exits.now fn top x) }
+    ensures { IfOk result (λ x. (fn : Routine) (top : Listed Lock) → slice_get code.now.functions f ≡ Some fn → slice_get tops.now f ≡ Some top → IsGreatest exits.now fn top x) }
 {
     let function = code.functions.at(f);
     let top = top_at(tops, f);
@@ -143,7 +143,7 @@ fn flow_all(
     alloc: Global,
     code: &Code,
     names: &[List<List<Naming>>],
-    tops: &[List<LockPath>],
+    tops: &[List<Held>],
     exits: &[RelLocks],
 ) -> Result<List<FlowFacts>, AllocError>
     requires valid { is_valid code.now ≡ true }
@@ -164,7 +164,7 @@ fn lower(
     alloc: Global,
     code: &Code,
     names: &[List<List<Naming>>],
-    tops: &[List<LockPath>],
+    tops: &[List<Held>],
     exits: &mut List<RelLocks>,
     f: usize,
 ) -> Result<(), AllocError>
@@ -188,7 +188,7 @@ fn lower_all(
     code: &Code,
     order: &[usize],
     names: &[List<List<Naming>>],
-    tops: &[List<LockPath>],
+    tops: &[List<Held>],
     exits: &mut List<RelLocks>,
 ) -> Result<(), AllocError>
     requires valid { is_valid code.now ≡ true }
@@ -211,7 +211,7 @@ pub fn all_points(
     code: &Code,
     order: &[usize],
     names: &[List<List<Naming>>],
-    tops: &[List<LockPath>],
+    tops: &[List<Held>],
 ) -> Result<List<FlowFacts>, AllocError>
     requires valid { is_valid code.now ≡ true }
     requires order { IsOrder (length code.now.functions) order.now }

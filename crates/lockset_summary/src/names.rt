@@ -33,16 +33,21 @@ fn second_name(names: &[Naming]) -> Naming
     }
 }
 
-/// The name of the mutex of which a library call speaks, where its arguments have these names.
-pub fn mutex_name(call: &LibraryCall, names: &[Naming]) -> Naming
-    ensures { result ≡ spec.mutex_name call.now names.now }
+/// The name of the mutex or read-write lock of which a library call speaks, where its arguments have these names.
+pub fn lock_name(call: &LibraryCall, names: &[Naming]) -> Naming
+    ensures { result ≡ spec.lock_name call.now names.now }
 {
     match call {
         LibraryCall::MutexInit
         | LibraryCall::MutexLock
         | LibraryCall::MutexUnlock
         | LibraryCall::MutexTryLock
-        | LibraryCall::MutexDestroy => only_name(names),
+        | LibraryCall::MutexDestroy
+        | LibraryCall::RwInit
+        | LibraryCall::RwRdLock
+        | LibraryCall::RwWrLock
+        | LibraryCall::RwUnlock
+        | LibraryCall::RwDestroy => only_name(names),
         LibraryCall::CondWait => second_name(names),
         _ => Naming::Unknown,
     }

@@ -8,16 +8,17 @@ ghost use Rattle.facts.specs.Summaries.{Knows, AllListsKnown};
 ghost use Rattle.facts.specs.declared.locks.LockPath.{LockPath as Path};
 ghost use Rattle.facts.specs.declared.locks.Naming.TheVariants.{Named};
 ghost use Rattle.lockset_summary.specs.Rounds.{ForEach, ForThe, room};
-ghost use Rattle.lockset_summary.specs.Known.{In, AreKnown, IsTold, IsAllTold, AreAllTold, Adds, row_of, IsSeen};
+ghost use Rattle.lockset_summary.specs.Known.{In, AreKnown, IsTold, IsAllTold, AreAllTold, Adds, row_of, IsSeen, in_both_ways as in_both_ways_of};
 ghost use Rattle.lockset_summary.specs.Visits.{IsOrder};
 
-use crate::names::{mutex_name, names_at, names_of};
+use crate::names::{lock_name, names_at, names_of};
 use crate::visits::function_at;
-use facts::{LockPath, Naming, add_path, substitute};
+use facts::{Held, LockPath, Naming, add_item, substitute};
 use flow_code::{Act, Code, Function};
 use lockset_flow::actuals;
 use rr_base::List;
 use std::alloc::{AllocError, Global};
+use sync_objects::Mode;
 
 // Adds a path, and tells whether it wasn't there.
 fn add(row: &mut List<LockPath>, path: LockPath) -> Result<bool, AllocError>
@@ -26,7 +27,7 @@ fn add(row: &mut List<LockPath>, path: LockPath) -> Result<bool, AllocError>
     ensures longer { IfOk result (λ added. added ≡ true → (length (with path row.old) ≡ length row.old + 1) × (length (with path row.old) < 2 ^ 64)) }
 {
     let before = row.len();
-    add_path(row, path)?;
+    add_item(row, path)?;
     let following = row.len();
     Ok(before < following)
 }
@@ -158,7 +159,7 @@ fn tell(
 {
     let arguments = names_at(function, names, k);
     match &function.instrs.at(k).act {
-        Act::Library { call, .. } => put_named(code, rows, f, mutex_name(call, arguments)),
+        Act::Library { call, .. } => put_named(code, rows, f, lock_name(call, arguments)),
         Act::Call { function: g, .. } => {
             let actuals = actuals(alloc, arguments)?;
             put_all_called(code, rows, f, *g as usize, actuals.as_slice())
@@ -249,18 +250,49 @@ fn empty_rows(alloc: Global, code: &Code) -> Result<Vec<List<LockPath>>, AllocEr
     Ok(rows)
 }
 
-/// The paths that each function knows, in order.
+// Each path, held for reading and held for writing.
+#[tactic(auto, using(crate::proofs::BothWays::both_more, crate::proofs::BothWays::both_all))]
+fn in_both_ways(alloc: Global, paths: &[LockPath]) -> Result<List<Held>, AllocError>
+    ensures { IfOk result (λ locks. locks ≡ in_both_ways_of paths.now) }
+{
+    let mut locks = List::new(alloc);
+    for path in paths {
+        locks.push(Held {
+            path: *path,
+            mode: Mode::Read,
+        })?;
+        locks.push(Held {
+            path: *path,
+            mode: Mode::Write,
+        })?;
+    }
+    Ok(locks)
+}
+
+// The paths of each row, so held.
+#[tactic(auto, using(crate::proofs::Naming::map_more, crate::proofs::Naming::map_all))]
+fn all_in_both_ways(alloc: Global, rows: &[List<LockPath>]) -> Result<List<List<Held>>, AllocError>
+    ensures { IfOk result (λ tops. tops ≡ map in_both_ways_of rows.now) }
+{
+    let mut tops = List::new(alloc);
+    for row in rows {
+        tops.push(in_both_ways(alloc, row.as_slice())?)?;
+    }
+    Ok(tops)
+}
+
+/// The locks that each function knows, held in both ways, in order.
 pub fn universe(
     alloc: Global,
     code: &Code,
     order: &[usize],
     names: &[List<List<Naming>>],
-) -> Result<List<List<LockPath>>, AllocError>
+) -> Result<List<List<Held>>, AllocError>
     requires order { IsOrder (length code.now.functions) order.now }
     requires names { names.now ≡ map argument_namings code.now.functions }
     ensures { IfOk result (λ tops. AllListsKnown code.now tops) }
 {
     let mut rows = empty_rows(alloc, code)?;
     fill(alloc, code, order, &mut rows, names)?;
-    Ok(List::from_vec(rows))
+    all_in_both_ways(alloc, &rows)
 }

@@ -6,15 +6,14 @@ use denote.Ref.{Bor}
 use denote.Param.Members.{Mut}
 use Rattle.std.specs.Ordering.{is_lt}
 use Rattle.std.specs.List.{Contains, dedup}
-use Rattle.std.specs.List.Sorted.{IsNonDecreasing, IsSortedByKey}
+use Rattle.std.specs.List.Sorted.{IsSortedByKey}
 use Rattle.std.proofs.lemmas.Bool.{cases_lt}
 use Rattle.std.proofs.lemmas.List.Elements.{Contains-append_left, Contains-push, Contains-push_cases}
 use Rattle.std.proofs.lemmas.List.Kept.{Contains-dedup, Contains-from_dedup}
 use Rattle.std.proofs.lemmas.List.Sorted.{sorted_far, ranks_by}
 use Rattle.rr_base.specs.declared.layout.Place.{Place}
 use Rattle.facts.specs.declared.locks.Guarded.{Guarded}
-use Rattle.facts.specs.declared.locks.LockPath.{LockPath}
-use Rattle.facts.specs.declared.locks.LockPath.TheVariants.{Cell}
+use Rattle.facts.specs.declared.locks.Held.{Held}
 use Rattle.facts.specs.declared.locks.Summary.{Summary}
 use Rattle.facts.specs.declared.pair.AccessAt.{AccessAt}
 use Rattle.facts.specs.Pairs.{place_less, access_same}
@@ -22,7 +21,7 @@ use Rattle.race_pairs.specs.declared.touch.Touch.{Touch}
 use Rattle.race_pairs.specs.declared.touch.Group.{Group}
 use Rattle.race_pairs.specs.Gains.{Gains, Below}
 use Rattle.race_pairs.specs.Races.{guarded_at, alone}
-use Rattle.race_pairs.specs.Groups.{AreSorted, Alike, StandsFrom, IsGroup, IsIn, HasPlacesInOrder, HasLocksInOrder, IsFrom, AreGroups}
+use Rattle.race_pairs.specs.Groups.{AreSorted, Alike, HasLocks, AreLocksInOrder, StandsFrom, IsGroup, IsIn, HasPlacesInOrder, HasLocksInOrder, IsFrom, AreGroups}
 use Rattle.facts.proofs.TotalOrders.{orders_places}
 use Rattle.race_pairs.proofs.Elements.{got, gets, held, reads}
 use Rattle.race_pairs.proofs.Gaining.{none, nothing, only, gains_too, pushed, alike, more}
@@ -129,7 +128,7 @@ module _ (ss : List Summary) (ws : List Touch) where
             place = sym a.place ∙ ap (λ (z : Touch). z.place) (sym same) ∙ sym is.place;
             root = sym a.root ∙ ap (λ (z : Touch). alone z.access) (sym same) ∙ sym is.root;
             store = sym a.store ∙ ap (λ (z : Guarded). z.store) ex ∙ sym is.store;
-            locks = subst (λ (ps : List LockPath). Gains (λ n. Contains ps (Cell n)) [] g.locks) (ap (λ (z : Guarded). z.plus) (sym ex) ∙ a.plus) is.locks;
+            locks = subst (λ (ps : List Held). HasLocks ps g) (ap (λ (z : Guarded). z.plus) (sym ex) ∙ a.plus) is.locks;
             access = here;
           }
 
@@ -164,7 +163,7 @@ module _ (ss : List Summary) (ws : List Touch) where
           go (inr (e, m)) (inr (f, n)) = ap (λ (z : Group). place_less z.place a.place) n ∙ ap (λ (z : Group). place_less g.place z.place) m ∙ orders_places.self g.place
 
       locks : HasLocksInOrder (gs ++ g ∷ [])
-      locks h c = ⊎_elim (λ o. old.locks h o) (λ e. subst (λ (z : Group). IsNonDecreasing z.locks) e is.ascend) (Contains-push_cases gs g h c)
+      locks h c = ⊎_elim (λ o. old.locks h o) (λ e. subst AreLocksInOrder e is.ascend) (Contains-push_cases gs g h c)
 
       reached : (h : Group) → Contains (gs ++ g ∷ []) h → (k : ℕ) × (w : Touch) × (k < to) × (slice_get ws k ≡ Some w) × (h.place ≡ w.place)
       reached h c = ⊎_elim (λ o. farther from to h lt (old.reached h o)) (λ e. (from, v, lt, gv, ap (λ (z : Group). z.place) (sym e) ∙ place)) (Contains-push_cases gs g h c)

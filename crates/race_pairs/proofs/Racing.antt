@@ -10,7 +10,6 @@ use Rattle.rr_base.specs.declared.layout.Place.{Place}
 use Rattle.flow_code.specs.declared.code.Code.{Code}
 use Rattle.flow_code.specs.Threads.{is_main}
 use Rattle.facts.specs.declared.locks.Guarded.{Guarded}
-use Rattle.facts.specs.declared.locks.LockPath.TheVariants.{Cell}
 use Rattle.facts.specs.declared.locks.Summary.{Summary}
 use Rattle.facts.specs.declared.pair.AccessAt.{AccessAt}
 use Rattle.facts.specs.declared.pair.Pair.{Pair}
@@ -24,10 +23,10 @@ use Rattle.race_pairs.specs.declared.touch.Group.{Group}
 use Rattle.race_pairs.specs.Gains.{Gains}
 use Rattle.race_pairs.specs.Touches.{reached, IsTouch}
 use Rattle.race_pairs.specs.Races.{guarded_at, alone, may_meet, AreRacing, pair_of, PairsOf}
-use Rattle.race_pairs.specs.Groups.{IsIn, IsFrom, AreGroups}
+use Rattle.race_pairs.specs.Groups.{HasLocks, IsIn, IsFrom, AreGroups}
 use Rattle.race_pairs.proofs.Elements.{got, held, holds}
 use Rattle.race_pairs.proofs.Gaining.{only}
-use Rattle.race_pairs.proofs.Cells.{apart_is, never_meet, apart_swap}
+use Rattle.race_pairs.proofs.Cells.{apart_is, never_exclude, exclude_swap, apart_swap}
 use Rattle.race_pairs.proofs.Pairing.{either, one_way, turned_if, pair_swap}
 
 -- ---- either way round
@@ -111,7 +110,7 @@ straight : (p : Place) (a b : AccessAt) → access_less b a ≡ false → pair_o
 straight p a b h = ap (λ c. turned_if c p a b) h
 
 groups_swap : (g h : Group) → AreRacing g h → AreRacing h g
-groups_swap g h r = record { meet = meet_swap g.alone h.alone r.meet; stores = or_swap g.store h.store r.stores; apart = λ m. r.apart (m.0, m.2, m.1) }
+groups_swap g h r = record { meet = meet_swap g.alone h.alone r.meet; stores = or_swap g.store h.store r.stores; apart = λ e. r.apart (exclude_swap h g e) }
 
 -- ---- from a touch to the access of the summary
 
@@ -184,7 +183,7 @@ module _ (code : Code) (t : Tables) (ss : List Summary) (ws : List Touch) (gs : 
     place : w.place ≡ g.place
     root : lone (is_main code stood.r) stood.r ≡ g.alone
     store : stood.x.store ≡ g.store
-    locks : Gains (λ n. Contains stood.x.plus (Cell n)) [] g.locks
+    locks : HasLocks stood.x.plus g
     stands_at : stands stood.x ≡ a
 
   grouped : (g : Group) (a : AccessAt) → IsFrom ss ws (length ws) g a → Grouped g a
@@ -199,7 +198,7 @@ module _ (code : Code) (t : Tables) (ss : List Summary) (ws : List Touch) (gs : 
         place = f.within.place;
         root = ap alone (sym s.is) ∙ f.within.root;
         store = ap (λ (z : Guarded). z.store) (sym e) ∙ f.within.store;
-        locks = subst (λ (z : Guarded). Gains (λ n. Contains z.plus (Cell n)) [] g.locks) e f.within.locks;
+        locks = subst (λ (z : Guarded). HasLocks z.plus g) e f.within.locks;
         stands_at = ap (λ (z : Reached). z.at) (sym s.is) ∙ f.stands;
       }
 
@@ -220,7 +219,7 @@ module _ (code : Code) (t : Tables) (ss : List Summary) (ws : List Touch) (gs : 
       subst (λ z. Contains (places_of code t z) g.place) m.stands_at (subst (λ z. Contains (places_of code t (stands m.stood.x)) z) m.place m.stood.place),
       subst (λ z. Contains (places_of code t z) g.place) n.stands_at (subst (λ z. Contains (places_of code t (stands n.stood.x)) z) (n.place ∙ e) n.stood.place),
     );
-    apart = apart_is m.stood.x.plus n.stood.x.plus g.locks h.locks m.locks n.locks r.apart;
+    apart = apart_is m.stood.x.plus n.stood.x.plus g h m.locks n.locks r.apart;
   }
 
   race : (v : Pair) → Contains vs v → MayRace code t ss v.place v.first v.second
@@ -242,7 +241,7 @@ module _ (code : Code) (t : Tables) (ss : List Summary) (ws : List Touch) (gs : 
     place : g.place ≡ p
     root : lone (is_main code r) r ≡ g.alone
     store : x.store ≡ g.store
-    locks : Gains (λ n. Contains x.plus (Cell n)) [] g.locks
+    locks : HasLocks x.plus g
     access : Contains g.accesses (stands x)
 
   placed : (p : Place) (r : ℕ) (x : Guarded) → is_root code r ≡ true → Contains (guarded_in (slice_get ss r)) x → Contains (places_of code t (stands x)) p → Placed p r x
@@ -260,7 +259,7 @@ module _ (code : Code) (t : Tables) (ss : List Summary) (ws : List Touch) (gs : 
             place = sym is.place;
             root = is.root;
             store = ap (λ (z : Guarded). z.store) (sym e) ∙ is.store;
-            locks = subst (λ (z : Guarded). Gains (λ n. Contains z.plus (Cell n)) [] g.locks) e is.locks;
+            locks = subst (λ (z : Guarded). HasLocks z.plus g) e is.locks;
             access = is.access;
           }
 
@@ -285,7 +284,7 @@ module _ (code : Code) (t : Tables) (ss : List Summary) (ws : List Touch) (gs : 
       racing = record {
         meet = sym (λ i. may_meet (u.root i) (v.root i)) ∙ sym (meets code m.r m.s) ∙ m.meet;
         stores = sym (λ i. u.store i || v.store i) ∙ m.stores;
-        apart = never_meet m.x.plus m.y.plus u.g.locks v.g.locks u.locks v.locks m.apart;
+        apart = never_exclude m.x.plus m.y.plus u.g v.g u.locks v.locks m.apart;
       }
 
       go : (v.i < u.i) ⊎ (u.i ≤ v.i) → Contains vs (pair_of p a b)

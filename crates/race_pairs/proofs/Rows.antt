@@ -9,12 +9,14 @@ use Rattle.flow_code.specs.declared.code.Code.{Code}
 use Rattle.flow_code.specs.declared.code.Function.{Function}
 use Rattle.facts.specs.Accesses.{access_of}
 use Rattle.facts.specs.declared.locks.Guarded.{Guarded}
-use Rattle.facts.specs.declared.locks.LockPath.{LockPath}
+use Rattle.sync_objects.specs.declared.mode.Mode.TheVariants.{Read, Write}
+use Rattle.facts.specs.declared.locks.Held.{Held}
 use Rattle.facts.specs.declared.locks.LockPath.TheVariants.{Cell, Formal}
 use Rattle.facts.specs.declared.locks.Minus.TheVariants as minus
 use Rattle.facts.specs.declared.pair.AccessAt.{AccessAt}
 use Rattle.facts.specs.declared.pair.Pair.{Pair}
 use Rattle.facts.specs.PointsTo.{Tables}
+use Rattle.facts.specs.Locks.{held_as}
 use Rattle.facts.specs.Pairs.{is_root, places_of, share_lock, pair_less, pairs_ascend}
 use Rattle.facts.specs.Pairs as facts_pairs
 use Rattle.facts.specs.Accesses.{through_of}
@@ -88,21 +90,29 @@ through_row = refl
 
 -- ---- locks
 
-pub shared_row : share_lock (Cell 3 ∷ Cell 7 ∷ []) (Cell 7 ∷ Formal 0 0 ∷ []) ≡ true
+-- the second cell is held for writing by the one, and by the other in some way
+pub shared_row : share_lock (held_as Read (Cell 3) ∷ held_as Read (Cell 7) ∷ held_as Write (Cell 7) ∷ []) (held_as Read (Cell 7) ∷ held_as Read (Formal 0 0) ∷ []) ≡ true
 shared_row = refl
 
-pub formal_row : share_lock (Formal 0 0 ∷ []) (Formal 0 0 ∷ []) ≡ false
+pub turned_lock_row : share_lock (held_as Read (Cell 7) ∷ []) (held_as Read (Cell 7) ∷ held_as Write (Cell 7) ∷ []) ≡ true
+turned_lock_row = refl
+
+-- two that read keep no one apart
+pub readers_row : share_lock (held_as Read (Cell 7) ∷ []) (held_as Read (Cell 7) ∷ []) ≡ false
+readers_row = refl
+
+pub formal_row : share_lock (held_as Read (Formal 0 0) ∷ held_as Write (Formal 0 0) ∷ []) (held_as Read (Formal 0 0) ∷ held_as Write (Formal 0 0) ∷ []) ≡ false
 formal_row = refl
 
-pub other_lock_row : share_lock (Cell 3 ∷ []) (Cell 7 ∷ []) ≡ false
+pub other_lock_row : share_lock (held_as Write (Cell 3) ∷ []) (held_as Read (Cell 7) ∷ []) ≡ false
 other_lock_row = refl
 
 -- ---- pairs
 
-abbrev load : List LockPath → Guarded
+abbrev load : List Held → Guarded
 load plus = record { function = 0; instr = 0; store = false; plus = plus; minus = minus.All }
 
-abbrev read : List LockPath → Guarded
+abbrev read : List Held → Guarded
 read plus = record { function = 1; instr = 1; store = false; plus = plus; minus = minus.All }
 
 pub any_thread_row : alone (reached code 0 0 (load [])) ≡ None

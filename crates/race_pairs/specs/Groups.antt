@@ -2,15 +2,16 @@
 use Rattle.std.specs.Prelude.{◌≡◌, ℕ, ◌<◌, ◌≤◌, false, List, [], Some, slice_get}
 use Rattle.std.specs.List.{Contains}
 use Rattle.std.specs.List.Sorted.{IsNonDecreasing}
+use Rattle.sync_objects.specs.declared.mode.Mode.TheVariants.{Read, Write}
 use Rattle.facts.specs.declared.locks.Guarded.{Guarded}
-use Rattle.facts.specs.declared.locks.LockPath.TheVariants.{Cell}
+use Rattle.facts.specs.declared.locks.Held.{Held}
 use Rattle.facts.specs.declared.locks.Summary.{Summary}
 use Rattle.facts.specs.declared.pair.AccessAt.{AccessAt}
 use Rattle.facts.specs.Pairs.{place_less}
 use Rattle.race_pairs.specs.declared.touch.Touch.{Touch}
 use Rattle.race_pairs.specs.declared.touch.Group.{Group}
 use Rattle.race_pairs.specs.Gains.{Gains, Below}
-use Rattle.race_pairs.specs.Races.{guarded_at, alone}
+use Rattle.race_pairs.specs.Races.{guarded_at, alone, held_cell}
 
 -- no place comes before an earlier one
 abbrev pub AreSorted : List Touch → Type 0
@@ -27,6 +28,16 @@ pub record Alike (ss : List Summary) (v w : Touch) : Type 0 where
   pub store : x.store ≡ y.store
   pub plus : x.plus ≡ y.plus
 
+-- the group lists the cells of these global locks, for writing and in any way
+pub record HasLocks (held : List Held) (g : Group) : Type 0 where
+  pub writing : Gains (λ n. Contains held (held_cell Write n)) [] g.writing
+  pub reading : Gains (λ n. Contains held (held_cell Read n)) [] g.reading
+
+-- the numbers of its locks never fall
+pub record AreLocksInOrder (g : Group) : Type 0 where
+  pub writing : IsNonDecreasing g.writing
+  pub reading : IsNonDecreasing g.reading
+
 -- the k-th touch, from a place on, stands at a
 abbrev pub StandsFrom : List Touch → (from k : ℕ) → AccessAt → Type 0
 StandsFrom ws from k a = (from ≤ k) × (w : Touch) × (slice_get ws k ≡ Some w) × (w.access.at ≡ a)
@@ -38,8 +49,8 @@ pub record IsGroup (ws : List Touch) (from to : ℕ) (x : Guarded) (g : Group) :
   pub place : g.place ≡ v.place
   pub root : g.alone ≡ alone v.access
   pub store : g.store ≡ x.store
-  pub ascend : IsNonDecreasing g.locks
-  pub locks : Gains (λ n. Contains x.plus (Cell n)) [] g.locks
+  pub ascend : AreLocksInOrder g
+  pub locks : HasLocks x.plus g
   pub accesses : Gains (Below to (StandsFrom ws from)) [] g.accesses
 
 -- the group has the touch
@@ -49,7 +60,7 @@ pub record IsIn (ss : List Summary) (g : Group) (w : Touch) : Type 0 where
   pub place : w.place ≡ g.place
   pub root : alone w.access ≡ g.alone
   pub store : x.store ≡ g.store
-  pub locks : Gains (λ n. Contains x.plus (Cell n)) [] g.locks
+  pub locks : HasLocks x.plus g
   pub access : Contains g.accesses w.access.at
 
 -- no group has a lesser place than one before it
@@ -58,7 +69,7 @@ HasPlacesInOrder gs = (i j : ℕ) (g h : Group) → i ≤ j → slice_get gs i �
 
 -- the numbers of each group's locks never fall
 abbrev pub HasLocksInOrder : List Group → Type 0
-HasLocksInOrder gs = (g : Group) → Contains gs g → IsNonDecreasing g.locks
+HasLocksInOrder gs = (g : Group) → Contains gs g → AreLocksInOrder g
 
 -- one of the first n touches is in the group, and stands at a
 pub record IsFrom (ss : List Summary) (ws : List Touch) (n : ℕ) (g : Group) (a : AccessAt) : Type 0 where

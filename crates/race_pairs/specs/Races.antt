@@ -1,11 +1,15 @@
 -- When the accesses of two groups may race, and their pairs.
-use Rattle.std.specs.Prelude.{◌≡◌, ℕ, ◌≤◌, ◌==◌, ◌||◌, Bool, true, false, not, if◌then◌else◌, List, Option, Some, None, slice_get}
+use Rattle.std.specs.Prelude.{◌≡◌, ◌⊎◌, ℕ, ◌≤◌, ◌==◌, ◌||◌, Bool, true, false, not, if◌then◌else◌, List, Option, Some, None, slice_get}
 use Rattle.std.specs.List.{Contains}
 use Rattle.rr_base.specs.declared.layout.Place.{Place}
+use Rattle.sync_objects.specs.declared.mode.Mode.{Mode}
 use Rattle.facts.specs.declared.locks.Guarded.{Guarded}
+use Rattle.facts.specs.declared.locks.Held.{Held}
+use Rattle.facts.specs.declared.locks.LockPath.TheVariants.{Cell}
 use Rattle.facts.specs.declared.locks.Summary.{Summary}
 use Rattle.facts.specs.declared.pair.AccessAt.{AccessAt}
 use Rattle.facts.specs.declared.pair.Pair.{Pair}
+use Rattle.facts.specs.Locks.{held_as}
 use Rattle.facts.specs.Pairs.{guarded_in, access_less}
 use Rattle.race_pairs.specs.declared.touch.Reached.{Reached}
 use Rattle.race_pairs.specs.declared.touch.Group.{Group}
@@ -24,15 +28,23 @@ may_meet None o = true
 may_meet (Some r) None = true
 may_meet (Some r) (Some s) = not (r == s)
 
+-- the lock in a global cell, held in a mode
+abbrev pub held_cell : Mode → ℕ → Held
+held_cell mode n = held_as mode (Cell n)
+
 -- the lists have a common number
 abbrev pub Meet : List ℕ → List ℕ → Type 0
 Meet ms ns = (n : ℕ) × Contains ms n × Contains ns n
 
--- accesses of the two may be at work at once, one of them a store, with no common lock
+-- one holds a lock for writing that the other holds too
+abbrev pub Exclude : Group → Group → Type 0
+Exclude g h = Meet g.writing h.reading ⊎ Meet g.reading h.writing
+
+-- accesses of the two may be at work at once, one of them a store, with no lock that keeps them apart
 pub record AreRacing (g h : Group) : Type 0 where
   pub meet : may_meet g.alone h.alone ≡ true
   pub stores : g.store || h.store ≡ true
-  pub apart : Meet g.locks h.locks → ⊥
+  pub apart : Exclude g h → ⊥
 
 -- the pair of two accesses, either way round
 abbrev pub pair_of : Place → AccessAt → AccessAt → Pair

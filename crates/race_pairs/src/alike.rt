@@ -5,7 +5,7 @@ ghost use Rattle.race_pairs.specs.Races as races;
 ghost use Rattle.race_pairs.specs.Groups.{Alike};
 
 use crate::touch::{Reached, Touch};
-use facts::{Guarded, LockPath, Summary};
+use facts::{Guarded, Held, Summary};
 use rr_base::List;
 
 /// The access in the summary of its root.
@@ -32,10 +32,10 @@ fn same_root(access: &Reached, other: &Reached) -> bool
     alone(access) == alone(other)
 }
 
-fn same_paths(paths: &[LockPath], others: &[LockPath]) -> bool
-    ensures { IsTrue result ↔ (paths.now ≡ others.now) }
+fn same_locks(locks: &[Held], others: &[Held]) -> bool
+    ensures { IsTrue result ↔ (locks.now ≡ others.now) }
 {
-    paths == others
+    locks == others
 }
 
 /// Whether the two touch one place, and may race with the same accesses by their roots, kinds and locks.
@@ -50,7 +50,7 @@ pub(crate) fn are_alike(summaries: &[Summary], touch: &Touch, other: &Touch) -> 
             touch.place == other.place
                 && same_root(&touch.access, &other.access)
                 && x.store == y.store
-                && same_paths(x.plus.as_slice(), y.plus.as_slice())
+                && same_locks(x.plus.as_slice(), y.plus.as_slice())
         }
         _ => false,
     }

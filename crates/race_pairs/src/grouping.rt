@@ -12,6 +12,7 @@ use crate::touch::{Group, Touch};
 use facts::{AccessAt, Guarded, Summary};
 use rr_base::List;
 use std::alloc::{AllocError, Global};
+use sync_objects::Mode;
 
 /// Puts the places in order, and those of one group side by side.
 pub(crate) fn put_in_order(
@@ -83,12 +84,14 @@ fn group_of(
     ensures { IfOk result (IsGroup touches.now from to guarded.now) }
 {
     let accesses = accesses_between(alloc, touches, from, to)?;
-    let locks = lock_cells(alloc, guarded.plus.as_slice())?;
+    let writing = lock_cells(alloc, guarded.plus.as_slice(), Mode::Write)?;
+    let reading = lock_cells(alloc, guarded.plus.as_slice(), Mode::Read)?;
     Ok(Group {
         place: touches[from].place,
         alone: alone(&touches[from].access),
         store: guarded.store,
-        locks,
+        writing,
+        reading,
         accesses,
     })
 }

@@ -1,7 +1,6 @@
 // The pairs that may race.
 ghost use Rattle.std.specs.Prelude.{◌≡◌, ◌↔◌, ◌<◌, ◌≤◌, ℕ, length, [], true, slice_get, Some, IfOk, IsTrue, OnOk};
 ghost use Rattle.std.specs.List.{Contains};
-ghost use Rattle.std.specs.List.Sorted.{IsNonDecreasing};
 ghost use Rattle.facts.specs.declared.pair.Pair.{Pair};
 ghost use Rattle.facts.specs.Pairs.{ArePairs, pairs_ascend};
 ghost use Rattle.facts.specs.PointsTo.{HasRegisters};
@@ -9,7 +8,7 @@ ghost use Rattle.race_pairs.specs.declared.touch.Group.{Group};
 ghost use Rattle.race_pairs.specs.Gains.{Gains};
 ghost use Rattle.race_pairs.specs.Races as races;
 ghost use Rattle.race_pairs.specs.Races.{ArePaired};
-ghost use Rattle.race_pairs.specs.Groups.{HasLocksInOrder, HasPlacesInOrder};
+ghost use Rattle.race_pairs.specs.Groups.{AreLocksInOrder, HasLocksInOrder, HasPlacesInOrder};
 
 use crate::access::touches;
 use crate::found::{add_pair, each_once};
@@ -103,7 +102,7 @@ fn add_racing<'a>(
     found: &mut Vec<Pair>,
 ) -> Result<&'a [AccessAt], AllocError>
     requires same { is_same ≡ true → other.now ≡ group.now }
-    requires locks { IsNonDecreasing other.now.locks }
+    requires locks { AreLocksInOrder other.now }
     requires paired { ArePaired group.now paired.now found.old.items }
     ensures pairs { OnOk result (Gains (races.IsRacingPair group.now other.now) found.old.items found.new.items) }
     ensures paired { IfOk result (λ accesses. ArePaired group.now accesses.now found.new.items) }
@@ -149,7 +148,8 @@ fn pairs_of(alloc: Global, groups: &[Group]) -> Result<Vec<Pair>, AllocError>
 }
 
 /// The pairs of accesses that may race, each once, in order: for two functions with which two threads may have begun,
-/// an access of the summary of each, both at one place, one of them a store, where no global lock is held at both.
+/// an access of the summary of each, both at one place, one of them a store, where no global lock is held at both, for
+/// writing at one of them.
 /// The points-to answer must have a list for each register of the code's functions.
 pub fn pairs(
     alloc: Global,

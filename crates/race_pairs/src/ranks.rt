@@ -2,9 +2,10 @@
 // on it.
 use crate::alike::{alone, guarded_at};
 use crate::touch::Reached;
-use facts::{LockPath, Summary};
+use facts::{Held, LockPath, Summary};
 use rr_base::List;
 use std::cmp::Ordering;
+use sync_objects::Mode;
 
 fn rank(path: LockPath) -> (bool, u32, u32) {
     match path {
@@ -13,14 +14,20 @@ fn rank(path: LockPath) -> (bool, u32, u32) {
     }
 }
 
-fn by_locks(paths: &[LockPath], others: &[LockPath]) -> Ordering {
-    for at in 0..paths.len().min(others.len()) {
-        let order = rank(paths[at]).cmp(&rank(others[at]));
+fn by_lock(held: Held, other: Held) -> Ordering {
+    rank(held.path).cmp(&rank(other.path)).then(
+        (held.mode == Mode::Write).cmp(&(other.mode == Mode::Write)),
+    )
+}
+
+fn by_locks(locks: &[Held], others: &[Held]) -> Ordering {
+    for at in 0..locks.len().min(others.len()) {
+        let order = by_lock(locks[at], others[at]);
         if order.is_ne() {
             return order;
         }
     }
-    paths.len().cmp(&others.len())
+    locks.len().cmp(&others.len())
 }
 
 /// By the root, if no two threads begin with it, by kind, by locks, and then by where they stand.

@@ -19,12 +19,14 @@ pub struct Touch {
 }
 
 /// Accesses of one place that may race with the same accesses: their root, if no two threads begin with it, whether they
-/// are stores, the cells of the locks that are held at each, in order, and where they stand.
+/// are stores, the cells of the locks that are held at each for writing, those of the locks that are held in any way, both
+/// in order, and where they stand.
 #[derive(Debug, Drop)]
 pub struct Group {
     pub place: Place,
     pub alone: Option<usize>,
     pub store: bool,
-    pub locks: List<u32>,
+    pub writing: List<u32>,
+    pub reading: List<u32>,
     pub accesses: List<AccessAt>,
 }

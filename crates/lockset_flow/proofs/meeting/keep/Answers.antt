@@ -1,7 +1,7 @@
 use Rattle.std.proofs.Common.{rules}
-use Rattle.facts.specs.Locks.{has}
+use Rattle.facts.specs.Locks.{has_held}
 use Rattle.lockset_flow.proofs.Meets.{kept_same}
 use Rattle.lockset_flow.proofs.meeting.keep.Goals as goal
 
 pub returns-clause-same : goal.returns-clause-same
-returns-clause-same c h = kept_same (λ p. has p c.args.others.now) c.args.paths.now c.in_ok-kept.kept _ _ (search rules) (search rules) (search rules) h
+returns-clause-same c h = kept_same (λ h. has_held h c.args.others.now) c.args.plus.now c.in_ok-kept.kept _ _ (search rules) (search rules) (search rules) h

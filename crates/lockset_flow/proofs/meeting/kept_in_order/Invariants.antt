@@ -1,11 +1,12 @@
 use Rattle.std.proofs.Common.{◌≡◌, ◌++◌, drop}
 use Rattle.std.specs.List.{filter}
-use Rattle.facts.specs.Locks.{has}
+use Rattle.facts.specs.Locks.{held_less, held_same, has_held}
+use Rattle.facts.proofs.TotalOrders.{orders_held}
 use Rattle.lockset_flow.proofs.Walking.{Walked}
 use Rattle.lockset_flow.proofs.meeting.kept_in_order.Given as goal
 
-abbrev pub invariant-loop-path : goal.invariant-loop-path
-invariant-loop-path l = record {
-  so_far : l.kept ++ filter (λ p. has p l.others) (drop l.path-index l.paths) ≡ filter (λ p. has p l.others) l.paths;
-  walked : Walked (drop l.path-index l.paths) l.rest l.others;
+abbrev pub invariant-loop-held : goal.invariant-loop-held
+invariant-loop-held l = record {
+  so_far : l.kept ++ filter (λ h. has_held h l.others) (drop l.held-index l.plus) ≡ filter (λ h. has_held h l.others) l.plus;
+  walked : Walked held_less held_same orders_held (drop l.held-index l.plus) l.rest l.others;
 }

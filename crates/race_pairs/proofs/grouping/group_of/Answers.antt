@@ -1,8 +1,9 @@
 use Rattle.std.proofs.Common.{List, subst, arith, refl, []}
 use Rattle.std.specs.List.{Contains}
-use Rattle.facts.specs.declared.locks.LockPath.{LockPath}
-use Rattle.facts.specs.declared.locks.LockPath.TheVariants.{Cell}
+use Rattle.sync_objects.specs.declared.mode.Mode.TheVariants.{Read, Write}
+use Rattle.facts.specs.declared.locks.Held.{Held}
 use Rattle.race_pairs.specs.Gains.{Gains}
+use Rattle.race_pairs.specs.Races.{held_cell}
 use Rattle.race_pairs.proofs.Elements.{gets}
 use Rattle.race_pairs.proofs.grouping.group_of.Goals as goal
 
@@ -13,7 +14,10 @@ returns c = record {
   place = refl;
   root = c.alone.ensures;
   store = refl;
-  ascend = c.in_ok-locks.ensures.ascend;
-  locks = subst (λ (ps : List LockPath). Gains (λ n. Contains ps (Cell n)) [] c.in_ok-locks.locks) c.as_slice.ensures c.in_ok-locks.ensures.cells;
+  ascend = record { writing = c.in_ok-writing.ensures.ascend; reading = c.in_ok-reading.ensures.ascend };
+  locks = record {
+    writing = subst (λ (hs : List Held). Gains (λ n. Contains hs (held_cell Write n)) [] c.in_ok-writing.writing) c.as_slice.ensures c.in_ok-writing.ensures.cells;
+    reading = subst (λ (hs : List Held). Gains (λ n. Contains hs (held_cell Read n)) [] c.in_ok-reading.reading) c.as_slice-2.ensures c.in_ok-reading.ensures.cells;
+  };
   accesses = c.in_ok-accesses.ensures;
 }

@@ -2,7 +2,7 @@ use Rattle.std.proofs.Common.{◌≡◌, arith, ap, ◌∙◌, sym, subst, get_o
 use Rattle.std.proofs.lemmas.Option.{same_Some}
 use Rattle.race_pairs.specs.declared.touch.Group.{Group}
 use Rattle.race_pairs.specs.Races.{ArePaired}
-use Rattle.race_pairs.proofs.Elements.{gets_at}
+use Rattle.race_pairs.proofs.Elements.{gets_at, held}
 use Rattle.race_pairs.proofs.Pairing.{from_more, from_all, from_closed, places_differ, places_same, same_at}
 use Rattle.race_pairs.proofs.race.add_from.Goals as goal
 
@@ -14,6 +14,9 @@ returns-then-ne c =
     from_closed gs c.args.from c.loop-other.other g u c.args.found.now.items c.loop-other.found.items c.requires.places (gets_at gs c.args.from g (omega arith) c.index-groups-from.is) (gets_at gs c.loop-other.other u (omega arith) c.index-groups-other.is) (omega arith)
     (λ e. places_differ (get_or gs c.loop-other.other u).place (get_or gs c.args.from g).place c.ne.result c.ne.ensures c.if-ne.true (ap (λ (z : Group). z.place) (sym c.index-groups-other.is) ∙ e ∙ ap (λ (z : Group). z.place) c.index-groups-from.is))
     c.loop-other.invariant.0
+
+pub add_racing-requires-clause-locks : goal.add_racing-requires-clause-locks
+add_racing-requires-clause-locks c = let v = c.index-groups-other-in-loop-other.result in c.requires.locks v (held c.args.groups.now c.loop-other.other v (gets_at c.args.groups.now c.loop-other.other v (omega arith) c.index-groups-other-in-loop-other.is))
 
 pub loop-other-preserved : goal.loop-other-preserved
 loop-other-preserved c =
