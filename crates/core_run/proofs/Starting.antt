@@ -39,7 +39,7 @@ threads_push code s n rs r h e =
 joined_to : (u v w x y : List ℕ) → v ≡ u ++ x → w ≡ v ++ y → w ≡ u ++ (x ++ y)
 joined_to u v w x y a b = b ∙ ap (λ z. z ++ y) a ∙ append_assoc u x y
 
-pub objects_in : (cells locks : ℕ) (w0 w1 w2 w3 w4 w5 w6 w7 w8 : List ℕ) → w1 ≡ w0 ++ replicate (3 * cells) 0 → w2 ≡ w1 ++ start_word (object.Slot 0) ∷ [] → w3 ≡ w2 ++ replicate 15 0 → w4 ≡ w3 ++ start_word object.Threads ∷ [] → w5 ≡ w4 ++ start_word object.Halt ∷ [] → w6 ≡ w5 ++ start_word object.Input ∷ [] → w7 ≡ w6 ++ start_word object.Output ∷ [] → w8 ≡ w7 ++ replicate (8 * locks) 0 → w8 ≡ w0 ++ objects_from cells locks
+pub objects_in : (cells locks : ℕ) (w0 w1 w2 w3 w4 w5 w6 w7 w8 : List ℕ) → w1 ≡ w0 ++ replicate (4 * cells) 0 → w2 ≡ w1 ++ start_word (object.Slot 0) ∷ [] → w3 ≡ w2 ++ replicate 15 0 → w4 ≡ w3 ++ start_word object.Threads ∷ [] → w5 ≡ w4 ++ start_word object.Halt ∷ [] → w6 ≡ w5 ++ start_word object.Input ∷ [] → w7 ≡ w6 ++ start_word object.Output ∷ [] → w8 ≡ w7 ++ replicate (8 * locks) 0 → w8 ≡ w0 ++ objects_from cells locks
 objects_in cells locks w0 w1 w2 w3 w4 w5 w6 w7 w8 e1 e2 e3 e4 e5 e6 e7 e8 =
     let slots = joined_to w1 w2 w3 (start_word (object.Slot 0) ∷ []) (replicate 15 0) e2 e3 in
     let q6 = joined_to w5 w6 w7 (start_word object.Input ∷ []) (start_word object.Output ∷ []) e6 e7 in
@@ -47,4 +47,4 @@ objects_in cells locks w0 w1 w2 w3 w4 w5 w6 w7 w8 e1 e2 e3 e4 e5 e6 e7 e8 =
     let q4 = joined_to w3 w4 w7 (start_word object.Threads ∷ []) _ e4 q5 in
     let s0 = start_word (object.Slot 0) ∷ replicate 15 0 in
     let q = start_word object.Threads ∷ start_word object.Halt ∷ start_word object.Input ∷ start_word object.Output ∷ [] in
-    joined_to w0 w7 w8 _ (replicate (8 * locks) 0) (joined_to w0 w3 w7 _ q (joined_to w0 w1 w3 (replicate (3 * cells) 0) s0 e1 slots) q4) e8
+    joined_to w0 w7 w8 _ (replicate (8 * locks) 0) (joined_to w0 w3 w7 _ q (joined_to w0 w1 w3 (replicate (4 * cells) 0) s0 e1 slots) q4) e8

@@ -1,13 +1,15 @@
 -- Runs of the machine from its start, and the lists of entries that they leave.
-use Rattle.std.specs.Prelude.{ℕ, List, [], map, Option, Some, None, slice_get}
+use Rattle.std.specs.Prelude.{◌≡◌, ℕ, List, [], map, Option, Some, None, slice_get}
 use Rattle.sync_objects.specs.Setup.{SetupView}
 use Rattle.sync_objects.specs.declared.entry.Entry.{Entry}
 use Rattle.sync_objects.specs.declared.entry.Noted.{Noted}
+use Rattle.abstract_machine.specs.declared.event.Action.TheVariants.{Ended}
 use Rattle.flow_code.specs.declared.code.Code.{Code}
-use Rattle.core_run.specs.Machine.{Told, machine, start_state}
-use Rattle.runs.specs.Labels.{Label}
+use Rattle.flow_code.specs.Settle.{next}
+use Rattle.core_run.specs.Machine.{Told, effect_of, machine, start_state}
+use Rattle.runs.specs.Labels.{Go, Label}
 use Rattle.runs.specs.Laws.{IsRaceFree}
-use Rattle.runs.specs.Steps.{State, AllEnded, Reaches, run}
+use Rattle.runs.specs.Steps.{AllEnded, Reaches, Refused, State, run}
 
 -- the state after a run from the start
 abbrev pub run_of : Code → SetupView → List Label → Option (State Told)
@@ -20,6 +22,11 @@ IsReachable code s st = Reaches (machine code s) (start_state code s) st
 -- in no state that can be reached do two threads race
 abbrev pub HasNoRace : Code → SetupView → Type 0
 HasNoRace code s = IsRaceFree (machine code s) (start_state code s)
+
+-- the machine has each cell and each object that a next action names: in no state that can be reached does it refuse a thread's
+-- own step but where none comes next
+abbrev pub HasItsCells : Code → SetupView → Type 0
+HasItsCells code s = (state : State Told) (t : ℕ) (told : Told) → IsReachable code s state → slice_get state.threads t ≡ Some told → effect_of code s (Go t) told ≡ Refused → next code s t told.thread ≡ Ended
 
 -- all threads have ended
 abbrev pub HaveEnded : Code → SetupView → State Told → Type 0

@@ -30,11 +30,8 @@ fn start_global(slots: u8, kind: CellKind, word: u64) -> u64
                 word.wrapping_add(2 * u64::from(slots) * (1 << 32))
             }
         }
-        CellKind::Whole
-        | CellKind::Mutex
-        | CellKind::Cond
-        | CellKind::Barrier
-        | CellKind::Rw => word,
+        CellKind::Whole | CellKind::Mutex | CellKind::Cond | CellKind::Barrier | CellKind::Rw =>
+            word,
     }
 }
 
