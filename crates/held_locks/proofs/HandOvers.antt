@@ -60,14 +60,14 @@ module _ (code : Code) (s : SetupView) (run : IsRunnable code) (limits : IsWithi
 
     -- an operation on the slot that happens at a place
     abbrev on_slot_at : (o : OpName) (t c : ℕ) (st st1 : State Told) (l : Label) (r : IsReachable code s st) (q : stepped (machine code s) st l ≡ Some st1) → events c ≡ event_of (machine code s) st l → Happens code s run limits k has st st1 l r q o t → IsOnSlot events o t k c
-    on_slot_at o t c st st1 l r q e h = record { noted = h.noted; answer = h.answer; happens = e ∙ h.happens; named = h.named; on = h.on }
+    on_slot_at o t c st st1 l r q e h = record { noted = h.noted; word = h.word; answer = h.answer; happens = e ∙ h.happens; named = h.named; on = h.on }
 
     -- of two operations on the slot at two places the first passes to the second, where it is one that does
     passes_to : (c d : ℕ) (a a1 b b1 : State Told) (l m : Label) → c < d → state_at (machine code s) labels begin_state (suc c) ≡ Some a1 → state_at (machine code s) labels begin_state d ≡ Some b → stepped (machine code s) a l ≡ Some a1 → stepped (machine code s) b m ≡ Some b1 →
-        (t u : ℕ) (x y : Noted) (f g : ℤ) → event_of (machine code s) a l ≡ Some (Did t x f) → event_of (machine code s) b m ≡ Some (Did u y g) → x.entry.obj ≡ object.Slot k → y.entry.obj ≡ object.Slot k → HandsOver x.entry.op y.entry.op g → PassesTo x y g
-    passes_to c d a a1 b b1 l m lt next at e h t u x y f g p q on_x on_y hands =
-        let first = drawn_at (machine code s) (lawful code s run limits) a a1 l t x f e p in
-        let second = drawn_at (machine code s) (lawful code s run limits) b b1 m u y g h q in
+        (t u : ℕ) (x y : Noted) (v w : ℕ) (f g : ℤ) → event_of (machine code s) a l ≡ Some (Did t x v f) → event_of (machine code s) b m ≡ Some (Did u y w g) → x.entry.obj ≡ object.Slot k → y.entry.obj ≡ object.Slot k → HandsOver x.entry.obj x.entry.op t v y.entry.op g → PassesTo t x v y g
+    passes_to c d a a1 b b1 l m lt next at e h t u x y v w f g p q on_x on_y hands =
+        let first = drawn_at (machine code s) (lawful code s run limits) a a1 l t x v f e p in
+        let second = drawn_at (machine code s) (lawful code s run limits) b b1 m u y w g h q in
         let risen = first.after in
         let drawn = second.before in
         let more = numbers a1 b (suc c) d (omega arith) next at in
@@ -81,9 +81,9 @@ module _ (code : Code) (s : SetupView) (run : IsRunnable code) (limits : IsWithi
     idle zero ne h = absurd (ne refl)
     idle (suc n) ne h = other_life code s limits n h
 
-    opening : (x : Event) (o : OpName) (y : Noted) (f : ℤ) → x ≡ Did k y f → y.entry.op ≡ o → (o ≡ name.Begin) ⊎ (o ≡ name.Close) → IsNoOpening x → ⊥
-    opening x o y f e is (inl g) h = (subst IsNoOpening e h).0 (is ∙ g)
-    opening x o y f e is (inr g) h = (subst IsNoOpening e h).1 (is ∙ g)
+    opening : (x : Event) (o : OpName) (y : Noted) (word : ℕ) (f : ℤ) → x ≡ Did k y word f → y.entry.op ≡ o → (o ≡ name.Begin) ⊎ (o ≡ name.Close) → IsNoOpening x → ⊥
+    opening x o y word f e is (inl g) h = (subst IsNoOpening e h).0 (is ∙ g)
+    opening x o y word f e is (inr g) h = (subst IsNoOpening e h).1 (is ∙ g)
 
     -- at an event that is no opening the thread has begun
     runs_at : (j : ℕ) (x : Event) → IsNoOpening x → event_thread x ≡ k → (p : Place code s labels begin_state j x) → has_run (life_at p.before) ≡ true
@@ -93,8 +93,8 @@ module _ (code : Code) (s : SetupView) (run : IsRunnable code) (limits : IsWithi
         own = sym (event_is_own code s p.before p.after p.label (has_stepped code s p.before p.after p.label p.steps) x p.event) ∙ whose
 
         by_opening : Opens code s run limits k has p.before p.after p.label p.reached p.steps → ⊥
-        by_opening (opens h r) = opening x name.Begin h.noted h.answer (same_Some x (Did k h.noted h.answer) (sym p.event ∙ h.happens)) h.named (inl refl) goes_on
-        by_opening (shut_up h r) = opening x name.Close h.noted h.answer (same_Some x (Did k h.noted h.answer) (sym p.event ∙ h.happens)) h.named (inr refl) goes_on
+        by_opening (opens h r) = opening x name.Begin h.noted h.word h.answer (same_Some x (Did k h.noted h.word h.answer) (sym p.event ∙ h.happens)) h.named (inl refl) goes_on
+        by_opening (shut_up h r) = opening x name.Close h.noted h.word h.answer (same_Some x (Did k h.noted h.word h.answer) (sym p.event ∙ h.happens)) h.named (inr refl) goes_on
 
         by : (waits (life_at p.before) ≡ true) ⊎ ((is_shut (life_at p.before) ≡ true) ⊎ (has_run (life_at p.before) ≡ true)) → has_run (life_at p.before) ≡ true
         by (inl w) = absurd (by_opening (waiting_opens code s run limits k has p.before p.after p.label p.reached p.steps own w))
@@ -138,11 +138,11 @@ module _ (code : Code) (s : SetupView) (run : IsRunnable code) (limits : IsWithi
         only_start : (c v : ℕ) → IsOnSlot events name.Start v k c → c ≡ u.b
         only_start c v o = ⊎_elim (λ e. e) (λ ne2. absurd (apart ne2 (nat_lt c u.b) refl)) (cases_eq c u.b)
           where
-            p : Place code s labels begin_state c (Did v o.noted o.answer)
-            p = place_at code s labels begin_state c (Did v o.noted o.answer) at_begin o.happens
+            p : Place code s labels begin_state c (Did v o.noted o.word o.answer)
+            p = place_at code s labels begin_state c (Did v o.noted o.word o.answer) at_begin o.happens
 
             says : (was_started (life_at p.before) ≡ false) × (is_used (life_at p.after) ≡ true)
-            says = start_says code s run limits k has p.before p.after p.label p.reached p.steps v o.noted o.answer p.event o.on o.named
+            says = start_says code s run limits k has p.before p.after p.label p.reached p.steps v o.noted o.word o.answer p.event o.on o.named
 
             apart : c ≢ u.b → (b : Bool) → nat_lt c u.b ≡ b → ⊥
             apart ne2 true e = let less = ltb-true c u.b e in true≢false (sym (later is_used used_stays p.after u.before (suc c) u.b (omega arith) p.next u.at says.1) ∙ started.1)
@@ -155,10 +155,11 @@ module _ (code : Code) (s : SetupView) (run : IsRunnable code) (limits : IsWithi
           order = u.less;
           before = t.less;
           starter = label_thread u.label;
-          starts = record { noted = started.0.noted; answer = started.0.answer; happens = u.event ∙ started.0.happens; named = started.0.named; on = started.0.on };
-          begins = record { noted = begun.0.noted; answer = begun.0.answer; happens = t.event ∙ begun.0.happens; named = begun.0.named; on = begun.0.on };
-          passes = passes_to u.b t.b u.before u.after t.before t.after u.label t.label u.less u.next t.at u.steps t.steps (label_thread u.label) k started.0.noted begun.0.noted started.0.answer begun.0.answer started.0.happens begun.0.happens started.0.on begun.0.on
-              (subst (λ z. HandsOver z begun.0.noted.entry.op begun.0.answer) (sym started.0.named) (subst (λ z. HandsOver name.Start z begun.0.answer) (sym begun.0.named) (start_to_begin begun.0.answer)));
+          starts = record { noted = started.0.noted; word = started.0.word; answer = started.0.answer; happens = u.event ∙ started.0.happens; named = started.0.named; on = started.0.on };
+          begins = record { noted = begun.0.noted; word = begun.0.word; answer = begun.0.answer; happens = t.event ∙ begun.0.happens; named = begun.0.named; on = begun.0.on };
+          passes = passes_to u.b t.b u.before u.after t.before t.after u.label t.label u.less u.next t.at u.steps t.steps (label_thread u.label) k started.0.noted begun.0.noted started.0.word begun.0.word started.0.answer begun.0.answer started.0.happens begun.0.happens started.0.on begun.0.on
+              (subst (λ z. HandsOver started.0.noted.entry.obj z (label_thread u.label) started.0.word begun.0.noted.entry.op begun.0.answer) (sym started.0.named)
+              (subst (λ z. HandsOver started.0.noted.entry.obj name.Start (label_thread u.label) started.0.word z begun.0.answer) (sym begun.0.named) (start_to_begin started.0.noted.entry.obj (label_thread u.label) started.0.word begun.0.answer)));
           only = only_start;
           first = silent;
         }
@@ -167,8 +168,8 @@ module _ (code : Code) (s : SetupView) (run : IsRunnable code) (limits : IsWithi
     started_before ne j x goes_on whose p = let t = begin_turn ne j x goes_on whose p in is_started ne j t (start_turn ne j t)
 
     -- the first thread is never started
-    pub not_first : (c v : ℕ) → (o : IsOnSlot events name.Start v k c) → Place code s labels begin_state c (Did v o.noted o.answer) → k ≢ 0
-    not_first c v o p e = true≢false (sym (later was_started started_stays begin_state p.before 0 c (omega arith) refl p.at (was_begun k e has)) ∙ (start_says code s run limits k has p.before p.after p.label p.reached p.steps v o.noted o.answer p.event o.on o.named).0)
+    pub not_first : (c v : ℕ) → (o : IsOnSlot events name.Start v k c) → Place code s labels begin_state c (Did v o.noted o.word o.answer) → k ≢ 0
+    not_first c v o p e = true≢false (sym (later was_started started_stays begin_state p.before 0 c (omega arith) refl p.at (was_begun k e has)) ∙ (start_says code s run limits k has p.before p.after p.label p.reached p.steps v o.noted o.word o.answer p.event o.on o.named).0)
       where
         was_begun : (n : ℕ) → n ≡ 0 → has_object code s (object.Slot n) ≡ true → was_started (life code s n begin_state) ≡ true
         was_begun zero z h = ap was_started (first_life code s limits h)
@@ -180,11 +181,11 @@ module _ (code : Code) (s : SetupView) (run : IsRunnable code) (limits : IsWithi
     not_over zero h = ap is_over (first_life code s limits h)
     not_over (suc n) h = ap is_over (other_life code s limits n h)
 
-    module _ (t b : ℕ) (joins : IsOnSlot events name.Join t k b) (zero_is : joins.answer ≡ pos 0) (p : Place code s labels begin_state b (Did t joins.noted joins.answer)) where
+    module _ (t b : ℕ) (joins : IsOnSlot events name.Join t k b) (zero_is : joins.answer ≡ pos 0) (p : Place code s labels begin_state b (Did t joins.noted joins.word joins.answer)) where
       end_turn : Turn code s (λ st. is_over (life_at st)) labels begin_state b
       end_turn =
           turn code s (λ st. is_over (life_at st)) labels begin_state p.before b at_begin p.at (not_over k has)
-          (join_says code s run limits k has p.before p.after p.label p.reached p.steps t joins.noted (p.event ∙ ap (λ f. Some (Did t joins.noted f)) zero_is) joins.on joins.named)
+          (join_says code s run limits k has p.before p.after p.label p.reached p.steps t joins.noted joins.word (p.event ∙ ap (λ f. Some (Did t joins.noted joins.word f)) zero_is) joins.on joins.named)
 
       module _ (u : Turn code s (λ st. is_over (life_at st)) labels begin_state b) where
         over : Happens code s run limits k has u.before u.after u.label u.reached u.steps name.End k
@@ -196,7 +197,7 @@ module _ (code : Code) (s : SetupView) (run : IsRunnable code) (limits : IsWithi
         no_more i x e whose access false l = let high = ltb-false i u.b l in ⊎_elim (λ same. absurd (at_end same)) (λ ne. absurd (following (omega arith))) (cases_eq i u.b)
           where
             at_end : i ≡ u.b → ⊥
-            at_end same = access (ap event_access (same_Some x (Did k over.noted over.answer) (sym e ∙ ap events same ∙ u.event ∙ over.happens)))
+            at_end same = access (ap event_access (same_Some x (Did k over.noted over.word over.answer) (sym e ∙ ap events same ∙ u.event ∙ over.happens)))
 
             following : u.b < i → ⊥
             following lt =
@@ -208,11 +209,12 @@ module _ (code : Code) (s : SetupView) (run : IsRunnable code) (limits : IsWithi
         has_ended = record {
           a = u.b;
           order = u.less;
-          ends = record { noted = over.noted; answer = over.answer; happens = u.event ∙ over.happens; named = over.named; on = over.on };
-          passes = passes_to u.b b u.before u.after p.before p.after u.label p.label u.less u.next p.at u.steps p.steps k t over.noted joins.noted over.answer joins.answer over.happens p.event over.on joins.on
-              (subst (λ z. HandsOver z joins.noted.entry.op joins.answer) (sym over.named) (subst (λ z. HandsOver name.End z joins.answer) (sym joins.named) (end_to_join joins.answer)));
+          ends = record { noted = over.noted; word = over.word; answer = over.answer; happens = u.event ∙ over.happens; named = over.named; on = over.on };
+          passes = passes_to u.b b u.before u.after p.before p.after u.label p.label u.less u.next p.at u.steps p.steps k t over.noted joins.noted over.word joins.word over.answer joins.answer over.happens p.event over.on joins.on
+              (subst (λ z. HandsOver over.noted.entry.obj z k over.word joins.noted.entry.op joins.answer) (sym over.named)
+              (subst (λ z. HandsOver over.noted.entry.obj name.End k over.word z joins.answer) (sym joins.named) (end_to_join over.noted.entry.obj k over.word joins.answer)));
           last = λ i x e whose access. no_more i x e whose access (nat_lt i u.b) refl;
         }
 
-    pub ended_before : (t b : ℕ) (joins : IsOnSlot events name.Join t k b) → joins.answer ≡ pos 0 → Place code s labels begin_state b (Did t joins.noted joins.answer) → HasEnded events k t b joins
+    pub ended_before : (t b : ℕ) (joins : IsOnSlot events name.Join t k b) → joins.answer ≡ pos 0 → Place code s labels begin_state b (Did t joins.noted joins.word joins.answer) → HasEnded events k t b joins
     ended_before t b joins zero_is p = has_ended t b joins zero_is p (end_turn t b joins zero_is p)

@@ -13,6 +13,10 @@ pub mod DueSteps
 pub mod Stepping
 pub mod ObjectSteps
 pub mod LockMoves
+pub mod RwBits
+pub mod RwMoves
+pub mod RwStates
+pub mod RwHolders
 pub mod StripeSteps
 pub mod StripeStates
 pub mod MutexHolders

@@ -1,7 +1,10 @@
--- Accesses that a mutex or a stripe orders.
+-- Accesses that a mutex, a read-write lock or a stripe orders.
 use Rattle.std.proofs.Common.{◌≡◌, ◌≢◌, ℕ, zero, suc, ◌<◌, true, List, [], ◌∷◌, Some, refl, subst}
 use Rattle.std.proofs.lemmas.Option.{same_Some}
 use Rattle.sync_objects.specs.Setup.{SetupView, IsWithinLimits}
+use Rattle.sync_objects.specs.Modes.{excludes}
+use Rattle.sync_objects.specs.declared.mode.Mode.{Mode}
+use Rattle.sync_objects.specs.declared.mode.Mode.TheVariants.{Write}
 use Rattle.sync_objects.specs.declared.object.ObjId.TheVariants as object
 use Rattle.flow_code.specs.declared.code.Code.{Code}
 use Rattle.flow_code.specs.Settle.{IsRunnable}
@@ -15,8 +18,9 @@ use Rattle.runs.specs.Ordered.{Event, event_access, event_at, event_thread, Orde
 use Rattle.runs.specs.Steps.{State, stepped}
 use Rattle.runs.proofs.Kept.{reaches_step}
 use Rattle.runs.proofs.Locked.{state_inv, ordered_by_lock}
-use Rattle.held_locks.specs.Holders.{holds_stripe, names}
+use Rattle.held_locks.specs.Holders.{holds_lock, holds_stripe, names}
 use Rattle.held_locks.proofs.LockMoves.{mutex, held_by_word}
+use Rattle.held_locks.proofs.RwHolders.{held_as_shown}
 use Rattle.held_locks.proofs.StripeLaws.{known_is, held_by_list}
 
 module _ (code : Code) (s : SetupView) where
@@ -37,8 +41,19 @@ module _ (code : Code) (s : SetupView) where
       names code s (object.Mutex cell) (event_thread first) before ≡ true → names code s (object.Mutex cell) (event_thread second) after ≡ true →
       Ordered (event_at (machine code s) labels (start_state code s)) i j
   ordered_by_mutex cell labels i j first second before after run limits has lt at_first at_second access differ at_before at_after holds_first holds_second =
-      ordered_by_lock (machine code s) (lawful code s run limits) (object.Mutex cell) (names code s (object.Mutex cell)) (names code s (object.Mutex cell)) (start_state code s)
-      (held_by_word code s run limits (object.Mutex cell) (mutex cell) has) labels i j first second before after lt at_first at_second differ access at_before at_after holds_first holds_second
+      ordered_by_lock (machine code s) (lawful code s run limits) (object.Mutex cell) (λ mode. names code s (object.Mutex cell)) (start_state code s)
+      (held_by_word code s run limits (object.Mutex cell) (mutex cell) has) Write Write refl labels i j first second before after lt at_first at_second differ access at_before at_after holds_first holds_second
+
+  pub ordered_by_rwlock : (cell : ℕ) (a b : Mode) (labels : List Label) (i j : ℕ) (first second : Event) (before after : State Told) →
+      IsRunnable code → IsWithinLimits s → has_object code s (object.Rw cell) ≡ true → excludes a b ≡ true → i < j →
+      event_at (machine code s) labels (start_state code s) i ≡ Some first → event_at (machine code s) labels (start_state code s) j ≡ Some second →
+      event_access first ≢ NoAccess → event_thread first ≢ event_thread second →
+      state_at (machine code s) labels (start_state code s) i ≡ Some before → state_at (machine code s) labels (start_state code s) j ≡ Some after →
+      holds_lock code s (object.Rw cell) a (event_thread first) before ≡ true → holds_lock code s (object.Rw cell) b (event_thread second) after ≡ true →
+      Ordered (event_at (machine code s) labels (start_state code s)) i j
+  ordered_by_rwlock cell a b labels i j first second before after run limits has apart lt at_first at_second access differ at_before at_after holds_first holds_second =
+      ordered_by_lock (machine code s) (lawful code s run limits) (object.Rw cell) (holds_lock code s (object.Rw cell)) (start_state code s)
+      (held_as_shown code s run limits cell has) a b apart labels i j first second before after lt at_first at_second differ access at_before at_after holds_first holds_second
 
   pub ordered_by_stripe : (lock stripe : ℕ) (labels : List Label) (i j : ℕ) (first second : Event) (before after : State Told) →
       IsRunnable code → IsWithinLimits s → i < j →
@@ -50,5 +65,5 @@ module _ (code : Code) (s : SetupView) where
   ordered_by_stripe lock stripe labels i j first second before after run limits lt at_first at_second access differ at_before at_after holds_first holds_second =
       let reached : IsReachable code s before = reached_at labels (start_state code s) before i ([], refl) at_before in
       let has = known_is code s run limits before lock stripe (event_thread first) reached holds_first in
-      ordered_by_lock (machine code s) (lawful code s run limits) (object.Weak lock stripe) (holds_stripe lock stripe) (holds_stripe lock stripe) (start_state code s)
-      (held_by_list code s run limits lock stripe has) labels i j first second before after lt at_first at_second differ access at_before at_after holds_first holds_second
+      ordered_by_lock (machine code s) (lawful code s run limits) (object.Weak lock stripe) (λ mode. holds_stripe lock stripe) (start_state code s)
+      (held_by_list code s run limits lock stripe has) Write Write refl labels i j first second before after lt at_first at_second differ access at_before at_after holds_first holds_second

@@ -69,15 +69,15 @@ module _ (code : Code) (s : SetupView) (run_ok : IsRunnable code) (limits : IsWi
   abbrev this : ObjId
   this = object.Mutex cell
 
-  alone_event : (ev : Option Event) (before : LockState) → ((t : ℕ) (x : Noted) (answer : ℤ) → ev ≡ Some (Did t x answer) → x.entry.obj ≡ this → ⊥) → held_after_event this before ev ≡ before
+  alone_event : (ev : Option Event) (before : LockState) → ((t : ℕ) (x : Noted) (word : ℕ) (answer : ℤ) → ev ≡ Some (Did t x word answer) → x.entry.obj ≡ this → ⊥) → held_after_event this before ev ≡ before
   alone_event None before h = refl
   alone_event (Some (Marked t)) before h = refl
   alone_event (Some (Loaded t c)) before h = refl
   alone_event (Some (Stored t c)) before h = refl
-  alone_event (Some (Did t x answer)) before h = by (same_object x.entry.obj this) refl
+  alone_event (Some (Did t x word answer)) before h = by (same_object x.entry.obj this) refl
     where
       by : (b : Bool) → same_object x.entry.obj this ≡ b → (if b then held_after x.entry.op answer t before else before) ≡ before
-      by true e = absurd (h t x answer refl (same_object-true x.entry.obj this e))
+      by true e = absurd (h t x word answer refl (same_object-true x.entry.obj this e))
       by false e = refl
 
   pub holder_step : (st st1 : State Told) (l : Label) → ObjectStep code s this st l st1 → holder code s this st1 ≡ held_after_event this (holder code s this st) (event_of (machine code s) st l)

@@ -41,7 +41,7 @@ module _ (code : Code) (s : SetupView) (obj : ObjId) where
   -- the step leaves the object's word, and is no operation on it
   pub record LeavesAlone (st : State Told) (l : Label) (st1 : State Told) : Type 0 where
     pub same : word_of_object code s obj st1 ≡ word_of_object code s obj st
-    pub none : (t : ℕ) (x : Noted) (answer : ℤ) → event_of (machine code s) st l ≡ Some (Did t x answer) → x.entry.obj ≡ obj → ⊥
+    pub none : (t : ℕ) (x : Noted) (word : ℕ) (answer : ℤ) → event_of (machine code s) st l ≡ Some (Did t x word answer) → x.entry.obj ≡ obj → ⊥
 
   -- the step is an operation on the object, by a row of the table
   pub record OperatesOn (st : State Told) (l : Label) (st1 : State Told) : Type 0 where
@@ -50,7 +50,7 @@ module _ (code : Code) (s : SetupView) (obj : ObjId) where
     pub noted : Noted
     pub named : noted.entry.op ≡ name_of operation
     pub on : noted.entry.obj ≡ obj
-    pub happens : event_of (machine code s) st l ≡ Some (Did (label_thread l) noted answer)
+    pub happens : event_of (machine code s) st l ≡ Some (Did (label_thread l) noted (word_of_object code s obj st) answer)
     pub fits : kind_of (name_of operation) ≡ object_kind obj
     pub row : first_row (rows operation (label_thread l)) (shown (kind_of (name_of operation)) (word_of_object code s obj st)) ≡ Moves (shown (kind_of (name_of operation)) (word_of_object code s obj st1)) answer
     pub before : Told
@@ -77,24 +77,24 @@ module _ (code : Code) (s : SetupView) (obj : ObjId) where
     pub alone_by_access : IsAccessStep code s st.words st1.words (event_of (machine code s) st l) l h.before.thread h.after.thread → LeavesAlone st l st1
     alone_by_access a = record {
       same = index_same st1.words st.words (place code s obj) (a.objects (place code s obj) (place_past (cells_of code s) obj));
-      none = λ t x answer e on. no a.what t x answer (same_Some a.what (Did t x answer) (sym a.happens ∙ e)) a.no_operation;
+      none = λ t x word answer e on. no a.what t x word answer (same_Some a.what (Did t x word answer) (sym a.happens ∙ e)) a.no_operation;
     }
       where
         index_same : (xs ys : List ℕ) (i : ℕ) → slice_get xs i ≡ slice_get ys i → slice_index xs i ≡ slice_index ys i
         index_same xs ys i e = sym (unwrap_or-slice_get xs i 0) ∙ ap (λ o. unwrap_or o 0) e ∙ unwrap_or-slice_get ys i 0
 
-        no : (v : Event) (t : ℕ) (x : Noted) (answer : ℤ) → v ≡ Did t x answer → IsNoOperation v → ⊥
-        no v t x answer e n = subst IsNoOperation e n
+        no : (v : Event) (t : ℕ) (x : Noted) (word : ℕ) (answer : ℤ) → v ≡ Did t x word answer → IsNoOperation v → ⊥
+        no v t x word answer e n = subst IsNoOperation e n
 
-    same_noted : (t : ℕ) (x y : Noted) (a b : ℤ) → Some (Did (label_thread l) x a) ≡ Some (Did t y b) → x ≡ y
-    same_noted t x y a b e = cc
+    same_noted : (t : ℕ) (x y : Noted) (v w : ℕ) (a b : ℤ) → Some (Did (label_thread l) x v a) ≡ Some (Did t y w b) → x ≡ y
+    same_noted t x y v w a b e = cc
 
     pub elsewhere : (x : IsOperationStep code s st.words st1.words (event_of (machine code s) st l) l h.before.thread h.after.thread) → x.obj ≢ obj → LeavesAlone st l st1
     elsewhere x ne = record {
       same = ap (λ ws. slice_index ws (place code s obj)) x.changes ∙ sym (unwrap_or-slice_get (slice_set st.words (place code s x.obj) x.new) (place code s obj) 0)
           ∙ ap (λ o. unwrap_or o 0) (slice_get-set_other st.words (place code s x.obj) (place code s obj) x.new (λ e. ne (sym (place_apart code s obj x.obj limits has x.has e))))
           ∙ unwrap_or-slice_get st.words (place code s obj) 0;
-      none = λ t y answer e on. ne (sym x.on ∙ ap (λ (z : Noted). z.entry.obj) (same_noted t x.noted y x.answer answer (sym x.happens ∙ e)) ∙ on);
+      none = λ t y word answer e on. ne (sym x.on ∙ ap (λ (z : Noted). z.entry.obj) (same_noted t x.noted y x.old word x.answer answer (sym x.happens ∙ e)) ∙ on);
     }
 
     -- the row of the table by which the object's word moves
@@ -112,6 +112,9 @@ module _ (code : Code) (s : SetupView) (obj : ObjId) where
         subst (λ w. first_row (rows x.op (label_thread l)) (shown (kind_of (name_of x.op)) w) ≡ Moves (shown (kind_of (name_of x.op)) (word_of_object code s obj st1)) x.answer) (sym old_is)
         (subst (λ w. first_row (rows x.op (label_thread l)) (shown (kind_of (name_of x.op)) x.old) ≡ Moves (shown (kind_of (name_of x.op)) w) x.answer) (sym new_is) row)
 
+    word_before : (x : IsOperationStep code s st.words st1.words (event_of (machine code s) st l) l h.before.thread h.after.thread) → x.obj ≡ obj → word_of_object code s obj st ≡ x.old
+    word_before x e = get_or_from_slice_get st.words (place code s obj) x.old 0 (ap (λ o. slice_get st.words (place code s o)) (sym e) ∙ x.at)
+
     here : (x : IsOperationStep code s st.words st1.words (event_of (machine code s) st l) l h.before.thread h.after.thread) → x.obj ≡ obj → OperatesOn st l st1
     here x e =
         record {
@@ -120,7 +123,7 @@ module _ (code : Code) (s : SetupView) (obj : ObjId) where
           noted = x.noted;
           named = x.named;
           on = x.on ∙ e;
-          happens = x.happens;
+          happens = x.happens ∙ ap (λ w. Some (Did (label_thread l) x.noted w x.answer)) (sym (word_before x e));
           fits = (made_fits code s l h.before.thread x.op x.obj x.answer h.after.thread run limits x.makes).0 ∙ ap object_kind e;
           row = row_here x e;
           before = h.before;

@@ -67,8 +67,8 @@ module _ (t : ℕ) where
   exit_plain w value (suc zero) e = (refl, ap object.Slot e)
   exit_plain w value (suc (suc n)) e = (refl, tt)
 
-  checked_plain : (misuse : Trap) (kept : ℤ) → IsPlain (checked_due misuse kept)
-  checked_plain misuse kept = if_plain (is_misuse kept) _ _ tt tt
+  checked_plain : (why : Trap) (kept : ℤ) → IsPlain (checked_due why kept)
+  checked_plain why kept = if_plain (is_misuse kept) _ _ tt tt
 
   mutex_plain : (w : Caller) (o : Op) → ((c : ℕ) → OfSlot t o (object.Mutex c)) → (words : List ℕ) (made : ℕ) (kept : ℤ) → IsPlain (mutex_due w o words made kept)
   mutex_plain w o h words zero kept = at_plain (cell_of w words 0 kind.Mutex) _ (λ c. (refl, h c))

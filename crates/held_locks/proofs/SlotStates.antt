@@ -137,7 +137,7 @@ module _ (code : Code) (s : SetupView) where
 
         by_operation : IsOperationStep code s st.words st1.words (event_of (machine code s) st l) l h.before.thread h.after.thread → IsAlive (label_thread l) (life code s (label_thread l) st) h.after.thread
         by_operation x = record {
-          waiting = λ w. absurd (a.none (label_thread l) x.noted x.answer x.happens (x.on ∙ (fresh_makes code s l h.before.thread h.after.thread limits (fresh_of run limits l (life code s (label_thread l) st) h.before.thread h.after.thread alive w) x.op x.obj x.answer x.makes).1));
+          waiting = λ w. absurd (a.none (label_thread l) x.noted x.old x.answer x.happens (x.on ∙ (fresh_makes code s l h.before.thread h.after.thread limits (fresh_of run limits l (life code s (label_thread l) st) h.before.thread h.after.thread alive w) x.op x.obj x.answer x.makes).1));
           closed = λ w. absurd (ended_makes code s l h.before.thread h.after.thread (alive.closed w) x.op x.obj x.answer x.makes);
           over = λ w. gone_makes code s l h.before.thread h.after.thread (alive.over w) x.op x.obj x.answer x.makes;
         }

@@ -24,6 +24,7 @@ use Rattle.runs.specs.Steps.{State, stepped}
 use Rattle.held_locks.proofs.SlotMoves.{life, SlotMove, starts, shuts, begins, ends, joins, misses, closes, waits, is_shut, was_started, has_run, is_over, is_used}
 use Rattle.held_locks.proofs.SlotMakes.{IsFresh, fresh_access, fresh_makes, ended_access, ended_makes, gone_access, own_makes}
 use Rattle.held_locks.proofs.SlotStates.{IsAlive, life_moves, life_kept, alive}
+use Rattle.held_locks.specs.Holders.{word_of_object}
 use Rattle.held_locks.proofs.Stepping.{IsAccessStep, IsOperationStep, HasStepped, has_stepped}
 use Rattle.held_locks.proofs.ObjectSteps.{LeavesAlone, OperatesOn, ObjectStep, object_step}
 
@@ -70,13 +71,14 @@ module _ (code : Code) (s : SetupView) (run : IsRunnable code) (limits : IsWithi
   -- an operation on the slot that happens here, of this name
   pub record Happens (o : OpName) (t : ℕ) : Type 0 where
     pub noted : Noted
+    pub word : ℕ
     pub answer : ℤ
-    pub happens : event_of (machine code s) st l ≡ Some (Did t noted answer)
+    pub happens : event_of (machine code s) st l ≡ Some (Did t noted word answer)
     pub named : noted.entry.op ≡ o
     pub on : noted.entry.obj ≡ object.Slot k
 
   happens_here : (x : OperatesOn code s (object.Slot k) st l st1) (o : Op) → x.operation ≡ o → Happens (name_of o) (label_thread l)
-  happens_here x o is = record { noted = x.noted; answer = x.answer; happens = x.happens; named = x.named ∙ ap name_of is; on = x.on }
+  happens_here x o is = record { noted = x.noted; word = word_of_object code s (object.Slot k) st; answer = x.answer; happens = x.happens; named = x.named ∙ ap name_of is; on = x.on }
 
   own_thread : (x : OperatesOn code s (object.Slot k) st l st1) → (x.operation ≡ op.Begin) ⊎ ((x.operation ≡ op.End) ⊎ (x.operation ≡ op.Close)) → label_thread l ≡ k
   own_thread x is = let same : object.Slot k ≡ object.Slot (label_thread l) = own_makes code s l x.before.thread x.after.thread run x.operation (object.Slot k) x.answer is x.makes in cc
@@ -139,20 +141,20 @@ module _ (code : Code) (s : SetupView) (run : IsRunnable code) (limits : IsWithi
 
   -- ---- what an operation that happens says of the life
 
-  same_did : (t u : ℕ) (x y : Noted) (a b : ℤ) → Some (Did t x a) ≡ Some (Did u y b) → (x ≡ y) × (a ≡ b)
-  same_did t u x y a b f = (cc, cc)
+  same_did : (t u : ℕ) (x y : Noted) (v w : ℕ) (a b : ℤ) → Some (Did t x v a) ≡ Some (Did u y w b) → (x ≡ y) × (a ≡ b)
+  same_did t u x y v w a b f = (cc, cc)
 
   -- the operation that happens, as a step on the slot
-  found : (t : ℕ) (x : Noted) (answer : ℤ) → event_of (machine code s) st l ≡ Some (Did t x answer) → x.entry.obj ≡ object.Slot k → (y : OperatesOn code s (object.Slot k) st l st1) × (x.entry.op ≡ name_of y.operation) × (answer ≡ y.answer)
-  found t x answer h on = by on_slot
+  found : (t : ℕ) (x : Noted) (word : ℕ) (answer : ℤ) → event_of (machine code s) st l ≡ Some (Did t x word answer) → x.entry.obj ≡ object.Slot k → (y : OperatesOn code s (object.Slot k) st l st1) × (x.entry.op ≡ name_of y.operation) × (answer ≡ y.answer)
+  found t x word answer h on = by on_slot
     where
       by : ObjectStep code s (object.Slot k) st l st1 → (y : OperatesOn code s (object.Slot k) st l st1) × (x.entry.op ≡ name_of y.operation) × (answer ≡ y.answer)
-      by (inl a) = absurd (a.none t x answer h on)
-      by (inr y) = let same = same_did t (label_thread l) x y.noted answer y.answer (sym h ∙ y.happens) in (y, ap (λ (z : Noted). z.entry.op) same.0 ∙ y.named, same.1)
+      by (inl a) = absurd (a.none t x word answer h on)
+      by (inr y) = let same = same_did t (label_thread l) x y.noted word (word_of_object code s (object.Slot k) st) answer y.answer (sym h ∙ y.happens) in (y, ap (λ (z : Noted). z.entry.op) same.0 ∙ y.named, same.1)
 
   -- a start is made of a life that wasn't started, and afterwards it is used
-  pub start_says : (t : ℕ) (x : Noted) (answer : ℤ) → event_of (machine code s) st l ≡ Some (Did t x answer) → x.entry.obj ≡ object.Slot k → x.entry.op ≡ name.Start → (was_started old ≡ false) × (is_used new ≡ true)
-  start_says t x answer h on named = let f = found t x answer h on in by_move f.0 f.0.operation (sym named ∙ f.1) (life_moves code s k st st1 l f.0)
+  pub start_says : (t : ℕ) (x : Noted) (word : ℕ) (answer : ℤ) → event_of (machine code s) st l ≡ Some (Did t x word answer) → x.entry.obj ≡ object.Slot k → x.entry.op ≡ name.Start → (was_started old ≡ false) × (is_used new ≡ true)
+  start_says t x word answer h on named = let f = found t x word answer h on in by_move f.0 f.0.operation (sym named ∙ f.1) (life_moves code s k st st1 l f.0)
     where
       by_move : (y : OperatesOn code s (object.Slot k) st l st1) (o : Op) → name.Start ≡ name_of o → SlotMove o y.answer old new → (was_started old ≡ false) × (is_used new ≡ true)
       by_move y o is (starts f g a b) = (ap was_started a, ap is_used b)
@@ -164,8 +166,8 @@ module _ (code : Code) (s : SetupView) (run : IsRunnable code) (limits : IsWithi
       by_move y o is (closes g a b) = let n = ap name_of g in cc
 
   -- a join that answers 0 is made of a life that is over
-  pub join_says : (t : ℕ) (x : Noted) → event_of (machine code s) st l ≡ Some (Did t x (pos 0)) → x.entry.obj ≡ object.Slot k → x.entry.op ≡ name.Join → is_over old ≡ true
-  join_says t x h on named = let f = found t x (pos 0) h on in by_move f.0 f.0.operation (sym named ∙ f.1) f.0.answer f.2 (life_moves code s k st st1 l f.0)
+  pub join_says : (t : ℕ) (x : Noted) (word : ℕ) → event_of (machine code s) st l ≡ Some (Did t x word (pos 0)) → x.entry.obj ≡ object.Slot k → x.entry.op ≡ name.Join → is_over old ≡ true
+  join_says t x word h on named = let f = found t x word (pos 0) h on in by_move f.0 f.0.operation (sym named ∙ f.1) f.0.answer f.2 (life_moves code s k st st1 l f.0)
     where
       by_move : (y : OperatesOn code s (object.Slot k) st l st1) (o : Op) → name.Join ≡ name_of o → (answer : ℤ) → pos 0 ≡ answer → SlotMove o answer old new → is_over old ≡ true
       by_move y o is answer zero_is (starts f g a b) = let n = ap name_of g in cc
@@ -206,7 +208,7 @@ module _ (code : Code) (s : SetupView) (run : IsRunnable code) (limits : IsWithi
     over_silent x w h access =
         ⊎_elim
         (λ (a : IsAccessStep code s st.words st1.words (event_of (machine code s) st l) l step.before.thread step.after.thread). gone_access code s l step.before.thread step.after.thread (living.over (ap is_over old_is ∙ w)) a.action a.answer a.is_access a.comes)
-        (λ (y : IsOperationStep code s st.words st1.words (event_of (machine code s) st l) l step.before.thread step.after.thread). access (ap event_access (same_Some x (Did (label_thread l) y.noted y.answer) (sym h ∙ y.happens))))
+        (λ (y : IsOperationStep code s st.words st1.words (event_of (machine code s) st l) l step.before.thread step.after.thread). access (ap event_access (same_Some x (Did (label_thread l) y.noted y.old y.answer) (sym h ∙ y.happens))))
         step.kind
 
     fresh_at : waits old ≡ true → (x : OperatesOn code s (object.Slot k) st l st1) → IsFresh code s l x.before.thread x.after.thread
@@ -236,7 +238,7 @@ module _ (code : Code) (s : SetupView) (run : IsRunnable code) (limits : IsWithi
         alone a =
             ⊎_elim
             (λ (c : IsAccessStep code s st.words st1.words (event_of (machine code s) st l) l step.before.thread step.after.thread). fresh_access code s l step.before.thread step.after.thread limits (fresh w) c.action c.answer c.is_access c.comes)
-            (λ (y : IsOperationStep code s st.words st1.words (event_of (machine code s) st l) l step.before.thread step.after.thread). a.none (label_thread l) y.noted y.answer y.happens (y.on ∙ (fresh_makes code s l step.before.thread step.after.thread limits (fresh w) y.op y.obj y.answer y.makes).1 ∙ ap object.Slot own))
+            (λ (y : IsOperationStep code s st.words st1.words (event_of (machine code s) st l) l step.before.thread step.after.thread). a.none (label_thread l) y.noted y.old y.answer y.happens (y.on ∙ (fresh_makes code s l step.before.thread step.after.thread limits (fresh w) y.op y.obj y.answer y.makes).1 ∙ ap object.Slot own))
             step.kind
 
         by : ObjectStep code s (object.Slot k) st l st1 → Opens

@@ -32,7 +32,7 @@ use Rattle.runs.proofs.Swap.{load_inv, change_inv, steps_of}
 
 -- the event is no operation
 abbrev pub IsNoOperation : Event → Type 0
-IsNoOperation (Did t x answer) = ⊥
+IsNoOperation (Did t x before answer) = ⊥
 IsNoOperation _ = Unit {0}
 
 module _ (code : Code) (s : SetupView) where
@@ -78,7 +78,7 @@ module _ (code : Code) (s : SetupView) where
     pub noted : Noted
     pub named : noted.entry.op ≡ name_of op
     pub on : noted.entry.obj ≡ obj
-    pub happens : event ≡ Some (Did (label_thread l) noted answer)
+    pub happens : event ≡ Some (Did (label_thread l) noted old answer)
     pub makes : Makes l th op obj answer q
 
   abbrev pub StepKind : List ℕ → List ℕ → Option Event → Label → Thread → Thread → Type 0
@@ -176,7 +176,7 @@ module _ (code : Code) (s : SetupView) where
         noted = noted;
         named = h.named;
         on = h.on;
-        happens = ap (λ w. operation_event (label_thread l) noted (change w)) old_is ∙ ap (operation_event (label_thread l) noted) i.4;
+        happens = ap (λ w. operation_event (label_thread l) noted w (change w)) old_is ∙ ap (operation_event (label_thread l) noted i.0) i.4;
         makes = row.1;
       })
 
@@ -209,4 +209,4 @@ module _ (code : Code) (s : SetupView) where
       by_access a = ap event_thread (same_Some x a.what (sym e ∙ a.happens)) ∙ a.thread
 
       by_operation : IsOperationStep st.words st1.words (event_of (machine code s) st l) l h.before.thread h.after.thread → event_thread x ≡ label_thread l
-      by_operation y = ap event_thread (same_Some x (Did (label_thread l) y.noted y.answer) (sym e ∙ y.happens))
+      by_operation y = ap event_thread (same_Some x (Did (label_thread l) y.noted y.old y.answer) (sym e ∙ y.happens))

@@ -136,14 +136,14 @@ module _ (code : Code) (s : SetupView) (run_ok : IsRunnable code) (limits : IsWi
       small_in (Some told) f g h = holds_small 0 lock k told.thread.stripes (h.agree t told f).sorted g
 
   module _ (lock k : ℕ) (has : has_object code s (object.Weak lock k) ≡ true) where
-    by_word : IsHeldBy (machine code s) (object.Weak lock k) (names code s (object.Weak lock k)) (names code s (object.Weak lock k)) (start_state code s)
+    by_word : IsHeldBy (machine code s) (object.Weak lock k) (λ mode. names code s (object.Weak lock k)) (start_state code s)
     by_word = held_by_word code s run_ok limits (object.Weak lock k) (stripe lock k) has
 
     -- the lists of threads tell who holds a stripe, as the law of order by a lock asks
-    pub held_by_list : IsHeldBy (machine code s) (object.Weak lock k) (holds_stripe lock k) (holds_stripe lock k) (start_state code s)
+    pub held_by_list : IsHeldBy (machine code s) (object.Weak lock k) (λ mode. holds_stripe lock k) (start_state code s)
     held_by_list = record {
       known = has;
-      one = λ st t u reached f g. by_word.one st t u reached (named_is st lock k t reached has ∙ f) (named_is st lock k u reached has ∙ g);
-      released = λ st st1 l t reached e was isnt. by_word.released st st1 l t reached e (named_is st lock k t reached has ∙ was) (named_is st1 lock k t (reaches_step (machine code s) (start_state code s) st st1 l reached e) has ∙ isnt);
-      acquired = λ st st1 l t reached e wasnt now. by_word.acquired st st1 l t reached e (named_is st lock k t reached has ∙ wasnt) (named_is st1 lock k t (reaches_step (machine code s) (start_state code s) st st1 l reached e) has ∙ now);
+      one = λ a b st t u reached apart f g. by_word.one a b st t u reached apart (named_is st lock k t reached has ∙ f) (named_is st lock k u reached has ∙ g);
+      released = λ mode st st1 l t reached e was isnt. by_word.released mode st st1 l t reached e (named_is st lock k t reached has ∙ was) (named_is st1 lock k t (reaches_step (machine code s) (start_state code s) st st1 l reached e) has ∙ isnt);
+      acquired = λ mode st st1 l t reached e wasnt now. by_word.acquired mode st st1 l t reached e (named_is st lock k t reached has ∙ wasnt) (named_is st1 lock k t (reaches_step (machine code s) (start_state code s) st st1 l reached e) has ∙ now);
     }

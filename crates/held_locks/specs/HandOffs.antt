@@ -10,8 +10,9 @@ use Rattle.runs.specs.Laws.{NoAccess}
 -- the event at this place is an operation of thread t on the slot of thread k
 pub record IsOnSlot (at : ℕ → Option Event) (o : OpName) (t k place : ℕ) : Type 0 where
   pub noted : Noted
+  pub word : ℕ
   pub answer : ℤ
-  pub happens : at place ≡ Some (Did t noted answer)
+  pub happens : at place ≡ Some (Did t noted word answer)
   pub named : noted.entry.op ≡ o
   pub on : noted.entry.obj ≡ object.Slot k
 
@@ -25,13 +26,13 @@ pub record IsStarted (at : ℕ → Option Event) (k j : ℕ) : Type 0 where
   pub starter : ℕ
   pub starts : IsOnSlot at name.Start starter k a
   pub begins : IsOnSlot at name.Begin k k b
-  pub passes : PassesTo starts.noted begins.noted begins.answer
+  pub passes : PassesTo starter starts.noted starts.word begins.noted begins.answer
   pub only : (c t : ℕ) → IsOnSlot at name.Start t k c → c ≡ a
   pub first : (i : ℕ) (x : Event) → at i ≡ Some x → event_thread x ≡ k → i < b → ⊥
 
 -- the event is neither a thread's begin nor its closing before it
 abbrev pub IsNoOpening : Event → Type 0
-IsNoOpening (Did t x answer) = (x.entry.op ≢ name.Begin) × (x.entry.op ≢ name.Close)
+IsNoOpening (Did t x before answer) = (x.entry.op ≢ name.Begin) × (x.entry.op ≢ name.Close)
 IsNoOpening _ = Unit {0}
 
 -- before the join of thread k at place b, thread k has ended its slot, and it makes no access from then on
@@ -39,5 +40,5 @@ pub record HasEnded (at : ℕ → Option Event) (k t b : ℕ) (joins : IsOnSlot 
   pub a : ℕ
   pub order : a < b
   pub ends : IsOnSlot at name.End k k a
-  pub passes : PassesTo ends.noted joins.noted joins.answer
+  pub passes : PassesTo k ends.noted ends.word joins.noted joins.answer
   pub last : (i : ℕ) (x : Event) → at i ≡ Some x → event_thread x ≡ k → event_access x ≢ NoAccess → i < a

@@ -1,10 +1,13 @@
--- Who holds a mutex or a stripe, as its word tells, and as the operations on it tell.
-use Rattle.std.specs.Prelude.{ℕ, zero, ℤ, pos, Bool, false, if◌then◌else◌, List, [], ◌∷◌, Option, Some, None, slice_get, slice_index}
+-- Who holds a mutex, a stripe or a read-write lock, as its word tells, and who holds a mutex as the operations on it tell.
+use Rattle.std.specs.Prelude.{◌≡◌, ℕ, zero, ℤ, pos, Bool, false, if◌then◌else◌, List, [], ◌∷◌, Option, Some, None, slice_get, slice_index}
 use Rattle.sync_objects.specs.Setup.{SetupView}
-use Rattle.sync_objects.specs.States.{LockState, Free, HeldBy, is_held_by}
-use Rattle.sync_objects.specs.Packing.{lock_of}
+use Rattle.sync_objects.specs.States.{LockState, Free, HeldBy, is_held_by, RwState, Shared, holds as holds_shared, writes}
+use Rattle.sync_objects.specs.Packing.{lock_of, rw_of}
 use Rattle.sync_objects.specs.Words.{state_of}
+use Rattle.sync_objects.specs.declared.mode.Mode.{Mode}
+use Rattle.sync_objects.specs.declared.mode.Mode.TheVariants.{Read, Write}
 use Rattle.sync_objects.specs.declared.object.ObjId.{ObjId}
+use Rattle.sync_objects.specs.declared.object.ObjId.TheVariants as object
 use Rattle.sync_objects.specs.declared.operation.OpName.{OpName}
 use Rattle.sync_objects.specs.declared.operation.OpName.TheVariants as name
 use Rattle.flow_code.specs.declared.code.Code.{Code}
@@ -28,6 +31,25 @@ holder code s lock st = lock_of (state_of (word_of_object code s lock st))
 abbrev pub names : Code → SetupView → ObjId → ℕ → State Told → Bool
 names code s lock t st = is_held_by t (holder code s lock st)
 
+-- the state of a read-write lock, as its word shows it
+abbrev pub shared : Code → SetupView → ObjId → State Told → RwState
+shared code s lock st = rw_of (state_of (word_of_object code s lock st))
+
+-- a thread that writes holds the lock in both ways, one that reads for reading alone
+abbrev pub holds_as : Mode → ℕ → RwState → Bool
+holds_as Write t x = writes t x
+holds_as Read t x = holds_shared t x
+
+-- the thread holds the lock in this way, as its word tells: of a mutex or a stripe there is one way only
+abbrev pub holds_lock : Code → SetupView → ObjId → Mode → ℕ → State Told → Bool
+holds_lock code s (object.Rw cell) mode t st = holds_as mode t (shared code s (object.Rw cell) st)
+holds_lock code s lock mode t st = names code s lock t st
+
+-- who holds the lock for writing has no reader beside it
+abbrev pub IsExclusive : RwState → Type 0
+IsExclusive (Shared readers Free) = Unit {0}
+IsExclusive (Shared readers (HeldBy thread)) = readers ≡ 0
+
 -- the thread holds the stripe, as its own state tells
 abbrev pub holds_in : ℕ → ℕ → Option Told → Bool
 holds_in lock stripe None = false
@@ -46,7 +68,7 @@ held_after _ answer t before = before
 
 -- the same after any event: those that aren't on this mutex leave it as it is
 abbrev pub held_after_event : ObjId → LockState → Option Event → LockState
-held_after_event o before (Some (Did t x answer)) = if same_object x.entry.obj o then held_after x.entry.op answer t before else before
+held_after_event o before (Some (Did t x word answer)) = if same_object x.entry.obj o then held_after x.entry.op answer t before else before
 held_after_event o before _ = before
 
 -- a run that can't go on leaves the holder as it is

@@ -2,8 +2,10 @@
 
 ghost use Rattle.std.specs.Prelude.{◌≡◌, ◌≢◌, ◌<◌, ◌+◌, ◌*◌, ℕ, true, false, List, Some, slice_get};
 ghost use Rattle.sync_objects.specs.Setup.{SetupView, IsWithinLimits};
+ghost use Rattle.sync_objects.specs.Modes.{excludes};
 ghost use Rattle.sync_objects.specs.States.{Free};
-ghost use Rattle.sync_objects.specs.declared.object.ObjId.TheVariants.{Mutex, Weak};
+ghost use Rattle.sync_objects.specs.declared.mode.Mode.{Mode};
+ghost use Rattle.sync_objects.specs.declared.object.ObjId.TheVariants.{Mutex, Rw, Weak};
 ghost use Rattle.flow_code.specs.declared.code.Code.{Code};
 ghost use Rattle.flow_code.specs.Holding.{nesting};
 ghost use Rattle.flow_code.specs.Next.{holds};
@@ -16,17 +18,17 @@ ghost use Rattle.runs.specs.Labels.{Label};
 ghost use Rattle.runs.specs.Laws.{NoAccess};
 ghost use Rattle.runs.specs.Ordered.{Event, event_access, event_at, event_of, event_thread, IsHeldBy, Ordered, state_at};
 ghost use Rattle.runs.specs.Steps.{State, stepped};
-ghost use Rattle.held_locks.specs.Holders.{held_after_event, held_along, holder, holds_stripe, names};
+ghost use Rattle.held_locks.specs.Holders.{held_after_event, held_along, holder, holds_lock, holds_stripe, IsExclusive, names, shared};
 ghost use Rattle.held_locks.specs.ThreadStripes.{HasItsStripes, IsOfMemory, owes_stripe};
 
-/// Law: a mutex is held by the thread that its word names, in the way that the law of order by a lock asks for. No
-/// two threads hold it at once; who no longer holds it has unlocked it, and who newly holds it has locked it.
+/// Law: a mutex is held by the thread that its word names, in the way that the law of order by a lock asks for, whatever
+/// the mode. No two threads hold it at once; who no longer holds it has unlocked it, and who newly holds it has locked it.
 pub fn law_mutex_held()
     ensures { (code : Code) (setup : SetupView) (cell : ℕ) →
         IsRunnable code →
         IsWithinLimits setup →
         has_object code setup (Mutex cell) ≡ true →
-        IsHeldBy (machine code setup) (Mutex cell) (names code setup (Mutex cell)) (names code setup (Mutex cell)) (start_state code setup) }
+        IsHeldBy (machine code setup) (Mutex cell) (λ mode. names code setup (Mutex cell)) (start_state code setup) }
 {}
 
 /// Law: each step makes of a mutex's holder what its event does to it: a lock or a trylock that answers 0 makes its thread the
@@ -69,6 +71,47 @@ pub fn law_ordered_by_mutex()
         Ordered (event_at (machine code setup) labels (start_state code setup)) i j }
 {}
 
+/// Law: in each state that can be reached who holds a read-write lock for writing has no reader beside it.
+pub fn law_rw_exclusive()
+    ensures { (code : Code) (setup : SetupView) (cell : ℕ) (state : State Told) →
+        IsRunnable code →
+        IsWithinLimits setup →
+        has_object code setup (Rw cell) ≡ true →
+        IsReachable code setup state →
+        IsExclusive (shared code setup (Rw cell) state) }
+{}
+
+/// Law: a read-write lock is held by the threads that its word shows, for reading or for writing, in the way that the law
+/// of order by a lock asks for. Beside a thread that writes no other one holds it; who no longer holds it in a mode has
+/// unlocked it, and who newly holds it in a mode has locked it in this or in the stronger one.
+pub fn law_rw_held()
+    ensures { (code : Code) (setup : SetupView) (cell : ℕ) →
+        IsRunnable code →
+        IsWithinLimits setup →
+        has_object code setup (Rw cell) ≡ true →
+        IsHeldBy (machine code setup) (Rw cell) (holds_lock code setup (Rw cell)) (start_state code setup) }
+{}
+
+/// Law: an access and a later event of another thread, each made while its thread holds the read-write lock, in modes that
+/// exclude each other, are ordered.
+pub fn law_ordered_by_rwlock()
+    ensures { (code : Code) (setup : SetupView) (cell : ℕ) (first_mode second_mode : Mode) (labels : List Label) (i j : ℕ) (first second : Event) (before after : State Told) →
+        IsRunnable code →
+        IsWithinLimits setup →
+        has_object code setup (Rw cell) ≡ true →
+        excludes first_mode second_mode ≡ true →
+        i < j →
+        event_at (machine code setup) labels (start_state code setup) i ≡ Some first →
+        event_at (machine code setup) labels (start_state code setup) j ≡ Some second →
+        event_access first ≢ NoAccess →
+        event_thread first ≢ event_thread second →
+        state_at (machine code setup) labels (start_state code setup) i ≡ Some before →
+        state_at (machine code setup) labels (start_state code setup) j ≡ Some after →
+        holds_lock code setup (Rw cell) first_mode (event_thread first) before ≡ true →
+        holds_lock code setup (Rw cell) second_mode (event_thread second) after ≡ true →
+        Ordered (event_at (machine code setup) labels (start_state code setup)) i j }
+{}
+
 /// Law: a stripe is held by the thread whose list holds it, in the way that the law of order by a lock asks for. No two
 /// threads hold it at once; who no longer holds it has given it or lost it to a revoke, and who newly holds it has
 /// taken it or taken it again.
@@ -77,7 +120,7 @@ pub fn law_stripe_held()
         IsRunnable code →
         IsWithinLimits setup →
         has_object code setup (Weak lock stripe) ≡ true →
-        IsHeldBy (machine code setup) (Weak lock stripe) (holds_stripe lock stripe) (holds_stripe lock stripe) (start_state code setup) }
+        IsHeldBy (machine code setup) (Weak lock stripe) (λ mode. holds_stripe lock stripe) (start_state code setup) }
 {}
 
 /// Law: in each state that can be reached a stripe's word names a thread exactly where the thread's list holds the stripe;

@@ -21,7 +21,7 @@ use Rattle.flow_code.specs.Threads.{Object, object, object_of, and_objects, obje
 use Rattle.facts.specs.Blocks.{begins_block, assigns, constant_of, constant_at}
 use Rattle.facts.specs.Locks.{nothing, after, successors, MinusBelow, Below, Points, IsSolution}
 use Rattle.facts.specs.Paths.{Known, is_never_assigned, known_formal, known_of, known_at}
-use Rattle.facts.specs.declared.locks.LockPath.{LockPath}
+use Rattle.facts.specs.declared.locks.Held.{Held}
 use Rattle.facts.specs.declared.locks.Minus.{Minus}
 use Rattle.facts.specs.declared.locks.Minus.TheVariants.{All, Listed}
 use Rattle.facts.specs.declared.locks.RelLocks.{RelLocks}
@@ -67,7 +67,7 @@ objects_first (i ∷ is) (suc j) lt = by (object_of i.act) lt (λ l. objects_fir
     by None l rest = absurd (omega arith)
     by (Some o) l rest = more (rest (omega arith))
 
-module _ (slots : ℕ) (f : Function) where
+module _ (code : Code) (slots : ℕ) (f : Function) where
   act_there : (j : ℕ) (x : IsObject f.instrs j) → act_in (slice_get f.instrs j) ≡ Some (act.Alloc x.into x.site None)
   act_there j x = ap act_in x.at ∙ ap Some x.allocs
 
@@ -101,15 +101,15 @@ module _ (slots : ℕ) (f : Function) where
       block true g rest = cc
       block false g rest = alloc (assigns r (Some (act.Alloc x.into x.site None))) (subst (λ o. (if assigns r o then constant_of o else constant_at f.instrs j r) ≡ Some z) (act_there j x) g) rest
 
-  known_first : (rs : List ℕ) → length rs ≡ f.registers → IsKnown slots f (length (objects_of f.instrs)) rs
+  known_first : (rs : List ℕ) → length rs ≡ f.registers → IsKnown code slots f (length (objects_of f.instrs)) rs
   known_first rs long = record {
     long = long;
-    words = λ r n e. formal_is slots f rs r n (known_objects (length (objects_of f.instrs)) (omega arith) r n e);
+    words = λ r n e. formal_is code slots f rs r n (known_objects (length (objects_of f.instrs)) (omega arith) r n e);
     constants = λ r z e. absurd (no_constants (length (objects_of f.instrs)) (omega arith) r z e);
   }
 
   -- after the objects no more is known than at the entry
-  pub locks_first : (exits : List RelLocks) (top : List LockPath) (x : Points) → IsSolution exits f top x → (j : ℕ) → j ≤ length (objects_of f.instrs) → (l : RelLocks) → slice_get x.before j ≡ Some l → Below l nothing
+  pub locks_first : (exits : List RelLocks) (top : List Held) (x : Points) → IsSolution exits f top x → (j : ℕ) → j ≤ length (objects_of f.instrs) → (l : RelLocks) → slice_get x.before j ≡ Some l → Below l nothing
   locks_first exits top x solves zero le l e = solves.entry l e
   locks_first exits top x solves (suc j) le l e =
       let o = objects_first f.instrs j (omega arith) in
@@ -159,13 +159,13 @@ placed_never sites (i ∷ is) at rs r h =
 -- ---- the first frame
 
 module _ (code : Code) (slots : ℕ) (number : ℕ) (f : Function) (there : slice_get code.functions number ≡ Some f) (args : List ℕ) (arena : ℕ) where
-  pub frame_known : IsKnown slots f (first_frame code number args arena).instr (first_frame code number args arena).registers
+  pub frame_known : IsKnown code slots f (first_frame code number args arena).instr (first_frame code number args arena).registers
   frame_known =
-      subst (λ o. IsKnown slots f (length (objects_of (instrs_in o))) (placed code.sites (objects_of (instrs_in o)) arena (with_arguments (registers_in o) args))) (sym there)
-      (known_first slots f (placed code.sites (objects_of f.instrs) arena (with_arguments f.registers args)) (placed_long code.sites (objects_of f.instrs) arena (with_arguments f.registers args) ∙ args_long f.registers args))
+      subst (λ o. IsKnown code slots f (length (objects_of (instrs_in o))) (placed code.sites (objects_of (instrs_in o)) arena (with_arguments (registers_in o) args))) (sym there)
+      (known_first code slots f (placed code.sites (objects_of f.instrs) arena (with_arguments f.registers args)) (placed_long code.sites (objects_of f.instrs) arena (with_arguments f.registers args) ∙ args_long f.registers args))
 
-  pub frame_locks : (exits : List RelLocks) (top : List LockPath) (x : Points) (l : RelLocks) → IsSolution exits f top x → slice_get x.before (first_frame code number args arena).instr ≡ Some l → Below l nothing
-  frame_locks exits top x l solves e = locks_first slots f exits top x solves (length (objects_of f.instrs)) (omega arith) l (subst (λ o. slice_get x.before (length (objects_of (instrs_in o))) ≡ Some l) there e)
+  pub frame_locks : (exits : List RelLocks) (top : List Held) (x : Points) (l : RelLocks) → IsSolution exits f top x → slice_get x.before (first_frame code number args arena).instr ≡ Some l → Below l nothing
+  frame_locks exits top x l solves e = locks_first code slots f exits top x solves (length (objects_of f.instrs)) (omega arith) l (subst (λ o. slice_get x.before (length (objects_of (instrs_in o))) ≡ Some l) there e)
 
   pub frame_handed : (i : ℕ) → f.formals ≤ f.registers → is_fixed f i ≡ true → register (first_frame code number args arena).registers i ≡ argument args i
   frame_handed i le fixed =

@@ -4,11 +4,14 @@ use Rattle.std.specs.Prelude.{slice_get, slice_set}
 use Rattle.std.proofs.lemmas.Bool.{and_parts, leb-false}
 use Rattle.std.proofs.lemmas.Option.{same_Some}
 use Rattle.std.proofs.lemmas.List.{get_or-set_other, get_or-set_same}
-use Rattle.rr_base.specs.Words.{base_of, offset_of}
+use Rattle.rr_base.specs.Words.{site_of, base_of, length_of, offset_of}
+use Rattle.rr_base.specs.declared.layout.CellKind.{CellKind}
+use Rattle.abstract_machine.specs.Pointers.{site_at, kind_in}
 use Rattle.abstract_machine.specs.Registers.{register}
 use Rattle.abstract_machine.specs.Values.{number}
 use Rattle.flow_code.specs.declared.act.Act.{Act}
 use Rattle.flow_code.specs.declared.act.Instr.{Instr}
+use Rattle.flow_code.specs.declared.code.Code.{Code}
 use Rattle.flow_code.specs.declared.code.Function.{Function}
 use Rattle.flow_code.specs.Next.{act_in}
 use Rattle.flow_code.proofs.ValidParts.{each}
@@ -18,7 +21,7 @@ use Rattle.facts.specs.declared.locks.LockPath.{LockPath}
 use Rattle.facts.specs.declared.locks.LockPath.TheVariants.{Cell, Formal}
 use Rattle.facts.specs.declared.locks.Naming.TheVariants.{Nowhere, Named}
 use Rattle.held_locksets.specs.Leading.{is_fixed}
-use Rattle.held_locksets.proofs.Addresses.{on_base, on_offset}
+use Rattle.held_locksets.proofs.Addresses.{on_site, on_base, on_length, on_offset}
 
 -- ---- registers
 
@@ -38,31 +41,37 @@ never f k i r at fixed = not_false (assigns r (Some i.act)) (each (λ j. not (as
 
 -- ---- words behind roots
 
-abbrev pub RootIs : ℕ → Function → List ℕ → Root → ℕ → Type 0
-RootIs slots f rs (global b) v = (base_of v ≡ b + 2 * slots) × (offset_of v ≡ 0)
-RootIs slots f rs (formal i) v = (is_fixed f i ≡ true) × (v ≡ register rs i)
+-- the word points to the first cell of the object that begins at this global cell, whose kinds are those of the global cells
+pub record PointsToGlobal (code : Code) (slots : ℕ) (b v : ℕ) : Type 0 where
+  pub base : base_of v ≡ b + 2 * slots
+  pub front : offset_of v ≡ 0
+  pub kinds : (n : ℕ) (k : CellKind) → n < length_of v → kind_in (site_at code.sites (site_of v)) n ≡ Some k → slice_get code.global_kinds (b + n) ≡ Some k
+
+abbrev pub RootIs : Code → ℕ → Function → List ℕ → Root → ℕ → Type 0
+RootIs code slots f rs (global b) v = PointsToGlobal code slots b v
+RootIs code slots f rs (formal i) v = (is_fixed f i ≡ true) × (v ≡ register rs i)
 
 -- the word is so many cells behind the root's
-pub record IsAfter (slots : ℕ) (f : Function) (rs : List ℕ) (n : Known) (w : ℕ) : Type 0 where
+pub record IsAfter (code : Code) (slots : ℕ) (f : Function) (rs : List ℕ) (n : Known) (w : ℕ) : Type 0 where
   pub root : ℕ
-  pub is : RootIs slots f rs n.root root
+  pub is : RootIs code slots f rs n.root root
   pub word : w ≡ root + n.cells
   pub near : offset_of root + n.cells < 2 ^ 16
 
 -- each register holds what is known of it
-pub record IsKnown (slots : ℕ) (f : Function) (k : ℕ) (rs : List ℕ) : Type 0 where
+pub record IsKnown (code : Code) (slots : ℕ) (f : Function) (k : ℕ) (rs : List ℕ) : Type 0 where
   pub long : length rs ≡ f.registers
-  pub words : (r : ℕ) (n : Known) → known_at f.formals f.instrs k r ≡ Some n → IsAfter slots f rs n (register rs r)
+  pub words : (r : ℕ) (n : Known) → known_at f.formals f.instrs k r ≡ Some n → IsAfter code slots f rs n (register rs r)
   pub constants : (r : ℕ) (z : ℤ) → constant_at f.instrs k r ≡ Some z → number (register rs r) ≡ z
 
 abbrev pub known_to : Root → ℕ → Known
 known_to x n = record { root = x; cells = n }
 
-pub formal_is : (slots : ℕ) (f : Function) (rs : List ℕ) (r : ℕ) (n : Known) → known_formal f.formals f.instrs r ≡ Some n → IsAfter slots f rs n (register rs r)
-formal_is slots f rs r n e = by (is_fixed f r) refl e
+pub formal_is : (code : Code) (slots : ℕ) (f : Function) (rs : List ℕ) (r : ℕ) (n : Known) → known_formal f.formals f.instrs r ≡ Some n → IsAfter code slots f rs n (register rs r)
+formal_is code slots f rs r n e = by (is_fixed f r) refl e
   where
-    by : (b : Bool) → is_fixed f r ≡ b → (if b then Some (known_to (formal r) 0) else None) ≡ Some n → IsAfter slots f rs n (register rs r)
-    by true h g = subst (λ z. IsAfter slots f rs z (register rs r)) (same_Some (known_to (formal r) 0) n g) (record { root = register rs r; is = (h, refl); word = omega arith; near = omega arith })
+    by : (b : Bool) → is_fixed f r ≡ b → (if b then Some (known_to (formal r) 0) else None) ≡ Some n → IsAfter code slots f rs n (register rs r)
+    by true h g = subst (λ z. IsAfter code slots f rs z (register rs r)) (same_Some (known_to (formal r) 0) n g) (record { root = register rs r; is = (h, refl); word = omega arith; near = omega arith })
     by false h g = cc
 
 if_true : {A : Type 0} (b : Bool) (x y z : A) → b ≡ true → (if b then x else y) ≡ z → x ≡ z
@@ -73,11 +82,11 @@ none_some : {A : Type 0} (x : A) → None ≡ Some x → ⊥
 none_some x e = cc
 
 -- where a block begins no register is known but formals
-pub begins : (slots : ℕ) (f : Function) (k : ℕ) (rs : List ℕ) → length rs ≡ f.registers → begins_block f.instrs k ≡ true → IsKnown slots f k rs
-begins slots f zero rs long e = record { long = long; words = λ r n g. formal_is slots f rs r n g; constants = λ r z g. absurd (none_some z g) }
-begins slots f (suc k) rs long e = record {
+pub begins : (code : Code) (slots : ℕ) (f : Function) (k : ℕ) (rs : List ℕ) → length rs ≡ f.registers → begins_block f.instrs k ≡ true → IsKnown code slots f k rs
+begins code slots f zero rs long e = record { long = long; words = λ r n g. formal_is code slots f rs r n g; constants = λ r z g. absurd (none_some z g) }
+begins code slots f (suc k) rs long e = record {
   long = long;
-  words = λ r n g. formal_is slots f rs r n (if_true (begins_block f.instrs (suc k)) (known_formal f.formals f.instrs r) _ (Some n) e g);
+  words = λ r n g. formal_is code slots f rs r n (if_true (begins_block f.instrs (suc k)) (known_formal f.formals f.instrs r) _ (Some n) e g);
   constants = λ r z g. absurd (none_some z (if_true (begins_block f.instrs (suc k)) None _ (Some z) e g));
 }
 
@@ -90,31 +99,31 @@ abbrev pub constant_before : Function → ℕ → ℕ → Option ℤ
 constant_before f k q = constant_at f.instrs k q
 
 -- an instruction that changes no register but the one that it assigns, to what is known of that after it
-pub record Changes (slots : ℕ) (f : Function) (k : ℕ) (a : Act) (rs qs : List ℕ) : Type 0 where
+pub record Changes (code : Code) (slots : ℕ) (f : Function) (k : ℕ) (a : Act) (rs qs : List ℕ) : Type 0 where
   pub long : length qs ≡ length rs
   pub others : (r : ℕ) → assigns r (Some a) ≡ false → register qs r ≡ register rs r
-  pub gives : (r : ℕ) (n : Known) → assigns r (Some a) ≡ true → known_of (known_before f k) (constant_before f k) (Some a) ≡ Some n → IsAfter slots f rs n (register qs r)
+  pub gives : (r : ℕ) (n : Known) → assigns r (Some a) ≡ true → known_of (known_before f k) (constant_before f k) (Some a) ≡ Some n → IsAfter code slots f rs n (register qs r)
   pub constant : (r : ℕ) (z : ℤ) → assigns r (Some a) ≡ true → constant_of (Some a) ≡ Some z → number (register qs r) ≡ z
 
-root_kept : (slots : ℕ) (f : Function) (rs qs : List ℕ) (x : Root) (v : ℕ) → ((i : ℕ) → is_fixed f i ≡ true → register qs i ≡ register rs i) → RootIs slots f rs x v → RootIs slots f qs x v
-root_kept slots f rs qs (global b) v h r = r
-root_kept slots f rs qs (formal i) v h r = (r.0, r.1 ∙ sym (h i r.0))
+root_kept : (code : Code) (slots : ℕ) (f : Function) (rs qs : List ℕ) (x : Root) (v : ℕ) → ((i : ℕ) → is_fixed f i ≡ true → register qs i ≡ register rs i) → RootIs code slots f rs x v → RootIs code slots f qs x v
+root_kept code slots f rs qs (global b) v h r = r
+root_kept code slots f rs qs (formal i) v h r = (r.0, r.1 ∙ sym (h i r.0))
 
-pub after_kept : (slots : ℕ) (f : Function) (rs qs : List ℕ) (n : Known) (w : ℕ) → ((i : ℕ) → is_fixed f i ≡ true → register qs i ≡ register rs i) → IsAfter slots f rs n w → IsAfter slots f qs n w
-after_kept slots f rs qs n w h b = record { root = b.root; is = root_kept slots f rs qs n.root b.root h b.is; word = b.word; near = b.near }
+pub after_kept : (code : Code) (slots : ℕ) (f : Function) (rs qs : List ℕ) (n : Known) (w : ℕ) → ((i : ℕ) → is_fixed f i ≡ true → register qs i ≡ register rs i) → IsAfter code slots f rs n w → IsAfter code slots f qs n w
+after_kept code slots f rs qs n w h b = record { root = b.root; is = root_kept code slots f rs qs n.root b.root h b.is; word = b.word; near = b.near }
 
-pub step : (slots : ℕ) (f : Function) (k : ℕ) (i : Instr) (rs qs : List ℕ) → slice_get f.instrs k ≡ Some i → IsKnown slots f k rs → Changes slots f k i.act rs qs → IsKnown slots f (suc k) qs
-step slots f k i rs qs at h c = record { long = c.long ∙ h.long; words = λ r n e. first r n (begins_block f.instrs (suc k)) e; constants = λ r z e. third r z (begins_block f.instrs (suc k)) e }
+pub step : (code : Code) (slots : ℕ) (f : Function) (k : ℕ) (i : Instr) (rs qs : List ℕ) → slice_get f.instrs k ≡ Some i → IsKnown code slots f k rs → Changes code slots f k i.act rs qs → IsKnown code slots f (suc k) qs
+step code slots f k i rs qs at h c = record { long = c.long ∙ h.long; words = λ r n e. first r n (begins_block f.instrs (suc k)) e; constants = λ r z e. third r z (begins_block f.instrs (suc k)) e }
   where
     fixed : (r : ℕ) → is_fixed f r ≡ true → register qs r ≡ register rs r
     fixed r e = c.others r (never f k i r at e)
 
-    second : (r : ℕ) (n : Known) (b : Bool) → assigns r (Some i.act) ≡ b → (if b then known_of (known_before f k) (constant_before f k) (Some i.act) else known_at f.formals f.instrs k r) ≡ Some n → IsAfter slots f qs n (register qs r)
-    second r n true a g = after_kept slots f rs qs n (register qs r) fixed (c.gives r n a g)
-    second r n false a g = subst (IsAfter slots f qs n) (sym (c.others r a)) (after_kept slots f rs qs n (register rs r) fixed (h.words r n g))
+    second : (r : ℕ) (n : Known) (b : Bool) → assigns r (Some i.act) ≡ b → (if b then known_of (known_before f k) (constant_before f k) (Some i.act) else known_at f.formals f.instrs k r) ≡ Some n → IsAfter code slots f qs n (register qs r)
+    second r n true a g = after_kept code slots f rs qs n (register qs r) fixed (c.gives r n a g)
+    second r n false a g = subst (IsAfter code slots f qs n) (sym (c.others r a)) (after_kept code slots f rs qs n (register rs r) fixed (h.words r n g))
 
-    first : (r : ℕ) (n : Known) (b : Bool) → (if b then known_formal f.formals f.instrs r else if assigns r (act_in (slice_get f.instrs k)) then known_of (known_before f k) (constant_before f k) (act_in (slice_get f.instrs k)) else known_at f.formals f.instrs k r) ≡ Some n → IsAfter slots f qs n (register qs r)
-    first r n true g = formal_is slots f qs r n g
+    first : (r : ℕ) (n : Known) (b : Bool) → (if b then known_formal f.formals f.instrs r else if assigns r (act_in (slice_get f.instrs k)) then known_of (known_before f k) (constant_before f k) (act_in (slice_get f.instrs k)) else known_at f.formals f.instrs k r) ≡ Some n → IsAfter code slots f qs n (register qs r)
+    first r n true g = formal_is code slots f qs r n g
     first r n false g = second r n (assigns r (Some i.act)) refl (subst (λ o. (if assigns r (act_in o) then known_of (known_before f k) (constant_before f k) (act_in o) else known_at f.formals f.instrs k r) ≡ Some n) at g)
 
     fourth : (r : ℕ) (z : ℤ) (b : Bool) → assigns r (Some i.act) ≡ b → (if b then constant_of (Some i.act) else constant_at f.instrs k r) ≡ Some z → number (register qs r) ≡ z
@@ -127,34 +136,37 @@ step slots f k i rs qs at h c = record { long = c.long ∙ h.long; words = λ r 
 
 -- ---- the names of locks
 
+-- the word points to this global cell, in an object whose kinds are those of the global cells
+pub record IsAtGlobal (code : Code) (slots : ℕ) (m w : ℕ) : Type 0 where
+  pub first : ℕ
+  pub base : base_of w ≡ first + 2 * slots
+  pub cell : first + offset_of w ≡ m
+  pub kinds : (n : ℕ) (k : CellKind) → n < length_of w → kind_in (site_at code.sites (site_of w)) n ≡ Some k → slice_get code.global_kinds (first + n) ≡ Some k
+
 -- the word is the one to which the path leads
-abbrev pub IsAt : ℕ → Function → List ℕ → LockPath → ℕ → Type 0
-IsAt slots f rs (Cell m) w = base_of w + offset_of w ≡ 2 * slots + m
-IsAt slots f rs (Formal j m) w = (is_fixed f j ≡ true) × (w ≡ register rs j + m) × (offset_of (register rs j) + m < 2 ^ 16)
+abbrev pub IsAt : Code → ℕ → Function → List ℕ → LockPath → ℕ → Type 0
+IsAt code slots f rs (Cell m) w = IsAtGlobal code slots m w
+IsAt code slots f rs (Formal j m) w = (is_fixed f j ≡ true) × (w ≡ register rs j + m) × (offset_of (register rs j) + m < 2 ^ 16)
 
-path_is : (slots : ℕ) (f : Function) (rs : List ℕ) (x : Root) (n w : ℕ) → IsAfter slots f rs (known_to x n) w → IsAt slots f rs (path_to x n) w
-path_is slots f rs (global b) n w h =
-    let start = h.is.0 in
-    let front = h.is.1 in
-    let base = on_base h.root n h.near in
-    let offset = on_offset h.root n h.near in
-    let whole : base_of w + offset_of w ≡ base_of (h.root + n) + offset_of (h.root + n) = ap (λ z. base_of z + offset_of z) h.word in
-    whole ∙ ap (λ z. z + offset_of (h.root + n)) base ∙ ap (λ z. base_of h.root + z) offset ∙ sum (base_of h.root) (offset_of h.root) start front
-  where
-    sum : (x y : ℕ) → x ≡ b + 2 * slots → y ≡ 0 → x + (y + n) ≡ 2 * slots + (b + n)
-    sum x y e g = omega arith
-path_is slots f rs (formal i) n w h = (h.is.0, h.word ∙ ap (λ z. z + n) h.is.1, subst (λ z. offset_of z + n < 2 ^ 16) h.is.1 h.near)
+path_is : (code : Code) (slots : ℕ) (f : Function) (rs : List ℕ) (x : Root) (n w : ℕ) → IsAfter code slots f rs (known_to x n) w → IsAt code slots f rs (path_to x n) w
+path_is code slots f rs (global b) n w h = subst (IsAtGlobal code slots (b + n)) (sym h.word) (record {
+  first = b;
+  base = on_base h.root n h.near ∙ h.is.base;
+  cell = (let o = on_offset h.root n h.near in let front = h.is.front in omega arith);
+  kinds = λ i k lt e. h.is.kinds i k (subst (λ z. i < z) (on_length h.root n h.near) lt) (ap (λ z. kind_in (site_at code.sites z) i) (sym (on_site h.root n h.near)) ∙ e);
+})
+path_is code slots f rs (formal i) n w h = (h.is.0, h.word ∙ ap (λ z. z + n) h.is.1, subst (λ z. offset_of z + n < 2 ^ 16) h.is.1 h.near)
 
-module _ (slots : ℕ) (f : Function) (k : ℕ) (rs : List ℕ) (h : IsKnown slots f k rs) (r : ℕ) where
+module _ (code : Code) (slots : ℕ) (f : Function) (k : ℕ) (rs : List ℕ) (h : IsKnown code slots f k rs) (r : ℕ) where
   -- a register that has a name stands where its path leads
-  pub named : (p : LockPath) → naming_at f k r ≡ Named p → IsAt slots f rs p (register rs r)
+  pub named : (p : LockPath) → naming_at f k r ≡ Named p → IsAt code slots f rs p (register rs r)
   named p e = by (known_at f.formals f.instrs k r) refl e
     where
-      in_reach : (n : Known) (b : Bool) → known_at f.formals f.instrs k r ≡ Some n → (if b then Named (path_to n.root n.cells) else Nowhere) ≡ Named p → IsAt slots f rs p (register rs r)
-      in_reach n true g i = let same : path_to n.root n.cells ≡ p = cc in subst (λ z. IsAt slots f rs z (register rs r)) same (path_is slots f rs n.root n.cells (register rs r) (let b = h.words r n g in record { root = b.root; is = b.is; word = b.word; near = b.near }))
+      in_reach : (n : Known) (b : Bool) → known_at f.formals f.instrs k r ≡ Some n → (if b then Named (path_to n.root n.cells) else Nowhere) ≡ Named p → IsAt code slots f rs p (register rs r)
+      in_reach n true g i = let same : path_to n.root n.cells ≡ p = cc in subst (λ z. IsAt code slots f rs z (register rs r)) same (path_is code slots f rs n.root n.cells (register rs r) (let b = h.words r n g in record { root = b.root; is = b.is; word = b.word; near = b.near }))
       in_reach n false g i = cc
 
-      by : (o : Option Known) → known_at f.formals f.instrs k r ≡ o → naming_of o ≡ Named p → IsAt slots f rs p (register rs r)
+      by : (o : Option Known) → known_at f.formals f.instrs k r ≡ o → naming_of o ≡ Named p → IsAt code slots f rs p (register rs r)
       by None g i = cc
       by (Some n) g i = in_reach n (nat_le n.cells most_cells) g i
 

@@ -12,7 +12,7 @@ pub mod Calls
 pub mod Stacks
 pub mod StackSteps
 pub mod ThreadSteps
-pub mod MutexSteps
+pub mod LockSteps
 pub mod InRuns
 pub mod Climbing
 pub mod Names
@@ -23,3 +23,5 @@ pub mod RootSteps
 pub mod RootsInRuns
 pub mod Racing
 pub mod ByRows
+pub mod Orders
+mod Rows

@@ -18,7 +18,7 @@ use Rattle.core_run.specs.Machine.{Told}
 use Rattle.runs.specs.Steps.{State}
 use Rattle.facts.specs.Locks.{Points, Below, IsSolution}
 use Rattle.facts.specs.Summaries.{AreSolution}
-use Rattle.facts.specs.declared.locks.LockPath.{LockPath}
+use Rattle.facts.specs.declared.locks.Held.{Held}
 use Rattle.facts.specs.declared.locks.Minus.TheVariants.{All}
 use Rattle.facts.specs.declared.locks.RelLocks.{RelLocks}
 use Rattle.held_locksets.proofs.InRuns.{frames_now, frames_settled}
@@ -37,7 +37,7 @@ lowest l = record { plus = λ p h. absurd (true≢false (sym h)); minus = tt }
 at_bottom : (f : Function) (k : ℕ) (l m : RelLocks) → slice_get (bottom f).before k ≡ Some l → Below l m
 at_bottom f k l m e = let r = map_from (λ (i : Instr). unknown) f.instrs k l e in subst (λ z. Below z m) r.2 (lowest m)
 
-bottom_solves : (exits : List RelLocks) (f : Function) (top : List LockPath) → IsSolution exits f top (bottom f)
+bottom_solves : (exits : List RelLocks) (f : Function) (top : List Held) → IsSolution exits f top (bottom f)
 bottom_solves exits f top = record {
   long = length-map f.instrs (λ i. unknown);
   entry = λ l e. at_bottom f 0 l _ e;
@@ -48,7 +48,7 @@ bottom_solves exits f top = record {
 }
 
 module _ (code : Code) where
-  abbrev tops : List (List LockPath)
+  abbrev tops : List (List Held)
   tops = map (λ (f : Function). []) code.functions
 
   abbrev points : List Points

@@ -1,4 +1,4 @@
--- But for pthread_mutex_unlock and pthread_cond_wait, no instruction unlocks a mutex.
+-- But for pthread_mutex_unlock, pthread_rwlock_unlock and pthread_cond_wait, no instruction unlocks a lock.
 use Rattle.std.proofs.Common.{◌≡◌, ℕ, zero, suc, ◌+◌, ◌==◌, nat_le, Bool, true, false, if◌then◌else◌, List, length, Option, Some, None, Result, Ok, Err, refl, ℤ}
 use Rattle.sync_objects.specs.Setup.{SetupView}
 use Rattle.sync_objects.specs.declared.operation.Op.{Op}
@@ -21,6 +21,7 @@ use Rattle.abstract_machine.specs.Limits.{most_frames}
 
 abbrev pub is_unlock : Op → Bool
 is_unlock op.Unlock = true
+is_unlock op.RwUnlock = true
 is_unlock _ = false
 
 -- what is due is no unlock
@@ -57,8 +58,8 @@ exit_none w value zero = tt
 exit_none w value (suc zero) = refl
 exit_none w value (suc (suc n)) = refl
 
-checked_none : (misuse : Trap) (kept : ℤ) → HasNoUnlock (checked_due misuse kept)
-checked_none misuse kept = if_none (is_misuse kept) _ _ tt tt
+checked_none : (why : Trap) (kept : ℤ) → HasNoUnlock (checked_due why kept)
+checked_none why kept = if_none (is_misuse kept) _ _ tt tt
 
 mutex_none : (w : Caller) (o : Op) (words : List ℕ) (made : ℕ) (kept : ℤ) → is_unlock o ≡ false → HasNoUnlock (mutex_due w o words made kept)
 mutex_none w o words zero kept e = at_none (cell_of w words 0 kind.Mutex) _ (λ c. e)
@@ -86,11 +87,14 @@ asks_none w words k = at_none (cell_of w words 0 k) _ (λ c. tt)
 print_none : (w : Caller) (bytes : ℕ) → HasNoUnlock (print_due w bytes)
 print_none w bytes = if_none (nat_le (w.printed + bytes) most_printed) _ _ refl tt
 
--- the call neither locks a mutex for certain nor unlocks one
+-- the call neither locks a lock for certain nor unlocks one
 abbrev pub is_plain : LibraryCall → Bool
 is_plain call.MutexLock = false
 is_plain call.MutexUnlock = false
 is_plain call.CondWait = false
+is_plain call.RwRdLock = false
+is_plain call.RwWrLock = false
+is_plain call.RwUnlock = false
 is_plain _ = true
 
 pub library_none : (w : Caller) (c : LibraryCall) (words : List ℕ) (made : ℕ) (kept : ℤ) → is_plain c ≡ true → HasNoUnlock (library_due w c words made kept)
@@ -112,9 +116,9 @@ library_none w call.BarrierInit words made kept p = barrier_init_none w words ma
 library_none w call.BarrierWait words made kept p = barrier_wait_none w words made kept
 library_none w call.BarrierDestroy words made kept p = asks_none w words kind.Barrier
 library_none w call.RwInit words made kept p = rwlock_none w op.RwInit words made kept refl
-library_none w call.RwRdLock words made kept p = rwlock_none w op.RdLock words made kept refl
-library_none w call.RwWrLock words made kept p = rwlock_none w op.WrLock words made kept refl
-library_none w call.RwUnlock words made kept p = rwlock_none w op.RwUnlock words made kept refl
+library_none w call.RwRdLock words made kept p = cc
+library_none w call.RwWrLock words made kept p = cc
+library_none w call.RwUnlock words made kept p = cc
 library_none w call.RwDestroy words made kept p = asks_none w words kind.Rw
 library_none w call.Free words made kept p = tt
 library_none w call.GetChar words made kept p = refl

@@ -1,25 +1,30 @@
 -- Two threads at accesses of one place are such that the analysis counts as a pair.
-use Rattle.std.proofs.Common.{◌≡◌, ◌≢◌, ℕ, ◌+◌, ◌*◌, ◌==◌, ◌&&◌, ◌||◌, not, inl, inr, ⊎_elim, Bool, true, false, List, [], ◌∷◌, refl, sym, ap, subst, ◌∙◌, eqb-true}
+use Rattle.std.proofs.Common.{◌≡◌, ◌≢◌, ℕ, ◌==◌, ◌&&◌, ◌||◌, not, inl, inr, ⊎_elim, Bool, true, false, List, [], ◌∷◌, refl, sym, ap, subst, ◌∙◌, eqb-true}
 use Rattle.std.specs.List.{list_any, Contains}
 use Rattle.std.proofs.lemmas.Bool.{and_parts, cases_Bool}
 use Rattle.rr_base.specs.declared.layout.Place.{Place}
-use Rattle.sync_objects.specs.Setup.{SetupView}
+use Rattle.sync_objects.specs.Modes.{excludes}
+use Rattle.sync_objects.specs.Setup.{SetupView, IsWithinLimits}
+use Rattle.sync_objects.specs.declared.mode.Mode.{Mode}
+use Rattle.sync_objects.specs.declared.mode.Mode.TheVariants.{Read, Write}
 use Rattle.flow_code.specs.declared.code.Code.{Code}
+use Rattle.flow_code.specs.Settle.{IsRunnable}
 use Rattle.flow_code.specs.Threads.{Frame, is_main}
+use Rattle.core_run.specs.Histories.{IsReachable}
 use Rattle.core_run.specs.Machine.{Told}
 use Rattle.runs.specs.Steps.{State}
-use Rattle.facts.specs.Locks.{is_same, has}
-use Rattle.facts.specs.Pairs.{is_started, is_root, may_meet, places_of, guarded_in, is_global_lock, share_lock, stands, MayRace}
+use Rattle.facts.specs.Locks.{mode_same, has_held, held_as}
+use Rattle.facts.specs.Pairs.{is_started, is_root, may_meet, places_of, guarded_in, is_global_lock, shuts_out, share_lock, stands, MayRace}
 use Rattle.facts.specs.PointsTo.{Tables}
 use Rattle.facts.specs.declared.locks.Guarded.{Guarded}
+use Rattle.facts.specs.declared.locks.Held.{Held}
 use Rattle.facts.specs.declared.locks.LockPath.{LockPath}
 use Rattle.facts.specs.declared.locks.LockPath.TheVariants.{Cell, Formal}
 use Rattle.facts.specs.declared.locks.Summary.{Summary}
 use Rattle.facts.specs.declared.pair.AccessAt.{AccessAt}
-use Rattle.facts.proofs.Orders.{path_self}
-use Rattle.held_locksets.specs.Frames.{holds_mutex, root_frame, IsListed}
-use Rattle.held_locksets.proofs.Corollaries.{one_holds}
-use Rattle.held_locksets.proofs.Means.{or_cases, or_left, or_right}
+use Rattle.held_locksets.specs.Frames.{holds_at, root_frame, IsListed}
+use Rattle.held_locksets.proofs.Corollaries.{one_holds_global}
+use Rattle.held_locksets.proofs.Means.{or_cases, or_left, or_right, held_first, held_more}
 use Rattle.held_locksets.proofs.RootSteps.{RootOf}
 
 pub is_a_root : (code : Code) (t f : ℕ) → RootOf code t f → is_root code f ≡ true
@@ -38,17 +43,40 @@ may_both code t u f g ne r q = by (f == g) refl
     by false e = refl
     by true e = ap not (not_main (eqb-true f g e) r q)
 
-global_shared : (ps qs : List LockPath) → list_any (λ p. is_global_lock p && has p qs) ps ≡ true → (c : ℕ) × (has (Cell c) ps ≡ true) × (has (Cell c) qs ≡ true)
-global_shared [] qs h = cc
-global_shared (p ∷ ps) qs h =
+-- both have one global lock, in two modes that exclude each other
+pub record SharesLock (hs ks : List Held) : Type 0 where
+  pub first : Mode
+  pub second : Mode
+  pub apart : excludes first second ≡ true
+  pub cell : ℕ
+  pub in_first : has_held (held_as first (Cell cell)) hs ≡ true
+  pub in_second : has_held (held_as second (Cell cell)) ks ≡ true
+
+-- one of these is held for writing, and the others have it in some way
+shut_out : (hs ks : List Held) → list_any (λ h. shuts_out h ks) hs ≡ true → (c : ℕ) × (has_held (held_as Write (Cell c)) hs ≡ true) × (has_held (held_as Read (Cell c)) ks ≡ true)
+shut_out [] ks e = cc
+shut_out (h ∷ hs) ks e =
     ⊎_elim
-    (λ e. (let a = and_parts (is_global_lock p) (has p qs) e in here p a.0 a.1))
-    (λ e. (let r = global_shared ps qs e in (r.0, or_right (is_same (Cell r.0) p) (has (Cell r.0) ps) r.1, r.2)))
-    (or_cases (is_global_lock p && has p qs) (list_any (λ z. is_global_lock z && has z qs) ps) h)
+    (λ g. (let p = and_parts (mode_same h.mode Write && is_global_lock h.path) (has_held (held_as Read h.path) ks) g in
+    let q = and_parts (mode_same h.mode Write) (is_global_lock h.path) p.0 in
+    here h.path h.mode refl refl q.0 q.1 p.1))
+    (λ g. (let r = shut_out hs ks g in (r.0, held_more (held_as Write (Cell r.0)) h hs r.1, r.2)))
+    (or_cases (shuts_out h ks) (list_any (λ z. shuts_out z ks) hs) e)
   where
-    here : (p : LockPath) → is_global_lock p ≡ true → has p qs ≡ true → (c : ℕ) × (has (Cell c) (p ∷ ps) ≡ true) × (has (Cell c) qs ≡ true)
-    here (Cell c) g k = (c, or_left (is_same (Cell c) (Cell c)) (has (Cell c) ps) (path_self (Cell c)), k)
-    here (Formal i n) g k = cc
+    whole : (p : LockPath) (m : Mode) → h.path ≡ p → h.mode ≡ m → held_as m p ≡ h
+    whole p m e f = ap (λ z. held_as m z) (sym e) ∙ ap (λ z. held_as z h.path) (sym f)
+
+    here : (p : LockPath) (m : Mode) → h.path ≡ p → h.mode ≡ m → mode_same m Write ≡ true → is_global_lock p ≡ true → has_held (held_as Read p) ks ≡ true → (c : ℕ) × (has_held (held_as Write (Cell c)) (h ∷ hs) ≡ true) × (has_held (held_as Read (Cell c)) ks ≡ true)
+    here (Cell c) Write i j f g k = (c, subst (λ z. has_held z (h ∷ hs) ≡ true) (sym (whole (Cell c) Write i j)) (held_first h hs), k)
+    here (Cell c) Read i j f g k = cc
+    here (Formal i n) m u v f g k = cc
+
+pub shares_lock : (hs ks : List Held) → share_lock hs ks ≡ true → SharesLock hs ks
+shares_lock hs ks e =
+    ⊎_elim
+    (λ g. (let r = shut_out hs ks g in record { first = Write; second = Read; apart = refl; cell = r.0; in_first = r.1; in_second = r.2 }))
+    (λ g. (let r = shut_out ks hs g in record { first = Read; second = Write; apart = refl; cell = r.0; in_first = r.2; in_second = r.1 }))
+    (or_cases (list_any (λ h. shuts_out h ks) hs) (list_any (λ k. shuts_out k hs) ks) e)
 
 at_is : (x : Guarded) (f k : ℕ) → x.function ≡ f → x.instr ≡ k → stands x ≡ record { function = f; instr = k }
 at_is x f k e g = ap (λ z. at z x.instr) e ∙ ap (at f) g
@@ -56,8 +84,8 @@ at_is x f k e g = ap (λ z. at z x.instr) e ∙ ap (at f) g
     at : ℕ → ℕ → AccessAt
     at f k = record { function = f; instr = k }
 
-pub races : (code : Code) (s : SetupView) (tables : Tables) (ss : List Summary) (st : State Told) (t u : ℕ) (f g : Frame) (fs gs : List Frame) (a b : Bool) (p : Place) → t ≢ u → RootOf code t (root_frame f fs).function → RootOf code u (root_frame g gs).function → IsListed s.slots ss (holds_mutex code s t st) f fs a → IsListed s.slots ss (holds_mutex code s u st) g gs b → (a || b) ≡ true → Contains (places_of code tables (record { function = f.function; instr = f.instr })) p → Contains (places_of code tables (record { function = g.function; instr = g.instr })) p → MayRace code tables ss p (record { function = f.function; instr = f.instr }) (record { function = g.function; instr = g.instr })
-races code s tables ss st t u f g fs gs a b p ne r q x y stores i j = record {
+pub races : (code : Code) (s : SetupView) (tables : Tables) (ss : List Summary) (st : State Told) (t u : ℕ) (f g : Frame) (fs gs : List Frame) (a b : Bool) (p : Place) → IsRunnable code → IsWithinLimits s → IsReachable code s st → t ≢ u → RootOf code t (root_frame f fs).function → RootOf code u (root_frame g gs).function → IsListed code s.slots ss (holds_at code s t st) f fs a → IsListed code s.slots ss (holds_at code s u st) g gs b → (a || b) ≡ true → Contains (places_of code tables (record { function = f.function; instr = f.instr })) p → Contains (places_of code tables (record { function = g.function; instr = g.instr })) p → MayRace code tables ss p (record { function = f.function; instr = f.instr }) (record { function = g.function; instr = g.instr })
+races code s tables ss st t u f g fs gs a b p run limits reached ne r q x y stores i j = record {
   r = (root_frame f fs).function;
   s = (root_frame g gs).function;
   x = x.row;
@@ -74,4 +102,6 @@ races code s tables ss st t u f g fs gs a b p ne r q x y stores i j = record {
 }
   where
     clash : share_lock x.row.plus y.row.plus ≡ true → ⊥
-    clash h = let c = global_shared x.row.plus y.row.plus h in ne (one_holds code s st t u (2 * s.slots + c.0) (x.held c.0 c.1) (y.held c.0 c.2))
+    clash h =
+        let l = shares_lock x.row.plus y.row.plus h in
+        ne (one_holds_global code s st l.first l.second t u l.cell run limits reached l.apart (x.held l.first l.cell l.in_first) (y.held l.second l.cell l.in_second))

@@ -37,7 +37,7 @@ use Rattle.held_locksets.proofs.Entering.{frame_known}
 -- ---- what is kept
 
 abbrev pub KnownAt : Code → ℕ → (function instr : ℕ) → List ℕ → Type 0
-KnownAt code slots function instr rs = (f : Function) → slice_get code.functions function ≡ Some f → IsKnown slots f instr rs
+KnownAt code slots function instr rs = (f : Function) → slice_get code.functions function ≡ Some f → IsKnown code slots f instr rs
 
 -- a block ends where the frame stands
 abbrev pub EndsHere : Code → Frame → Type 0
@@ -69,8 +69,8 @@ stands code f a e = by (slice_get code.functions f.function) refl e
     by None h g = cc
     by (Some fn) h g = at fn (slice_get fn.instrs f.instr) h refl g
 
-pub known_one : (code : Code) (slots function instr : ℕ) (rs : List ℕ) (f : Function) → slice_get code.functions function ≡ Some f → IsKnown slots f instr rs → KnownAt code slots function instr rs
-known_one code slots function instr rs f h k g e = subst (λ z. IsKnown slots z instr rs) (same_Some f g (sym h ∙ e)) k
+pub known_one : (code : Code) (slots function instr : ℕ) (rs : List ℕ) (f : Function) → slice_get code.functions function ≡ Some f → IsKnown code slots f instr rs → KnownAt code slots function instr rs
+known_one code slots function instr rs f h k g e = subst (λ z. IsKnown code slots z instr rs) (same_Some f g (sym h ∙ e)) k
 
 any_at : (p : Instr → Bool) (xs : List Instr) (k : ℕ) (x : Instr) → slice_get xs k ≡ Some x → p x ≡ true → list_any p xs ≡ true
 any_at p [] k x e h = cc
@@ -89,22 +89,22 @@ below_is xs f h = ap reverse (last_of xs f h) ∙ reverse-append (take (length x
 -- ---- what becomes of frames
 
 module _ (code : Code) (slots : ℕ) where
-  goes_on : (f : Frame) (a : Act) (x : Stands code f a) (qs : List ℕ) → KnownAt code slots f.function f.instr f.registers → Changes slots x.function f.instr x.instr.act f.registers qs → KnownAt code slots f.function (f.instr + 1) qs
+  goes_on : (f : Frame) (a : Act) (x : Stands code f a) (qs : List ℕ) → KnownAt code slots f.function f.instr f.registers → Changes code slots x.function f.instr x.instr.act f.registers qs → KnownAt code slots f.function (f.instr + 1) qs
   goes_on f a x qs known c =
       let next : suc f.instr ≡ f.instr + 1 = omega arith in
       known_one code slots f.function (f.instr + 1) qs x.function x.here.function
-      (subst (λ k. IsKnown slots x.function k qs) next (step slots x.function f.instr x.instr f.registers qs x.here.instr (known x.function x.here.function) c))
+      (subst (λ k. IsKnown code slots x.function k qs) next (step code slots x.function f.instr x.instr f.registers qs x.here.instr (known x.function x.here.function) c))
 
   jumps_to : (f : Frame) (a : Act) (x : Stands code f a) (to : ℕ) → goes_to to a ≡ true → KnownAt code slots f.function f.instr f.registers → KnownAt code slots f.function to f.registers
   jumps_to f a x to g known =
       known_one code slots f.function to f.registers x.function x.here.function
-      (begins slots x.function to f.registers (known x.function x.here.function).long
+      (begins code slots x.function to f.registers (known x.function x.here.function).long
       (or_right (follows_end x.function.instrs to) (is_target x.function.instrs to) (any_at (λ i. goes_to to i.act) x.function.instrs f.instr x.instr x.here.instr (ap (goes_to to) x.is ∙ g))))
 
   following : (g : Frame) (qs : List ℕ) → length qs ≡ length g.registers → EndsHere code g → KnownAt code slots g.function g.instr g.registers → KnownAt code slots g.function (g.instr + 1) qs
   following g qs long ends known f e =
       let next : suc g.instr ≡ g.instr + 1 = omega arith in
-      subst (λ k. IsKnown slots f k qs) next (begins slots f (suc g.instr) qs (long ∙ (known f e).long) (ap (λ b. b || is_target f.instrs (suc g.instr)) (ended (slice_get f.instrs g.instr) refl)))
+      subst (λ k. IsKnown code slots f k qs) next (begins code slots f (suc g.instr) qs (long ∙ (known f e).long) (ap (λ b. b || is_target f.instrs (suc g.instr)) (ended (slice_get f.instrs g.instr) refl)))
     where
       ended : (o : Option Instr) → slice_get f.instrs g.instr ≡ o → may_end_block (act_in o) ≡ true
       ended None h = refl
@@ -112,13 +112,13 @@ module _ (code : Code) (slots : ℕ) where
 
   -- ---- instructions that no name comes from
 
-  same : (fn : Function) (k : ℕ) (a : Act) (rs : List ℕ) → known_of (known_before fn k) (constant_before fn k) (Some a) ≡ None → constant_of (Some a) ≡ None → Changes slots fn k a rs rs
+  same : (fn : Function) (k : ℕ) (a : Act) (rs : List ℕ) → known_of (known_before fn k) (constant_before fn k) (Some a) ≡ None → constant_of (Some a) ≡ None → Changes code slots fn k a rs rs
   same fn k a rs h c = record { long = refl; others = λ r n. refl; gives = λ r n s g. absurd (none (sym h ∙ g)); constant = λ r z s g. absurd (none (sym c ∙ g)) }
     where
       none : {X : Type 0} {x : X} → None ≡ Some x → ⊥
       none h = cc
 
-  put : (fn : Function) (k : ℕ) (a : Act) (rs : List ℕ) (into w : ℕ) → assigned a ≡ Some into → known_of (known_before fn k) (constant_before fn k) (Some a) ≡ None → constant_of (Some a) ≡ None → Changes slots fn k a rs (slice_set rs into w)
+  put : (fn : Function) (k : ℕ) (a : Act) (rs : List ℕ) (into w : ℕ) → assigned a ≡ Some into → known_of (known_before fn k) (constant_before fn k) (Some a) ≡ None → constant_of (Some a) ≡ None → Changes code slots fn k a rs (slice_set rs into w)
   put fn k a rs into w e h c = record {
     long = length-set rs into w;
     others = λ r n. set_other rs into w r (λ q. true≢false (sym (eq-eqb into r (sym q)) ∙ sym (ap (is_register r) e) ∙ n));
@@ -129,10 +129,10 @@ module _ (code : Code) (slots : ℕ) where
       none : {X : Type 0} {x : X} → None ≡ Some x → ⊥
       none h = cc
 
-  changes_as : (fn : Function) (k : ℕ) (a b : Act) (rs qs : List ℕ) → b ≡ a → Changes slots fn k a rs qs → Changes slots fn k b rs qs
-  changes_as fn k a b rs qs e c = subst (λ z. Changes slots fn k z rs qs) (sym e) c
+  changes_as : (fn : Function) (k : ℕ) (a b : Act) (rs qs : List ℕ) → b ≡ a → Changes code slots fn k a rs qs → Changes code slots fn k b rs qs
+  changes_as fn k a b rs qs e c = subst (λ z. Changes code slots fn k z rs qs) (sym e) c
 
-  given_known : (fn : Function) (k : ℕ) (a : Act) (f : Frame) (into : Option ℕ) (w : ℕ) → assigned a ≡ into → known_of (known_before fn k) (constant_before fn k) (Some a) ≡ None → constant_of (Some a) ≡ None → Changes slots fn k a f.registers (given f into w).registers
+  given_known : (fn : Function) (k : ℕ) (a : Act) (f : Frame) (into : Option ℕ) (w : ℕ) → assigned a ≡ into → known_of (known_before fn k) (constant_before fn k) (Some a) ≡ None → constant_of (Some a) ≡ None → Changes code slots fn k a f.registers (given f into w).registers
   given_known fn k a f None w e h c = same fn k a f.registers h c
   given_known fn k a f (Some into) w e h c = put fn k a f.registers into w e h c
 

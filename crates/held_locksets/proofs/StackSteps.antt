@@ -36,10 +36,10 @@ use Rattle.flow_code.proofs.ValidParts.{function_is_fit, act_is_fit}
 use Rattle.facts.specs.Blocks.{assigned, assigns, is_register}
 use Rattle.facts.specs.Locks.{Points, after, successors, returns}
 use Rattle.facts.specs.Summaries.{StandsAt, AreSolution, exits_of}
-use Rattle.facts.specs.declared.locks.LockPath.{LockPath}
+use Rattle.facts.specs.declared.locks.Held.{Held}
 use Rattle.facts.specs.declared.locks.RelLocks.{RelLocks}
 use Rattle.held_locksets.specs.Frames.{so_far, call_so_far, IsCalledBy, Stack, ThreadStack}
-use Rattle.held_locksets.specs.Leading.{is_fixed, Mean}
+use Rattle.held_locksets.specs.Leading.{is_fixed, Holds, Mean}
 use Rattle.held_locksets.proofs.Calls.{LocksAfter, library_step}
 use Rattle.held_locksets.proofs.Known.{set_other, never}
 use Rattle.held_locksets.proofs.Means.{mean_more}
@@ -67,7 +67,7 @@ parting_none x ys d = by (owes (x ∷ ys))
     by true = tt
     by false = refl
 
-module _ (code : Code) (valid : is_valid code ≡ true) (s : SetupView) (tops : List (List LockPath)) (xs : List Points) (solves : AreSolution code tops xs) (long : length tops ≡ length code.functions) (t : ℕ) (th : Thread) (known : KnownThread code s.slots th) (now later : ℕ → Bool) (h : ThreadStack code s.slots xs now th) where
+module _ (code : Code) (valid : is_valid code ≡ true) (s : SetupView) (tops : List (List Held)) (xs : List Points) (solves : AreSolution code tops xs) (long : length tops ≡ length code.functions) (t : ℕ) (th : Thread) (known : KnownThread code s.slots th) (now later : Holds) (h : ThreadStack code s.slots xs now th) where
   abbrev Goal : Thread → Type 0
   Goal q = ThreadStack code s.slots xs later q
 
@@ -81,9 +81,9 @@ module _ (code : Code) (valid : is_valid code ≡ true) (s : SetupView) (tops : 
       (subst (λ z. Contains (successors th.top.instr z) to) (sym x.is) next)
       (λ j fixed. kept j (ap (λ z. assigns j (Some z)) (sym x.is) ∙ never x.function th.top.instr x.instr j x.here.instr fixed))
       (λ l before m.
-      subst (λ z. Mean s.slots x.function th.top.registers z before later) (sym (simple_after (exits_of xs) x.function th.top.instr x.instr.act l (ap is_simple x.is ∙ simple)))
-      (mean_more s.slots x.function th.top.registers l before now later held
-      (subst (λ z. Mean s.slots x.function th.top.registers z before now) (own_far x.function th.top.instr x.instr.act th.top.made l (simple_own x.instr.act (ap is_simple x.is ∙ simple))) m)))
+      subst (λ z. Mean code s.slots x.function th.top.registers z before later) (sym (simple_after (exits_of xs) x.function th.top.instr x.instr.act l (ap is_simple x.is ∙ simple)))
+      (mean_more code s.slots x.function th.top.registers l before now later held
+      (subst (λ z. Mean code s.slots x.function th.top.registers z before now) (own_far x.function th.top.instr x.instr.act th.top.made th.top.kept l (simple_own x.instr.act (ap is_simple x.is ∙ simple))) m)))
       h
 
   onward_at : (k : ℕ) → Contains ((k + 1) ∷ []) (k + 1)
@@ -120,40 +120,40 @@ module _ (code : Code) (valid : is_valid code ≡ true) (s : SetupView) (tops : 
 
   -- ---- calls of the library
 
-  call_goes : (c : LibraryCall) (args : List ℕ) (into : Option ℕ) (x : Stands code th.top (act.Library c args into)) (n : ℕ) (answer : ℤ) (o : Onward) → library_onward (caller code s t th) c (words_of th.top.registers args) th.top.made th.top.kept answer ≡ o → Passes (library_due (caller code s t th) c (words_of th.top.registers args) th.top.made th.top.kept) now later → Goal (resumed (record th { printed = n }) into o)
+  call_goes : (c : LibraryCall) (args : List ℕ) (into : Option ℕ) (x : Stands code th.top (act.Library c args into)) (n : ℕ) (answer : ℤ) (o : Onward) → library_onward (caller code s t th) c (words_of th.top.registers args) th.top.made th.top.kept answer ≡ o → Passes (library_due (caller code s t th) c (words_of th.top.registers args) th.top.made th.top.kept) answer now later → Goal (resumed (record th { printed = n }) into o)
   call_goes c args into x n answer o e passes = by o e
     where
       fit : have_kinds x.function args (library_kinds c) ≡ true
       fit = (and_parts (starts_fit code c) (have_kinds x.function args (library_kinds c)) (and_parts (starts_fit code c && have_kinds x.function args (library_kinds c)) (library_value_fits x.function into c)
           (subst (λ a. act_fits code x.function a ≡ true) x.is (act_is_fit code x.function (function_is_fit code valid th.top.function x.function x.here.function) th.top.instr x.instr x.here.instr))).0).1
 
-      following : (l : RelLocks) (before : ℕ → Bool) → Mean s.slots x.function th.top.registers (so_far x.function th.top.instr x.instr.act th.top.made l) before now → LocksAfter s.slots x.function th.top.instr th.top.registers (known.0 x.function x.here.function) (caller code s t th) l before now later c args th.top.made (library_onward (caller code s t th) c (words_of th.top.registers args) th.top.made th.top.kept answer)
+      following : (l : RelLocks) (before : Holds) → Mean code s.slots x.function th.top.registers (so_far x.function th.top.instr x.instr.act th.top.made th.top.kept l) before now → LocksAfter code s.slots x.function th.top.instr th.top.registers (known.0 x.function x.here.function) (caller code s t th) refl l before now later c args th.top.made th.top.kept (library_onward (caller code s t th) c (words_of th.top.registers args) th.top.made th.top.kept answer)
       following l before m =
-          library_step s.slots x.function th.top.instr th.top.registers (known.0 x.function x.here.function) (caller code s t th) l before now later c args th.top.made th.top.kept answer fit passes
-          (subst (λ a. Mean s.slots x.function th.top.registers (so_far x.function th.top.instr a th.top.made l) before now) x.is m)
+          library_step code s.slots x.function th.top.instr th.top.registers (known.0 x.function x.here.function) (caller code s t th) refl l before now later c args th.top.made th.top.kept answer fit passes
+          (subst (λ a. Mean code s.slots x.function th.top.registers (so_far x.function th.top.instr a th.top.made th.top.kept l) before now) x.is m)
 
-      told : (l : RelLocks) (before : ℕ → Bool) (o : Onward) → library_onward (caller code s t th) c (words_of th.top.registers args) th.top.made th.top.kept answer ≡ o → Mean s.slots x.function th.top.registers (so_far x.function th.top.instr x.instr.act th.top.made l) before now → LocksAfter s.slots x.function th.top.instr th.top.registers (known.0 x.function x.here.function) (caller code s t th) l before now later c args th.top.made o
-      told l before o e m = subst (λ z. LocksAfter s.slots x.function th.top.instr th.top.registers (known.0 x.function x.here.function) (caller code s t th) l before now later c args th.top.made z) e (following l before m)
+      told : (l : RelLocks) (before : Holds) (o : Onward) → library_onward (caller code s t th) c (words_of th.top.registers args) th.top.made th.top.kept answer ≡ o → Mean code s.slots x.function th.top.registers (so_far x.function th.top.instr x.instr.act th.top.made th.top.kept l) before now → LocksAfter code s.slots x.function th.top.instr th.top.registers (known.0 x.function x.here.function) (caller code s t th) refl l before now later c args th.top.made th.top.kept o
+      told l before o e m = subst (λ z. LocksAfter code s.slots x.function th.top.instr th.top.registers (known.0 x.function x.here.function) (caller code s t th) refl l before now later c args th.top.made th.top.kept z) e (following l before m)
 
       -- at the place where the thread stands
-      at_place : (made : ℕ) → ((l : RelLocks) (before : ℕ → Bool) → Mean s.slots x.function th.top.registers (so_far x.function th.top.instr x.instr.act th.top.made l) before now → Mean s.slots x.function th.top.registers (call_so_far x.function th.top.instr c args made l) before later) → (fn : Function) (i : Instr) (l : RelLocks) (before : ℕ → Bool) → StandsAt code th.top.function th.top.instr fn i → Mean s.slots fn th.top.registers (so_far fn th.top.instr i.act th.top.made l) before now → Mean s.slots fn th.top.registers (so_far fn th.top.instr i.act made l) before later
-      at_place made turn fn i l before st m =
+      at_place : (made : ℕ) (kept : ℤ) → ((l : RelLocks) (before : Holds) → Mean code s.slots x.function th.top.registers (so_far x.function th.top.instr x.instr.act th.top.made th.top.kept l) before now → Mean code s.slots x.function th.top.registers (call_so_far x.function th.top.instr c args made kept l) before later) → (fn : Function) (i : Instr) (l : RelLocks) (before : Holds) → StandsAt code th.top.function th.top.instr fn i → Mean code s.slots fn th.top.registers (so_far fn th.top.instr i.act th.top.made th.top.kept l) before now → Mean code s.slots fn th.top.registers (so_far fn th.top.instr i.act made kept l) before later
+      at_place made kept turn fn i l before st m =
           let p = same_place code th.top.function th.top.instr x.function fn x.instr i x.here st in
-          subst (λ (z : Instr). Mean s.slots fn th.top.registers (so_far fn th.top.instr z.act made l) before later) p.instr
-          (subst (λ z. Mean s.slots z th.top.registers (so_far z th.top.instr x.instr.act made l) before later) p.function
-          (subst (λ a. Mean s.slots x.function th.top.registers (so_far x.function th.top.instr a made l) before later) (sym x.is)
+          subst (λ (z : Instr). Mean code s.slots fn th.top.registers (so_far fn th.top.instr z.act made kept l) before later) p.instr
+          (subst (λ z. Mean code s.slots z th.top.registers (so_far z th.top.instr x.instr.act made kept l) before later) p.function
+          (subst (λ a. Mean code s.slots x.function th.top.registers (so_far x.function th.top.instr a made kept l) before later) (sym x.is)
           (turn l before
-          (subst (λ z. Mean s.slots z th.top.registers (so_far z th.top.instr x.instr.act th.top.made l) before now) (sym p.function)
-          (subst (λ (z : Instr). Mean s.slots fn th.top.registers (so_far fn th.top.instr z.act th.top.made l) before now) (sym p.instr) m)))))
+          (subst (λ z. Mean code s.slots z th.top.registers (so_far z th.top.instr x.instr.act th.top.made th.top.kept l) before now) (sym p.function)
+          (subst (λ (z : Instr). Mean code s.slots fn th.top.registers (so_far fn th.top.instr z.act th.top.made th.top.kept l) before now) (sym p.instr) m)))))
 
       by : (o : Onward) → library_onward (caller code s t th) c (words_of th.top.registers args) th.top.made th.top.kept answer ≡ o → Goal (resumed (record th { printed = n }) into o)
       by (onward.Stays kept) g =
           let one : suc th.top.made ≡ th.top.made + 1 = omega arith in
           stack_stays code s.slots tops xs solves long th.top (th.top.made + 1) kept (reverse th.below) now later
-          (at_place (th.top.made + 1) (λ l before m. subst (λ k. Mean s.slots x.function th.top.registers (call_so_far x.function th.top.instr c args k l) before later) one (told l before (onward.Stays kept) g m))) h
+          (at_place (th.top.made + 1) kept (λ l before m. subst (λ k. Mean code s.slots x.function th.top.registers (call_so_far x.function th.top.instr c args k kept l) before later) one (told l before (onward.Stays kept) g m))) h
       by onward.Ends g =
           stack_stays code s.slots tops xs solves long th.top th.top.made th.top.kept (reverse th.below) now later
-          (at_place th.top.made (λ l before m. told l before onward.Ends g m)) h
+          (at_place th.top.made th.top.kept (λ l before m. told l before onward.Ends g m)) h
       by (onward.Gives w) g = gives into refl
         where
           next : (qs : List ℕ) → ((r : ℕ) → is_register r into ≡ false → register qs r ≡ register th.top.registers r) → Stack code s.slots xs later (record { function = th.top.function; instr = th.top.instr + 1; made = 0; kept = pos 0; registers = qs }) (reverse th.below)
@@ -161,16 +161,16 @@ module _ (code : Code) (valid : is_valid code ≡ true) (s : SetupView) (tops : 
               stack_on code s.slots tops xs solves long th.top (th.top.instr + 1) (pos 0) qs (reverse th.below) now later x.function x.instr x.here
               (subst (λ a. Contains (successors th.top.instr a) (th.top.instr + 1)) (sym x.is) (onward_at th.top.instr))
               (λ j fixed. kept j (ap (λ z. assigns j (Some z)) (sym x.is) ∙ never x.function th.top.instr x.instr j x.here.instr fixed))
-              (λ l before m. subst (λ a. Mean s.slots x.function th.top.registers (after (exits_of xs) x.function th.top.instr a l) before later) (sym x.is) (told l before (onward.Gives w) g m))
+              (λ l before m. subst (λ a. Mean code s.slots x.function th.top.registers (after (exits_of xs) x.function th.top.instr a l) before later) (sym x.is) (told l before (onward.Gives w) g m))
               h
 
           gives : (o : Option ℕ) → into ≡ o → Goal (resumed (record th { printed = n }) o (onward.Gives w))
           gives None q = next th.top.registers (λ r e. refl)
           gives (Some r) q = next (slice_set th.top.registers r w) (λ j e. given_kept th.top (Some r) w j (sym (ap (is_register j) q) ∙ e))
 
-  left_goes : (ys : List Stripe) (d : Due) (q : Thread) → Passes (parting_due ys d) now later → (Passes d now later → Goal q) → Goal (left_after th ys q)
-  left_goes [] d q p rest = rest p
-  left_goes (y ∷ ys) d q p rest = stays (more (parting_due (y ∷ ys) d) now later (parting_none y ys d) p)
+  left_goes : (ys : List Stripe) (d : Due) (answer : ℤ) (q : Thread) → Passes (parting_due ys d) answer now later → (Passes d answer now later → Goal q) → Goal (left_after th ys q)
+  left_goes [] d answer q p rest = rest p
+  left_goes (y ∷ ys) d answer q p rest = stays (more (parting_due (y ∷ ys) d) answer now later (parting_none y ys d) p)
 
   -- ---- returns
 
@@ -182,8 +182,8 @@ module _ (code : Code) (valid : is_valid code ≡ true) (s : SetupView) (tops : 
           (λ fn i l before st m.
           let p = same_place code th.top.function th.top.instr x.function fn x.instr i x.here st in
           let own2 : is_own i.act ≡ true = ap (λ (z : Instr). is_own z.act) (sym p.instr) ∙ ap is_own x.is ∙ own in
-          mean_more s.slots fn th.top.registers (so_far fn th.top.instr i.act (th.top.made + 1) l) before now later held
-          (subst (λ z. Mean s.slots fn th.top.registers z before now) (own_far fn th.top.instr i.act th.top.made l own2 ∙ sym (own_far fn th.top.instr i.act (th.top.made + 1) l own2)) m)) h
+          mean_more code s.slots fn th.top.registers (so_far fn th.top.instr i.act (th.top.made + 1) (pos 0) l) before now later held
+          (subst (λ z. Mean code s.slots fn th.top.registers z before now) (own_far fn th.top.instr i.act th.top.made th.top.kept l own2 ∙ sym (own_far fn th.top.instr i.act (th.top.made + 1) (pos 0) l own2)) m)) h
 
       by : (b : Bool) (made : ℕ) → Goal (end_onward b th made)
       by true made = stays held
@@ -214,30 +214,30 @@ module _ (code : Code) (valid : is_valid code ≡ true) (s : SetupView) (tops : 
 
   -- ---- each instruction
 
-  pub act_goes : (o : Option Act) (answer : ℤ) → act_at code th.top ≡ o → Passes (act_due code s t th o) now later → Goal (act_after code s t th o answer)
+  pub act_goes : (o : Option Act) (answer : ℤ) → act_at code th.top ≡ o → Passes (act_due code s t th o) answer now later → Goal (act_after code s t th o answer)
   act_goes None answer e p = absurd p
   act_goes (Some (act.Compute into w)) answer e p = by (work_of s.slots code.sites (pointers_of code th.top) th.top.registers w) p
     where
-      by : (r : Result ℕ Trap) → Passes (quiet_unless r) now later → Goal (computed th into r)
+      by : (r : Result ℕ Trap) → Passes (quiet_unless r) answer now later → Goal (computed th into r)
       by (Err k) q = absurd q
       by (Ok v) q = goes (act.Compute into w) (stands code th.top (act.Compute into w) e) (th.top.instr + 1) (slice_set th.top.registers into v) refl (onward_at th.top.instr) (set_kept (act.Compute into w) into v refl) q
   act_goes (Some (act.Alloc into site None)) answer e p = goes (act.Alloc into site None) (stands code th.top (act.Alloc into site None) e) (th.top.instr + 1) th.top.registers refl (onward_at th.top.instr) (λ r n. refl) p
   act_goes (Some (act.Alloc into site (Some size))) answer e p =
       goes (act.Alloc into site (Some size)) (stands code th.top (act.Alloc into site (Some size)) e) (th.top.instr + 1) (slice_set th.top.registers into _) refl (onward_at th.top.instr) (set_kept (act.Alloc into site (Some size)) into _ refl)
-      (more (act_due code s t th (Some (act.Alloc into site (Some size)))) now later (malloc_none (size_of code.sites site) th.arena (arena_end code s t) (number (register th.top.registers size))) p)
+      (more (act_due code s t th (Some (act.Alloc into site (Some size)))) answer now later (malloc_none (size_of code.sites site) th.arena (arena_end code s t) (number (register th.top.registers size))) p)
   act_goes (Some (act.LoadCell into through)) answer e p =
       goes (act.LoadCell into through) (stands code th.top (act.LoadCell into through) e) (th.top.instr + 1) (slice_set th.top.registers into _) refl (onward_at th.top.instr) (set_kept (act.LoadCell into through) into _ refl)
-      (more (act_due code s t th (Some (act.LoadCell into through))) now later (load_none (resolved code.sites (register th.top.registers through) (access_kind (is_pointer (pointers_of code th.top) into)))) p)
+      (more (act_due code s t th (Some (act.LoadCell into through))) answer now later (load_none (resolved code.sites (register th.top.registers through) (access_kind (is_pointer (pointers_of code th.top) into)))) p)
   act_goes (Some (act.StoreCell through from)) answer e p =
       goes (act.StoreCell through from) (stands code th.top (act.StoreCell through from) e) (th.top.instr + 1) th.top.registers refl (onward_at th.top.instr) (λ r n. refl)
-      (more (act_due code s t th (Some (act.StoreCell through from))) now later (store_none (resolved code.sites (register th.top.registers through) (access_kind (is_pointer (pointers_of code th.top) from))) (register th.top.registers from)) p)
+      (more (act_due code s t th (Some (act.StoreCell through from))) answer now later (store_none (resolved code.sites (register th.top.registers through) (access_kind (is_pointer (pointers_of code th.top) from))) (register th.top.registers from)) p)
   act_goes (Some act.Mark) answer e p = goes act.Mark (stands code th.top act.Mark e) (th.top.instr + 1) th.top.registers refl (onward_at th.top.instr) (λ r n. refl) p
   act_goes (Some (act.Call g args into)) answer e p =
       let x = stands code th.top (act.Call g args into) e in
       subst (Stack code s.slots xs later (first_frame code g (words_of th.top.registers args) th.arena)) (sym (reverse-append th.below (one_made th.top (pos 0) ∷ [])))
-      (stack_calls code s.slots tops xs solves long valid th.top (reverse th.below) x.function x.instr g args into th.arena now later x.here x.is (more (act_due code s t th (Some (act.Call g args into))) now later (enter_none code s t th (length th.below + 1) g) p) h)
+      (stack_calls code s.slots tops xs solves long valid th.top (reverse th.below) x.function x.instr g args into th.arena now later x.here x.is (more (act_due code s t th (Some (act.Call g args into))) answer now later (enter_none code s t th (length th.below + 1) g) p) h)
   act_goes (Some (act.Library c args into)) answer e p =
-      left_goes (parting c th.top.made th.stripes) (library_due (caller code s t th) c (words_of th.top.registers args) th.top.made th.top.kept) (call_after code s t th c args into answer) p
+      left_goes (parting c th.top.made th.stripes) (library_due (caller code s t th) c (words_of th.top.registers args) th.top.made th.top.kept) answer (call_after code s t th c args into answer) p
       (λ q. call_goes c args into (stands code th.top (act.Library c args into) e) (th.printed + length (piece_of c (words_of th.top.registers args))) answer (library_onward (caller code s t th) c (words_of th.top.registers args) th.top.made th.top.kept answer) refl q)
   act_goes (Some (act.Jump to)) answer e p = goes (act.Jump to) (stands code th.top (act.Jump to) e) to th.top.registers refl (0, omega arith, refl) (λ r n. refl) p
   act_goes (Some (act.Branch on then_at else_at)) answer e p = by (register th.top.registers on == 0)
@@ -251,7 +251,7 @@ module _ (code : Code) (valid : is_valid code ≡ true) (s : SetupView) (tops : 
       x = stands code th.top (act.Return value) e
 
       held : More now later
-      held = more (act_due code s t th (Some (act.Return value))) now later (return_none code t th (value_of th.top.registers value)) p
+      held = more (act_due code s t th (Some (act.Return value))) answer now later (return_none code t th (value_of th.top.registers value)) p
 
       by : (b : Bool) → Goal (if b then end_onward (is_main code th.top.function) th th.top.made else back_in code th (value_of th.top.registers value) (slice_get th.below (length th.below - 1)))
       by true = end_goes (is_main code th.top.function) th.top.made (act.Return value) x refl held
@@ -259,9 +259,9 @@ module _ (code : Code) (valid : is_valid code ≡ true) (s : SetupView) (tops : 
   act_goes (Some (act.Take region)) answer e p =
       let r = region_of code th.top region in
       let o = lacked code th r in
-      let held = more (act_due code s t th (Some (act.Take region))) now later (take_none o) p in
+      let held = more (act_due code s t th (Some (act.Take region))) answer now later (take_none o) p in
       on_goes o (taken code th r o) (taken_top r o) (taken_below r o) (stays held) (goes (act.Take region) (stands code th.top (act.Take region) e) (th.top.instr + 1) th.top.registers refl (onward_at th.top.instr) (λ r n. refl) held)
   act_goes (Some (act.Give region)) answer e p =
       let o = to_give code th region in
-      let held = more (act_due code s t th (Some (act.Give region))) now later (give_none o) p in
+      let held = more (act_due code s t th (Some (act.Give region))) answer now later (give_none o) p in
       on_goes_pair o (gave code th region) (gives_top (open_place code th region) o) (gives_below (open_place code th region) o) (stays held) (goes (act.Give region) (stands code th.top (act.Give region) e) (th.top.instr + 1) th.top.registers refl (onward_at th.top.instr) (λ r n. refl) held)

@@ -58,8 +58,8 @@ module _ (P : ℕ → Type 0) where
   exit_none w value (suc zero) = tt
   exit_none w value (suc (suc n)) = tt
 
-  checked_none : (misuse : Trap) (kept : ℤ) → DueStarts P (checked_due misuse kept)
-  checked_none misuse kept = if_none (is_misuse kept) _ _ tt tt
+  checked_none : (why : Trap) (kept : ℤ) → DueStarts P (checked_due why kept)
+  checked_none why kept = if_none (is_misuse kept) _ _ tt tt
 
   mutex_none : (w : Caller) (o : Op) (words : List ℕ) (made : ℕ) (kept : ℤ) → OpStarts P o → DueStarts P (mutex_due w o words made kept)
   mutex_none w o words zero kept e = at_none (cell_of w words 0 kind.Mutex) _ (λ c. e)

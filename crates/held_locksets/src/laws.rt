@@ -4,7 +4,9 @@ ghost use Rattle.std.specs.Prelude.{◌≡◌, ◌≢◌, ◌||◌, ℕ, true, L
 ghost use Rattle.std.specs.List.{Contains};
 ghost use Rattle.rr_base.specs.declared.layout.Place.{Place};
 ghost use Rattle.rr_base.specs.declared.layout.CellKind.{CellKind};
+ghost use Rattle.sync_objects.specs.Modes.{excludes};
 ghost use Rattle.sync_objects.specs.Setup.{SetupView, IsWithinLimits};
+ghost use Rattle.sync_objects.specs.declared.mode.Mode.{Mode};
 ghost use Rattle.abstract_machine.specs.Pointers.{resolved};
 ghost use Rattle.abstract_machine.specs.Registers.{register};
 ghost use Rattle.flow_code.specs.declared.code.Code.{Code};
@@ -16,11 +18,12 @@ ghost use Rattle.flow_code.specs.Settle.{settled};
 ghost use Rattle.flow_code.specs.Threads.{Thread};
 ghost use Rattle.flow_code.specs.Valid.{is_valid};
 ghost use Rattle.facts.specs.Accesses.{Access, access_of};
-ghost use Rattle.facts.specs.Locks.{Points, has};
+ghost use Rattle.facts.specs.Locks.{Points};
 ghost use Rattle.facts.specs.Pairs.{is_root, may_meet, places_of, MayRace};
 ghost use Rattle.facts.specs.Paths.{naming_at};
 ghost use Rattle.facts.specs.PointsTo.{Tables};
 ghost use Rattle.facts.specs.Summaries.{AreSolution, AreSummaries, StandsAt};
+ghost use Rattle.facts.specs.declared.locks.Held.{Held};
 ghost use Rattle.facts.specs.declared.locks.LockPath.{LockPath};
 ghost use Rattle.facts.specs.declared.locks.LockPath.TheVariants.{Cell};
 ghost use Rattle.facts.specs.declared.locks.Naming.TheVariants.{Named};
@@ -28,11 +31,11 @@ ghost use Rattle.facts.specs.declared.locks.Summary.{Summary};
 ghost use Rattle.core_run.specs.Histories.{IsReachable};
 ghost use Rattle.core_run.specs.Machine.{Told};
 ghost use Rattle.runs.specs.Steps.{State};
-ghost use Rattle.held_locksets.specs.Frames.{holds_mutex, IsGuarded, IsListed, root_frame, ThreadStack};
+ghost use Rattle.held_locksets.specs.Frames.{holds_at, IsGuarded, IsListed, root_frame, ThreadStack};
 ghost use Rattle.held_locksets.specs.Leading.{LeadsTo};
 
 /// Law: where the running frame of a thread stands, now or after its quiet steps, a register that has a name in its function
-/// resolves to the cell to which the name leads.
+/// resolves to the cell to which the name leads, of the kind that is asked for.
 pub fn law_named()
     ensures now { (code : Code) (setup : SetupView) (state : State Told) (t : ℕ) (told : Told) (f : Function) (r cell : ℕ) (kind : CellKind) (p : LockPath) →
         is_valid code ≡ true →
@@ -44,7 +47,7 @@ pub fn law_named()
         slice_get code.functions told.thread.top.function ≡ Some f →
         naming_at f told.thread.top.instr r ≡ Named p →
         resolved code.sites (register told.thread.top.registers r) kind ≡ Ok cell →
-        LeadsTo setup.slots f told.thread.top.registers p cell }
+        LeadsTo code setup.slots f told.thread.top.registers p kind cell }
     ensures settled { (code : Code) (setup : SetupView) (state : State Told) (t : ℕ) (told : Told) (f : Function) (r cell : ℕ) (kind : CellKind) (p : LockPath) →
         is_valid code ≡ true →
         constants_fit code ≡ true →
@@ -55,14 +58,14 @@ pub fn law_named()
         slice_get code.functions (settled code setup t told.thread).top.function ≡ Some f →
         naming_at f (settled code setup t told.thread).top.instr r ≡ Named p →
         resolved code.sites (register (settled code setup t told.thread).top.registers r) kind ≡ Ok cell →
-        LeadsTo setup.slots f (settled code setup t told.thread).top.registers p cell }
+        LeadsTo code setup.slots f (settled code setup t told.thread).top.registers p kind cell }
 {}
 
 /// Law: in each state that can be reached the locks that a solution gives for the points of a thread's frames mean what
-/// they say: those of the running frame by the mutexes that the thread holds now, those of each other frame by the ones
+/// they say: those of the running frame by the locks that the thread holds now, those of each other frame by the ones
 /// that it held as it entered the frame above. So they do after its quiet steps, by which it comes to its next action.
 pub fn law_locks_mean()
-    ensures now { (code : Code) (setup : SetupView) (tops : List (List LockPath)) (points : List Points) (state : State Told) (t : ℕ) (told : Told) →
+    ensures now { (code : Code) (setup : SetupView) (tops : List (List Held)) (points : List Points) (state : State Told) (t : ℕ) (told : Told) →
         is_valid code ≡ true →
         constants_fit code ≡ true →
         IsWithinLimits setup →
@@ -71,8 +74,8 @@ pub fn law_locks_mean()
         IsReachable code setup state →
         slice_get state.threads t ≡ Some told →
         told.thread.phase ≡ Running →
-        ThreadStack code setup.slots points (holds_mutex code setup t state) told.thread }
-    ensures settled { (code : Code) (setup : SetupView) (tops : List (List LockPath)) (points : List Points) (state : State Told) (t : ℕ) (told : Told) →
+        ThreadStack code setup.slots points (holds_at code setup t state) told.thread }
+    ensures settled { (code : Code) (setup : SetupView) (tops : List (List Held)) (points : List Points) (state : State Told) (t : ℕ) (told : Told) →
         is_valid code ≡ true →
         constants_fit code ≡ true →
         IsWithinLimits setup →
@@ -81,13 +84,13 @@ pub fn law_locks_mean()
         IsReachable code setup state →
         slice_get state.threads t ≡ Some told →
         told.thread.phase ≡ Running →
-        ThreadStack code setup.slots points (holds_mutex code setup t state) (settled code setup t told.thread) }
+        ThreadStack code setup.slots points (holds_at code setup t state) (settled code setup t told.thread) }
 {}
 
 /// Law: where a thread's next action is one of an instruction that makes an access, the access is one of those that the
 /// analysis has for the function of its outermost frame, and the thread holds each global lock of it.
 pub fn law_guarded()
-    ensures guarded { (code : Code) (setup : SetupView) (tops : List (List LockPath)) (points : List Points) (state : State Told) (t : ℕ) (told : Told) (th : Thread) (f : Function) (i : Instr) (a : Access) →
+    ensures guarded { (code : Code) (setup : SetupView) (tops : List (List Held)) (points : List Points) (state : State Told) (t : ℕ) (told : Told) (th : Thread) (f : Function) (i : Instr) (a : Access) →
         is_valid code ≡ true →
         constants_fit code ≡ true →
         IsWithinLimits setup →
@@ -99,7 +102,7 @@ pub fn law_guarded()
         th ≡ settled code setup t told.thread →
         StandsAt code th.top.function th.top.instr f i →
         access_of i.act ≡ Some a →
-        IsGuarded code setup.slots points (holds_mutex code setup t state) th.top (reverse th.below) a.store }
+        IsGuarded code setup.slots points (holds_at code setup t state) th.top (reverse th.below) a.store }
     ensures listed { (code : Code) (setup : SetupView) (summaries : List Summary) (state : State Told) (t : ℕ) (told : Told) (th : Thread) (f : Function) (i : Instr) (a : Access) →
         is_valid code ≡ true →
         constants_fit code ≡ true →
@@ -111,14 +114,18 @@ pub fn law_guarded()
         th ≡ settled code setup t told.thread →
         StandsAt code th.top.function th.top.instr f i →
         access_of i.act ≡ Some a →
-        IsListed setup.slots summaries (holds_mutex code setup t state) th.top (reverse th.below) a.store }
+        IsListed code setup.slots summaries (holds_at code setup t state) th.top (reverse th.below) a.store }
 {}
 
-/// Law: no mutex is held by two threads at once.
+/// Law: no lock is held by two threads at once in modes that exclude each other: only readers share it.
 pub fn law_one_holds()
-    ensures { (code : Code) (setup : SetupView) (state : State Told) (t u cell : ℕ) →
-        holds_mutex code setup t state cell ≡ true →
-        holds_mutex code setup u state cell ≡ true →
+    ensures { (code : Code) (setup : SetupView) (state : State Told) (first second : Mode) (kind : CellKind) (t u cell : ℕ) →
+        is_valid code ≡ true →
+        IsWithinLimits setup →
+        IsReachable code setup state →
+        excludes first second ≡ true →
+        holds_at code setup t state first kind cell ≡ true →
+        holds_at code setup u state second kind cell ≡ true →
         t ≡ u }
 {}
 

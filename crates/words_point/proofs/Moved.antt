@@ -463,7 +463,7 @@ module _ (code : Code) (s : SetupView) (x : Sets code s) (st st1 : State Told) (
         answers kn (due.Trap kind) i = tt
 
     no_access : IsAccessStep code s st.words st1.words (event_of (machine code s) st l) l th q → ⊥
-    no_access b = subst IsNoOperation (same_Some b.what (Did t o.noted o.answer) (sym b.happens ∙ o.happens)) b.no_operation
+    no_access b = subst IsNoOperation (same_Some b.what (Did t o.noted o.old o.answer) (sym b.happens ∙ o.happens)) b.no_operation
 
     -- what others make of the thread
     beside : q.arena ≡ th.arena → GoodThread code s made q → ((y : Creation) → creation code q ≡ Some y → creation code th ≡ Some y) → ((f : ℕ) → q.phase ≡ phase.Begun f → th.phase ≡ phase.Begun f) → HasMoved

@@ -5,11 +5,11 @@ use Rattle.held_locksets.proofs.laws.law_named.Goals as goal
 
 pub returns-clause-now : goal.returns-clause-now
 returns-clause-now c = λ code setup state t told f r cell kind p valid constants limits reached at running there named resolves.
-    name_leads setup.slots code.sites f told.thread.top.instr told.thread.top.registers r cell kind p
+    name_leads code setup.slots f told.thread.top.instr told.thread.top.registers r cell kind p
     ((known_now code valid constants setup limits state t told reached at running).0 f there) named resolves
 
 pub returns-clause-settled : goal.returns-clause-settled
 returns-clause-settled c = λ code setup state t told f r cell kind p valid constants limits reached at running there named resolves.
     (let th = settled code setup t told.thread in
-    name_leads setup.slots code.sites f th.top.instr th.top.registers r cell kind p
+    name_leads code setup.slots f th.top.instr th.top.registers r cell kind p
     ((known_settled code valid constants setup limits state t told reached at running).0 f there) named resolves)
