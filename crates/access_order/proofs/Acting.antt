@@ -29,9 +29,9 @@ pub record Acts (code : Code) (s : SetupView) (st : State Told) (l : Label) (x :
   pub label : l ≡ Go (event_thread x)
   pub access : event_access x ≡ access_by (cells_of code s) (next code s (event_thread x) told.thread)
 
-operates_none : (t : ℕ) (n : Noted) (c : Change Told) (x : Event) → operation_event t n c ≡ Some x → event_access x ≡ NoAccess
-operates_none t n NotAllowed x e = cc
-operates_none t n (Becomes w answer th) x e = sym (ap event_access (same_Some (Did t n answer) x e))
+operates_none : (t : ℕ) (n : Noted) (w : ℕ) (c : Change Told) (x : Event) → operation_event t n w c ≡ Some x → event_access x ≡ NoAccess
+operates_none t n w NotAllowed x e = cc
+operates_none t n w (Becomes v answer th) x e = sym (ap event_access (same_Some (Did t n w answer) x e))
 
 module _ (code : Code) (s : SetupView) (run : IsRunnable code) (limits : IsWithinLimits s) where
   shown : (l : Label) (told : Told) (ws : List ℕ) (f : Effect Told) (x : Event) → IsLawfulEffect (machine code s) l told f → effect_event (machine code s) (label_thread l) ws f ≡ Some x → event_access x ≢ NoAccess →
@@ -41,7 +41,7 @@ module _ (code : Code) (s : SetupView) (run : IsRunnable code) (limits : IsWithi
   shown l told ws (Loads c f) x h e some = let i = same_Some (Loaded (label_thread l) c) x e in (h.0, sym (ap event_thread i), sym (ap event_access i))
   shown l told ws (Stores c w th) x h e some = let i = same_Some (Stored (label_thread l) c) x e in (h.0, sym (ap event_thread i), sym (ap event_access i))
   shown l told ws (Operates entry f) x h e some =
-      absurd (some (operates_none (label_thread l) (record { entry = entry; number = number_at (machine code s) ws entry.obj }) (f (slice_index ws (place_of (cells_of code s) entry.obj))) x e))
+      absurd (some (operates_none (label_thread l) (record { entry = entry; number = number_at (machine code s) ws entry.obj }) (slice_index ws (place_of (cells_of code s) entry.obj)) (f (slice_index ws (place_of (cells_of code s) entry.obj))) x e))
 
   pub acts : (st : State Told) (l : Label) (x : Event) → event_of (machine code s) st l ≡ Some x → event_access x ≢ NoAccess → Acts code s st l x
   acts st l x e some = by (slice_get st.threads (label_thread l)) refl e
@@ -58,7 +58,7 @@ pub opens_none : (x : Event) → event_access x ≢ NoAccess → IsNoOpening x
 opens_none (Marked t) some = tt
 opens_none (Loaded t c) some = tt
 opens_none (Stored t c) some = tt
-opens_none (Did t n answer) some = absurd (some refl)
+opens_none (Did t n w answer) some = absurd (some refl)
 
 -- ---- conflicts
 

@@ -65,7 +65,7 @@ module _ (code : Code) (s : SetupView) (run : IsRunnable code) (limits : IsWithi
     still k lt = (slot_step code s run limits st st1 l reached h k lt).still
 
     -- a start is of a thread that wasn't started, and its thread was creating it
-    module _ (v k : ℕ) (lt : k < s.slots) (x : Noted) (answer : ℤ) (is : event_of (machine code s) st l ≡ Some (Did v x answer)) (on : x.entry.obj ≡ object.Slot k) (named : x.entry.op ≡ name.Start) where
+    module _ (v k : ℕ) (lt : k < s.slots) (x : Noted) (word : ℕ) (answer : ℤ) (is : event_of (machine code s) st l ≡ Some (Did v x word answer)) (on : x.entry.obj ≡ object.Slot k) (named : x.entry.op ≡ name.Start) where
       pub record StartsHere : Type 0 where
         pub now : was_started (slot_state code s st1 k) ≡ true
         pub of : Creation
@@ -85,8 +85,8 @@ module _ (code : Code) (s : SetupView) (run : IsRunnable code) (limits : IsWithi
 
       by_operation : IsOperationStep code s st.words st1.words (event_of (machine code s) st l) l h.before.thread h.after.thread → StartsHere
       by_operation o =
-          let noted = same_noted (label_thread l) v o.noted x o.answer answer (sym o.happens ∙ is) in
-          let who = same_thread (label_thread l) v o.noted x o.answer answer (sym o.happens ∙ is) in
+          let noted = same_noted (label_thread l) v o.noted x o.old word o.answer answer (sym o.happens ∙ is) in
+          let who = same_thread (label_thread l) v o.noted x o.old word o.answer answer (sym o.happens ∙ is) in
           let obj : o.obj ≡ object.Slot k = sym o.on ∙ ap (λ (z : Noted). z.entry.obj) noted ∙ on in
           let start = is_start o.op (sym o.named ∙ ap (λ (z : Noted). z.entry.op) noted ∙ named) in
           let has : has_object code s (object.Slot k) ≡ true = lt-ltb k s.slots lt in
@@ -96,17 +96,17 @@ module _ (code : Code) (s : SetupView) (run : IsRunnable code) (limits : IsWithi
           let n = (slot_step code s run limits st st1 l reached h k lt).newly m.0 m.1 in
           record { now = m.1; of = record { slot = k; function = n.0; handed = true }; slot = refl; starter = h.before; at = ap (slice_get st.threads) (sym who) ∙ h.stands; creating = n.1 }
         where
-          same_noted : (u w : ℕ) (y z : Noted) (f g : ℤ) → Some (Did u y f) ≡ Some (Did w z g) → y ≡ z
-          same_noted u w y z f g i = cc
+          same_noted : (u w : ℕ) (y z : Noted) (m n : ℕ) (f g : ℤ) → Some (Did u y m f) ≡ Some (Did w z n g) → y ≡ z
+          same_noted u w y z m n f g i = cc
 
-          same_thread : (u w : ℕ) (y z : Noted) (f g : ℤ) → Some (Did u y f) ≡ Some (Did w z g) → u ≡ w
-          same_thread u w y z f g i = cc
+          same_thread : (u w : ℕ) (y z : Noted) (m n : ℕ) (f g : ℤ) → Some (Did u y m f) ≡ Some (Did w z n g) → u ≡ w
+          same_thread u w y z m n f g i = cc
 
       starts_here : StartsHere
       starts_here = by h.kind
         where
           by : StepKind code s st.words st1.words (event_of (machine code s) st l) l h.before.thread h.after.thread → StartsHere
-          by (inl a) = absurd (subst IsNoOperation (same_Some a.what (Did v x answer) (sym a.happens ∙ is)) a.no_operation)
+          by (inl a) = absurd (subst IsNoOperation (same_Some a.what (Did v x word answer) (sym a.happens ∙ is)) a.no_operation)
           by (inr o) = by_operation o
 
   -- ---- along a run
@@ -146,14 +146,14 @@ module _ (code : Code) (s : SetupView) (run : IsRunnable code) (limits : IsWithi
       within = ((hands_over code s run limits p.before p.reached).creating t told y at is).within
 
       module _ (v a : ℕ) (starting : IsOnSlot (event_at (machine code s) labels (start_state code s)) name.Start v y.slot a) where
-        place : Place code s labels (start_state code s) a (Did v starting.noted starting.answer)
-        place = place_at code s labels (start_state code s) a (Did v starting.noted starting.answer) ([], refl) starting.happens
+        place : Place code s labels (start_state code s) a (Did v starting.noted starting.word starting.answer)
+        place = place_at code s labels (start_state code s) a (Did v starting.noted starting.word starting.answer) ([], refl) starting.happens
 
-        made : StartsHere place.before place.after place.label place.reached place.steps v y.slot within starting.noted starting.answer place.event starting.on starting.named
-        made = starts_here place.before place.after place.label place.reached place.steps v y.slot within starting.noted starting.answer place.event starting.on starting.named
+        made : StartsHere place.before place.after place.label place.reached place.steps v y.slot within starting.noted starting.word starting.answer place.event starting.on starting.named
+        made = starts_here place.before place.after place.label place.reached place.steps v y.slot within starting.noted starting.word starting.answer place.event starting.on starting.named
 
         at_i : event_at (machine code s) labels (start_state code s) i ≡ Some x → i ≡ a → ⊥
-        at_i e same = some (ap event_access (same_Some x (Did v starting.noted starting.answer) (sym e ∙ ap (event_at (machine code s) labels (start_state code s)) same ∙ starting.happens)))
+        at_i e same = some (ap event_access (same_Some x (Did v starting.noted starting.word starting.answer) (sym e ∙ ap (event_at (machine code s) labels (start_state code s)) same ∙ starting.happens)))
 
         pub starts_later : event_at (machine code s) labels (start_state code s) i ≡ Some x → i < a
         starts_later e = by (nat_lt i a) refl

@@ -70,7 +70,8 @@ module _ (code : Code) (s : SetupView) (run : IsRunnable code) (limits : IsWithi
   -- the operation by which the thread has joined the other
   pub record JoinsHere (st : State Told) (l : Label) (u k : ℕ) : Type 0 where
     pub noted : Noted
-    pub happens : event_of (machine code s) st l ≡ Some (Did u noted (pos 0))
+    pub word : ℕ
+    pub happens : event_of (machine code s) st l ≡ Some (Did u noted word (pos 0))
     pub named : noted.entry.op ≡ name.Join
     pub on : noted.entry.obj ≡ object.Slot k
 
@@ -116,7 +117,7 @@ module _ (code : Code) (s : SetupView) (run : IsRunnable code) (limits : IsWithi
           let has : has_object code s (object.Slot k) ≡ true = lt-ltb k s.slots lt in
           let row = row_here code s (object.Slot k) run limits has st st1 l reached h x on in
           let zero_is = answers (life code s k st) (life code s k st1) x.answer (subst (λ p. first_row (rows p t) (shown (kind_of (name_of p)) (word_of_object code s (object.Slot k) st)) ≡ Moves (shown (kind_of (name_of p)) (word_of_object code s (object.Slot k) st1)) x.answer) is row) ne in
-          record { noted = x.noted; happens = x.happens ∙ ap (λ a. Some (Did t x.noted a)) zero_is; named = x.named ∙ ap name_of is; on = x.on ∙ on }
+          record { noted = x.noted; word = x.old; happens = x.happens ∙ ap (λ a. Some (Did t x.noted x.old a)) zero_is; named = x.named ∙ ap name_of is; on = x.on ∙ on }
 
       by_makes : (x : IsOperationStep code s st.words st1.words (event_of (machine code s) st l) l h.before.thread h.after.thread) → Makes code s l h.before.thread x.op x.obj x.answer h.after.thread → JoinsHere st l t k
       by_makes x (by_itself c) =
@@ -184,7 +185,7 @@ module _ (code : Code) (s : SetupView) (run : IsRunnable code) (limits : IsWithi
         from : Turn code s (has_joined code u k) labels (start_state code s) j → JoinedBefore u k j
         from t =
             let x = joins_here t.before t.after t.label t.reached t.steps k lt u t.was t.now in
-            record { b = t.b; less = t.less; joins = record { noted = x.noted; answer = pos 0; happens = t.event ∙ x.happens; named = x.named; on = x.on }; answer = refl }
+            record { b = t.b; less = t.less; joins = record { noted = x.noted; word = x.word; answer = pos 0; happens = t.event ∙ x.happens; named = x.named; on = x.on }; answer = refl }
 
     -- whom a thread has joined is over from then on
     pub over_later : (u k : ℕ) (a b : State Told) (i j : ℕ) (told : Told) → i ≤ j → IsReachable code s a → state_at (machine code s) labels (start_state code s) i ≡ Some a → state_at (machine code s) labels (start_state code s) j ≡ Some b → slice_get a.threads u ≡ Some told → joining code told.thread ≡ Some k → is_over (life code s k b) ≡ true

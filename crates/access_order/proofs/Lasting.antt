@@ -116,7 +116,7 @@ module _ (code : Code) (s : SetupView) (valid : is_valid code ≡ true) (fit : c
         where
           by : StepKind code s st.words st1.words (event_of (machine code s) st l) l h.before.thread h.after.thread → IsAccessStep code s st.words st1.words (event_of (machine code s) st l) l h.before.thread h.after.thread
           by (inl a) = a
-          by (inr o) = absurd (some (ap event_access (same_Some y (Did t o.noted o.answer) (sym is ∙ o.happens))))
+          by (inr o) = absurd (some (ap event_access (same_Some y (Did t o.noted o.old o.answer) (sym is ∙ o.happens))))
 
       abbrev On : Type 0
       On = PointsOn code s x st st1 l reached h e hands made g

@@ -1,4 +1,3 @@
-pub mod Fits
 pub mod Acting
 pub mod Lasting
 pub mod Held
@@ -9,3 +8,4 @@ pub mod Creators
 pub mod Joiners
 pub mod HandOffs
 pub mod Ordering
+pub mod SameOrder

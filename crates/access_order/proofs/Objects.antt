@@ -1,10 +1,15 @@
--- Two conflicting accesses of an object's cell are ordered by a mutex that both threads hold, or by the cell's stripe.
+-- Two conflicting accesses of an object's cell are ordered by a lock that both threads hold, or by the cell's stripe.
 use Rattle.std.proofs.Common.{◌≡◌, ◌≢◌, ℕ, ◌<◌, ◌||◌, ◌⊎◌, inl, inr, ⊎_elim, Bool, true, false, List, reverse, Some, refl, sym, ap, subst, ◌∙◌, arith}
 use Rattle.std.specs.Prelude.{slice_get}
 use Rattle.std.specs.List.{Contains}
 use Rattle.rr_base.specs.Words.{site_of, length_of, offset_of, class_of}
+use Rattle.rr_base.specs.declared.layout.CellKind.{CellKind}
+use Rattle.rr_base.specs.declared.layout.CellKind.TheVariants as kind
 use Rattle.rr_base.specs.declared.layout.Place.{Place}
+use Rattle.sync_objects.specs.Modes.{excludes}
 use Rattle.sync_objects.specs.Setup.{SetupView, IsWithinLimits}
+use Rattle.sync_objects.specs.declared.mode.Mode.{Mode}
+use Rattle.sync_objects.specs.declared.mode.Mode.TheVariants.{Read, Write}
 use Rattle.flow_code.specs.declared.code.Code.{Code}
 use Rattle.flow_code.specs.Constants.{constants_fit}
 use Rattle.flow_code.specs.Settle.{IsRunnable}
@@ -33,15 +38,15 @@ use Rattle.runs.specs.Laws.{NoAccess}
 use Rattle.runs.specs.Ordered.{Event, event_thread, event_access, event_at, Ordered}
 use Rattle.runs.specs.Steps.{State}
 use Rattle.held_locks.specs.Holders.{holds_stripe}
-use Rattle.held_locks.proofs.LockOrders.{ordered_by_mutex, ordered_by_stripe}
+use Rattle.held_locks.proofs.LockOrders.{ordered_by_mutex, ordered_by_rwlock, ordered_by_stripe}
 use Rattle.held_locks.proofs.Turns.{Place as PlaceOf}
-use Rattle.held_locksets.specs.Frames.{holds_mutex, root_frame, IsListed}
+use Rattle.held_locksets.specs.Frames.{holds_at, root_frame, IsListed}
 use Rattle.held_locksets.proofs.RootSteps.{RootOf}
 use Rattle.race_free.proofs.Locked.{IsPairOf, pair_of, locked_access, lock_of_place, place_in}
 use Rattle.race_free.proofs.Sides.{here}
 use Rattle.race_free.proofs.Stripes.{stripe_for}
-use Rattle.access_order.proofs.Fits.{weak_fit}
-use Rattle.access_order.proofs.Held.{holds_too}
+use Rattle.lock_sound.proofs.Fits.{weak_fit}
+use Rattle.access_order.proofs.Held.{holds_mutex_too, holds_rwlock_too}
 use Rattle.access_order.proofs.Lasting.{OneObject, PointsAt, one_object}
 use Rattle.access_order.proofs.Racing.{hold_or_race}
 use Rattle.access_order.proofs.Sides.{weak_valid, strips, same_cells, Side, pt, v, in_object, points_at, touching, listed, root, holds}
@@ -134,7 +139,7 @@ module _ (code : Code) (t : Tables) (ss : List Summary) (vs : List Pair) (rs : L
     same_spot : SameSpot
     same_spot = record { site_is = sym second_object.0 ∙ sym one.site ∙ first_object.0; offset_is = sym second_object.2 ∙ same_offset ∙ first_object.2; cells_is = sym second_object.1 ∙ sym one.cells ∙ first_object.1 }
 
-    -- ---- a mutex
+    -- ---- a lock
 
     abbrev first_frame : Thread
     first_frame = pt code t ss vs rs profile rows valid plain constants apart closed points sums pairs ranges grains setup limits p.before k cell first_stores d
@@ -142,12 +147,33 @@ module _ (code : Code) (t : Tables) (ss : List Summary) (vs : List Pair) (rs : L
     abbrev second_frame : Thread
     second_frame = pt code t ss vs rs profile rows valid plain constants apart closed points sums pairs ranges grains setup limits q.before l cell second_stores e
 
-    by_mutex : (c : ℕ) → holds_mutex code setup k d.bare c ≡ true → holds_mutex code setup l e.bare c ≡ true → Goal
-    by_mutex c a b =
+    by_mutex : (a b : Mode) (c : ℕ) → holds_at code setup k d.bare a kind.Mutex c ≡ true → holds_at code setup l e.bare b kind.Mutex c ≡ true → Goal
+    by_mutex a b c held held_too =
         let same = same_cells code t ss vs rs profile rows valid plain constants apart closed points sums pairs ranges grains setup limits in
-        let f = holds_too W code setup limits run same p.before d.bare d.reached d.bare_is k c a in
-        let g = holds_too W code setup limits run same q.before e.bare e.reached e.bare_is l c b in
+        let f = holds_mutex_too W code setup limits run same p.before d.bare d.reached d.bare_is a k c held in
+        let g = holds_mutex_too W code setup limits run same q.before e.bare e.reached e.bare_is b l c held_too in
         ordered_by_mutex W setup c labels i j x y p.before q.before run limits f.0 lt at_first at_second some ne p.at q.at f.1 g.1
+
+    by_rwlock : (a b : Mode) (c : ℕ) → excludes a b ≡ true → holds_at code setup k d.bare a kind.Rw c ≡ true → holds_at code setup l e.bare b kind.Rw c ≡ true → Goal
+    by_rwlock a b c out held held_too =
+        let same = same_cells code t ss vs rs profile rows valid plain constants apart closed points sums pairs ranges grains setup limits in
+        let f = holds_rwlock_too W code setup limits run same p.before d.bare d.reached d.bare_is a k c held in
+        let g = holds_rwlock_too W code setup limits run same q.before e.bare e.reached e.bare_is b l c held_too in
+        ordered_by_rwlock W setup c a b labels i j x y p.before q.before run limits f.0 out lt at_first at_second some ne p.at q.at f.1 g.1
+
+    by_lock : (z : CellKind) (a b : Mode) (c : ℕ) → excludes a b ≡ true → holds_at code setup k d.bare a z c ≡ true → holds_at code setup l e.bare b z c ≡ true → Goal
+    by_lock kind.Mutex a b c out held held_too = by_mutex a b c held held_too
+    by_lock kind.Rw a b c out held held_too = by_rwlock a b c out held held_too
+    by_lock kind.Whole a b c out held held_too = cc
+    by_lock kind.Pointer a b c out held held_too = cc
+    by_lock kind.Cond a b c out held held_too = cc
+    by_lock kind.Barrier a b c out held held_too = cc
+
+    out_back : (a b : Mode) → excludes a b ≡ true → excludes b a ≡ true
+    out_back Write Write out = refl
+    out_back Write Read out = refl
+    out_back Read Write out = refl
+    out_back Read Read out = cc
 
     -- ---- a stripe
 
@@ -160,10 +186,10 @@ module _ (code : Code) (t : Tables) (ss : List Summary) (vs : List Pair) (rs : L
         (subst (λ n. Contains (places_of code t (here second_frame.top)) (spot e.accesses.reaches.object.site n)) same_spot.offset_is
         (touching code t ss vs rs profile rows valid plain constants apart closed points sums pairs ranges grains setup limits q.before l cell second_stores e).1)
 
-    first_listed : IsListed setup.slots ss (holds_mutex code setup k d.bare) first_frame.top (reverse first_frame.below) d.accesses.access.store
+    first_listed : IsListed code setup.slots ss (holds_at code setup k d.bare) first_frame.top (reverse first_frame.below) d.accesses.access.store
     first_listed = listed code t ss vs rs profile rows valid plain constants apart closed points sums pairs ranges grains setup limits p.before k cell first_stores d
 
-    second_listed : IsListed setup.slots ss (holds_mutex code setup l e.bare) second_frame.top (reverse second_frame.below) e.accesses.access.store
+    second_listed : IsListed code setup.slots ss (holds_at code setup l e.bare) second_frame.top (reverse second_frame.below) e.accesses.access.store
     second_listed = listed code t ss vs rs profile rows valid plain constants apart closed points sums pairs ranges grains setup limits q.before l cell second_stores e
 
     first_root : RootOf code k (root_frame first_frame.top (reverse first_frame.below)).function
@@ -188,14 +214,14 @@ module _ (code : Code) (t : Tables) (ss : List Summary) (vs : List Pair) (rs : L
 
     race : Goal ⊎ Race
     race =
-        ⊎_elim (λ h. inl (by_mutex h.0 h.1 h.2)) (λ h. inr h)
-        (hold_or_race code setup t ss k l first_frame.top second_frame.top (reverse first_frame.below) (reverse second_frame.below) d.accesses.access.store e.accesses.access.store (spot site offset) (holds_mutex code setup k d.bare) (holds_mutex code setup l e.bare) ne
+        ⊎_elim (λ h. inl (by_lock h.kind h.first h.second h.cell h.apart h.held_first h.held_second)) (λ h. inr h)
+        (hold_or_race code setup t ss k l first_frame.top second_frame.top (reverse first_frame.below) (reverse second_frame.below) d.accesses.access.store e.accesses.access.store (spot site offset) (holds_at code setup k d.bare) (holds_at code setup l e.bare) ne
         first_root second_root first_listed second_listed stores first_touches second_touches)
 
     race_back : Goal ⊎ RaceBack
     race_back =
-        ⊎_elim (λ h. inl (by_mutex h.0 h.2 h.1)) (λ h. inr h)
-        (hold_or_race code setup t ss l k second_frame.top first_frame.top (reverse second_frame.below) (reverse first_frame.below) e.accesses.access.store d.accesses.access.store (spot site offset) (holds_mutex code setup l e.bare) (holds_mutex code setup k d.bare) (λ h. ne (sym h))
+        ⊎_elim (λ h. inl (by_lock h.kind h.second h.first h.cell (out_back h.first h.second h.apart) h.held_second h.held_first)) (λ h. inr h)
+        (hold_or_race code setup t ss l k second_frame.top first_frame.top (reverse second_frame.below) (reverse first_frame.below) e.accesses.access.store d.accesses.access.store (spot site offset) (holds_at code setup l e.bare) (holds_at code setup k d.bare) (λ h. ne (sym h))
         second_root first_root second_listed first_listed (either_stores d.accesses.access.store e.accesses.access.store stores) second_touches first_touches)
 
     module _ (pair : IsPairOf vs (spot site offset) (here first_frame.top) (here second_frame.top)) where

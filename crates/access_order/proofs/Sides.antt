@@ -40,7 +40,7 @@ use Rattle.core_run.specs.Machine.{Told}
 use Rattle.core_run.specs.Words.{cells_of}
 use Rattle.runs.specs.Steps.{State}
 use Rattle.held_locks.specs.Holders.{holds_stripe}
-use Rattle.held_locksets.specs.Frames.{holds_mutex, root_frame, IsListed}
+use Rattle.held_locksets.specs.Frames.{holds_at, root_frame, IsListed}
 use Rattle.held_locksets.proofs.ByRows.{listed_at}
 use Rattle.held_locksets.proofs.RootsInRuns.{root_settled}
 use Rattle.held_locksets.proofs.RootSteps.{RootOf}
@@ -181,7 +181,7 @@ module _ (code : Code) (t : Tables) (ss : List Summary) (vs : List Pair) (rs : L
     pub touching : (access_in (act_of code (here pt.top)) ≡ Some d.accesses.access) × Contains (places_of code t (here pt.top)) (place o.site (class_of (element_of code.sites o.site) d.accesses.reaches.offset))
     touching = touches code t pt.top d.accesses.instruction d.accesses.access (place o.site (class_of (element_of code.sites o.site) d.accesses.reaches.offset)) points d.accesses.at d.accesses.is d.accesses.reaches.may
 
-    pub listed : IsListed setup.slots ss (holds_mutex code setup k d.bare) pt.top (reverse pt.below) d.accesses.access.store
+    pub listed : IsListed code setup.slots ss (holds_at code setup k d.bare) pt.top (reverse pt.below) d.accesses.access.store
     listed = listed_at code setup ss d.bare k d.other pt stands_here.0 stands_here.1 d.accesses.access valid constants limits sums d.bare_reached d.there runs refl stands_here.2 does
 
     pub root : RootOf code k (root_frame pt.top (reverse pt.below)).function

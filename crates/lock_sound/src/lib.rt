@@ -6,6 +6,6 @@ mod laws;
 mod profile;
 mod weakened;
 
-pub use laws::{law_weakened_is_valid, law_weakened_runs};
+pub use laws::{law_weakened_constants_fit, law_weakened_is_valid, law_weakened_runs};
 pub use profile::copied_profile;
 pub use weakened::Weakened;

@@ -5,6 +5,7 @@ use Rattle.std.specs.List.{Contains}
 use Rattle.rr_base.specs.Words.{length_of, offset_of, class_of}
 use Rattle.rr_base.specs.declared.layout.Place.{Place}
 use Rattle.sync_objects.specs.Setup.{SetupView, IsWithinLimits}
+use Rattle.sync_objects.specs.declared.mode.Mode.TheVariants.{Write}
 use Rattle.abstract_machine.specs.declared.event.Action.{Action}
 use Rattle.abstract_machine.specs.declared.event.Action.TheVariants as action
 use Rattle.abstract_machine.specs.Pointers.{known}
@@ -47,7 +48,7 @@ use Rattle.runs.specs.Steps.{State}
 use Rattle.held_locks.specs.Holders.{holds_stripe}
 use Rattle.held_locks.specs.ThreadStripes.{IsOfMemory}
 use Rattle.held_locks.proofs.StripeLaws.{held_by_list, known_is}
-use Rattle.held_locksets.specs.Frames.{holds_mutex, IsListed}
+use Rattle.held_locksets.specs.Frames.{holds_at, IsListed}
 use Rattle.held_locksets.proofs.ByRows.{listed_at}
 use Rattle.held_locksets.proofs.Racing.{races}
 use Rattle.held_locksets.proofs.RootsInRuns.{root_settled}
@@ -229,20 +230,20 @@ module _ (code : Code) (t : Tables) (ss : List Summary) (vs : List Pair) (rs : L
       either_stores true false h = refl
       either_stores false b h = ap (λ z. z || false) h
 
-      first_listed : IsListed setup.slots ss (holds_mutex code setup k bare.0) ft.top (reverse ft.below) m.first.access.store
+      first_listed : IsListed code setup.slots ss (holds_at code setup k bare.0) ft.top (reverse ft.below) m.first.access.store
       first_listed = listed_at code setup ss bare.0 k first_plain.0 ft first_at.0 first_at.1 m.first.access valid constants limits sums bare.1 first_plain.1 first_runs refl first_at.2 (ap code_access first_at.3 ∙ m.first.is)
 
-      second_listed : IsListed setup.slots ss (holds_mutex code setup l bare.0) gt.top (reverse gt.below) m.second.access.store
+      second_listed : IsListed code setup.slots ss (holds_at code setup l bare.0) gt.top (reverse gt.below) m.second.access.store
       second_listed = listed_at code setup ss bare.0 l second_plain.0 gt second_at.0 second_at.1 m.second.access valid constants limits sums bare.1 second_plain.1 second_runs refl second_at.2 (ap code_access second_at.3 ∙ m.second.is)
 
       race : MayRace code t ss p (here ft.top) (here gt.top)
-      race = races code setup t ss bare.0 k l ft.top gt.top (reverse ft.below) (reverse gt.below) m.first.access.store m.second.access.store p ne
+      race = races code setup t ss bare.0 k l ft.top gt.top (reverse ft.below) (reverse gt.below) m.first.access.store m.second.access.store p (valid_runnable code valid) limits bare.1 ne
           (root_settled code valid setup limits bare.0 k first_plain.0 bare.1 first_plain.1 first_runs)
           (root_settled code valid setup limits bare.0 l second_plain.0 bare.1 second_plain.1 second_runs)
           first_listed second_listed m.one_stores first_touches.1 second_touches.1
 
       race_back : MayRace code t ss p (here gt.top) (here ft.top)
-      race_back = races code setup t ss bare.0 l k gt.top ft.top (reverse gt.below) (reverse ft.below) m.second.access.store m.first.access.store p (λ e. ne (sym e))
+      race_back = races code setup t ss bare.0 l k gt.top ft.top (reverse gt.below) (reverse ft.below) m.second.access.store m.first.access.store p (valid_runnable code valid) limits bare.1 (λ e. ne (sym e))
           (root_settled code valid setup limits bare.0 l second_plain.0 bare.1 second_plain.1 second_runs)
           (root_settled code valid setup limits bare.0 k first_plain.0 bare.1 first_plain.1 first_runs)
           second_listed first_listed (either_stores m.first.access.store m.second.access.store m.one_stores) second_touches.1 first_touches.1
@@ -270,7 +271,7 @@ module _ (code : Code) (t : Tables) (ss : List Summary) (vs : List Pair) (rs : L
       runs = valid_runnable W weak_valid
 
       one : k ≡ l
-      one = (held_by_list W setup runs limits lock.0 stripe (known_is W setup runs limits state lock.0 stripe k reached first_holds)).one state k l reached first_holds second_holds
+      one = (held_by_list W setup runs limits lock.0 stripe (known_is W setup runs limits state lock.0 stripe k reached first_holds)).one Write Write state k l reached refl first_holds second_holds
 
     pub apart_threads : ⊥
     apart_threads = ne (one meets)

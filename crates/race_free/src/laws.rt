@@ -1,11 +1,17 @@
 //! The laws of weakened code's runs.
-ghost use Rattle.std.specs.Prelude.{◌≡◌, ℕ, List, Some};
+ghost use Rattle.std.specs.Prelude.{◌≡◌, ◌<◌, Bool, true, ℕ, List, Some, slice_get};
 ghost use Rattle.sync_objects.specs.Setup.{SetupView, IsWithinLimits};
 ghost use Rattle.sync_objects.specs.declared.entry.Noted.{Noted};
-ghost use Rattle.core_run.specs.Histories.{run_of, HasNoRace, HaveEnded, list_of, lists_of, entries_in};
+ghost use Rattle.sync_objects.specs.declared.object.ObjId.{ObjId};
+ghost use Rattle.sync_objects.specs.declared.operation.Op.{Op};
+ghost use Rattle.abstract_machine.specs.declared.event.Action.TheVariants.{Operate};
+ghost use Rattle.flow_code.specs.Settle.{next};
+ghost use Rattle.core_run.specs.Histories.{run_of, HasItsCells, HasNoRace, HaveEnded, IsReachable, list_of, lists_of, entries_in};
 ghost use Rattle.core_run.specs.Machine.{Told, machine, start_state};
 ghost use Rattle.core_run.specs.Walks.{walk_of};
+ghost use Rattle.core_run.specs.Words.{cells_of, has_object};
 ghost use Rattle.lock_sound.specs.Weakened.{Analysed, IsAnalysed};
+ghost use Rattle.next_cells.specs.Accesses.{names_cell};
 ghost use Rattle.runs.specs.Labels.{Label};
 ghost use Rattle.runs.specs.Merge.{IsMerge, written_merge};
 ghost use Rattle.runs.specs.Paths.{AreComparable, BeginsLike, StopsBefore, path};
@@ -18,6 +24,27 @@ pub fn law_no_race()
         IsAnalysed a →
         IsWithinLimits setup →
         HasNoRace a.weak setup }
+{}
+
+/// In each state that weakened code reaches, over every list of labels, the setup has each cell that a thread's next action
+/// names, and the object of each operation that comes next. So the machine refuses a thread's own step only where none comes
+/// next.
+pub fn law_cells()
+    ensures cells { (a : Analysed) (setup : SetupView) (state : State Told) (t cell : ℕ) (store : Bool) (told : Told) →
+        IsAnalysed a →
+        IsWithinLimits setup →
+        IsReachable a.weak setup state →
+        slice_get state.threads t ≡ Some told →
+        names_cell (next a.weak setup t told.thread) ≡ Some (cell, store) →
+        cell < cells_of a.weak setup }
+    ensures objects { (a : Analysed) (setup : SetupView) (state : State Told) (t : ℕ) (operation : Op) (object : ObjId) (told : Told) →
+        IsAnalysed a →
+        IsWithinLimits setup →
+        IsReachable a.weak setup state →
+        slice_get state.threads t ≡ Some told →
+        next a.weak setup t told.thread ≡ Operate operation object →
+        has_object a.weak setup object ≡ true }
+    ensures refused { (a : Analysed) (setup : SetupView) → IsAnalysed a → IsWithinLimits setup → HasItsCells a.weak setup }
 {}
 
 /// Two runs of weakened code whose threads have equal lists of entries, and all of whose threads have ended, end in one state:
