@@ -24,7 +24,8 @@ use Rattle.sync_objects.specs.Setup.{SetupView, IsWithinLimits}
 use Rattle.sync_objects.specs.declared.entry.Entry.{Entry}
 use Rattle.thread_flow.specs.declared.access.Formula.{Formula}
 use Rattle.walk_answers.specs.Walking.{formula_of, outcome_of}
-use Rattle.job_runs.specs.Recordings.{setup_of, AreOrdered, IsLogged, IsRunOf}
+use Rattle.access_order.specs.Orders.{AreOrdered}
+use Rattle.job_runs.specs.Recordings.{setup_of, IsLogged, IsRunOf}
 use Rattle.job_runs.specs.Works.{HasRun, Work}
 
 -- the log of a run in which all threads have ended

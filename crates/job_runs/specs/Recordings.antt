@@ -1,9 +1,8 @@
 -- A recorded run of weakened code: its log, and what is told of it.
-use Rattle.std.specs.Prelude.{◌≡◌, ◌<◌, ◌≢◌, ℕ, List, [], ◌∷◌, length, Some}
+use Rattle.std.specs.Prelude.{◌≡◌, ℕ, List, [], ◌∷◌, length}
 use Rattle.std.specs.List.{AllByRecursion}
+use Rattle.access_order.specs.Orders.{AreOrdered}
 use Rattle.answers.specs.Jobs.{RecordAsked}
-use Rattle.core_run.specs.Machine.{machine, start_state}
-use Rattle.flow_code.specs.declared.code.Code.{Code}
 use Rattle.lock_sound.specs.Weakened.{Analysed}
 use Rattle.order_log.specs.Log.{AreWithin, LogView}
 use Rattle.order_log.specs.Text.{log_text}
@@ -12,9 +11,6 @@ use Rattle.outcomes.specs.declared.outcome.Outcome.{Outcome}
 use Rattle.profiles.specs.declared.profile.Profile.{Profile}
 use Rattle.recorder.specs.Records.{Records}
 use Rattle.recorder.specs.declared.record.Recorded.{Recorded}
-use Rattle.runs.specs.Labels.{Label}
-use Rattle.runs.specs.Laws.{Conflict}
-use Rattle.runs.specs.Ordered.{Event, event_access, event_at, event_thread, Ordered}
 use Rattle.sync_objects.specs.Names.{Fits}
 use Rattle.sync_objects.specs.Setup.{SetupView}
 use Rattle.sync_objects.specs.declared.entry.Entry.{Entry}
@@ -33,12 +29,6 @@ log_of r p input entries = record { setup = setup_of r input; profile = p; entri
 -- the log of the run, as a file of the name asked for
 abbrev pub log_put : RecordAsked → Profile → (input : List ℕ) → List Entry → Put
 log_put r p input entries = record { name = r.log; content = log_text (log_of r p input entries) }
-
--- each two conflicting accesses of two threads in the run are ordered by operations, each of which passes its object on
-abbrev pub AreOrdered : Code → SetupView → List Label → Type 0
-AreOrdered code s labels =
-    let events = event_at (machine code s) labels (start_state code s) in
-    (i j : ℕ) (first second : Event) → i < j → events i ≡ Some first → events j ≡ Some second → event_thread first ≢ event_thread second → Conflict (event_access first) (event_access second) → Ordered events i j
 
 -- ---- for clauses of this crate and of the one above
 

@@ -2,6 +2,7 @@
 use Rattle.std.proofs.Common.{◌≡◌, refl, sym, ap, subst, ◌∙◌, ◌<◌, ℕ, zero, suc, List, [], ◌∷◌, Result, Ok, Err, Option, Some}
 use Rattle.std.specs.Prelude.{IfOk, MatchResult}
 use Rattle.std.specs.List.{AllByRecursion}
+use Rattle.access_order.specs.Orders.{IsOrderedWalk}
 use Rattle.c_elaborate.specs.Whole.{core_of_source}
 use Rattle.c_tree.specs.Tree.{Outer}
 use Rattle.core_run.specs.declared.outcome.Walk.{Walk}
@@ -19,7 +20,7 @@ use Rattle.outcomes.specs.declared.outcome.Outcome.{Outcome}
 use Rattle.outcomes.specs.declared.stop.Stop.{Stop}
 use Rattle.outcomes.specs.declared.stop.Stop.TheVariants as stop
 use Rattle.runs.specs.Steps.{State}
-use Rattle.c_core.specs.SourceRuns.{IsSourceRun, bytes_of}
+use Rattle.source_runs.specs.SourceRuns.{IsSourceRun, bytes_of}
 use Rattle.sync_objects.specs.Setup.{SetupView}
 use Rattle.sync_objects.specs.declared.entry.Entry.{Entry}
 use Rattle.weak_code.specs.Weakened.{weakened}
@@ -37,13 +38,13 @@ module _ (os : List Outer) (s : SetupView) (es : List Entry) where
   abbrev WalksSo : Code → State Told → Type 0
   WalksSo c end = walk_of c s es (start_state c s) ≡ Some end → IsSourceRun (core_of_source os) s IsAnywhere (erased_walk c s es) × (out_of c s es (start_state c s) ≡ bytes_of (erased_walk c s es))
 
-  source_walk : (c : Code) (end : State Told) → WalksSo c end → walk_of c s es (start_state c s) ≡ Some end → IsSourceWalk os c s es
-  source_walk c end law walks = let both = law walks in record { runs = both.0; prints = both.1 }
+  source_walk : (c : Code) (end : State Told) → WalksSo c end → IsOrderedWalk c s es → walk_of c s es (start_state c s) ≡ Some end → IsSourceWalk os c s es
+  source_walk c end law ordered walks = let both = law walks in record { runs = both.0; prints = both.1; ordered = ordered }
 
-  pub walks_as_source : (w : Analysed) → IsAnalysed w → w.plain ≡ plain_code os → ((end : State Told) → WalksSo (weakened (plain_code os) w.points w.pairs (ranges_of w.plain w.points) w.grains.rows) end) → WalksAsSource os w.weak s es
-  walks_as_source w h is law =
+  pub walks_as_source : (w : Analysed) → IsAnalysed w → w.plain ≡ plain_code os → ((end : State Told) → WalksSo (weakened (plain_code os) w.points w.pairs (ranges_of w.plain w.points) w.grains.rows) end) → ((end : State Told) → walk_of w.weak s es (start_state w.weak s) ≡ Some end → IsOrderedWalk w.weak s es) → WalksAsSource os w.weak s es
+  walks_as_source w h is law ordered =
       let weak : w.weak ≡ weakened (plain_code os) w.points w.pairs (ranges_of w.plain w.points) w.grains.rows = h.weak ∙ ap (λ (p : Code). weakened p w.points w.pairs (ranges_of w.plain w.points) w.grains.rows) is in
-      λ end walks. source_walk w.weak end (subst (λ (c : Code). WalksSo c end) (sym weak) (law end)) walks
+      λ end walks. source_walk w.weak end (subst (λ (c : Code). WalksSo c end) (sym weak) (law end)) (ordered end walks) walks
 
 -- ---- the outcome
 

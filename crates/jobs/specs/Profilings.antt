@@ -7,8 +7,8 @@ use Rattle.outcomes.specs.declared.outcome.Outcome.{Outcome}
 use Rattle.walk_profiles.specs.Profiling.{ShowsProfile}
 use Rattle.jobs.specs.Sources.{IsFound, WalksAsSource}
 
--- what the walk of the log shows on the code with the weak locks that it has for the log's profile, put under this name. As far as
--- the entries have a walk it is a run of the source
+-- what the walk of the log shows on the code with the weak locks that it has for the log's profile, put under this name. Where
+-- the entries have a walk it is a run of the source, with all conflicting accesses ordered by them
 pub record ShowsLog (log : LogView) (name : List ℕ) (os : List Outer) (o : Outcome) : Type 0 where
   pub found : Analysed
   pub is : IsFound os log.profile found

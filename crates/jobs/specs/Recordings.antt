@@ -8,15 +8,16 @@ use Rattle.lock_sound.specs.Weakened.{Analysed}
 use Rattle.outcomes.specs.declared.outcome.Outcome.{Outcome}
 use Rattle.recorder.specs.Records.{Records}
 use Rattle.sync_objects.specs.declared.entry.Entry.{Entry}
-use Rattle.job_runs.specs.Recordings.{AreOrdered, log_put, setup_of}
+use Rattle.access_order.specs.Orders.{AreOrdered}
+use Rattle.job_runs.specs.Recordings.{log_put, setup_of}
 use Rattle.job_runs.specs.Works.{HasRun, Work}
 use Rattle.jobs.specs.Sources.{IsFound, IsSourceWalk}
 use Rattle.walk_answers.specs.Walking.{formula_of, outcome_of}
 
 -- The log's entries are those of a run of the weakened code in which all threads have ended, and walking that code alone by them
 -- comes to the run's end. The bytes, the kept accesses and the status are that walk's. The walk is a run of the source, which prints
--- these bytes, and each two conflicting accesses of the run are ordered by logged operations. The crew has run a job for each slot,
--- with a turn for each entry or more.
+-- these bytes, and each two conflicting accesses of the walk, as of the run, are ordered by logged operations. The crew has run a job
+-- for each slot, with a turn for each entry or more.
 pub record IsRecording (old new : Work) (r : RecordAsked) (p : Profile) (os : List Outer) (input : List ℕ) (o : Outcome) : Type 0 where
   pub found : Analysed
   pub is : IsFound os p found

@@ -11,8 +11,8 @@ use Rattle.job_runs.specs.Works.{HasRun, Work}
 use Rattle.jobs.specs.Sources.{IsFound, WalksAsSource}
 use Rattle.walk_answers.specs.Walking.{formula_of, outcome_of}
 
--- the walk of the log on the code with the weak locks that it has for the log's profile. As far as the entries have a walk it is a
--- run of the source. The crew has run a job for each slot, with a turn for each entry that the walk takes or more
+-- the walk of the log on the code with the weak locks that it has for the log's profile. Where the entries have a walk it is a
+-- run of the source, with all conflicting accesses ordered by them. The crew has run a job for each slot, with a turn for each entry that the walk takes or more
 pub record Replays (old new : Work) (log : LogView) (reads : Option (List ℕ)) (os : List Outer) (o : Outcome) : Type 0 where
   pub found : Analysed
   pub is : IsFound os log.profile found

@@ -1,5 +1,6 @@
 -- Reading a source, and what its code is.
 use Rattle.std.specs.Prelude.{◌≡◌, ℕ, List, Result, Ok, Err, Some}
+use Rattle.access_order.specs.Orders.{IsOrderedWalk}
 use Rattle.answers.specs.declared.answer.Answer.{Answer}
 use Rattle.answers.specs.declared.answer.Answer.TheVariants as answer
 use Rattle.c_elaborate.specs.Whole.{core_of_source}
@@ -20,7 +21,7 @@ use Rattle.outcomes.specs.declared.stop.Stop.TheVariants as stop
 use Rattle.runs.specs.Labels.{Label}
 use Rattle.runs.specs.Merge.{written_merge}
 use Rattle.runs.specs.Steps.{State}
-use Rattle.c_core.specs.SourceRuns.{IsSourceRun, bytes_of}
+use Rattle.source_runs.specs.SourceRuns.{IsSourceRun, bytes_of}
 use Rattle.sync_objects.specs.Setup.{IsWithinLimits, SetupView}
 use Rattle.sync_objects.specs.declared.entry.Entry.{Entry}
 
@@ -39,10 +40,11 @@ pub record IsFound (os : List Outer) (p : Profile) (found : Analysed) : Type 0 w
 -- ---- what is known of runs of weakened code
 
 -- the entries' walk alone is a run of the source once the operations on stripes are left out, and tells the bytes that this run
--- prints
+-- prints; and each two conflicting accesses of the walk are ordered by the operations that the entries are
 pub record IsSourceWalk (os : List Outer) (code : Code) (s : SetupView) (entries : List Entry) : Type 0 where
   pub runs : IsSourceRun (core_of_source os) s IsAnywhere (erased_walk code s entries)
   pub prints : out_of code s entries (start_state code s) ≡ bytes_of (erased_walk code s entries)
+  pub ordered : IsOrderedWalk code s entries
 
 -- .. where they have a walk
 abbrev pub WalksAsSource : List Outer → Code → SetupView → List Entry → Type 0

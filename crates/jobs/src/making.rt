@@ -13,6 +13,7 @@ ghost use Rattle.rr_base.specs.Files.{Files};
 ghost use Rattle.workload.specs.Program.{program_text};
 
 use crate::sources::compiled;
+use access_order::law_ordered_walk;
 use answers::RecordJob;
 use crew::Crew;
 use job_runs::{recorded_on, replayed_log};
@@ -58,6 +59,7 @@ fn made_code(alloc: Global, source: &[u8]) -> Result<Weakened, Stop>
 {
     law_text_log();
     law_text_erased_walk();
+    law_ordered_walk();
     compiled(alloc, source, &Profile::All)
 }
 

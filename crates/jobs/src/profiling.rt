@@ -12,6 +12,7 @@ ghost use Rattle.walk_profiles.specs.Profiling.{ShowsProfile};
 
 use crate::replaying::LOG_BYTES;
 use crate::sources::{SOURCE_BYTES, compiled};
+use access_order::law_ordered_walk;
 use answers::Part;
 use job_runs::{log_in, or_stop};
 use lock_sound::{Weakened, law_weakened_runs};
@@ -50,6 +51,7 @@ fn profiled<'a>(
 {
     let _slots = log.setup().slots();
     law_text_erased_walk();
+    law_ordered_walk();
     law_names_are_texts();
     match compiled(alloc, source.as_slice(), log.profile()) {
         Ok(weakened) => or_stop(shown(alloc, &weakened, log, name)),

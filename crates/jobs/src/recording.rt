@@ -14,6 +14,7 @@ ghost use Rattle.outcomes.specs.Faults.{RunStops, StopCounts};
 ghost use Rattle.outcomes.specs.Steps.{Comes, Gives, IsInput};
 
 use crate::sources::{SOURCE_BYTES, compiled};
+use access_order::law_ordered_walk;
 use answers::{Part, RecordJob};
 use crew::Crew;
 use job_profiles::{named, profile_of};
@@ -44,6 +45,7 @@ fn recorded<'a, R: Threads + Wait + Sync, I: Source, C: Crew>(
     ensures faults { MatchResult result (λ _. (I.faults input.new ≡ I.faults input.old) × (C.faults crew.new ≡ C.faults crew.old)) (λ stop. RunStops stop (I.faults input.old) (I.faults input.new) (C.faults crew.old) (C.faults crew.new)) }
 {
     law_text_log();
+    law_ordered_walk();
     match compiled(alloc, source, &profile) {
         Ok(weakened) => recorded_code(rt, alloc, &weakened, profile, job, input, crew),
         Err(stop) => Err(stop),

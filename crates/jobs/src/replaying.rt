@@ -10,6 +10,7 @@ ghost use Rattle.jobs.specs.Wants.{LacksEither};
 ghost use Rattle.outcomes.specs.Steps.{Comes, Gives, Lacks};
 
 use crate::sources::{SOURCE_BYTES, compiled};
+use access_order::law_ordered_walk;
 use answers::Part;
 use crew::Crew;
 use job_runs::{log_in, told_walk};
@@ -40,6 +41,7 @@ fn replayed<'a, R: Threads + Wait + Sync, C: Crew>(
 {
     let _slots = log.setup().slots();
     law_text_erased_walk();
+    law_ordered_walk();
     match compiled(alloc, source.as_slice(), log.profile()) {
         Ok(weakened) => told_walk(rt, alloc, &weakened, log, reads, crew),
         Err(stop) => Err(stop),

@@ -2,6 +2,7 @@ use Rattle.answers.specs.Jobs.{record_told}
 use Rattle.jobs.proofs.Found.{not_compiled}
 use Rattle.std.proofs.Common.{refl, Err}
 use Rattle.jobs.proofs.Recorded.{recorded_gives, runs_nothing}
+use Rattle.job_runs.proofs.Recorded.{log_of}
 use Rattle.job_runs.proofs.Worked.{all_is_idle}
 use Rattle.jobs.proofs.recording.recorded.Goals as goal
 
@@ -10,7 +11,7 @@ returns-in-Ok-clause-outcome g c =
     let w = c.in-Ok.weakened in
     let h = c.in-Ok.ensures in
     recorded_gives _ _ c.args.source.now (g.I.Source.left c.args.input.now) (record_told c.args.job.now) c.args.profile w c.requires.limits h c.recorded_code.result
-    (λ s labels end within ran ended. let t = c.law_text_log.ensures c.args.source.now h.0 w s labels end c.requires.short h.1 h.2.is h.2.of within ran ended in record { runs = t.1; prints = t.2 })
+    (λ s labels end within ran ended. let t = c.law_text_log.ensures c.args.source.now h.0 w s labels end c.requires.short h.1 h.2.is h.2.of within ran ended in record { runs = t.1; prints = t.2; ordered = c.law_ordered_walk.ensures w s (log_of end) end h.2.is within t.0 })
     c.recorded_code.ensures.outcome
 
 pub returns-clause-outcome : goal.returns-clause-outcome

@@ -16,7 +16,8 @@ returns-in-Ok-clause-outcome g c =
     let w = c.in-Ok.weakened in
     let h : Compiles c.args.source.now log.profile (Ok w) = same_compile c.as_slice.result.now c.args.source.now c.profile.result.now log.profile (Ok w) c.as_slice.ensures c.profile.ensures.value c.in-Ok.ensures in
     replayed_gives _ _ c.args.source.now log _ w c.told_walk.result _ _ h
-    (walks_as_source h.0 log.setup log.entries w h.2.is h.2.of (λ end walks. c.law_text_erased_walk.ensures c.args.source.now h.0 w.points w.pairs (ranges_of w.plain w.points) w.grains.rows log.setup log.entries end c.requires h.1 (subst IsWithinLimits c.setup.ensures c.slots-slots.ensures.within) walks))
+    (walks_as_source h.0 log.setup log.entries w h.2.is h.2.of (λ end walks. c.law_text_erased_walk.ensures c.args.source.now h.0 w.points w.pairs (ranges_of w.plain w.points) w.grains.rows log.setup log.entries end c.requires h.1 (subst IsWithinLimits c.setup.ensures c.slots-slots.ensures.within) walks)
+    (λ end walks. c.law_ordered_walk.ensures w log.setup log.entries end h.2.is (subst IsWithinLimits c.setup.ensures c.slots-slots.ensures.within) walks))
     c.told_walk.ensures.outcome c.told_walk.ensures.faults
 
 pub returns-in-Ok-clause-faults : goal.returns-in-Ok-clause-faults
