@@ -16,7 +16,7 @@ use crate::outcome::Ending;
 use crate::place::arena_start;
 use crate::state::ThreadState;
 use abstract_machine::{Action, Due};
-use flow_code::{Code, Phase};
+use flow_code::{Code, Phase, Stripe};
 use rr_base::{Bytes, List, Trap};
 use std::alloc::{AllocError, Global};
 use std::marker::Model;
@@ -114,6 +114,13 @@ impl<'a> Flow<'a> {
         ensures { result ≡ holds_stripe self.now.kept.thread.stripes lock stripe }
     {
         self.state.holds(lock, stripe)
+    }
+
+    /// The stripes that the thread holds or owes.
+    pub fn stripes(&self) -> &[Stripe]
+        ensures { result.now ≡ self.now.kept.thread.stripes }
+    {
+        self.state.stripes()
     }
 
     /// The code that the thread runs.

@@ -315,6 +315,13 @@ impl ThreadState {
         holds(&self.stripes, lock, stripe)
     }
 
+    // The stripes that the thread holds or owes.
+    pub(crate) fn stripes(&self) -> &[Stripe]
+        ensures { result.now ≡ self.now.thread.stripes }
+    {
+        self.stripes.as_slice()
+    }
+
     // The stripe was revoked.
     pub(crate) fn give_up(&mut self, lock: u16, stripe: u8)
         requires count { self.old.thread.count < 2 ^ 32 }

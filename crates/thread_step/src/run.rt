@@ -17,7 +17,7 @@ ghost use Rattle.sync_objects.specs.declared.object.ObjId.TheVariants as object;
 ghost use Rattle.thread_step.specs.Steps.{Stepping, IsReady, IsPiece, IsSameRun, told_of, next_of, after, reads_after};
 
 use core_run::{Action, Entry, Noted, Setup};
-use flow_code::Code;
+use flow_code::{Code, Stripe};
 use rr_base::{Bytes, Trap};
 use std::alloc::{AllocError, Global};
 use std::marker::Model;
@@ -396,6 +396,13 @@ impl<'a> ThreadRun<'a> {
         ensures { result ≡ holds_stripe self.now.flow.kept.thread.stripes lock stripe }
     {
         self.flow.holds(lock, stripe)
+    }
+
+    /// The stripes that the thread holds or owes.
+    pub fn stripes(&self) -> &[Stripe]
+        ensures { result.now ≡ self.now.flow.kept.thread.stripes }
+    {
+        self.flow.stripes()
     }
 
     /// How the thread has ended; None exactly where it hasn't.

@@ -211,3 +211,7 @@ pub record Rests (old new : Carrying) : Type 0 where
 abbrev pub PlayedIs : (old new : Carrying) → Played → Type 0
 PlayedIs old new played.Nothing = Rests old new ⊎ Plays old new played.Nothing
 PlayedIs old new p = Plays old new p
+
+-- a turn has come to one of these, for its cause
+abbrev pub HasPlayed : (old new : Carrying) → Type 0
+HasPlayed old new = (p : Played) × PlayedIs old new p

@@ -1,5 +1,5 @@
 // A thread with its seat, as a job.
-ghost use Rattle.std.specs.Prelude.{◌≡◌, ◌≤◌, [], IfOk, true, false};
+ghost use Rattle.std.specs.Prelude.{◌≡◌, ◌≤◌, [], IfOk, IsTrue, true, false};
 ghost use Rattle.std.proofs.Common.{refl, ◌∙◌};
 ghost use Rattle.core_run.specs.Machine.{start_told};
 ghost use Rattle.crew.specs.Counts.{RoseBy};
@@ -7,7 +7,7 @@ ghost use Rattle.flow_code.specs.Settle.{IsRunnable};
 ghost use Rattle.shared_cells.specs.Seats.{IsSeatOf, start_view, view_of};
 ghost use Rattle.thread_step.specs.Steps.{told_of};
 ghost use Rattle.weak_turns.specs.Carrying.{IsSameCarrier, IsSound, is_over, run_has_ended};
-ghost use Rattle.weak_turns.specs.Turns.{PlayedIs};
+ghost use Rattle.weak_turns.specs.Turns.{HasPlayed, PlayedIs};
 
 use crate::played::Played;
 use crate::turn::advance;
@@ -131,7 +131,13 @@ impl<'c, 'a> Job for Carrier<'c, 'a> {
 
     ghost transitive = { λ first second third one two. record { cells = two.cells ∙ one.cells; thread = two.thread ∙ one.thread; budget = two.budget ∙ one.budget } };
 
-    fn turn(&mut self) -> bool {
+    fn turn(&mut self) -> bool
+        ensures ended { result ≡ is_over self.new }
+        ensures stays { IsTrue (is_over self.old) → IsTrue (is_over self.new) }
+        ensures turns { RoseBy 1 self.old.turns self.new.turns }
+        ensures leads { IsSameCarrier self.old self.new }
+        ensures played { HasPlayed self.old self.new }
+    {
         // a thread that has to wait lets others run
         if let Played::Tried {
             came: Attempt::NotYet { .. },
