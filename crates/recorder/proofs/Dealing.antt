@@ -54,12 +54,13 @@ module _ (cells : Board) (seats : List Seat) where
       let at = start n seat next.0 in
       record { of = of.0; number = of.1; view = subst (λ k. view_of seat ≡ start_view cells.code cells.setup k) (sym of.1) at.0; marks = at.2 }
 
+module _ (cells : Board) (budget : ℕ) (seats : List Seat) where
   pub record HasDealt (carriers : List Carrying) (rest : List Seat) : Type 0 where
     pub rest_is : rest ≡ drop (length carriers) seats
     pub few : length carriers ≤ length seats
-    pub each : (t : ℕ) (c : Carrying) → slice_get carriers t ≡ Some c → IsCarrierOf cells t c
+    pub each : (t : ℕ) (c : Carrying) → slice_get carriers t ≡ Some c → IsCarrierOf cells budget t c
 
-  pub deals_more : (carriers pushed : List Carrying) (c : Carrying) (seat : Seat) (rest more : List Seat) → HasDealt carriers rest → rest ≡ seat ∷ more → pushed ≡ carriers ++ c ∷ [] → IsCarrierOf cells (length carriers) c → HasDealt pushed more
+  pub deals_more : (carriers pushed : List Carrying) (c : Carrying) (seat : Seat) (rest more : List Seat) → HasDealt carriers rest → rest ≡ seat ∷ more → pushed ≡ carriers ++ c ∷ [] → IsCarrierOf cells budget (length carriers) c → HasDealt pushed more
   deals_more carriers pushed c seat rest more before e is of =
       let next = drop_next seats (length carriers) seat more (sym before.rest_is ∙ e) in
       let count : length pushed ≡ length carriers + 1 = ap length is ∙ push_length carriers c in
@@ -68,10 +69,10 @@ module _ (cells : Board) (seats : List Seat) where
       record {
         rest_is = next.1 ∙ ap (λ k. drop k seats) one;
         few = omega arith;
-        each = λ t x at. ⊎_elim (before.each t x) (λ p. subst (λ k. IsCarrierOf cells k x) (sym p.0) (subst (IsCarrierOf cells (length carriers)) (sym p.1) of)) (push_is carriers c x t (ap (λ xs. slice_get xs t) (sym is) ∙ at));
+        each = λ t x at. ⊎_elim (before.each t x) (λ p. subst (λ k. IsCarrierOf cells budget k x) (sym p.0) (subst (IsCarrierOf cells budget (length carriers)) (sym p.1) of)) (push_is carriers c x t (ap (λ xs. slice_get xs t) (sym is) ∙ at));
       }
 
-  pub all_dealt : (carriers : List Carrying) (rest : List Seat) → length rest ≡ 0 → AreSeats cells seats → HasDealt carriers rest → AreCarriers cells carriers
+  pub all_dealt : (carriers : List Carrying) (rest : List Seat) → length rest ≡ 0 → AreSeats cells seats → HasDealt carriers rest → AreCarriers cells budget carriers
   all_dealt carriers rest none are d =
       let over = none_left seats (length carriers) (ap length (sym d.rest_is) ∙ none) in
       let few = d.few in

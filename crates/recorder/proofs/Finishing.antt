@@ -89,7 +89,7 @@ module _ {A B : Type 0} (R : A → B → Type 0) where
   zip_at (x ∷ xs) (z ∷ ys) zero y h e = (x, refl, subst (R x) (same_Some z y e) h.0)
   zip_at (x ∷ xs) (z ∷ ys) (suc t) y h e = zip_at xs ys t y h.1 e
 
-module _ (R : Carrying → Carrying → Type 0) (cells : Board) (given back : List Carrying) (led : AllZip R given back) (leads : (x y : Carrying) → R x y → IsSameCarrier x y) (seats : List Seat) (lists : List (List Noted)) (remains : List Remains) (are : AreCarriers cells given) (parts : AreParts back seats lists remains) where
+module _ (R : Carrying → Carrying → Type 0) (cells : Board) (given back : List Carrying) (led : AllZip R given back) (leads : (x y : Carrying) → R x y → IsSameCarrier x y) (seats : List Seat) (lists : List (List Noted)) (remains : List Remains) (budget : ℕ) (are : AreCarriers cells budget given) (parts : AreParts back seats lists remains) where
   at_place : (t : ℕ) (seat : Seat) → slice_get seats t ≡ Some seat → (later : Carrying) × (slice_get back t ≡ Some later) × (seat ≡ later.seat)
   at_place t seat at =
       let later = beside seats back t seat parts.seat_count at in
@@ -194,7 +194,7 @@ enough (x ∷ given) [] lists n m h = cc
 enough [] [] (z ∷ lists) n m h = cc
 enough (x ∷ given) (y ∷ back) [] n m h = cc
 
-module _ (R : Carrying → Carrying → Type 0) (cells : Board) (given back : List Carrying) (led : AllZip R given back) (seats : List Seat) (lists : List (List Noted)) (remains : List Remains) (are : AreCarriers cells given) (parts : AreParts back seats lists remains) where
+module _ (R : Carrying → Carrying → Type 0) (cells : Board) (given back : List Carrying) (led : AllZip R given back) (seats : List Seat) (lists : List (List Noted)) (remains : List Remains) (budget : ℕ) (are : AreCarriers cells budget given) (parts : AreParts back seats lists remains) where
   pub rose_enough : (entries old new : ℕ) → entries ≤ total_length lists → RoseBy (rises (λ (c : Carrying). c.turns) given back) old new → RoseAtLeast entries old new
   rose_enough entries old new few rose =
       let turns = enough given back lists parts.list_count (zip_length R given back led) (λ t c later list p q r. let taken = parts.each t later q in ((are.each t c p).fresh, subst (λ (z : List Noted). length z ≤ later.turns) (same_Some later.run.entries list (sym taken.list ∙ r)) taken.sound.listed)) in

@@ -8,16 +8,17 @@ use Rattle.walk_pieces.specs.declared.remains.Remains.{Remains}
 use Rattle.walk_pieces.specs.Remains.{remains_in}
 use Rattle.weak_turns.specs.Carrying.{Carrying, IsSound, run_has_ended}
 
--- it carries thread t of these cells, and has had no turn
-pub record IsCarrierOf (cells : Board) (t : ℕ) (c : Carrying) : Type 0 where
+-- it carries thread t of these cells, holds a stripe for so many turns before it may be revoked, and has had no turn
+pub record IsCarrierOf (cells : Board) (budget t : ℕ) (c : Carrying) : Type 0 where
   pub cells_are : c.cells ≡ cells
   pub thread : (view_of c.seat).from ≡ t
+  pub budget_is : c.budget ≡ budget
   pub fresh : c.turns ≡ 0
 
 -- these carry the cells' threads, in order
-pub record AreCarriers (cells : Board) (carriers : List Carrying) : Type 0 where
+pub record AreCarriers (cells : Board) (budget : ℕ) (carriers : List Carrying) : Type 0 where
   pub count : length carriers ≡ cells.setup.slots
-  pub each : (t : ℕ) (c : Carrying) → slice_get carriers t ≡ Some c → IsCarrierOf cells t c
+  pub each : (t : ℕ) (c : Carrying) → slice_get carriers t ≡ Some c → IsCarrierOf cells budget t c
 
 -- the carrier's thread has ended; its seat, its entries and what else remains of it stand at its place
 pub record IsTaken (c : Carrying) (t : ℕ) (seats : List Seat) (lists : List (List Noted)) (remains : List Remains) : Type 0 where

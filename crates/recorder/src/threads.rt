@@ -45,7 +45,7 @@ fn carriers_of<'c, 'a>(
     requires runnable { IsRunnable cells.now.code }
     requires seats { AreSeats cells.now seats.items }
     requires start { AreAtStart cells.now.code cells.now.setup seats.items }
-    ensures { IfOk result (λ it. AreCarriers cells.now it.items) }
+    ensures { IfOk result (λ it. AreCarriers cells.now budget it.items) }
 {
     let code = cells.code();
     let setup = cells.setup();

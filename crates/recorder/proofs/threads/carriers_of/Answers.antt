@@ -42,10 +42,10 @@ loop-seat-preserved c =
     let counts = c.in-Some.ensures.steps.1 in
     let long = c.loop-seat.invariant.long in
     record {
-      dealt = deals_more cells c.args.seats.items c.loop-seat.carriers.items c.push.new.self.items c.in_ok-new.field-0 c.in-Some.seat _ _ c.loop-seat.invariant.dealt c.in-Some.ensures.steps.0 c.in_ok-push.ensures.items
-          (record { cells_are = made.0; thread = ap (λ z. (view_of z).from) made.1 ∙ n.number; fresh = made.4 });
+      dealt = deals_more cells c.args.budget c.args.seats.items c.loop-seat.carriers.items c.push.new.self.items c.in_ok-new.field-0 c.in-Some.seat _ _ c.loop-seat.invariant.dealt c.in-Some.ensures.steps.0 c.in_ok-push.ensures.items
+          (record { cells_are = made.0; thread = ap (λ z. (view_of z).from) made.1 ∙ n.number; budget_is = made.3; fresh = made.4 });
       long = omega (arith, items, counts, long);
     }
 
 pub returns : goal.returns
-returns c = all_dealt c.args.cells.now c.args.seats.items c.loop-seat.carriers.items (into_iter_items c.loop-seat.seat-iterator) (sym c.loop-seat.invariant.long ∙ c.in-None.ensures.steps.0) c.requires.seats c.loop-seat.invariant.dealt
+returns c = all_dealt c.args.cells.now c.args.budget c.args.seats.items c.loop-seat.carriers.items (into_iter_items c.loop-seat.seat-iterator) (sym c.loop-seat.invariant.long ∙ c.in-None.ensures.steps.0) c.requires.seats c.loop-seat.invariant.dealt
