@@ -173,3 +173,23 @@ pthread_create(&b, NULL, high, NULL);
 pthread_join(a, NULL); pthread_join(b, NULL);
 return 0; }
 ";
+
+/// A thread reads a number under a read-write lock, and `main` writes it.
+pub const READERS: &str = "#include <pthread.h>
+#include <stdio.h>
+pthread_rwlock_t l;
+int x;
+void *f(void *p) {
+pthread_rwlock_rdlock(&l);
+int t = x;
+pthread_rwlock_unlock(&l);
+return (void *)(long)t; }
+int main(void) {
+pthread_t a;
+pthread_create(&a, NULL, f, NULL);
+pthread_rwlock_wrlock(&l);
+x = 5;
+pthread_rwlock_unlock(&l);
+pthread_join(a, NULL);
+return 0; }
+";

@@ -4,7 +4,7 @@ use job_samples::bank::{BANK, BANK_LOG, CHANGES};
 use job_samples::logs::{RECORDED, SLOTS_3};
 use job_samples::outside::{Outside, SOUND};
 use job_samples::shelves::{REPLAY, bank_files, files_of, with_source};
-use job_samples::sources::{COUNTER, HALVES, HELD_BY_CALLER};
+use job_samples::sources::{COUNTER, HALVES, HELD_BY_CALLER, ONE_LINE};
 use rr_base::MemShelf;
 use std::alloc::Global;
 use std::process::Abort;
@@ -24,7 +24,7 @@ const TOGETHER: &str =
     "0 1 draw T\n0 4 start s1\n0 5 draw T\n0 8 start s2\n1 0 begin s1\n1 3 take w0.0-3\n1 12 give w0.0-3\n1 13 end s1\n0 10 join s1\n1 14 leave T\n2 0 begin s2\n2 3 take w0.4-7\n2 12 give w0.4-7\n2 13 end s2\n0 12 join s2\n0 13 halt H\n2 14 leave T\n";
 
 // Words, a source, the order of turns, what is told, and the log where it is pinned.
-static RECORDS: [(&[&str], &str, &[(u8, usize)], &str, &[&str]); 4] = [
+static RECORDS: [(&[&str], &str, &[(u8, usize)], &str, &[&str]); 6] = [
     (
         &["record", "a", "l", "--slots", "3"],
         COUNTER,
@@ -45,6 +45,23 @@ static RECORDS: [(&[&str], &str, &[(u8, usize)], &str, &[&str]); 4] = [
         &[(0, 9), (2, 4), (1, 5), (2, 2), (1, 1), (2, 4), (1, 7)],
         "",
         &[SLOTS_3_NO_PAIRS, REVOKED],
+    ),
+    // Thread 1 takes the stripe in its fourth turn and loads in its fifth, and then thread 2 wants it: in its sixth turn thread 1
+    // has held it for two turns, so with that budget it gives up the stripe between its load and its store.
+    (
+        &["record", "a", "l", "--slots=3", "--budget=2"],
+        ONE_LINE,
+        &[(0, 9), (1, 5), (2, 4), (1, 1), (2, 20), (1, 20)],
+        "1\n",
+        &[],
+    ),
+    // With a greater one it stores first.
+    (
+        &["record", "a", "l", "--slots=3", "--budget=3"],
+        ONE_LINE,
+        &[(0, 9), (1, 5), (2, 4), (1, 1), (2, 20), (1, 20)],
+        "2\n",
+        &[],
     ),
     (
         &["record", "a", "l", "--slots", "3"],

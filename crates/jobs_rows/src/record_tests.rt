@@ -1,11 +1,11 @@
 use crate::checks::{check_files, check_in, holds_bytes, holds_parts};
 use job_samples::bank::BANK;
-use job_samples::logs::{FIRST, IDLE, INPUT_HI, RECORDED, SLOTS_1, SLOTS_3, SLOTS_8};
+use job_samples::logs::{FIRST, IDLE, INPUT_HI, RECORDED, SLOTS_1, SLOTS_2, SLOTS_3, SLOTS_8};
 use job_samples::outside::{Outside, SOUND, repeated};
 use job_samples::shelves::{files_of, with_source};
 use job_samples::sources::{
-    COUNTER, DIVIDES, ECHOES, HELD_BY_CALLER, MISUSE, NO_POINTER, NONE_LEFT, PASSES, RWLOCK_MISUSE,
-    WAITS,
+    COUNTER, DIVIDES, ECHOES, HELD_BY_CALLER, MISUSE, NO_POINTER, NONE_LEFT, PASSES, READERS,
+    RWLOCK_MISUSE, WAITS,
 };
 use rr_base::MemShelf;
 use std::alloc::Global;
@@ -228,12 +228,29 @@ const LOST_UPDATE: &str =
 
 const LOADS: &str = "0 9 7 1\n0 11 8 2\n0 13 6 1\n1 1 2 0\n1 3 6 0\n2 1 4 0\n2 3 6 0\n";
 
+// One thread reads and the other writes under a read-write lock, which no weak lock guards beside it.
+const READ_AFTER_WRITE: &str =
+    "0 1 draw T\n0 4 start s1\n0 5 wrlock r4\n0 7 rwunlock r4\n1 0 begin s1\n1 3 rdlock r4\n1 5 rwunlock r4\n1 7 end s1\n0 9 join s1\n0 10 halt H\n1 8 leave T\n";
+
+// A source, the parts of its log, what it writes, and its loads.
+static LOADED: [(&str, &[&str], &str, &str); 2] = [
+    (COUNTER, &[FIRST, SLOTS_3, LOST_UPDATE], "1\n", LOADS),
+    (
+        READERS,
+        &[RECORDED, SLOTS_2, READ_AFTER_WRITE],
+        "",
+        "0 8 6 1\n1 1 2 0\n1 4 5 5\n",
+    ),
+];
+
 #[test]
 fn writes_the_loads(rt: HostRuntime) -> Result<(), Fail> {
     let alloc = rt.alloc();
-    let mut shelf = files_of(alloc, &[COUNTER], &[FIRST, SLOTS_3, LOST_UPDATE])?;
-    let words = ["replay", "a", "--reads", "r", "b"];
-    check_in(&rt, alloc, &words, &SOUND, &mut shelf, ("1\n", 0))?;
-    holds_bytes(&rt, &shelf, "r", LOADS.as_bytes());
+    for &(source, log, text, loads) in &LOADED {
+        let mut shelf = files_of(alloc, &[source], log)?;
+        let words = ["replay", "a", "--reads", "r", "b"];
+        check_in(&rt, alloc, &words, &SOUND, &mut shelf, (text, 0))?;
+        holds_bytes(&rt, &shelf, "r", loads.as_bytes());
+    }
     Ok(())
 }
