@@ -1,33 +1,15 @@
 // What each thread has to make of a log.
-ghost use Rattle.std.specs.Prelude.{◌≡◌, ◌-◌, ◌<◌, ◌^◌, IfOk, OnOk, length};
-ghost use Rattle.entry_merge.specs.Counts.{count_in, AreCounted};
+ghost use Rattle.std.specs.Prelude.{◌≡◌, ◌-◌, ◌<◌, ◌^◌, IfOk, length};
 ghost use Rattle.followed_logs.specs.Numbered.{numbered};
 ghost use Rattle.replayer.specs.Wants.{wanted_from};
 
 use crate::wanted::Wanted;
 use core_run::Noted;
+use entry_merge::{count_of, count_up};
 use indexmap::IndexMap;
 use rr_base::List;
 use std::alloc::{AllocError, Global};
-use sync_objects::{Entry, ObjId};
-
-/// How many entries of each object came before.
-type Counts = IndexMap<ObjId, u64>;
-
-fn count_of(counts: &Counts, obj: ObjId) -> u64
-    ensures { result ≡ count_in counts.now obj }
-{
-    counts.get(&obj).copied().unwrap_or(0)
-}
-
-// One more entry of the object has come. More of them than 64 bits can count don't fit into memory.
-fn count_up(counts: &mut Counts, obj: ObjId) -> Result<(), AllocError>
-    ensures { OnOk result (AreCounted counts.old obj counts.new) }
-{
-    let count = count_of(counts, obj).checked_add(1).ok_or(AllocError)?;
-    counts.insert(obj, count)?;
-    Ok(())
-}
+use sync_objects::Entry;
 
 /// The entries of a log with their numbers.
 pub(crate) fn number_all(alloc: Global, entries: &List<Entry>) -> Result<List<Noted>, AllocError>

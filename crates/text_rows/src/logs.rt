@@ -11,8 +11,7 @@ const START_2: &[u8] =
 const BANK: &[u8] =
     b"chimera log 1\nslots 8\ncells 16384\nlimit 16777216\nprofile all\ninput 0\n\n0 1 draw T\n0 4 start s1\n0 5 draw T\n0 8 start s2\n1 0 begin s1\n1 3 lock m16\n1 8 unlock m16\n1 10 end s1\n0 10 join s1\n1 11 leave T\n2 0 begin s2\n2 3 lock m16\n2 8 unlock m16\n2 10 end s2\n0 12 join s2\n0 13 lock m16\n0 15 print O\n0 16 unlock m16\n0 17 halt H\n2 11 leave T\n3 0 close s3\n4 0 close s4\n5 0 close s5\n6 0 close s6\n7 0 close s7\n";
 
-const LOCKS: &[u8] =
-    b"0 1 rwinit r4\n1 3 rdlock r4\n1 5 rwunlock r4\n0 5 wrlock r4194303\n";
+const LOCKS: &[u8] = b"0 1 rwinit r4\n1 3 rdlock r4\n1 5 rwunlock r4\n0 5 wrlock r4194303\n";
 
 /// What reading answers: so many entries, or the fault's line.
 #[derive(Clone, Copy, Debug, PartialEq, Eq)]
@@ -301,7 +300,10 @@ fn writes_both_versions(rt: HostRuntime) -> Result<(), Fail> {
     for text in [&apart, &shared] {
         let log = read_log(rt.alloc(), text.as_slice())?;
         assert_eq!(rt; write_log(rt.alloc(), &log)?.as_slice(), shared.as_slice());
-        assert_eq!(rt; in_version_1(rt.alloc(), &log)?.as_slice(), apart.as_slice());
+        assert_eq!(rt;
+            in_version_1(rt.alloc(), &log)?.as_slice(),
+            apart.as_slice()
+        );
     }
     Ok(())
 }
