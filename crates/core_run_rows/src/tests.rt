@@ -12,7 +12,7 @@ use std::test::Fail;
 use sync_objects::{ObjId, OpName, Setup};
 use thread_flow::Formula;
 
-type Row = (u8, u32, OpName, ObjId);
+pub type Row = (u8, u32, OpName, ObjId);
 
 const W: ObjId = ObjId::Weak { lock: 0, stripe: 0 };
 
@@ -184,7 +184,7 @@ fn push_block(instrs: &mut List<Instr>) -> Result<(), AllocError> {
     returns(instrs, 5)
 }
 
-fn block_code(alloc: Global) -> Result<Code, AllocError> {
+pub fn block_code(alloc: Global) -> Result<Code, AllocError> {
     let mut instrs = List::new(alloc);
     push_block(&mut instrs)?;
     let regions = lone(alloc, whole(alloc)?)?;
@@ -417,7 +417,7 @@ const NO_READS: Formula = Formula {
     value: None,
 };
 
-fn entries_of(alloc: Global, rows: &[Row]) -> Result<List<Entry>, AllocError> {
+pub fn entries_of(alloc: Global, rows: &[Row]) -> Result<List<Entry>, AllocError> {
     let mut entries = List::new(alloc);
     for (thread, count, op, obj) in rows {
         entries.push(Entry {
@@ -486,7 +486,7 @@ fn check_parts(
 }
 
 // `main` starts two threads.
-static STARTS: [Row; 4] = [
+pub static STARTS: [Row; 4] = [
     (0, 1, OpName::Draw, ObjId::Threads),
     (0, 4, OpName::Start, ObjId::Slot(1)),
     (0, 5, OpName::Draw, ObjId::Threads),
@@ -494,21 +494,21 @@ static STARTS: [Row; 4] = [
 ];
 
 // The first thread counts in its region, then the second.
-static FIRST_COUNTS: [Row; 4] = [
+pub static FIRST_COUNTS: [Row; 4] = [
     (1, 0, OpName::Begin, ObjId::Slot(1)),
     (1, 3, OpName::Take, W),
     (1, 5, OpName::Give, W),
     (1, 6, OpName::End, ObjId::Slot(1)),
 ];
 
-static SECOND_COUNTS: [Row; 4] = [
+pub static SECOND_COUNTS: [Row; 4] = [
     (2, 0, OpName::Begin, ObjId::Slot(2)),
     (2, 3, OpName::Take, W),
     (2, 5, OpName::Give, W),
     (2, 6, OpName::End, ObjId::Slot(2)),
 ];
 
-static JOINS_AND_PRINTS: [Row; 8] = [
+pub static JOINS_AND_PRINTS: [Row; 8] = [
     (0, 10, OpName::Join, ObjId::Slot(1)),
     (0, 12, OpName::Join, ObjId::Slot(2)),
     (0, 13, OpName::Take, W),

@@ -1,0 +1,10 @@
+pub mod Lists
+pub mod Gains
+pub mod Grown
+pub mod States
+pub mod Firsts
+pub mod OwnSteps
+pub mod Counts
+pub mod PartOf
+pub mod Ended
+pub mod Rows

@@ -1,0 +1,4 @@
+pub mod Accesses
+pub mod Kept
+pub mod Steps
+pub mod Parts
