@@ -1,0 +1,13 @@
+mod Rows
+mod LockMoves
+mod Spots
+mod Shown
+mod Passing
+mod Ordering
+mod Entries
+mod Taken
+mod Exists
+mod RowLinks
+mod LowestChain
+mod MadeAt
+mod Deciding

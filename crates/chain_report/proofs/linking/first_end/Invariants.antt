@@ -1,0 +1,12 @@
+use Rattle.std.proofs.Common.{◌≡◌, ◌+◌, ◌<◌, ◌^◌, length}
+use Rattle.chain_report.specs.Tables.{first_from, is_end_at}
+use Rattle.chain_report.proofs.linking.first_end.Given as goal
+
+abbrev pub invariant-loop-rest : goal.invariant-loop-rest
+invariant-loop-rest l = record {
+  same : first_from (is_end_at l.to) 0 l.rows ≡ first_from (is_end_at l.to) l.at l.rest;
+  few : l.at + length l.rest < 2 ^ 32;
+}
+
+abbrev pub decreases-loop-rest : goal.decreases-loop-rest
+decreases-loop-rest l = length l.rest
