@@ -8,31 +8,32 @@ any_step : (b : Bool) (n m : ℕ) (more : Bool) → (n < m → more ≡ true) �
 any_step true n m more ih h = refl
 any_step false n m more ih h = ih (omega arith)
 
--- where the byte `=` has a place, it is there
-has_equals : (text : List ℕ) → position_or_len is_equals text < length text → list_any is_equals text ≡ true
-has_equals [] h = absurd (omega arith)
-has_equals (b ∷ bs) h = any_step (is_equals b) (position_or_len is_equals bs) (length bs) (list_any is_equals bs) (has_equals bs) h
-
 none_step : (b : Bool) (n m : ℕ) (more : Bool) → (n ≡ m → more ≡ false) → cond (not b) (1 + n) 0 ≡ suc m → (b || more) ≡ false
 none_step true n m more ih h = absurd (omega arith)
 none_step false n m more ih h = ih (omega arith)
 
-lacks_equals : (text : List ℕ) → position_or_len is_equals text ≡ length text → list_any is_equals text ≡ false
-lacks_equals [] h = refl
-lacks_equals (b ∷ bs) h = none_step (is_equals b) (position_or_len is_equals bs) (length bs) (list_any is_equals bs) (lacks_equals bs) h
+module _ (is : ℕ → Bool) where
+  -- where such a byte has a place, it is there
+  pub has_byte : (text : List ℕ) → position_or_len is text < length text → list_any is text ≡ true
+  has_byte [] h = absurd (omega arith)
+  has_byte (b ∷ bs) h = any_step (is b) (position_or_len is bs) (length bs) (list_any is bs) (has_byte bs) h
+
+  pub lacks_byte : (text : List ℕ) → position_or_len is text ≡ length text → list_any is text ≡ false
+  lacks_byte [] h = refl
+  lacks_byte (b ∷ bs) h = none_step (is b) (position_or_len is bs) (length bs) (list_any is bs) (lacks_byte bs) h
 
 -- `--x=value`
 pub joined_first : (text : List ℕ) (words : List (List ℕ)) → position_or_len is_equals text < length text → arguments ((45 ∷ 45 ∷ text) ∷ words) ≡ setting (before_first is_equals text) (after_first is_equals text) ∷ arguments words
-joined_first text [] h = let e = has_equals text h in rw e refl
-joined_first text (next ∷ words) h = let e = has_equals text h in rw e refl
+joined_first text [] h = let e = has_byte is_equals text h in rw e refl
+joined_first text (next ∷ words) h = let e = has_byte is_equals text h in rw e refl
 
 -- `--x` and the next word
 pub apart_first : (text value : List ℕ) (words : List (List ℕ)) → position_or_len is_equals text ≡ length text → arguments ((45 ∷ 45 ∷ text) ∷ value ∷ words) ≡ setting text value ∷ arguments words
-apart_first text value words h = let e = lacks_equals text h in rw e refl
+apart_first text value words h = let e = lacks_byte is_equals text h in rw e refl
 
 -- `--x` at the end
 pub no_value_first : (text : List ℕ) → position_or_len is_equals text ≡ length text → arguments ((45 ∷ 45 ∷ text) ∷ []) ≡ Wrong ∷ []
-no_value_first text h = let e = lacks_equals text h in rw e refl
+no_value_first text h = let e = lacks_byte is_equals text h in rw e refl
 
 -- a positional word
 pub name_first : (word : List ℕ) (words : List (List ℕ)) → is_name word ≡ true → arguments (word ∷ words) ≡ Positional word ∷ arguments words

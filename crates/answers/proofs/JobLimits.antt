@@ -1,11 +1,13 @@
 -- The numbers of a job are within their limits.
-use Rattle.std.proofs.Common.{◌≡◌, refl, sym, ◌∙◌, subst, ℕ, ◌≤◌, true, ◌&&◌, List, [], ◌∷◌, Option, Some, None, IfSome, option_map, option_and_then, bytes_eq, decimal, nat_le, codes, arith, leb-true, inl, inr}
+use Rattle.std.proofs.Common.{◌≡◌, refl, sym, ◌∙◌, subst, ℕ, ◌≤◌, ◌&&◌, List, [], ◌∷◌, Option, Some, None, IfSome, option_map, option_and_then, bytes_eq, decimal, nat_le, codes, arith, leb-true, inl, inr}
 use Rattle.std.specs.Str.Parse.{digits_value}
 use Rattle.std.proofs.lemmas.Bool.{and_parts, cond-true, cond-false, cases_Bool}
 use Rattle.std.proofs.lemmas.Option.{same_Some}
+use Rattle.thread_flow.specs.declared.access.Formula.{Formula}
 use Rattle.answers.specs.Arguments.{Argument, value_of, number_within, number_or}
 use Rattle.answers.specs.Jobs.{Asked, asked_of, record_of, HasLimits, told}
-use Rattle.answers.specs.Jobs.Asked.{Races, Weaken, Replay, Profile, Make}
+use Rattle.answers.specs.Jobs.Asked.{Races, Weaken, Replay, Profile, Watch, Make}
+use Rattle.answers.specs.Predicates.{accesses_asked}
 use Rattle.answers.specs.declared.command.Command.{Command}
 use Rattle.answers.specs.declared.command.Command.TheVariants as command
 use Rattle.answers.specs.declared.job.Job.{Job}
@@ -61,12 +63,17 @@ of_make (Some n) count name a is e =
     let b = within 1 1000 count n (sym is) in
     subst HasLimits (same_Some (Make n name) a e) (b.above, b.below)
 
+of_watch : (source log : List ℕ) (o : Option Formula) (a : Asked) → option_map (Watch source log) o ≡ Some a → HasLimits a
+of_watch source log None a e = cc e
+of_watch source log (Some formula) a e = subst HasLimits (same_Some (Watch source log formula) a e) tt
+
 of_asked : (c : Command) (words : List (List ℕ)) (given : List Argument) (a : Asked) → asked_of c words given ≡ Some a → HasLimits a
 of_asked command.Races (source ∷ []) given a e = subst HasLimits (same_Some (Races source) a e) tt
 of_asked command.Weaken (source ∷ []) given a e = subst HasLimits (same_Some (Weaken source (value_of (codes "profile") given)) a e) tt
 of_asked command.Record (source ∷ log ∷ []) given a e = of_record source log given a e
 of_asked command.Replay (source ∷ log ∷ []) given a e = subst HasLimits (same_Some (Replay source log (value_of (codes "reads") given)) a e) tt
 of_asked command.Profile (source ∷ log ∷ name ∷ []) given a e = subst HasLimits (same_Some (Profile source log name) a e) tt
+of_asked command.Watch (source ∷ log ∷ predicate ∷ []) given a e = of_watch source log (accesses_asked predicate) a e
 of_asked command.Make (count ∷ name ∷ []) given a e = of_make (number_within 1 1000 count) count name a refl e
 of_asked _ _ given a e = cc
 

@@ -3,6 +3,7 @@ pub mod JobLimits
 pub mod Matched
 pub mod Numbers
 pub mod Pairs
+pub mod PredicateParts
 pub mod Readers
 pub mod Steps
 pub mod Walks

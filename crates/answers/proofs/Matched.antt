@@ -7,10 +7,12 @@ use Rattle.clap.specs.Simple.{App, new_rule, with_rule}
 use Rattle.clap.specs.Walk.{Text, first_of, rows_of}
 use Rattle.clap.specs.declared.parser.matches.Found.{Found}
 use Rattle.clap.proofs.WalkLemmas.{first_value-rows}
+use Rattle.thread_flow.specs.declared.access.Formula.{Formula}
 use Rattle.answers.specs.Arguments.{Argument, are_fit, positional, value_of, number_within, number_or}
 use Rattle.answers.specs.Jobs.{Asked, asked_of, job_by, takes}
-use Rattle.answers.specs.Jobs.Asked.{Races, Weaken, Record, Replay, Profile, Make}
+use Rattle.answers.specs.Jobs.Asked.{Races, Weaken, Record, Replay, Profile, Watch, Make}
 use Rattle.answers.specs.Reader.{asked_by, option_rule, pairs, rows_read, words_of}
+use Rattle.answers.specs.Predicates.{accesses_asked}
 use Rattle.answers.specs.declared.command.Command.{Command}
 use Rattle.answers.specs.declared.command.Command.TheVariants as command
 use Rattle.answers.proofs.Pairs.{first_in_rows, value_apart, value_in, word_at}
@@ -48,6 +50,11 @@ no_job command.Profile (a ∷ []) given h = refl
 no_job command.Profile (a ∷ b ∷ []) given h = refl
 no_job command.Profile (a ∷ b ∷ c ∷ []) given h = absurd (h refl)
 no_job command.Profile (a ∷ b ∷ c ∷ d ∷ more) given h = refl
+no_job command.Watch [] given h = refl
+no_job command.Watch (a ∷ []) given h = refl
+no_job command.Watch (a ∷ b ∷ []) given h = refl
+no_job command.Watch (a ∷ b ∷ c ∷ []) given h = absurd (h refl)
+no_job command.Watch (a ∷ b ∷ c ∷ d ∷ more) given h = refl
 no_job command.Make [] given h = refl
 no_job command.Make (a ∷ []) given h = refl
 no_job command.Make (a ∷ b ∷ []) given h = absurd (h refl)
@@ -76,6 +83,9 @@ replay_by source log reads = source >>= λ s. (log >>= λ l. Some (Replay s l re
 
 abbrev profile_by : Option Text → Option Text → Option Text → Option Asked
 profile_by source log name = source >>= λ s. (log >>= λ l. (name >>= λ n. Some (Profile s l n)))
+
+abbrev watch_by : Option Text → Option Text → Option Text → Option Asked
+watch_by source log predicate = source >>= λ s. (log >>= λ l. (predicate >>= λ p. (accesses_asked p >>= λ f. Some (Watch s l f))))
 
 abbrev make_by : Option Text → Option Text → Option Asked
 make_by count name = count >>= λ c. (number_within 1 1000 c >>= λ n. (name >>= λ t. Some (Make n t)))
@@ -122,6 +132,17 @@ module _ (value : Text → Option Text) (given : List Argument) where
   of_profile (a ∷ b ∷ []) n source log name = cc
   of_profile (a ∷ b ∷ c ∷ d ∷ more) n source log name = cc
 
+  formed : (o : Option Formula) (s l : Text) → option_and_then (λ f. Some (Watch s l f)) o ≡ option_map (Watch s l) o
+  formed None s l = refl
+  formed (Some f) s l = refl
+
+  of_watch : (ws : List Text) → length ws ≡ 3 → value (codes "source") ≡ slice_get ws 0 → value (codes "log") ≡ slice_get ws 1 → value (codes "predicate") ≡ slice_get ws 2 → asked_by command.Watch value ≡ asked_of command.Watch ws given
+  of_watch (s ∷ l ∷ p ∷ []) n source log predicate = (λ i. watch_by (source i) (log i) (predicate i)) ∙ formed (accesses_asked p) s l
+  of_watch [] n source log predicate = cc
+  of_watch (a ∷ []) n source log predicate = cc
+  of_watch (a ∷ b ∷ []) n source log predicate = cc
+  of_watch (a ∷ b ∷ c ∷ d ∷ more) n source log predicate = cc
+
   numbered : (o : Option ℕ) (t : Text) → option_and_then (λ n. Some (Make n t)) o ≡ option_map (λ n. Make n t) o
   numbered None t = refl
   numbered (Some n) t = refl
@@ -151,6 +172,10 @@ module _ (value : Text → Option Text) (given : List Argument) where
       of_profile (positional given) n (is _ ∙ word_at (takes command.Profile) (codes "source") [] (codes "log" ∷ codes "name" ∷ []) given refl refl fit)
       (is _ ∙ word_at (takes command.Profile) (codes "log") (codes "source" ∷ []) (codes "name" ∷ []) given refl refl fit)
       (is _ ∙ word_at (takes command.Profile) (codes "name") (codes "source" ∷ codes "log" ∷ []) [] given refl refl fit)
+  of_values command.Watch fit n is =
+      of_watch (positional given) n (is _ ∙ word_at (takes command.Watch) (codes "source") [] (codes "log" ∷ codes "predicate" ∷ []) given refl refl fit)
+      (is _ ∙ word_at (takes command.Watch) (codes "log") (codes "source" ∷ []) (codes "predicate" ∷ []) given refl refl fit)
+      (is _ ∙ word_at (takes command.Watch) (codes "predicate") (codes "source" ∷ codes "log" ∷ []) [] given refl refl fit)
   of_values command.Make fit n is =
       of_make (positional given) n (is _ ∙ word_at (takes command.Make) (codes "count") [] (codes "name" ∷ []) given refl refl fit)
       (is _ ∙ word_at (takes command.Make) (codes "name") (codes "count" ∷ []) [] given refl refl fit)

@@ -1,21 +1,21 @@
 -- What the commands of `clap` make of words that are fit for a command.
-use Rattle.std.proofs.Common.{◌≡◌, refl, sym, ◌∙◌, ap, subst, Bool, true, false, cond, List, [], ◌∷◌, length, map, Option, None, bytes_eq, codes, arith, inl, inr}
+use Rattle.std.proofs.Common.{◌≡◌, refl, sym, ◌∙◌, ap, subst, Bool, true, false, cond, List, [], ◌∷◌, length, map, None, bytes_eq, codes, arith, inl, inr}
 use Rattle.std.specs.Prelude.{⊤}
 use Rattle.std.specs.List.{fold, list_all, list_any}
 use Rattle.std.proofs.lemmas.Bool.{and_from, and_parts, cases_Bool}
 use Rattle.std.proofs.lemmas.Slice.Eq.{bytes_eq-Decides}
 use Rattle.clap.specs.Simple.{Shape, argument_words, built, is_simple, label_of, matches_of, names_of}
 use Rattle.clap.specs.Takes.{built_takes, default_passes, is_valid, settle_passes, takes as clap_takes}
-use Rattle.clap.specs.Walk.{Row, Rule, Text, Walk, finished, has_row, is_empty, nothing_held, rows_after, settled, walk, with_default}
+use Rattle.clap.specs.Walk.{Row, Rule, Text, Walk, finished, has_row, is_empty, nothing_held, rows_after, walk, with_default}
 use Rattle.clap.proofs.SimpleLemmas.{is_nil}
 use Rattle.clap.proofs.TakesLemmas.{leaf_takes}
 use Rattle.answers.specs.Arguments.{arguments, are_fit, positional}
 use Rattle.answers.specs.Jobs.{takes}
-use Rattle.answers.specs.Reader.{Pair, options_of, pairs, reader_of, row_of, rows_read, words_of}
+use Rattle.answers.specs.Reader.{options_of, reader_of, row_of, rows_read, words_of}
 use Rattle.answers.specs.declared.command.Command.{Command}
 use Rattle.answers.specs.declared.command.Command.TheVariants as command
 use Rattle.answers.proofs.Pairs.{are_apart, distinct_pairs}
-use Rattle.answers.proofs.Steps.{FitsOption, FitsWord, settle_is_taken, settled_is, so_far}
+use Rattle.answers.proofs.Steps.{FitsOption, settle_is_taken, settled_is, so_far}
 use Rattle.answers.proofs.Walks.{FitsOptions, FitsWords, walks}
 
 -- ---- defaults
@@ -142,6 +142,19 @@ profile_ready = record {
   following = λ words. refl;
 }
 
+watch_ready : Ready command.Watch
+watch_ready = record {
+  simple = refl;
+  leaf = refl;
+  options = no_option _ _ (λ name. refl);
+  words = (record { by_index = refl; by_id = refl; next_at = refl }, (record { by_index = refl; by_id = refl; next_at = refl }, (record { by_index = refl; by_id = refl; next_at = refl }, tt)));
+  apart = refl;
+  passing = refl;
+  none = refl;
+  valid = λ rows. refl;
+  following = λ words. refl;
+}
+
 make_ready : Ready command.Make
 make_ready = record {
   simple = refl;
@@ -161,6 +174,7 @@ ready command.Weaken = weaken_ready
 ready command.Record = record_ready
 ready command.Replay = replay_ready
 ready command.Profile = profile_ready
+ready command.Watch = watch_ready
 ready command.Make = make_ready
 
 -- ---- fit words

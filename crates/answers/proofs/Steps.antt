@@ -1,5 +1,5 @@
 -- How `clap` walks over one argument, where each argument of the command takes one value.
-use Rattle.std.proofs.Common.{◌≡◌, refl, sym, ◌∙◌, ap, ℕ, ◌+◌, suc, Bool, true, false, not, cond, ◌==◌, ◌&&◌, List, [], ◌∷◌, ◌++◌, map, min, Option, Some, None, option_map, bytes_eq, append-nil, nat_lt}
+use Rattle.std.proofs.Common.{◌≡◌, refl, sym, ◌∙◌, ap, ℕ, ◌+◌, suc, Bool, true, false, cond, ◌==◌, ◌&&◌, List, [], ◌∷◌, ◌++◌, map, min, Option, Some, None, option_map, bytes_eq, append-nil, nat_lt}
 use Rattle.std.specs.Prelude.{⊤}
 use Rattle.std.specs.Option.{option_map_or}
 use Rattle.std.proofs.lemmas.Bool.{and_from, not-true, or_right}
@@ -7,7 +7,7 @@ use Rattle.std.proofs.lemmas.List.{map-append}
 use Rattle.clap.specs.Lexer.{name_and_value, short_of, usize_max}
 use Rattle.clap.specs.Simple.{Shape, new_rule}
 use Rattle.clap.specs.Takes.{bundle_passes, other_passes, positional_passes, settle_passes, step_passes, turn_passes, use_passes, long_passes, flag_word_passes}
-use Rattle.clap.specs.Walk.{Held, Row, Rule, Step, Text, Waiting, Walk, after_flag, after_step, arg_by_id, arg_by_index, arg_by_long, at_row, has_row, idle, is_pending, long_met, long_or_other, more_values, next, option, option_word, plain_word, pushed, settled, short_or_plain, to_positional, used, used_by_id, value, walked, word_met}
+use Rattle.clap.specs.Walk.{Held, Row, Rule, Step, Text, Waiting, Walk, after_flag, after_step, arg_by_id, arg_by_index, arg_by_long, at_row, has_row, idle, is_pending, long_met, long_or_other, more_values, next, option, option_word, plain_word, pushed, settled, short_or_plain, to_positional, used, used_by_id, walked, word_met}
 use Rattle.clap.specs.declared.builder.action.ArgAction.TheVariants.{Set}
 use Rattle.clap.specs.declared.builder.value_parser.ValueParser.TheVariants as vp
 use Rattle.clap.specs.declared.parser.matches.ValueSource.TheVariants.{CommandLine}

@@ -1,9 +1,11 @@
 -- What the words of a command line ask for.
-use Rattle.std.specs.Prelude.{◌≡◌, ◌≤◌, refl, ℕ, Bool, false, ⊤, if◌then◌else◌, List, [], ◌∷◌, Option, Some, None, option_map, option_and_then, codes}
+use Rattle.std.specs.Prelude.{◌≡◌, ◌≤◌, refl, ℕ, Bool, true, false, ⊤, if◌then◌else◌, List, [], ◌∷◌, Option, Some, None, option_map, option_and_then, codes}
 use Rattle.std.specs.Fmt.{digits}
 use Rattle.std.specs.List.{list_any}
 use Rattle.std.specs.Str.{bytes_eq}
+use Rattle.thread_flow.specs.declared.access.Formula.{Formula}
 use Rattle.answers.specs.Arguments.{Argument, arguments, positional, value_of, are_fit, number_within, number_or}
+use Rattle.answers.specs.Predicates.{accesses_asked}
 use Rattle.answers.specs.declared.command.Command.{Command}
 use Rattle.answers.specs.declared.command.Command.TheVariants as command
 use Rattle.answers.specs.declared.job.Job.{Job}
@@ -28,6 +30,7 @@ pub data Asked : Type 0 where
   Record : RecordAsked → Asked
   Replay : (source log : List ℕ) → (reads : Option (List ℕ)) → Asked
   Profile : (source log name : List ℕ) → Asked
+  Watch : (source log : List ℕ) → (formula : Formula) → Asked
   Make : (count : ℕ) → (name : List ℕ) → Asked
 
 -- ---- the words
@@ -40,7 +43,8 @@ command_of word =
     (if bytes_eq word (codes "record") then Some command.Record else
     (if bytes_eq word (codes "replay") then Some command.Replay else
     (if bytes_eq word (codes "profile") then Some command.Profile else
-    (if bytes_eq word (codes "make") then Some command.Make else None)))))
+    (if bytes_eq word (codes "watch") then Some command.Watch else
+    (if bytes_eq word (codes "make") then Some command.Make else None))))))
 
 -- the options that may be given with a command
 abbrev pub takes : Command → (option : List ℕ) → Bool
@@ -69,6 +73,7 @@ asked_of command.Weaken (source ∷ []) given = Some (Weaken source (value_of (c
 asked_of command.Record (source ∷ log ∷ []) given = record_of source log given
 asked_of command.Replay (source ∷ log ∷ []) given = Some (Replay source log (value_of (codes "reads") given))
 asked_of command.Profile (source ∷ log ∷ name ∷ []) given = Some (Profile source log name)
+asked_of command.Watch (source ∷ log ∷ predicate ∷ []) given = option_map (Watch source log) (accesses_asked predicate)
 asked_of command.Make (count ∷ name ∷ []) given = option_map (λ n. Make n name) (number_within 1 1000 count)
 asked_of _ _ _ = None
 
@@ -113,6 +118,7 @@ told (job.Weaken source profile) = Weaken source.now (option_map (λ name. name.
 told (job.Record r) = Record (record_told r)
 told (job.Replay source log reads) = Replay source.now log.now (option_map (λ name. name.now) reads)
 told (job.Profile source log name) = Profile source.now log.now name.now
+told (job.Watch source log formula) = Watch source.now log.now formula
 told (job.Make count name) = Make count name.now
 
 -- ---- worked rows
@@ -142,6 +148,9 @@ dashes_with_a_word = refl
 
 one_word_short : job_of (codes "record" ∷ codes "a" ∷ []) ≡ None
 one_word_short = refl
+
+watched : job_of (codes "watch" ∷ codes "a" ∷ codes "b" ∷ codes "store" ∷ []) ≡ Some (Watch (codes "a") (codes "b") (record { loads = false; stores = true; thread = None; low = 0; high = 4294967295; value = None }))
+watched = refl
 
 made : job_of (codes "make" ∷ codes "1000" ∷ codes "n.c" ∷ []) ≡ Some (Make 1000 (codes "n.c"))
 unfolding digits

@@ -3,5 +3,6 @@ pub mod Arguments
 pub mod Contents
 pub mod Endings
 pub mod Jobs
+pub mod Predicates
 pub mod Reader
 pub mod Reading

@@ -2,7 +2,8 @@
 use Rattle.std.specs.Prelude.{true, List, [], ◌∷◌, ◌++◌, map, Option, Some, None, option_and_then, codes}
 use Rattle.answers.specs.Arguments.{Argument, Positional, Setting, Wrong, number_within, number_or}
 use Rattle.answers.specs.Jobs.{Asked}
-use Rattle.answers.specs.Jobs.Asked.{Races, Weaken, Record, Replay, Profile, Make}
+use Rattle.answers.specs.Jobs.Asked.{Races, Weaken, Record, Replay, Profile, Watch, Make}
+use Rattle.answers.specs.Predicates.{accesses_asked}
 use Rattle.answers.specs.declared.command.Command.{Command}
 use Rattle.answers.specs.declared.command.Command.TheVariants as command
 use Rattle.clap.specs.Simple.{App, new_rule, new_shape}
@@ -19,6 +20,7 @@ words_of command.Weaken = codes "source" ∷ []
 words_of command.Record = codes "source" ∷ codes "log" ∷ []
 words_of command.Replay = codes "source" ∷ codes "log" ∷ []
 words_of command.Profile = codes "source" ∷ codes "log" ∷ codes "name" ∷ []
+words_of command.Watch = codes "source" ∷ codes "log" ∷ codes "predicate" ∷ []
 words_of command.Make = codes "count" ∷ codes "name" ∷ []
 
 -- the options of a command
@@ -47,6 +49,7 @@ reader_of command.Weaken = reading (codes "weaken") (words_of command.Weaken) (o
 reader_of command.Record = reading (codes "record") (words_of command.Record) (options_of command.Record)
 reader_of command.Replay = reading (codes "replay") (words_of command.Replay) (options_of command.Replay)
 reader_of command.Profile = reading (codes "profile") (words_of command.Profile) (options_of command.Profile)
+reader_of command.Watch = reading (codes "watch") (words_of command.Watch) (options_of command.Watch)
 reader_of command.Make = reading (codes "make") (words_of command.Make) (options_of command.Make)
 
 -- ---- what is matched
@@ -102,6 +105,12 @@ asked_by command.Profile value = do
   log ← value (codes "log")
   name ← value (codes "name")
   Some (Profile source log name)
+asked_by command.Watch value = do
+  source ← value (codes "source")
+  log ← value (codes "log")
+  predicate ← value (codes "predicate")
+  formula ← accesses_asked predicate
+  Some (Watch source log formula)
 asked_by command.Make value = do
   count ← value (codes "count")
   number ← number_within 1 1000 count

@@ -11,6 +11,7 @@ use crate::arguments::{are_fit, has_positional};
 use crate::command::Command;
 use crate::job::{Job, RecordJob};
 use crate::number::{number_or, number_within};
+use crate::predicate::accesses_asked;
 use crate::reading::matches_of;
 use clap::ArgMatches;
 use std::alloc::{AllocError, Global};
@@ -61,6 +62,16 @@ fn asked<'a>(command: Command, matches: &ArgMatches<'a>) -> Option<Job<'a>>
             let log = matches.get_str("log")?;
             let name = matches.get_str("name")?;
             Some(Job::Profile { source, log, name })
+        }
+        Command::Watch => {
+            let source = matches.get_str("source")?;
+            let log = matches.get_str("log")?;
+            let formula = accesses_asked(matches.get_str("predicate")?)?;
+            Some(Job::Watch {
+                source,
+                log,
+                formula,
+            })
         }
         Command::Make => {
             let count = number_within(1, 1_000, matches.get_str("count")?)?;

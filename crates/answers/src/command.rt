@@ -12,6 +12,7 @@ pub enum Command {
     Record,
     Replay,
     Profile,
+    Watch,
     Make,
 }
 
@@ -26,6 +27,7 @@ impl Command {
             "record" => Some(Command::Record),
             "replay" => Some(Command::Replay),
             "profile" => Some(Command::Profile),
+            "watch" => Some(Command::Watch),
             "make" => Some(Command::Make),
             _ => None,
         }
@@ -38,7 +40,7 @@ impl Command {
         match self {
             Command::Races | Command::Weaken => 1,
             Command::Record | Command::Replay | Command::Make => 2,
-            Command::Profile => 3,
+            Command::Profile | Command::Watch => 3,
         }
     }
 
@@ -50,7 +52,7 @@ impl Command {
             Command::Weaken => option == "profile",
             Command::Record => is_of_record(option),
             Command::Replay => option == "reads",
-            Command::Races | Command::Profile | Command::Make => false,
+            Command::Races | Command::Profile | Command::Watch | Command::Make => false,
         }
     }
 }

@@ -1,5 +1,7 @@
 // What may be asked of the program.
 
+use thread_flow::Formula;
+
 /// What is asked for. Sources, logs, profiles and reads go by the names of their files.
 #[derive(Clone, Copy, Debug)]
 pub enum Job<'a> {
@@ -25,6 +27,12 @@ pub enum Job<'a> {
         source: &'a str,
         log: &'a str,
         name: &'a str,
+    },
+    /// The first access of a log's run that meets a formula.
+    Watch {
+        source: &'a str,
+        log: &'a str,
+        formula: Formula,
     },
     /// A made source with so many functions, recorded and replayed.
     Make {

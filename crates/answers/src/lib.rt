@@ -1,5 +1,5 @@
 //! What the program is asked, what it answers, and where its files and bytes come from and go to. It stands on
-//! `rr_base`. It promises which words are a job, the exact text and exit status of each answer, and that each fault of
+//! `rr_base` and `thread_flow`. It promises which words are a job, the exact text and exit status of each answer, and that each fault of
 //! the system is counted.
 #![tactic(auto)]
 
@@ -11,6 +11,7 @@ mod command;
 mod files;
 mod job;
 mod number;
+mod predicate;
 mod reading;
 mod summary;
 mod telling;

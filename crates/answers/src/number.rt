@@ -2,6 +2,7 @@
 
 ghost use Rattle.std.specs.Prelude.{◌≡◌, ◌≤◌, option_map, IfSome};
 ghost use Rattle.answers.specs.Arguments as spec;
+ghost use Rattle.answers.specs.Predicates as predicates;
 
 use itoa::Buffer;
 
@@ -33,5 +34,20 @@ pub fn number_or(low: u32, high: u32, default: u32, given: Option<&str>) -> Opti
     match given {
         Some(text) => number_within(low, high, text),
         None => Some(default),
+    }
+}
+
+/// The signed number of 64 bits that a text is in decimal.
+pub fn signed_number(text: &str) -> Option<i64>
+    ensures { result ≡ predicates.signed_number text.now }
+{
+    let Ok(number) = text.parse::<i64>() else {
+        return None;
+    };
+    let mut buffer = Buffer::new();
+    if buffer.format(number) == text {
+        Some(number)
+    } else {
+        None
     }
 }

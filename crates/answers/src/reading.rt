@@ -76,6 +76,14 @@ fn profile_reader<'a>(alloc: Global) -> Result<Reader<'a>, AllocError>
     with_word(alloc, reader, "name")
 }
 
+fn watch_reader<'a>(alloc: Global) -> Result<Reader<'a>, AllocError>
+    ensures { IfOk result (λ r. app_of r ≡ spec.reader_of command.Watch) }
+{
+    let reader = with_word(alloc, bare(alloc, "watch"), "source")?;
+    let reader = with_word(alloc, reader, "log")?;
+    with_word(alloc, reader, "predicate")
+}
+
 fn make_reader<'a>(alloc: Global) -> Result<Reader<'a>, AllocError>
     ensures { IfOk result (λ r. app_of r ≡ spec.reader_of command.Make) }
 {
@@ -92,6 +100,7 @@ fn reader_of<'a>(alloc: Global, command: Command) -> Result<Reader<'a>, AllocErr
         Command::Record => record_reader(alloc),
         Command::Replay => replay_reader(alloc),
         Command::Profile => profile_reader(alloc),
+        Command::Watch => watch_reader(alloc),
         Command::Make => make_reader(alloc),
     }
 }

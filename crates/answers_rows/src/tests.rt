@@ -2,6 +2,7 @@ use answers::{Answer, Job, Part, RecordJob, job_of, summary_text, text_of};
 use rr_base::{Bytes, List, Trap};
 use std::alloc::{AllocError, Global};
 use std::test::Fail;
+use thread_flow::Formula;
 
 fn words_of(alloc: Global, line: &str) -> Result<Vec<String>, AllocError> {
     let mut words = Vec::new(alloc);
@@ -26,6 +27,25 @@ fn told_record(alloc: Global, job: RecordJob<'_>) -> Result<String, AllocError> 
     format!(in alloc; "record {source} {log} {profile} {slots} {cells} {limit} {budget} {reads}")
 }
 
+fn told_watch(
+    alloc: Global,
+    source: &str,
+    log: &str,
+    formula: Formula,
+) -> Result<String, AllocError> {
+    let Formula {
+        loads,
+        stores,
+        thread,
+        low,
+        high,
+        value,
+    } = formula;
+    let thread = thread.unwrap_or(99);
+    let value = value.unwrap_or(99);
+    format!(in alloc; "watch {source} {log} {loads} {stores} {thread} {low} {high} {value}")
+}
+
 fn told(alloc: Global, job: Job<'_>) -> Result<String, AllocError> {
     match job {
         Job::Races { source } => format!(in alloc; "races {source}"),
@@ -39,12 +59,17 @@ fn told(alloc: Global, job: Job<'_>) -> Result<String, AllocError> {
             format!(in alloc; "replay {source} {log} {reads}")
         }
         Job::Profile { source, log, name } => format!(in alloc; "profile {source} {log} {name}"),
+        Job::Watch {
+            source,
+            log,
+            formula,
+        } => told_watch(alloc, source, log, formula),
         Job::Make { count, name } => format!(in alloc; "make {count} {name}"),
     }
 }
 
 // Each command, and each option in both spellings and in any place.
-const JOBS: [(&str, &str); 28] = [
+const JOBS: [(&str, &str); 32] = [
     ("races a", "races a"),
     ("weaken a", "weaken a none"),
     ("weaken a --profile p", "weaken a p"),
@@ -55,6 +80,19 @@ const JOBS: [(&str, &str); 28] = [
     ("replay --reads r a b", "replay a b r"),
     ("replay a --reads=r b", "replay a b r"),
     ("profile a b c", "profile a b c"),
+    ("watch a b load", "watch a b true false 99 0 4294967295 99"),
+    (
+        "watch a b store,cell=6-6,value=1",
+        "watch a b false true 99 6 6 1",
+    ),
+    (
+        "watch a b any,thread=15,cell=0-4194303,value=-9223372036854775808",
+        "watch a b true true 15 0 4194303 -9223372036854775808",
+    ),
+    (
+        "watch a b any,value=9223372036854775807",
+        "watch a b true true 99 0 4294967295 9223372036854775807",
+    ),
     ("make 1 a", "make 1 a"),
     ("make 1000 a", "make 1000 a"),
     ("record a b", "record a b none 8 16384 16777216 1000 none"),
@@ -118,7 +156,7 @@ const JOBS: [(&str, &str); 28] = [
 ];
 
 // Lists of words that are no job.
-const NO_JOBS: [&str; 52] = [
+const NO_JOBS: [&str; 70] = [
     "",
     "help",
     "--help",
@@ -152,6 +190,24 @@ const NO_JOBS: [&str; 52] = [
     "profile a b",
     "profile a b c d",
     "profile a b c --reads r",
+    "watch a b",
+    "watch a b load c",
+    "watch a b load --reads r",
+    "watch a b Load",
+    "watch a b load,",
+    "watch a b value=3",
+    "watch a b load,value=1,thread=1",
+    "watch a b load,thread=16",
+    "watch a b load,thread=01",
+    "watch a b load,thread=-1",
+    "watch a b store,cell=6",
+    "watch a b store,cell=3-2",
+    "watch a b store,cell=0-4194304",
+    "watch a b store,cell=1-2-3",
+    "watch a b any,value=-0",
+    "watch a b any,value=+1",
+    "watch a b any,value=9223372036854775808",
+    "watch a b any,value=-9223372036854775809",
     "make",
     "make a",
     "make 0 a",

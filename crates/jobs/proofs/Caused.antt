@@ -4,7 +4,7 @@ use Rattle.answers.specs.Answers.{shelf_fault, status_of}
 use Rattle.answers.specs.Endings.{Writes}
 use Rattle.answers.specs.Endings.Writes.{Whole, Failed, NoMemory}
 use Rattle.answers.specs.Jobs.{Asked, RecordAsked}
-use Rattle.answers.specs.Jobs.Asked.{Races, Weaken, Record, Replay, Profile, Make}
+use Rattle.answers.specs.Jobs.Asked.{Races, Weaken, Record, Replay, Profile, Watch, Make}
 use Rattle.answers.specs.declared.answer.Answer.{Answer}
 use Rattle.answers.specs.declared.answer.Answer.TheVariants as answer
 use Rattle.answers.specs.declared.answer.Part.{Part}
@@ -31,6 +31,8 @@ use Rattle.recorder.specs.Records.{IsWholeWalk}
 use Rattle.rr_base.specs.Files.{Files}
 use Rattle.walk_answers.proofs.OneWalk.{one_walk}
 use Rattle.walk_answers.specs.Walking.{answer_of, formula_of, no_reads}
+use Rattle.thread_flow.specs.declared.access.Formula.{Formula}
+use Rattle.walk_hits.specs.Telling.{answer_of as hit_of, line_of}
 use Rattle.walk_profiles.specs.Profiling.{answer_of as shown_of}
 use Rattle.workload.specs.Program.{program_text}
 use Rattle.jobs.specs.Causes.{CauseOf, FollowsLog, InputIs, IsAccepted, IsDecided, IsLogFile, IsLogOf, LogIs, MayAnswer, kept_by, ProfileIs, Refuses, SourceIs, Walks, WentWell}
@@ -46,6 +48,7 @@ use Rattle.job_runs.specs.Logs.{IsLogIn, IsRefusal}
 use Rattle.jobs.specs.Replays.{Replays}
 use Rattle.jobs.specs.Profilings.{ShowsLog}
 use Rattle.jobs.specs.Sources.{IsFound, IsTree}
+use Rattle.jobs.specs.Watchings.{TellsLog}
 use Rattle.job_runs.specs.Works.{IsOfRun, Work}
 use Rattle.jobs.proofs.Unique.{file_once, found_once, input_once, log_once, one_refusal, profile_once, tree_once}
 
@@ -88,6 +91,7 @@ module _ (files : Files) (left : List ℕ) where
   source_refuses (Record r) a h = within_refuses 1048576 part.Source h.content a h.within
   source_refuses (Replay source log reads) a h = within_refuses 1048576 part.Source h.content a h.within
   source_refuses (Profile source log name) a h = within_refuses 1048576 part.Source h.content a h.within
+  source_refuses (Watch source log formula) a h = within_refuses 1048576 part.Source h.content a h.within
   source_refuses (Make count name) a h = absurd (cc h)
 
   given_refuses : (job : Asked) (a : Answer) → ProfileIs files job (Err a) → IsOfRun a → ⊥
@@ -96,6 +100,7 @@ module _ (files : Files) (left : List ℕ) where
   given_refuses (Record r) a h = profile_refuses files r.profile a h
   given_refuses (Replay source log reads) a h = absurd h
   given_refuses (Profile source log name) a h = absurd h
+  given_refuses (Watch source log formula) a h = absurd h
   given_refuses (Make count name) a h = absurd h
 
   followed_refuses : (job : Asked) (a : Answer) → LogIs files job (Err a) → IsOfRun a → ⊥
@@ -104,6 +109,7 @@ module _ (files : Files) (left : List ℕ) where
   followed_refuses (Record r) a h = absurd h
   followed_refuses (Replay source log reads) a h = log_refuses h.0 a (file_refuses files 536870912 part.Log log h.0 h.1) h.2
   followed_refuses (Profile source log name) a h = log_refuses h.0 a (file_refuses files 536870912 part.Log log h.0 h.1) h.2
+  followed_refuses (Watch source log formula) a h = log_refuses h.0 a (file_refuses files 536870912 part.Log log h.0 h.1) h.2
   followed_refuses (Make count name) a h = absurd h
 
   input_refuses : (job : Asked) (a : Answer) → InputIs left job (Err a) → IsOfRun a → ⊥
@@ -112,6 +118,7 @@ module _ (files : Files) (left : List ℕ) where
   input_refuses (Record r) a h = within_refuses 1048576 part.Input h.content a h.within
   input_refuses (Replay source log reads) a h = absurd h
   input_refuses (Profile source log name) a h = absurd h
+  input_refuses (Watch source log formula) a h = absurd h
   input_refuses (Make count name) a h = absurd h
 
   refuses_no_run : (job : Asked) (a : Answer) → Refuses files left job a → IsOfRun a → ⊥
@@ -129,6 +136,7 @@ module _ (files : Files) (left : List ℕ) where
   one_source (Record asked) r s h g = file_once files 1048576 part.Source asked.source r s h g
   one_source (Replay source log reads) r s h g = file_once files 1048576 part.Source source r s h g
   one_source (Profile source log name) r s h g = file_once files 1048576 part.Source source r s h g
+  one_source (Watch source log formula) r s h g = file_once files 1048576 part.Source source r s h g
   one_source (Make count name) r s h g = h ∙ sym g
 
   one_given : (job : Asked) (a : Answer) (p : ProfileOf) → ProfileIs files job (Err a) → ProfileIs files job (Ok p) → ⊥
@@ -137,6 +145,7 @@ module _ (files : Files) (left : List ℕ) where
   one_given (Record r) a p h g = absurd (cc (profile_once files r.profile (Err a) (Ok p) h g))
   one_given (Replay source log reads) a p h g = absurd h
   one_given (Profile source log name) a p h g = absurd h
+  one_given (Watch source log formula) a p h g = absurd h
   one_given (Make count name) a p h g = absurd h
 
   log_of_once : (file : Result (List ℕ) Answer) (a : Answer) (view : LogView) → IsLogOf file (Err a) → IsLogOf file (Ok view) → ⊥
@@ -152,6 +161,7 @@ module _ (files : Files) (left : List ℕ) where
   one_log (Record r) a view h g = absurd h
   one_log (Replay source log reads) a view h g = log_file_once log a view h g
   one_log (Profile source log name) a view h g = log_file_once log a view h g
+  one_log (Watch source log formula) a view h g = log_file_once log a view h g
   one_log (Make count name) a view h g = absurd h
 
   one_input : (job : Asked) (a : Answer) (read : List ℕ) → InputIs left job (Err a) → InputIs left job (Ok read) → ⊥
@@ -160,6 +170,7 @@ module _ (files : Files) (left : List ℕ) where
   one_input (Record r) a read h g = absurd (cc (input_once left 1048576 part.Input (Err a) (Ok read) h g))
   one_input (Replay source log reads) a read h g = absurd h
   one_input (Profile source log name) a read h g = absurd h
+  one_input (Watch source log formula) a read h g = absurd h
   one_input (Make count name) a read h g = absurd h
 
   not_both : (job : Asked) (a : Answer) → Refuses files left job a → IsAccepted files left job → ⊥
@@ -228,6 +239,13 @@ module _ (files : Files) (left : List ℕ) where
     of_profile source log name a (AtTree text s p pi view li h) = record { step = Ok text; is = s; next = log_tree_refused log text (λ v. ShowsLog v name) li.0 view a li.1 li.2 h }
     of_profile source log name a (AtInput text s p pi os t h) = absurd h
 
+    of_watch : (source log : List ℕ) (formula : Formula) (a : Answer) → Refuses files left (Watch source log formula) a → IsOutcomeOf w w (Some files) (Some left) (Some (Watch source log formula)) (answers a)
+    of_watch source log formula a (AtSource h) = record { step = Err a; is = h; next = refl }
+    of_watch source log formula a (AtProfile text s h) = absurd h
+    of_watch source log formula a (AtLog text s h) = record { step = Ok text; is = s; next = log_refused log text (λ view. TellsLog view formula) h.0 a h.1 h.2 }
+    of_watch source log formula a (AtTree text s p pi view li h) = record { step = Ok text; is = s; next = log_tree_refused log text (λ v. TellsLog v formula) li.0 view a li.1 li.2 h }
+    of_watch source log formula a (AtInput text s p pi os t h) = absurd h
+
     of_make : (count : ℕ) (name : List ℕ) (a : Answer) → Refuses files left (Make count name) a → IsMaking w w count name (following (source_put count name ∷ []) (answers a))
     of_make count name a (AtSource h) = absurd (cc h)
     of_make count name a (AtProfile text s h) = absurd h
@@ -243,6 +261,7 @@ module _ (files : Files) (left : List ℕ) where
     refusal_is_outcome (Record r) a h = of_record r a h
     refusal_is_outcome (Replay source log reads) a h = of_replay source log reads a h
     refusal_is_outcome (Profile source log name) a h = of_profile source log name a h
+    refusal_is_outcome (Watch source log formula) a h = of_watch source log formula a h
     refusal_is_outcome (Make count name) a h = of_make count name a h
 
   answer_of_refusal : (job : Asked) (a : Answer) → (refusal_of job a).answer ≡ a
@@ -251,6 +270,7 @@ module _ (files : Files) (left : List ℕ) where
   answer_of_refusal (Record r) a = refl
   answer_of_refusal (Replay source log reads) a = refl
   answer_of_refusal (Profile source log name) a = refl
+  answer_of_refusal (Watch source log formula) a = refl
   answer_of_refusal (Make count name) a = refl
 
   -- ---- each outcome is a refusal, or comes of what was accepted
@@ -303,6 +323,11 @@ shown_may : (job : Asked) (w : Walk) → FollowsLog job → Walks job → MayAns
 shown_may job (walk.Done out reads ends) follows walks = tt
 shown_may job (walk.Trapped kind thread line out reads ends) follows walks = walks
 shown_may job (walk.Wrong at) follows walks = follows
+
+hit_may : (job : Asked) (line : List ℕ) (w : Walk) → FollowsLog job → Walks job → MayAnswer job (hit_of line w)
+hit_may job line (walk.Done out reads ends) follows walks = tt
+hit_may job line (walk.Trapped kind thread at out reads ends) follows walks = walks
+hit_may job line (walk.Wrong at) follows walks = follows
 
 whole_may : (job : Asked) (w : Walk) → IsWholeWalk w → Walks job → MayAnswer job (answer_of w)
 whole_may job (walk.Done out reads ends) whole walks = tt
@@ -382,6 +407,12 @@ module _ (files : Files) (left : List ℕ) (a b : Work) (o : Outcome) where
       let job = Profile source log name in
       log_either job log (λ view. ShowsLog view name) (λ r l. l) tt tt (λ view os x. told_may job o _ x.shows.told (shown_may job x.shows.walk tt tt)) h.step h.is h.next
 
+  watch_either : (source log : List ℕ) (formula : Formula) → EitherOf (Watch source log formula)
+  watch_either source log formula h =
+      let job = Watch source log formula in
+      log_either job log (λ view. TellsLog view formula) (λ r l. l) tt tt
+      (λ view os x. told_may job o _ (answer_is o _ x.tells.told) (hit_may job (line_of x.tells.watched.seen) x.tells.watched.walk tt tt)) h.step h.is h.next
+
   made_either : (count : ℕ) (name : List ℕ) (rest : Outcome) → o.answer ≡ rest.answer → (r : Result (List Outer) Answer) → IsTree (program_text count) r → Then (IsMade a b count name) r rest → IsEither files left (Make count name) o
   made_either count name rest e (Ok os) t h =
       let job = Make count name in
@@ -395,6 +426,7 @@ module _ (files : Files) (left : List ℕ) (a b : Work) (o : Outcome) where
   either (Record r) = record_either r
   either (Replay source log reads) = replay_either source log reads
   either (Profile source log name) = profile_either source log name
+  either (Watch source log formula) = watch_either source log formula
   either (Make count name) = λ h. made_either count name h.rest (answer_is o _ h.told) h.comes.step h.comes.is h.comes.next
 
 -- ---- the walk of a log that is read
@@ -432,12 +464,25 @@ module _ (view : LogView) (os : List Outer) (found : Analysed) (is : IsFound os 
       let other : WalkIs found.weak view.setup view.entries no_reads h.shows.walk = subst (λ (x : Analysed). WalkIs x.weak view.setup view.entries no_reads h.shows.walk) same h.shows.walks in
       ap status_of h.shows.told ∙ same_status h.shows.walk (one_walk found.weak view.setup view.entries no_reads h.shows.walk w other walks).0
 
+  hit_status : (line : List ℕ) (v : Walk) → answer_of v ≡ answer_of w → status_of (hit_of line v) ≡ status_of (answer_of w)
+  hit_status line (walk.Done out reads ends) e = ap status_of e
+  hit_status line (walk.Trapped kind thread at out reads ends) e = ap status_of e
+  hit_status line (walk.Wrong at) e = ap status_of e
+
+  watch_walked : (formula : Formula) → WalkIs found.weak view.setup view.entries formula w → TellsLog view formula os o → status_of o.answer ≡ status_of (answer_of w)
+  watch_walked formula walks h =
+      let v = h.tells.watched.walk in
+      let same : h.found ≡ found = found_once os view.profile h.found found h.is is in
+      let other : WalkIs found.weak view.setup view.entries formula v = subst (λ (x : Analysed). WalkIs x.weak view.setup view.entries formula v) same h.tells.is.walk in
+      ap status_of (answer_is o _ h.tells.told) ∙ hit_status (line_of h.tells.watched.seen) v (one_walk found.weak view.setup view.entries formula v w other walks).0
+
 walked : (files : Files) (left : List ℕ) (a b : Work) (o : Outcome) (job : Asked) → FollowsLog job → (by : IsAccepted files left job) (found : Analysed) → IsFound by.os by.followed.profile found → (w : Walk) → WalkIs found.weak by.followed.setup by.followed.entries (kept_by job) w → IsOutcomeOf a b (Some files) (Some left) (Some job) o → status_of o.answer ≡ status_of (answer_of w)
 walked files left a b o (Races source) follows = absurd follows
 walked files left a b o (Weaken source name) follows = absurd follows
 walked files left a b o (Record r) follows = absurd follows
 walked files left a b o (Replay source log reads) follows = λ by found is w walks h. ap status_of (replay_walked by.followed by.os found is w o a b reads walks (files_at files by.text log by.followed by.os (λ view. Replays a b view reads) o source by.source by.log by.tree h))
 walked files left a b o (Profile source log name) follows = λ by found is w walks h. profile_walked by.followed by.os found is w o name walks (files_at files by.text log by.followed by.os (λ view. ShowsLog view name) o source by.source by.log by.tree h)
+walked files left a b o (Watch source log formula) follows = λ by found is w walks h. watch_walked by.followed by.os found is w o formula walks (files_at files by.text log by.followed by.os (λ view. TellsLog view formula) o source by.source by.log by.tree h)
 walked files left a b o (Make count name) follows = absurd follows
 
 -- ---- the statuses

@@ -3,7 +3,7 @@ pub mod Ending
 pub mod Found
 pub mod Made
 pub mod OfLog
-pub mod Profiled
+pub mod OfWalk
 pub mod Recorded
 pub mod Replayed
 pub mod Unique

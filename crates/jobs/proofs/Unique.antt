@@ -1,7 +1,7 @@
 -- Files and words have one outcome.
 use Rattle.std.proofs.Common.{◌≡◌, ℕ, List, [], ◌∷◌, ◌++◌, Option, Some, None, Result, Ok, Err, refl, sym, ◌∙◌, ap, subst, arith}
 use Rattle.answers.specs.Jobs.{RecordAsked}
-use Rattle.answers.specs.Jobs.Asked.{Races, Weaken, Record, Replay, Profile, Make}
+use Rattle.answers.specs.Jobs.Asked.{Races, Weaken, Record, Replay, Profile, Watch, Make}
 use Rattle.answers.specs.declared.answer.Answer.{Answer}
 use Rattle.answers.specs.declared.answer.Answer.TheVariants as answer
 use Rattle.answers.specs.declared.answer.Part.{Part}
@@ -27,9 +27,12 @@ use Rattle.outcomes.specs.declared.outcome.Outcome.{Outcome}
 use Rattle.profile_book.proofs.OneAnswer.{one_answer}
 use Rattle.rr_base.specs.Files.{Files}
 use Rattle.walk_answers.proofs.OneWalk.{one_walk}
+use Rattle.thread_flow.specs.declared.access.Formula.{Formula}
+use Rattle.walk_hits.proofs.One.{one_hit}
+use Rattle.walk_hits.specs.Telling.{TellsHit}
 use Rattle.walk_profiles.proofs.One.{one_profile}
 use Rattle.walk_profiles.specs.Profiling.{ShowsProfile}
-use Rattle.jobs.specs.Jobs.{IsProfiling, IsRaces, IsRecord, IsReplay, IsWeaken}
+use Rattle.jobs.specs.Jobs.{IsProfiling, IsRaces, IsRecord, IsReplay, IsWatching, IsWeaken}
 use Rattle.jobs.specs.Laws.{OneOutcome, OneRefusal}
 use Rattle.jobs.specs.Listings.{ListsRaces, ListsWeakLocks}
 use Rattle.job_profiles.specs.Profiles.{IsProfile, IsSpelled, named}
@@ -39,6 +42,7 @@ use Rattle.jobs.specs.Recordings.{IsRecording}
 use Rattle.job_runs.specs.Logs.{IsLogIn, IsRefusal}
 use Rattle.jobs.specs.Replays.{Replays}
 use Rattle.jobs.specs.Sources.{IsFound, IsTree}
+use Rattle.jobs.specs.Watchings.{TellsLog}
 use Rattle.job_runs.specs.Works.{IsOfRun, Work}
 use Rattle.job_runs.proofs.Worked.{told_of_run}
 use Rattle.jobs.proofs.Worked.{made_is_of_run}
@@ -146,6 +150,11 @@ shows_once log name os o p h g =
     let same : h.found ≡ g.found = found_once os log.profile h.found g.found h.is g.is in
     one_profile g.found.weak log.setup log.entries name o p (subst (λ (w : Analysed). ShowsProfile w.weak log.setup log.entries name o) same h.shows) g.shows
 
+tells_once : (log : LogView) (formula : Formula) (os : List Outer) (o p : Outcome) → TellsLog log formula os o → TellsLog log formula os p → o ≡ p
+tells_once log formula os o p h g =
+    let same : h.found ≡ g.found = found_once os log.profile h.found g.found h.is g.is in
+    one_hit g.found.weak log.setup log.entries formula o p (subst (λ (w : Analysed). TellsHit w.weak log.setup log.entries formula o) same h.tells) g.tells
+
 -- ---- jobs
 
 -- the source of every job
@@ -192,6 +201,9 @@ of_replay a b c d files source log reads o p h g = by_log files source log (λ v
 of_profile : (files : Files) (source log name : List ℕ) (o p : Outcome) → IsProfiling (Some files) source log name o → IsProfiling (Some files) source log name p → o ≡ p
 of_profile files source log name o p h g = by_log files source log (λ view. ShowsLog view name) (λ view. ShowsLog view name) o p (λ view os. shows_once view name os o p) h g
 
+of_watch : (files : Files) (source log : List ℕ) (formula : Formula) (o p : Outcome) → IsWatching (Some files) source log formula o → IsWatching (Some files) source log formula p → o ≡ p
+of_watch files source log formula o p h g = by_log files source log (λ view. TellsLog view formula) (λ view. TellsLog view formula) o p (λ view os. tells_once view formula os o p) h g
+
 -- ---- jobs that record a run, where they are refused
 
 of_record : (a b c d : Work) (files : Files) (left : List ℕ) (r : RecordAsked) (o p : Outcome) → (IsOfRun o.answer → ⊥) → IsRecord a b (Some files) (Some left) r o → IsRecord c d (Some files) (Some left) r p → o ≡ p
@@ -217,6 +229,7 @@ one_refusal a b c d files left (Some (Weaken source name)) o p unrun h g = of_we
 one_refusal a b c d files left (Some (Record r)) o p unrun h g = of_record a b c d files left r o p unrun h.is g.is
 one_refusal a b c d files left (Some (Replay source log reads)) o p unrun h g = of_replay a b c d files source log reads o p h.is g.is
 one_refusal a b c d files left (Some (Profile source log name)) o p unrun h g = of_profile files source log name o p h.is g.is
+one_refusal a b c d files left (Some (Watch source log formula)) o p unrun h g = of_watch files source log formula o p h.is g.is
 one_refusal a b c d files left (Some (Make count name)) o p unrun h g = of_make a b c d count name o p unrun h.is g.is
 
 pub one_outcome : OneOutcome
@@ -226,4 +239,5 @@ one_outcome a b c d files left (Some (Weaken source name)) o p none h g = of_wea
 one_outcome a b c d files left (Some (Record r)) o p none h g = absurd (none tt)
 one_outcome a b c d files left (Some (Replay source log reads)) o p none h g = of_replay a b c d files source log reads o p h.is g.is
 one_outcome a b c d files left (Some (Profile source log name)) o p none h g = of_profile files source log name o p h.is g.is
+one_outcome a b c d files left (Some (Watch source log formula)) o p none h g = of_watch files source log formula o p h.is g.is
 one_outcome a b c d files left (Some (Make count name)) o p none h g = absurd (none tt)

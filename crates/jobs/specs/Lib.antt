@@ -3,6 +3,7 @@ pub mod Sources
 pub mod Listings
 pub mod Replays
 pub mod Profilings
+pub mod Watchings
 pub mod Recordings
 pub mod Makings
 pub mod Jobs

@@ -1,7 +1,7 @@
 -- That a name is wanting which a job asks the shelf for, in the order of work.
 use Rattle.std.specs.Prelude.{ℕ, List, ◌⊎◌, Option, Some, None, Ok}
 use Rattle.answers.specs.Jobs.{Asked}
-use Rattle.answers.specs.Jobs.Asked.{Races, Weaken, Record, Replay, Profile, Make}
+use Rattle.answers.specs.Jobs.Asked.{Races, Weaken, Record, Replay, Profile, Watch, Make}
 use Rattle.answers.specs.declared.answer.Part.TheVariants as part
 use Rattle.job_profiles.specs.Profiles.{LacksProfile}
 use Rattle.outcomes.specs.Steps.{IsFile, Lacks}
@@ -19,4 +19,5 @@ LacksFile files (Some (Weaken source profile)) = LacksEither files source (Lacks
 LacksFile files (Some (Record r)) = LacksEither files r.source (LacksProfile files r.profile)
 LacksFile files (Some (Replay source log reads)) = LacksEither files source (Lacks files log)
 LacksFile files (Some (Profile source log name)) = LacksEither files source (Lacks files log)
+LacksFile files (Some (Watch source log formula)) = LacksEither files source (Lacks files log)
 LacksFile files (Some (Make count name)) = ⊥

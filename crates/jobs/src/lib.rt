@@ -1,4 +1,4 @@
-//! The jobs of the program: the listings of a source, a recorded run, a run by a log, the profile of a log, and a made source, which is
+//! The jobs of the program: the listings of a source, a recorded run, a run by a log, the profile of a log, the first access of a log's run that meets a formula, and a made source, which is
 //! recorded and replayed. It joins the crates below, and
 //! promises for each job what its outcome is, which is its answer, the files that it puts, and what is known of its run.
 #![tactic(auto)]
@@ -11,6 +11,7 @@ mod recording;
 mod replaying;
 mod sources;
 mod top;
+mod watching;
 mod weak_locks;
 
 pub use laws::{law_one_outcome, law_one_refusal, law_statuses_have_causes};

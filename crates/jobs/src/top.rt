@@ -14,6 +14,7 @@ use crate::profiling::profile_log;
 use crate::races::races;
 use crate::recording::record_source;
 use crate::replaying::replay;
+use crate::watching::watch_log;
 use crate::weak_locks::weak_locks;
 use answers::{Answer, Job, job_of, tell_answer};
 use crew::Crew;
@@ -47,6 +48,11 @@ fn outcome_of_job<'a, R: Threads + Wait + Sync, I: Source, S: Keeper, C: Crew>(
         Job::Replay { source, log, reads } => { replay(rt, alloc, source, log, reads, shelf, crew) }
         Job::Record(job) => record_source(rt, alloc, &job, input, shelf, crew),
         Job::Profile { source, log, name } => profile_log(alloc, source, log, name, shelf),
+        Job::Watch {
+            source,
+            log,
+            formula,
+        } => watch_log(alloc, source, log, formula, shelf),
         Job::Make { count, name } => make(rt, alloc, count, name, shelf, crew),
     }
 }
@@ -83,8 +89,8 @@ fn do_job<'a, R: Threads + Wait + Sync, I: Source, O: Sink, S: Keeper, C: Crew>(
     }
 }
 
-/// Does what the words after the program's name ask for, and answers the exit status: 0 where the run ended, or the listing or the
-/// profile was written, 1 where the words are no job, 2 where the source is refused, 3 where a thread trapped, 4 where the log is refused, 5
+/// Does what the words after the program's name ask for, and answers the exit status: 0 where the run ended, or the listing, the
+/// profile or the access was written, 1 where the words are no job, 2 where the source is refused, 3 where a thread trapped, 4 where the log is refused, 5
 /// where it isn't one of this program, 6 where the profile is refused, 7 where the input failed, 8 where the sink did, 9 where the
 /// shelf did, 10 where the crew did, 11 where a file or the input has too many bytes, 12 without memory. Nothing is put but where
 /// the run ended or a thread trapped, and a made source and its log, which are put on the way. Only a recording touches `input`, and

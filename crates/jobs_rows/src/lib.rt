@@ -21,6 +21,8 @@ mod region_tests;
 #[cfg(test)]
 mod tests;
 #[cfg(test)]
+mod watch_tests;
+#[cfg(test)]
 mod weak_tests;
 #[cfg(test)]
 mod whole_tests;

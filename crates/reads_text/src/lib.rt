@@ -6,4 +6,4 @@
 mod tests;
 mod text;
 
-pub use text::reads_text;
+pub use text::{push_value, reads_text};

@@ -18,8 +18,8 @@ fn push_number(out: &mut Bytes, number: u32) -> Result<(), AllocError>
     out.push(b' ')
 }
 
-// A word as a signed number.
-fn push_value(out: &mut Bytes, value: u64) -> Result<(), AllocError>
+/// A word as a signed number.
+pub fn push_value(out: &mut Bytes, value: u64) -> Result<(), AllocError>
     ensures { OnOk result (out.new ≡ out.old ++ spec.value_text value) }
 {
     let mut buffer = Buffer::new();

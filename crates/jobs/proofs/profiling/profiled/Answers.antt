@@ -1,10 +1,11 @@
 use Rattle.std.proofs.Common.{sym, subst, length, ◌≤◌, Ok, Err}
 use Rattle.sync_objects.specs.Setup.{IsWithinLimits}
 use Rattle.weak_facts.specs.Ranges.{ranges_of}
+use Rattle.walk_profiles.specs.Profiling.{ShowsProfile}
 use Rattle.jobs.specs.Profilings.{ShowsLog}
 use Rattle.jobs.specs.Sources.{Compiles}
 use Rattle.jobs.proofs.Found.{not_compiled, compile_is_pure, memory_is_pure, same_compile}
-use Rattle.jobs.proofs.Profiled.{profiled_gives}
+use Rattle.jobs.proofs.OfWalk.{walk_gives}
 use Rattle.jobs.proofs.Replayed.{walks_as_source}
 use Rattle.jobs.proofs.profiling.profiled.Goals as goal
 
@@ -23,10 +24,9 @@ returns-in-Ok-clause-outcome c =
     let log = c.args.log.now in
     let w = c.in-Ok.weakened in
     let h : Compiles c.args.source.now log.profile (Ok w) = same_compile c.as_slice.result.now c.args.source.now c.profile.result.now log.profile (Ok w) c.as_slice.ensures c.profile.ensures.value c.in-Ok.ensures in
-    profiled_gives c.args.source.now log c.args.name.now w c.shown.result c.or_stop.result h
-    (walks_as_source h.0 log.setup log.entries w h.2.is h.2.of (λ end walks. c.law_text_erased_walk.ensures c.args.source.now h.0 w.points w.pairs (ranges_of w.plain w.points) w.grains.rows log.setup log.entries end c.requires h.1 (subst IsWithinLimits c.setup.ensures c.slots-slots.ensures.within) walks)
-    (λ end walks. c.law_ordered_walk.ensures w log.setup log.entries end h.2.is (subst IsWithinLimits c.setup.ensures c.slots-slots.ensures.within) walks))
-    c.shown.ensures c.or_stop.ensures
+    let source = walks_as_source h.0 log.setup log.entries w h.2.is h.2.of (λ end walks. c.law_text_erased_walk.ensures c.args.source.now h.0 w.points w.pairs (ranges_of w.plain w.points) w.grains.rows log.setup log.entries end c.requires h.1 (subst IsWithinLimits c.setup.ensures c.slots-slots.ensures.within) walks)
+    (λ end walks. c.law_ordered_walk.ensures w log.setup log.entries end h.2.is (subst IsWithinLimits c.setup.ensures c.slots-slots.ensures.within) walks) in
+    walk_gives c.args.source.now log.profile (ShowsLog log c.args.name.now) (ShowsProfile w.weak log.setup log.entries c.args.name.now) w c.shown.result c.or_stop.result h (λ o shows. record { found = w; is = h.2; source = source; shows = shows }) c.shown.ensures c.or_stop.ensures
 
 pub returns-in-Ok-clause-pure : goal.returns-in-Ok-clause-pure
 returns-in-Ok-clause-pure c = memory_is_pure _ c.or_stop.result c.or_stop.ensures
