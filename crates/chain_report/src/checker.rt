@@ -4,7 +4,8 @@ ghost use Rattle.chain_report.specs.Accesses.{AreInOrder};
 ghost use Rattle.chain_report.specs.Chains.{exclude as exclude_of, hands_thread as hands_thread_of, passes_to as passes_to_of, passes as passes_of, is_after as is_after_of, is_before as is_before_of, is_of_one as is_of_one_of, goes_on as goes_on_of, ends as ends_of, is_chain as is_chain_of};
 
 use crate::point::Point;
-use crate::replayed::{acquired, released, same_object};
+use crate::replayed::{acquired, released};
+use core_run::same_object;
 use lock_sound::Weakened;
 use rr_base::List;
 use sync_objects::{Entry, Mode, OpName, Setup};

@@ -4,8 +4,9 @@ ghost use Rattle.chain_report.specs.Tables.{first_from, is_link_of as is_link_of
 
 use crate::checker::{exclude, hands_thread, is_after, is_before};
 use crate::point::Point;
-use crate::replayed::{acquired, released, same_object};
+use crate::replayed::{acquired, released};
 use crate::row::Row;
+use core_run::same_object;
 use rr_base::List;
 use std::alloc::{AllocError, Global};
 use sync_objects::{Entry, Mode};

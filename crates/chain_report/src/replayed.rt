@@ -1,29 +1,9 @@
 // Which locks the entries of a log get and let go.
 ghost use Rattle.std.specs.Prelude.{◌≡◌, None};
-ghost use Rattle.runs.specs.Same.{same_object as same_object_of};
 ghost use Rattle.chain_report.specs.Replayed.{holder_after as holder_after_of, holder_over as holder_over_of, hold_after as hold_after_of, hold_over as hold_over_of, released as released_of, acquired as acquired_of};
 
+use core_run::same_object;
 use sync_objects::{Entry, Mode, ObjId, OpName};
-
-/// Whether the two are one object.
-pub(crate) fn same_object(a: ObjId, b: ObjId) -> bool
-    ensures { result ≡ same_object_of a b }
-{
-    match (a, b) {
-        (ObjId::Mutex(c), ObjId::Mutex(d)) => c == d,
-        (ObjId::Cond(c), ObjId::Cond(d)) => c == d,
-        (ObjId::Barrier(c), ObjId::Barrier(d)) => c == d,
-        (ObjId::Rw(c), ObjId::Rw(d)) => c == d,
-        (ObjId::Weak { lock: l, stripe: s }, ObjId::Weak { lock: m, stripe: r }) => l == m
-            && s == r,
-        (ObjId::Slot(k), ObjId::Slot(n)) => k == n,
-        (ObjId::Threads, ObjId::Threads) => true,
-        (ObjId::Halt, ObjId::Halt) => true,
-        (ObjId::Input, ObjId::Input) => true,
-        (ObjId::Output, ObjId::Output) => true,
-        _ => false,
-    }
-}
 
 // Who holds a mutex after an operation on it.
 fn holder_after(op: OpName, thread: u8, before: Option<u8>) -> Option<u8>

@@ -18,6 +18,7 @@ pub use abstract_machine::Action;
 pub use laws::{law_converge, law_kept, law_machine, law_merges, law_written_merge};
 pub use outcome::Walk;
 pub use parts::{has_object, place_of};
+pub use same::same_object;
 pub use start::{start_flows, start_words};
 pub use sync_objects::{Entry, Noted, Setup};
 pub use walker::make_part;

@@ -41,7 +41,8 @@ fn operation_index(op: OpName) -> u8
     }
 }
 
-fn same_object(a: ObjId, b: ObjId) -> bool
+/// Whether the two are one object.
+pub fn same_object(a: ObjId, b: ObjId) -> bool
     ensures { result ≡ same_object_of a b }
 {
     match (a, b) {
