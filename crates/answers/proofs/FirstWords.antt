@@ -2,6 +2,7 @@
 use Rattle.std.proofs.Common.{◌≡◌, refl, sym, ◌∙◌, ap, ℕ, ◌+◌, ◌-◌, ◌<◌, ◌≤◌, suc, take, drop, get_or, take_all, Bool, true, false, not, cond, ◌||◌, ◌&&◌, List, [], ◌∷◌, ◌≢◌, length, nat_eq, arith, ne_eqb, eqb-true}
 use Rattle.std.proofs.lemmas.Bool.{and_right, and_parts, eqb-false, false_from_ne_true, not-true}
 use Rattle.std.specs.List.{list_any, position_or_len, before_first, after_first}
+use Rattle.std.proofs.lemmas.List.{drop_all}
 use Rattle.answers.specs.Arguments.{Positional, Wrong, is_name, is_equals, is_option, setting, arguments}
 
 any_step : (b : Bool) (n m : ℕ) (more : Bool) → (n < m → more ≡ true) → cond (not b) (1 + n) 0 < suc m → (b || more) ≡ true
@@ -21,6 +22,10 @@ module _ (is : ℕ → Bool) where
   pub lacks_byte : (text : List ℕ) → position_or_len is text ≡ length text → list_any is text ≡ false
   lacks_byte [] h = refl
   lacks_byte (b ∷ bs) h = none_step (is b) (position_or_len is bs) (length bs) (list_any is bs) (lacks_byte bs) h
+
+  -- and nothing stands after it
+  pub nothing_after : (text : List ℕ) → position_or_len is text ≡ length text → after_first is text ≡ []
+  nothing_after text h = ap (λ n. drop (n + 1) text) h ∙ drop_all (length text + 1) text (omega arith)
 
 -- `--x=value`
 pub joined_first : (text : List ℕ) (words : List (List ℕ)) → position_or_len is_equals text < length text → arguments ((45 ∷ 45 ∷ text) ∷ words) ≡ setting (before_first is_equals text) (after_first is_equals text) ∷ arguments words

@@ -1,15 +1,18 @@
 -- The numbers of a job are within their limits.
 use Rattle.std.proofs.Common.{◌≡◌, refl, sym, ◌∙◌, subst, ℕ, ◌≤◌, ◌&&◌, List, [], ◌∷◌, Option, Some, None, IfSome, option_map, option_and_then, bytes_eq, decimal, nat_le, codes, arith, leb-true, inl, inr}
+use Rattle.std.specs.List.{after_first, before_first}
 use Rattle.std.specs.Str.Parse.{digits_value}
 use Rattle.std.proofs.lemmas.Bool.{and_parts, cond-true, cond-false, cases_Bool}
 use Rattle.std.proofs.lemmas.Option.{same_Some}
 use Rattle.thread_flow.specs.declared.access.Formula.{Formula}
 use Rattle.answers.specs.Arguments.{Argument, value_of, number_within, number_or}
-use Rattle.answers.specs.Jobs.{Asked, asked_of, record_of, HasLimits, told}
-use Rattle.answers.specs.Jobs.Asked.{Races, Weaken, Replay, Profile, Watch, Make}
+use Rattle.answers.specs.Events.{HasEventLimits, event_named, is_point}
+use Rattle.answers.specs.Jobs.{Asked, asked_of, chain_of, record_of, HasLimits, told}
+use Rattle.answers.specs.Jobs.Asked.{Races, Weaken, Replay, Profile, Watch, Chain, Make}
 use Rattle.answers.specs.Predicates.{accesses_asked}
 use Rattle.answers.specs.declared.command.Command.{Command}
 use Rattle.answers.specs.declared.command.Command.TheVariants as command
+use Rattle.answers.specs.declared.event.Event.{Event}
 use Rattle.answers.specs.declared.job.Job.{Job}
 
 -- ---- limits
@@ -67,6 +70,22 @@ of_watch : (source log : List ℕ) (o : Option Formula) (a : Asked) → option_m
 of_watch source log None a e = cc e
 of_watch source log (Some formula) a e = subst HasLimits (same_Some (Watch source log formula) a e) tt
 
+of_event : (word : List ℕ) (event : Event) → event_named word ≡ Some event → HasEventLimits event
+of_event word event e =
+    let counts = after_first is_point word in
+    let threads = before_first is_point word in
+    let count = found (number_within 0 67108865 counts) (λ n. option_and_then (λ t. Some (record { thread = t; count = n })) (number_within 0 15 threads)) event e in
+    let thread = found (number_within 0 15 threads) (λ t. Some (record { thread = t; count = count.value })) event count.gives in
+    let c = within 0 67108865 counts count.value count.is in
+    let t = within 0 15 threads thread.value thread.is in
+    subst HasEventLimits (same_Some (record { thread = thread.value; count = count.value }) event thread.gives) (record { thread_high = t.below; count_high = c.below })
+
+of_chain : (source log one other : List ℕ) (a : Asked) → chain_of source log one other ≡ Some a → HasLimits a
+of_chain source log one other a e =
+    let i = found _ _ a e in
+    let j = found _ _ a i.gives in
+    subst HasLimits (same_Some (Chain source log i.value j.value) a j.gives) (of_event one i.value i.is, of_event other j.value j.is)
+
 of_asked : (c : Command) (words : List (List ℕ)) (given : List Argument) (a : Asked) → asked_of c words given ≡ Some a → HasLimits a
 of_asked command.Races (source ∷ []) given a e = subst HasLimits (same_Some (Races source) a e) tt
 of_asked command.Weaken (source ∷ []) given a e = subst HasLimits (same_Some (Weaken source (value_of (codes "profile") given)) a e) tt
@@ -74,6 +93,7 @@ of_asked command.Record (source ∷ log ∷ []) given a e = of_record source log
 of_asked command.Replay (source ∷ log ∷ []) given a e = subst HasLimits (same_Some (Replay source log (value_of (codes "reads") given)) a e) tt
 of_asked command.Profile (source ∷ log ∷ name ∷ []) given a e = subst HasLimits (same_Some (Profile source log name) a e) tt
 of_asked command.Watch (source ∷ log ∷ predicate ∷ []) given a e = of_watch source log (accesses_asked predicate) a e
+of_asked command.Chain (source ∷ log ∷ one ∷ other ∷ []) given a e = of_chain source log one other a e
 of_asked command.Make (count ∷ name ∷ []) given a e = of_make (number_within 1 1000 count) count name a refl e
 of_asked _ _ given a e = cc
 

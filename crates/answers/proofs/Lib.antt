@@ -1,3 +1,4 @@
+pub mod EventParts
 pub mod FirstWords
 pub mod JobLimits
 pub mod Matched

@@ -10,8 +10,9 @@ use Rattle.clap.proofs.WalkLemmas.{first_value-rows}
 use Rattle.thread_flow.specs.declared.access.Formula.{Formula}
 use Rattle.answers.specs.Arguments.{Argument, are_fit, positional, value_of, number_within, number_or}
 use Rattle.answers.specs.Jobs.{Asked, asked_of, job_by, takes}
-use Rattle.answers.specs.Jobs.Asked.{Races, Weaken, Record, Replay, Profile, Watch, Make}
+use Rattle.answers.specs.Jobs.Asked.{Races, Weaken, Record, Replay, Profile, Watch, Chain, Make}
 use Rattle.answers.specs.Reader.{asked_by, option_rule, pairs, rows_read, words_of}
+use Rattle.answers.specs.Events.{event_named}
 use Rattle.answers.specs.Predicates.{accesses_asked}
 use Rattle.answers.specs.declared.command.Command.{Command}
 use Rattle.answers.specs.declared.command.Command.TheVariants as command
@@ -55,6 +56,12 @@ no_job command.Watch (a ∷ []) given h = refl
 no_job command.Watch (a ∷ b ∷ []) given h = refl
 no_job command.Watch (a ∷ b ∷ c ∷ []) given h = absurd (h refl)
 no_job command.Watch (a ∷ b ∷ c ∷ d ∷ more) given h = refl
+no_job command.Chain [] given h = refl
+no_job command.Chain (a ∷ []) given h = refl
+no_job command.Chain (a ∷ b ∷ []) given h = refl
+no_job command.Chain (a ∷ b ∷ c ∷ []) given h = refl
+no_job command.Chain (a ∷ b ∷ c ∷ d ∷ []) given h = absurd (h refl)
+no_job command.Chain (a ∷ b ∷ c ∷ d ∷ e ∷ more) given h = refl
 no_job command.Make [] given h = refl
 no_job command.Make (a ∷ []) given h = refl
 no_job command.Make (a ∷ b ∷ []) given h = absurd (h refl)
@@ -86,6 +93,9 @@ profile_by source log name = source >>= λ s. (log >>= λ l. (name >>= λ n. Som
 
 abbrev watch_by : Option Text → Option Text → Option Text → Option Asked
 watch_by source log predicate = source >>= λ s. (log >>= λ l. (predicate >>= λ p. (accesses_asked p >>= λ f. Some (Watch s l f))))
+
+abbrev chain_by : Option Text → Option Text → Option Text → Option Text → Option Asked
+chain_by source log one other = source >>= λ s. (log >>= λ l. (one >>= λ a. (event_named a >>= λ i. (other >>= λ b. (event_named b >>= λ j. Some (Chain s l i j))))))
 
 abbrev make_by : Option Text → Option Text → Option Asked
 make_by count name = count >>= λ c. (number_within 1 1000 c >>= λ n. (name >>= λ t. Some (Make n t)))
@@ -143,6 +153,14 @@ module _ (value : Text → Option Text) (given : List Argument) where
   of_watch (a ∷ b ∷ []) n source log predicate = cc
   of_watch (a ∷ b ∷ c ∷ d ∷ more) n source log predicate = cc
 
+  of_chain : (ws : List Text) → length ws ≡ 4 → value (codes "source") ≡ slice_get ws 0 → value (codes "log") ≡ slice_get ws 1 → value (codes "one") ≡ slice_get ws 2 → value (codes "other") ≡ slice_get ws 3 → asked_by command.Chain value ≡ asked_of command.Chain ws given
+  of_chain (s ∷ l ∷ a ∷ b ∷ []) n source log one other = (λ i. chain_by (source i) (log i) (one i) (other i))
+  of_chain [] n source log one other = cc
+  of_chain (a ∷ []) n source log one other = cc
+  of_chain (a ∷ b ∷ []) n source log one other = cc
+  of_chain (a ∷ b ∷ c ∷ []) n source log one other = cc
+  of_chain (a ∷ b ∷ c ∷ d ∷ e ∷ more) n source log one other = cc
+
   numbered : (o : Option ℕ) (t : Text) → option_and_then (λ n. Some (Make n t)) o ≡ option_map (λ n. Make n t) o
   numbered None t = refl
   numbered (Some n) t = refl
@@ -176,6 +194,11 @@ module _ (value : Text → Option Text) (given : List Argument) where
       of_watch (positional given) n (is _ ∙ word_at (takes command.Watch) (codes "source") [] (codes "log" ∷ codes "predicate" ∷ []) given refl refl fit)
       (is _ ∙ word_at (takes command.Watch) (codes "log") (codes "source" ∷ []) (codes "predicate" ∷ []) given refl refl fit)
       (is _ ∙ word_at (takes command.Watch) (codes "predicate") (codes "source" ∷ codes "log" ∷ []) [] given refl refl fit)
+  of_values command.Chain fit n is =
+      of_chain (positional given) n (is _ ∙ word_at (takes command.Chain) (codes "source") [] (codes "log" ∷ codes "one" ∷ codes "other" ∷ []) given refl refl fit)
+      (is _ ∙ word_at (takes command.Chain) (codes "log") (codes "source" ∷ []) (codes "one" ∷ codes "other" ∷ []) given refl refl fit)
+      (is _ ∙ word_at (takes command.Chain) (codes "one") (codes "source" ∷ codes "log" ∷ []) (codes "other" ∷ []) given refl refl fit)
+      (is _ ∙ word_at (takes command.Chain) (codes "other") (codes "source" ∷ codes "log" ∷ codes "one" ∷ []) [] given refl refl fit)
   of_values command.Make fit n is =
       of_make (positional given) n (is _ ∙ word_at (takes command.Make) (codes "count") [] (codes "name" ∷ []) given refl refl fit)
       (is _ ∙ word_at (takes command.Make) (codes "name") (codes "count" ∷ []) [] given refl refl fit)

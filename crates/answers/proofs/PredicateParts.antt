@@ -1,14 +1,13 @@
 -- The parts of a word that asks for accesses, as a text is cut.
 use Rattle.std.proofs.Common.{◌≡◌, ◌≢◌, refl, sym, ◌∙◌, ap, ℕ, ◌+◌, ◌<◌, List, [], ◌∷◌, ◌++◌, length, drop, Bor, Option, Some, None, MatchOption, option_map, nat_eq, arith, eqb-true, inl, inr, take, take_all}
 use Rattle.std.specs.Prelude.{codes, option_and_then}
-use Rattle.std.proofs.lemmas.List.{drop_all}
 use Rattle.std.specs.Fmt.{digits}
 use Rattle.std.specs.List.{after_first, before_first, list_any, position_or_len}
 use Rattle.std.specs.Str.Pattern.{FindsTextPrefix, StripsPrefix}
 use Rattle.std.proofs.lemmas.Bool.{cases_Bool, eq-eqb, cond-true, cond-false}
 use Rattle.answers.specs.Arguments.{number_within}
 use Rattle.answers.specs.Predicates.{accesses_asked, after_name, asked_in, cells_asked, first_part, is_comma, is_dash, next_part}
-use Rattle.answers.proofs.FirstWords.{has_byte, lacks_byte}
+use Rattle.answers.proofs.FirstWords.{has_byte, lacks_byte, nothing_after}
 
 -- ---- commas
 
@@ -51,7 +50,7 @@ not_empty = refl
 
 pub no_dash : (text : List ℕ) → position_or_len is_dash text ≡ length text → None ≡ cells_asked (Some text)
 no_dash text h =
-    let none : after_first is_dash text ≡ [] = ap (λ n. drop (n + 1) text) h ∙ drop_all (length text + 1) text (omega arith) in
+    let none = nothing_after is_dash text h in
     sym (ap (λ (o : Option ℕ). option_and_then (λ high. option_and_then (λ low. Some (low, high)) (number_within 0 high (before_first is_dash text))) o) (ap (number_within 0 4194303) none ∙ not_empty))
 
 -- ---- all parts

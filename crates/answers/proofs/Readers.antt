@@ -155,6 +155,19 @@ watch_ready = record {
   following = λ words. refl;
 }
 
+chain_ready : Ready command.Chain
+chain_ready = record {
+  simple = refl;
+  leaf = refl;
+  options = no_option _ _ (λ name. refl);
+  words = (record { by_index = refl; by_id = refl; next_at = refl }, (record { by_index = refl; by_id = refl; next_at = refl }, (record { by_index = refl; by_id = refl; next_at = refl }, (record { by_index = refl; by_id = refl; next_at = refl }, tt))));
+  apart = refl;
+  passing = refl;
+  none = refl;
+  valid = λ rows. refl;
+  following = λ words. refl;
+}
+
 make_ready : Ready command.Make
 make_ready = record {
   simple = refl;
@@ -175,6 +188,7 @@ ready command.Record = record_ready
 ready command.Replay = replay_ready
 ready command.Profile = profile_ready
 ready command.Watch = watch_ready
+ready command.Chain = chain_ready
 ready command.Make = make_ready
 
 -- ---- fit words

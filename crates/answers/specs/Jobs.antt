@@ -5,9 +5,11 @@ use Rattle.std.specs.List.{list_any}
 use Rattle.std.specs.Str.{bytes_eq}
 use Rattle.thread_flow.specs.declared.access.Formula.{Formula}
 use Rattle.answers.specs.Arguments.{Argument, arguments, positional, value_of, are_fit, number_within, number_or}
+use Rattle.answers.specs.Events.{HasEventLimits, event_named}
 use Rattle.answers.specs.Predicates.{accesses_asked}
 use Rattle.answers.specs.declared.command.Command.{Command}
 use Rattle.answers.specs.declared.command.Command.TheVariants as command
+use Rattle.answers.specs.declared.event.Event.{Event}
 use Rattle.answers.specs.declared.job.Job.{Job}
 use Rattle.answers.specs.declared.job.Job.TheVariants as job
 use Rattle.answers.specs.declared.job.RecordJob.{RecordJob}
@@ -31,6 +33,7 @@ pub data Asked : Type 0 where
   Replay : (source log : List ℕ) → (reads : Option (List ℕ)) → Asked
   Profile : (source log name : List ℕ) → Asked
   Watch : (source log : List ℕ) → (formula : Formula) → Asked
+  Chain : (source log : List ℕ) → (one other : Event) → Asked
   Make : (count : ℕ) → (name : List ℕ) → Asked
 
 -- ---- the words
@@ -44,7 +47,8 @@ command_of word =
     (if bytes_eq word (codes "replay") then Some command.Replay else
     (if bytes_eq word (codes "profile") then Some command.Profile else
     (if bytes_eq word (codes "watch") then Some command.Watch else
-    (if bytes_eq word (codes "make") then Some command.Make else None))))))
+    (if bytes_eq word (codes "chain") then Some command.Chain else
+    (if bytes_eq word (codes "make") then Some command.Make else None)))))))
 
 -- the options that may be given with a command
 abbrev pub takes : Command → (option : List ℕ) → Bool
@@ -66,6 +70,13 @@ record_of source log given = do
   budget ← number_or 1 1048576 1000 (value_of (codes "budget") given)
   Some (Record (record { source = source; log = log; profile = value_of (codes "profile") given; slots = slots; cells = cells; limit = limit; budget = budget; reads = value_of (codes "reads") given }))
 
+-- what orders two events
+abbrev pub chain_of : (source log one other : List ℕ) → Option Asked
+chain_of source log one other = do
+  i ← event_named one
+  j ← event_named other
+  Some (Chain source log i j)
+
 -- the job of a command, by its positional words and the options that are given
 abbrev pub asked_of : Command → (words : List (List ℕ)) → (given : List Argument) → Option Asked
 asked_of command.Races (source ∷ []) given = Some (Races source)
@@ -74,6 +85,7 @@ asked_of command.Record (source ∷ log ∷ []) given = record_of source log giv
 asked_of command.Replay (source ∷ log ∷ []) given = Some (Replay source log (value_of (codes "reads") given))
 asked_of command.Profile (source ∷ log ∷ name ∷ []) given = Some (Profile source log name)
 asked_of command.Watch (source ∷ log ∷ predicate ∷ []) given = option_map (Watch source log) (accesses_asked predicate)
+asked_of command.Chain (source ∷ log ∷ one ∷ other ∷ []) given = chain_of source log one other
 asked_of command.Make (count ∷ name ∷ []) given = option_map (λ n. Make n name) (number_within 1 1000 count)
 asked_of _ _ _ = None
 
@@ -102,6 +114,7 @@ pub record HasRecordLimits (asked : RecordAsked) : Type 0 where
 -- the numbers of a job are within their limits
 abbrev pub HasLimits : Asked → Type 0
 HasLimits (Record asked) = HasRecordLimits asked
+HasLimits (Chain source log one other) = HasEventLimits one × HasEventLimits other
 HasLimits (Make count name) = (1 ≤ count) × (count ≤ 1000)
 HasLimits _ = ⊤
 
@@ -119,6 +132,7 @@ told (job.Record r) = Record (record_told r)
 told (job.Replay source log reads) = Replay source.now log.now (option_map (λ name. name.now) reads)
 told (job.Profile source log name) = Profile source.now log.now name.now
 told (job.Watch source log formula) = Watch source.now log.now formula
+told (job.Chain source log one other) = Chain source.now log.now one other
 told (job.Make count name) = Make count name.now
 
 -- ---- worked rows
@@ -151,6 +165,13 @@ one_word_short = refl
 
 watched : job_of (codes "watch" ∷ codes "a" ∷ codes "b" ∷ codes "store" ∷ []) ≡ Some (Watch (codes "a") (codes "b") (record { loads = false; stores = true; thread = None; low = 0; high = 4294967295; value = None }))
 watched = refl
+
+ordered : job_of (codes "chain" ∷ codes "a" ∷ codes "b" ∷ codes "2.4" ∷ codes "1.4" ∷ []) ≡ Some (Chain (codes "a") (codes "b") (record { thread = 2; count = 4 }) (record { thread = 1; count = 4 }))
+unfolding digits
+ordered = refl
+
+one_event_short : job_of (codes "chain" ∷ codes "a" ∷ codes "b" ∷ codes "2.4" ∷ []) ≡ None
+one_event_short = refl
 
 made : job_of (codes "make" ∷ codes "1000" ∷ codes "n.c" ∷ []) ≡ Some (Make 1000 (codes "n.c"))
 unfolding digits

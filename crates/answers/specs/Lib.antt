@@ -2,6 +2,7 @@ pub mod Answers
 pub mod Arguments
 pub mod Contents
 pub mod Endings
+pub mod Events
 pub mod Jobs
 pub mod Predicates
 pub mod Reader

@@ -2,7 +2,8 @@
 use Rattle.std.specs.Prelude.{true, List, [], ◌∷◌, ◌++◌, map, Option, Some, None, option_and_then, codes}
 use Rattle.answers.specs.Arguments.{Argument, Positional, Setting, Wrong, number_within, number_or}
 use Rattle.answers.specs.Jobs.{Asked}
-use Rattle.answers.specs.Jobs.Asked.{Races, Weaken, Record, Replay, Profile, Watch, Make}
+use Rattle.answers.specs.Jobs.Asked.{Races, Weaken, Record, Replay, Profile, Watch, Chain, Make}
+use Rattle.answers.specs.Events.{event_named}
 use Rattle.answers.specs.Predicates.{accesses_asked}
 use Rattle.answers.specs.declared.command.Command.{Command}
 use Rattle.answers.specs.declared.command.Command.TheVariants as command
@@ -21,6 +22,7 @@ words_of command.Record = codes "source" ∷ codes "log" ∷ []
 words_of command.Replay = codes "source" ∷ codes "log" ∷ []
 words_of command.Profile = codes "source" ∷ codes "log" ∷ codes "name" ∷ []
 words_of command.Watch = codes "source" ∷ codes "log" ∷ codes "predicate" ∷ []
+words_of command.Chain = codes "source" ∷ codes "log" ∷ codes "one" ∷ codes "other" ∷ []
 words_of command.Make = codes "count" ∷ codes "name" ∷ []
 
 -- the options of a command
@@ -50,6 +52,7 @@ reader_of command.Record = reading (codes "record") (words_of command.Record) (o
 reader_of command.Replay = reading (codes "replay") (words_of command.Replay) (options_of command.Replay)
 reader_of command.Profile = reading (codes "profile") (words_of command.Profile) (options_of command.Profile)
 reader_of command.Watch = reading (codes "watch") (words_of command.Watch) (options_of command.Watch)
+reader_of command.Chain = reading (codes "chain") (words_of command.Chain) (options_of command.Chain)
 reader_of command.Make = reading (codes "make") (words_of command.Make) (options_of command.Make)
 
 -- ---- what is matched
@@ -111,6 +114,14 @@ asked_by command.Watch value = do
   predicate ← value (codes "predicate")
   formula ← accesses_asked predicate
   Some (Watch source log formula)
+asked_by command.Chain value = do
+  source ← value (codes "source")
+  log ← value (codes "log")
+  one ← value (codes "one")
+  i ← event_named one
+  other ← value (codes "other")
+  j ← event_named other
+  Some (Chain source log i j)
 asked_by command.Make value = do
   count ← value (codes "count")
   number ← number_within 1 1000 count

@@ -9,6 +9,7 @@ ghost use Rattle.clap.specs.Words.{first_value, found_of};
 
 use crate::arguments::{are_fit, has_positional};
 use crate::command::Command;
+use crate::event::event_named;
 use crate::job::{Job, RecordJob};
 use crate::number::{number_or, number_within};
 use crate::predicate::accesses_asked;
@@ -71,6 +72,18 @@ fn asked<'a>(command: Command, matches: &ArgMatches<'a>) -> Option<Job<'a>>
                 source,
                 log,
                 formula,
+            })
+        }
+        Command::Chain => {
+            let source = matches.get_str("source")?;
+            let log = matches.get_str("log")?;
+            let one = event_named(matches.get_str("one")?)?;
+            let other = event_named(matches.get_str("other")?)?;
+            Some(Job::Chain {
+                source,
+                log,
+                one,
+                other,
             })
         }
         Command::Make => {

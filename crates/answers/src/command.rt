@@ -13,6 +13,7 @@ pub enum Command {
     Replay,
     Profile,
     Watch,
+    Chain,
     Make,
 }
 
@@ -28,6 +29,7 @@ impl Command {
             "replay" => Some(Command::Replay),
             "profile" => Some(Command::Profile),
             "watch" => Some(Command::Watch),
+            "chain" => Some(Command::Chain),
             "make" => Some(Command::Make),
             _ => None,
         }
@@ -41,6 +43,7 @@ impl Command {
             Command::Races | Command::Weaken => 1,
             Command::Record | Command::Replay | Command::Make => 2,
             Command::Profile | Command::Watch => 3,
+            Command::Chain => 4,
         }
     }
 
@@ -52,7 +55,8 @@ impl Command {
             Command::Weaken => option == "profile",
             Command::Record => is_of_record(option),
             Command::Replay => option == "reads",
-            Command::Races | Command::Profile | Command::Watch | Command::Make => false,
+            Command::Races | Command::Profile | Command::Watch | Command::Chain | Command::Make =>
+                false,
         }
     }
 }

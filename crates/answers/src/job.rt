@@ -1,5 +1,6 @@
 // What may be asked of the program.
 
+use crate::event::Event;
 use thread_flow::Formula;
 
 /// What is asked for. Sources, logs, profiles and reads go by the names of their files.
@@ -33,6 +34,13 @@ pub enum Job<'a> {
         source: &'a str,
         log: &'a str,
         formula: Formula,
+    },
+    /// What orders two accesses of a log's run, which are these events.
+    Chain {
+        source: &'a str,
+        log: &'a str,
+        one: Event,
+        other: Event,
     },
     /// A made source with so many functions, recorded and replayed.
     Make {

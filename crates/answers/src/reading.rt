@@ -84,6 +84,15 @@ fn watch_reader<'a>(alloc: Global) -> Result<Reader<'a>, AllocError>
     with_word(alloc, reader, "predicate")
 }
 
+fn chain_reader<'a>(alloc: Global) -> Result<Reader<'a>, AllocError>
+    ensures { IfOk result (λ r. app_of r ≡ spec.reader_of command.Chain) }
+{
+    let reader = with_word(alloc, bare(alloc, "chain"), "source")?;
+    let reader = with_word(alloc, reader, "log")?;
+    let reader = with_word(alloc, reader, "one")?;
+    with_word(alloc, reader, "other")
+}
+
 fn make_reader<'a>(alloc: Global) -> Result<Reader<'a>, AllocError>
     ensures { IfOk result (λ r. app_of r ≡ spec.reader_of command.Make) }
 {
@@ -101,6 +110,7 @@ fn reader_of<'a>(alloc: Global, command: Command) -> Result<Reader<'a>, AllocErr
         Command::Replay => replay_reader(alloc),
         Command::Profile => profile_reader(alloc),
         Command::Watch => watch_reader(alloc),
+        Command::Chain => chain_reader(alloc),
         Command::Make => make_reader(alloc),
     }
 }

@@ -1,4 +1,4 @@
-use answers::{Answer, Job, Part, RecordJob, job_of, summary_text, text_of};
+use answers::{Answer, Event, Job, Part, RecordJob, job_of, summary_text, text_of};
 use rr_base::{Bytes, List, Trap};
 use std::alloc::{AllocError, Global};
 use std::test::Fail;
@@ -46,6 +46,19 @@ fn told_watch(
     format!(in alloc; "watch {source} {log} {loads} {stores} {thread} {low} {high} {value}")
 }
 
+fn told_chain(
+    alloc: Global,
+    source: &str,
+    log: &str,
+    events: [Event; 2],
+) -> Result<String, AllocError> {
+    let [one, other] = events;
+    let Event { thread, count } = one;
+    let text = format!(in alloc; "chain {source} {log} {thread} {count}")?;
+    let Event { thread, count } = other;
+    format!(in alloc; "{text} {thread} {count}")
+}
+
 fn told(alloc: Global, job: Job<'_>) -> Result<String, AllocError> {
     match job {
         Job::Races { source } => format!(in alloc; "races {source}"),
@@ -64,12 +77,18 @@ fn told(alloc: Global, job: Job<'_>) -> Result<String, AllocError> {
             log,
             formula,
         } => told_watch(alloc, source, log, formula),
+        Job::Chain {
+            source,
+            log,
+            one,
+            other,
+        } => told_chain(alloc, source, log, [one, other]),
         Job::Make { count, name } => format!(in alloc; "make {count} {name}"),
     }
 }
 
 // Each command, and each option in both spellings and in any place.
-const JOBS: [(&str, &str); 32] = [
+const JOBS: [(&str, &str); 35] = [
     ("races a", "races a"),
     ("weaken a", "weaken a none"),
     ("weaken a --profile p", "weaken a p"),
@@ -93,6 +112,9 @@ const JOBS: [(&str, &str); 32] = [
         "watch a b any,value=9223372036854775807",
         "watch a b true true 99 0 4294967295 9223372036854775807",
     ),
+    ("chain a b 2.4 1.4", "chain a b 2 4 1 4"),
+    ("chain a b 0.0 15.67108865", "chain a b 0 0 15 67108865"),
+    ("chain a b 1.20 1.20", "chain a b 1 20 1 20"),
     ("make 1 a", "make 1 a"),
     ("make 1000 a", "make 1000 a"),
     ("record a b", "record a b none 8 16384 16777216 1000 none"),
@@ -156,7 +178,7 @@ const JOBS: [(&str, &str); 32] = [
 ];
 
 // Lists of words that are no job.
-const NO_JOBS: [&str; 70] = [
+const NO_JOBS: [&str; 93] = [
     "",
     "help",
     "--help",
@@ -208,6 +230,29 @@ const NO_JOBS: [&str; 70] = [
     "watch a b any,value=+1",
     "watch a b any,value=9223372036854775808",
     "watch a b any,value=-9223372036854775809",
+    "chain a b",
+    "chain a b 2.4",
+    "chain a b 2.4 1.4 0.1",
+    "chain a b 2.4 1.4 --reads r",
+    "chain a b 2.4 1.4 --reads=r",
+    "chain a b 16.1 1.1",
+    "chain a b 1.1 16.1",
+    "chain a b 1.67108866 1.2",
+    "chain a b 1.2 1.67108866",
+    "chain a b 1 1.2",
+    "chain a b 1.2 1",
+    "chain a b 1.02 1.2",
+    "chain a b 01.2 1.2",
+    "chain a b 1.-0 1.2",
+    "chain a b -0.2 1.2",
+    "chain a b 1.-2 1.2",
+    "chain a b 1.+2 1.2",
+    "chain a b 1.2.3 1.2",
+    "chain a b 1. 1.2",
+    "chain a b .2 1.2",
+    "chain a b . 1.2",
+    "chain a b 1,2 1.2",
+    "chain a b t.2 1.2",
     "make",
     "make a",
     "make 0 a",
