@@ -17,10 +17,15 @@ use Rattle.walk_answers.specs.Walking as printed
 use Rattle.walk_hits.specs.Telling.{answer_of, line_of, TellsHit}
 
 -- what is told of a walk, with this line for what it prints
-abbrev with_line : List ℕ → Answer → Answer
+abbrev pub with_line : List ℕ → Answer → Answer
 with_line line (answer.Done out) = answer.Done line
 with_line line (answer.Trapped out kind thread at) = answer.Trapped line kind thread at
 with_line line a = a
+
+pub by_walk : (line : List ℕ) (w : Walk) → answer_of line w ≡ with_line line (printed.answer_of w)
+by_walk line (walk.Done out reads ends) = refl
+by_walk line (walk.Trapped kind thread at out reads ends) = refl
+by_walk line (walk.Wrong at) = refl
 
 -- what is seen depends on the walk only by its end
 by_end : (f : Formula) (xs : List Placed) (w : Walk) → answer_of (line_of (seen_of f xs w)) w ≡ with_line (line_of (first_seen f xs)) (printed.answer_of w)

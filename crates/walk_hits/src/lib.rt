@@ -6,4 +6,4 @@ mod law;
 mod told;
 
 pub use law::law_one_hit;
-pub use told::told_hit;
+pub use told::{answer_of, told_hit};

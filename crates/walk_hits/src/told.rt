@@ -55,8 +55,8 @@ fn line_of(alloc: Global, seen: Seen) -> Result<Bytes, AllocError>
     Ok(line)
 }
 
-// This line, and the trap of the walk; or the first wrong entry alone.
-fn answer_of(line: Bytes, walk: &Walk) -> Answer
+/// This line, and the trap of the walk; or the first wrong entry alone.
+pub fn answer_of(line: Bytes, walk: &Walk) -> Answer
     ensures { result ≡ spec.answer_of line walk.now }
 {
     match *walk {
