@@ -4,12 +4,14 @@ use Rattle.answers.specs.Answers.{shelf_fault, status_of}
 use Rattle.answers.specs.Endings.{Writes}
 use Rattle.answers.specs.Endings.Writes.{Whole, Failed, NoMemory}
 use Rattle.answers.specs.Jobs.{Asked, RecordAsked}
-use Rattle.answers.specs.Jobs.Asked.{Races, Weaken, Record, Replay, Profile, Watch, Make}
+use Rattle.answers.specs.Jobs.Asked.{Races, Weaken, Record, Replay, Profile, Watch, Chain, Make}
 use Rattle.answers.specs.declared.answer.Answer.{Answer}
 use Rattle.answers.specs.declared.answer.Answer.TheVariants as answer
 use Rattle.answers.specs.declared.answer.Part.{Part}
 use Rattle.answers.specs.declared.answer.Part.TheVariants as part
+use Rattle.answers.specs.declared.event.Event.{Event}
 use Rattle.c_tree.specs.Tree.{Outer}
+use Rattle.chain_report.specs.declared.point.Point.{Point}
 use Rattle.core_run.specs.declared.outcome.Walk.{Walk}
 use Rattle.core_run.specs.declared.outcome.Walk.TheVariants as walk
 use Rattle.profiles.specs.declared.profile.Profile.{Profile as ProfileOf}
@@ -32,12 +34,14 @@ use Rattle.rr_base.specs.Files.{Files}
 use Rattle.walk_answers.proofs.OneWalk.{one_walk}
 use Rattle.walk_answers.specs.Walking.{answer_of, formula_of, no_reads}
 use Rattle.thread_flow.specs.declared.access.Formula.{Formula}
+use Rattle.walk_chains.specs.Telling.{lines_of}
 use Rattle.walk_hits.specs.Telling.{answer_of as hit_of, line_of}
 use Rattle.walk_profiles.specs.Profiling.{answer_of as shown_of}
 use Rattle.workload.specs.Program.{program_text}
 use Rattle.jobs.specs.Causes.{CauseOf, FollowsLog, InputIs, IsAccepted, IsDecided, IsLogFile, IsLogOf, LogIs, MayAnswer, kept_by, ProfileIs, Refuses, SourceIs, Walks, WentWell}
 use Rattle.jobs.specs.Causes.CauseOf.{NoJob, Refused, Answered, InputFailed, OutputFailed, ShelfFailed, CrewFailed, LacksMemory}
 use Rattle.jobs.specs.Causes.Refuses.{AtSource, AtProfile, AtLog, AtTree, AtInput}
+use Rattle.jobs.specs.Chainings.{OrdersLog, point_of}
 use Rattle.jobs.specs.Jobs.{IsOutcome, IsOutcomeOf, PutsBefore, ReadsInput, RunsThreads, UsesShelf}
 use Rattle.jobs.specs.Laws.{StatusesHaveCauses}
 use Rattle.jobs.specs.Listings.{ListsRaces, ListsWeakLocks}
@@ -92,6 +96,7 @@ module _ (files : Files) (left : List ℕ) where
   source_refuses (Replay source log reads) a h = within_refuses 1048576 part.Source h.content a h.within
   source_refuses (Profile source log name) a h = within_refuses 1048576 part.Source h.content a h.within
   source_refuses (Watch source log formula) a h = within_refuses 1048576 part.Source h.content a h.within
+  source_refuses (Chain source log one other) a h = within_refuses 1048576 part.Source h.content a h.within
   source_refuses (Make count name) a h = absurd (cc h)
 
   given_refuses : (job : Asked) (a : Answer) → ProfileIs files job (Err a) → IsOfRun a → ⊥
@@ -101,6 +106,7 @@ module _ (files : Files) (left : List ℕ) where
   given_refuses (Replay source log reads) a h = absurd h
   given_refuses (Profile source log name) a h = absurd h
   given_refuses (Watch source log formula) a h = absurd h
+  given_refuses (Chain source log one other) a h = absurd h
   given_refuses (Make count name) a h = absurd h
 
   followed_refuses : (job : Asked) (a : Answer) → LogIs files job (Err a) → IsOfRun a → ⊥
@@ -110,6 +116,7 @@ module _ (files : Files) (left : List ℕ) where
   followed_refuses (Replay source log reads) a h = log_refuses h.0 a (file_refuses files 536870912 part.Log log h.0 h.1) h.2
   followed_refuses (Profile source log name) a h = log_refuses h.0 a (file_refuses files 536870912 part.Log log h.0 h.1) h.2
   followed_refuses (Watch source log formula) a h = log_refuses h.0 a (file_refuses files 536870912 part.Log log h.0 h.1) h.2
+  followed_refuses (Chain source log one other) a h = log_refuses h.0 a (file_refuses files 536870912 part.Log log h.0 h.1) h.2
   followed_refuses (Make count name) a h = absurd h
 
   input_refuses : (job : Asked) (a : Answer) → InputIs left job (Err a) → IsOfRun a → ⊥
@@ -119,6 +126,7 @@ module _ (files : Files) (left : List ℕ) where
   input_refuses (Replay source log reads) a h = absurd h
   input_refuses (Profile source log name) a h = absurd h
   input_refuses (Watch source log formula) a h = absurd h
+  input_refuses (Chain source log one other) a h = absurd h
   input_refuses (Make count name) a h = absurd h
 
   refuses_no_run : (job : Asked) (a : Answer) → Refuses files left job a → IsOfRun a → ⊥
@@ -137,6 +145,7 @@ module _ (files : Files) (left : List ℕ) where
   one_source (Replay source log reads) r s h g = file_once files 1048576 part.Source source r s h g
   one_source (Profile source log name) r s h g = file_once files 1048576 part.Source source r s h g
   one_source (Watch source log formula) r s h g = file_once files 1048576 part.Source source r s h g
+  one_source (Chain source log one other) r s h g = file_once files 1048576 part.Source source r s h g
   one_source (Make count name) r s h g = h ∙ sym g
 
   one_given : (job : Asked) (a : Answer) (p : ProfileOf) → ProfileIs files job (Err a) → ProfileIs files job (Ok p) → ⊥
@@ -146,6 +155,7 @@ module _ (files : Files) (left : List ℕ) where
   one_given (Replay source log reads) a p h g = absurd h
   one_given (Profile source log name) a p h g = absurd h
   one_given (Watch source log formula) a p h g = absurd h
+  one_given (Chain source log one other) a p h g = absurd h
   one_given (Make count name) a p h g = absurd h
 
   log_of_once : (file : Result (List ℕ) Answer) (a : Answer) (view : LogView) → IsLogOf file (Err a) → IsLogOf file (Ok view) → ⊥
@@ -162,6 +172,7 @@ module _ (files : Files) (left : List ℕ) where
   one_log (Replay source log reads) a view h g = log_file_once log a view h g
   one_log (Profile source log name) a view h g = log_file_once log a view h g
   one_log (Watch source log formula) a view h g = log_file_once log a view h g
+  one_log (Chain source log one other) a view h g = log_file_once log a view h g
   one_log (Make count name) a view h g = absurd h
 
   one_input : (job : Asked) (a : Answer) (read : List ℕ) → InputIs left job (Err a) → InputIs left job (Ok read) → ⊥
@@ -171,6 +182,7 @@ module _ (files : Files) (left : List ℕ) where
   one_input (Replay source log reads) a read h g = absurd h
   one_input (Profile source log name) a read h g = absurd h
   one_input (Watch source log formula) a read h g = absurd h
+  one_input (Chain source log one other) a read h g = absurd h
   one_input (Make count name) a read h g = absurd h
 
   not_both : (job : Asked) (a : Answer) → Refuses files left job a → IsAccepted files left job → ⊥
@@ -246,6 +258,13 @@ module _ (files : Files) (left : List ℕ) where
     of_watch source log formula a (AtTree text s p pi view li h) = record { step = Ok text; is = s; next = log_tree_refused log text (λ v. TellsLog v formula) li.0 view a li.1 li.2 h }
     of_watch source log formula a (AtInput text s p pi os t h) = absurd h
 
+    of_chain : (source log : List ℕ) (one other : Event) (a : Answer) → Refuses files left (Chain source log one other) a → IsOutcomeOf w w (Some files) (Some left) (Some (Chain source log one other)) (answers a)
+    of_chain source log one other a (AtSource h) = record { step = Err a; is = h; next = refl }
+    of_chain source log one other a (AtProfile text s h) = absurd h
+    of_chain source log one other a (AtLog text s h) = record { step = Ok text; is = s; next = log_refused log text (λ view. OrdersLog view (point_of one) (point_of other)) h.0 a h.1 h.2 }
+    of_chain source log one other a (AtTree text s p pi view li h) = record { step = Ok text; is = s; next = log_tree_refused log text (λ v. OrdersLog v (point_of one) (point_of other)) li.0 view a li.1 li.2 h }
+    of_chain source log one other a (AtInput text s p pi os t h) = absurd h
+
     of_make : (count : ℕ) (name : List ℕ) (a : Answer) → Refuses files left (Make count name) a → IsMaking w w count name (following (source_put count name ∷ []) (answers a))
     of_make count name a (AtSource h) = absurd (cc h)
     of_make count name a (AtProfile text s h) = absurd h
@@ -262,6 +281,7 @@ module _ (files : Files) (left : List ℕ) where
     refusal_is_outcome (Replay source log reads) a h = of_replay source log reads a h
     refusal_is_outcome (Profile source log name) a h = of_profile source log name a h
     refusal_is_outcome (Watch source log formula) a h = of_watch source log formula a h
+    refusal_is_outcome (Chain source log one other) a h = of_chain source log one other a h
     refusal_is_outcome (Make count name) a h = of_make count name a h
 
   answer_of_refusal : (job : Asked) (a : Answer) → (refusal_of job a).answer ≡ a
@@ -271,6 +291,7 @@ module _ (files : Files) (left : List ℕ) where
   answer_of_refusal (Replay source log reads) a = refl
   answer_of_refusal (Profile source log name) a = refl
   answer_of_refusal (Watch source log formula) a = refl
+  answer_of_refusal (Chain source log one other) a = refl
   answer_of_refusal (Make count name) a = refl
 
   -- ---- each outcome is a refusal, or comes of what was accepted
@@ -413,6 +434,12 @@ module _ (files : Files) (left : List ℕ) (a b : Work) (o : Outcome) where
       log_either job log (λ view. TellsLog view formula) (λ r l. l) tt tt
       (λ view os x. told_may job o _ (answer_is o _ x.tells.told) (hit_may job (line_of x.tells.watched.seen) x.tells.watched.walk tt tt)) h.step h.is h.next
 
+  chain_either : (source log : List ℕ) (one other : Event) → EitherOf (Chain source log one other)
+  chain_either source log one other h =
+      let job = Chain source log one other in
+      log_either job log (λ view. OrdersLog view (point_of one) (point_of other)) (λ r l. l) tt tt
+      (λ view os x. told_may job o _ (answer_is o _ x.tells.told) (hit_may job (lines_of x.tells.found) x.tells.walk tt tt)) h.step h.is h.next
+
   made_either : (count : ℕ) (name : List ℕ) (rest : Outcome) → o.answer ≡ rest.answer → (r : Result (List Outer) Answer) → IsTree (program_text count) r → Then (IsMade a b count name) r rest → IsEither files left (Make count name) o
   made_either count name rest e (Ok os) t h =
       let job = Make count name in
@@ -427,6 +454,7 @@ module _ (files : Files) (left : List ℕ) (a b : Work) (o : Outcome) where
   either (Replay source log reads) = replay_either source log reads
   either (Profile source log name) = profile_either source log name
   either (Watch source log formula) = watch_either source log formula
+  either (Chain source log one other) = chain_either source log one other
   either (Make count name) = λ h. made_either count name h.rest (answer_is o _ h.told) h.comes.step h.comes.is h.comes.next
 
 -- ---- the walk of a log that is read
@@ -476,6 +504,13 @@ module _ (view : LogView) (os : List Outer) (found : Analysed) (is : IsFound os 
       let other : WalkIs found.weak view.setup view.entries formula v = subst (λ (x : Analysed). WalkIs x.weak view.setup view.entries formula v) same h.tells.is.walk in
       ap status_of (answer_is o _ h.tells.told) ∙ hit_status (line_of h.tells.watched.seen) v (one_walk found.weak view.setup view.entries formula v w other walks).0
 
+  chain_walked : (one other : Point) → WalkIs found.weak view.setup view.entries no_reads w → OrdersLog view one other os o → status_of o.answer ≡ status_of (answer_of w)
+  chain_walked one other walks h =
+      let v = h.tells.walk in
+      let same : h.found ≡ found = found_once os view.profile h.found found h.is is in
+      let follows : WalkIs found.weak view.setup view.entries no_reads v = subst (λ (x : Analysed). WalkIs x.weak view.setup view.entries no_reads v) same h.tells.walks in
+      ap status_of (answer_is o _ h.tells.told) ∙ hit_status (lines_of h.tells.found) v (one_walk found.weak view.setup view.entries no_reads v w follows walks).0
+
 walked : (files : Files) (left : List ℕ) (a b : Work) (o : Outcome) (job : Asked) → FollowsLog job → (by : IsAccepted files left job) (found : Analysed) → IsFound by.os by.followed.profile found → (w : Walk) → WalkIs found.weak by.followed.setup by.followed.entries (kept_by job) w → IsOutcomeOf a b (Some files) (Some left) (Some job) o → status_of o.answer ≡ status_of (answer_of w)
 walked files left a b o (Races source) follows = absurd follows
 walked files left a b o (Weaken source name) follows = absurd follows
@@ -483,6 +518,7 @@ walked files left a b o (Record r) follows = absurd follows
 walked files left a b o (Replay source log reads) follows = λ by found is w walks h. ap status_of (replay_walked by.followed by.os found is w o a b reads walks (files_at files by.text log by.followed by.os (λ view. Replays a b view reads) o source by.source by.log by.tree h))
 walked files left a b o (Profile source log name) follows = λ by found is w walks h. profile_walked by.followed by.os found is w o name walks (files_at files by.text log by.followed by.os (λ view. ShowsLog view name) o source by.source by.log by.tree h)
 walked files left a b o (Watch source log formula) follows = λ by found is w walks h. watch_walked by.followed by.os found is w o formula walks (files_at files by.text log by.followed by.os (λ view. TellsLog view formula) o source by.source by.log by.tree h)
+walked files left a b o (Chain source log one other) follows = λ by found is w walks h. chain_walked by.followed by.os found is w o (point_of one) (point_of other) walks (files_at files by.text log by.followed by.os (λ view. OrdersLog view (point_of one) (point_of other)) o source by.source by.log by.tree h)
 walked files left a b o (Make count name) follows = absurd follows
 
 -- ---- the statuses

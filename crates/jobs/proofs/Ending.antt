@@ -5,7 +5,7 @@ use Rattle.answers.specs.Answers.{status_of, text_of, read_fault, crew_fault}
 use Rattle.answers.specs.Endings.{Sight, Writes}
 use Rattle.answers.specs.Endings.Writes.{Whole, Failed, NoMemory}
 use Rattle.answers.specs.Jobs.{Asked, told}
-use Rattle.answers.specs.Jobs.Asked.{Races, Weaken, Record, Replay, Profile, Watch, Make}
+use Rattle.answers.specs.Jobs.Asked.{Races, Weaken, Record, Replay, Profile, Watch, Chain, Make}
 use Rattle.answers.specs.declared.answer.Answer.{Answer}
 use Rattle.answers.specs.declared.answer.Answer.TheVariants as answer
 use Rattle.answers.specs.declared.job.Job.{Job}
@@ -33,6 +33,7 @@ puts_before (Some (Record asked)) = ([], refl)
 puts_before (Some (Replay source log reads)) = ([], refl)
 puts_before (Some (Profile source log name)) = ([], refl)
 puts_before (Some (Watch source log formula)) = ([], refl)
+puts_before (Some (Chain source log one other)) = ([], refl)
 puts_before (Some (Make count name)) = (source_put count name ∷ [], Source refl)
 
 -- memory was wanting for the words, before anything was done

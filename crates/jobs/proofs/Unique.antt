@@ -1,12 +1,14 @@
 -- Files and words have one outcome.
 use Rattle.std.proofs.Common.{◌≡◌, ℕ, List, [], ◌∷◌, ◌++◌, Option, Some, None, Result, Ok, Err, refl, sym, ◌∙◌, ap, subst, arith}
 use Rattle.answers.specs.Jobs.{RecordAsked}
-use Rattle.answers.specs.Jobs.Asked.{Races, Weaken, Record, Replay, Profile, Watch, Make}
+use Rattle.answers.specs.Jobs.Asked.{Races, Weaken, Record, Replay, Profile, Watch, Chain, Make}
 use Rattle.answers.specs.declared.answer.Answer.{Answer}
 use Rattle.answers.specs.declared.answer.Answer.TheVariants as answer
 use Rattle.answers.specs.declared.answer.Part.{Part}
 use Rattle.answers.specs.declared.answer.Part.TheVariants as part
+use Rattle.answers.specs.declared.event.Event.{Event}
 use Rattle.c_tree.specs.Tree.{Outer}
+use Rattle.chain_report.specs.declared.point.Point.{Point}
 use Rattle.core_run.specs.Walks.{WalkIs}
 use Rattle.profiles.specs.declared.profile.Profile.{Profile as ProfileOf}
 use Rattle.profiles.specs.declared.profile.Profile.TheVariants as profile
@@ -16,6 +18,7 @@ use Rattle.front.specs.Readings.{sound, refused}
 use Rattle.front.specs.declared.reading.SourceFault.{SourceFault}
 use Rattle.listing.specs.Text.{races_text_of}
 use Rattle.listing.specs.WeakText.{weak_text_of}
+use Rattle.lock_sound.proofs.Running.{weakened_runs}
 use Rattle.lock_sound.specs.Weakened.{Analysed}
 use Rattle.order_log.proofs.Only.{log_at-only}
 use Rattle.order_log.specs.Log.{LogView}
@@ -26,13 +29,17 @@ use Rattle.outcomes.specs.Steps.{Comes, IsFile, IsInput, IsWithin, Then}
 use Rattle.outcomes.specs.declared.outcome.Outcome.{Outcome}
 use Rattle.profile_book.proofs.OneAnswer.{one_answer}
 use Rattle.rr_base.specs.Files.{Files}
+use Rattle.sync_objects.specs.Setup.{IsWithinLimits}
 use Rattle.walk_answers.proofs.OneWalk.{one_walk}
 use Rattle.thread_flow.specs.declared.access.Formula.{Formula}
+use Rattle.walk_chains.proofs.One.{one_chain}
+use Rattle.walk_chains.specs.Telling.{TellsChain}
 use Rattle.walk_hits.proofs.One.{one_hit}
 use Rattle.walk_hits.specs.Telling.{TellsHit}
 use Rattle.walk_profiles.proofs.One.{one_profile}
 use Rattle.walk_profiles.specs.Profiling.{ShowsProfile}
-use Rattle.jobs.specs.Jobs.{IsProfiling, IsRaces, IsRecord, IsReplay, IsWatching, IsWeaken}
+use Rattle.jobs.specs.Chainings.{OrdersLog, point_of}
+use Rattle.jobs.specs.Jobs.{IsChaining, IsProfiling, IsRaces, IsRecord, IsReplay, IsWatching, IsWeaken}
 use Rattle.jobs.specs.Laws.{OneOutcome, OneRefusal}
 use Rattle.jobs.specs.Listings.{ListsRaces, ListsWeakLocks}
 use Rattle.job_profiles.specs.Profiles.{IsProfile, IsSpelled, named}
@@ -52,12 +59,16 @@ use Rattle.workload.specs.Program.{program_text}
 -- ---- steps
 
 module _ {X : Type 0} (IsStep : Result X Answer → Type 0) (Next Other : X → Outcome → Type 0) (o p : Outcome) where
-  then_once : (r : Result X Answer) → ((x : X) → Next x o → Other x p → o ≡ p) → Then Next r o → Then Other r p → o ≡ p
-  then_once (Ok x) next h g = next x h g
-  then_once (Err a) next h g = h ∙ sym g
+  then_once : (r : Result X Answer) → ((x : X) → IsStep (Ok x) → Next x o → Other x p → o ≡ p) → IsStep r → Then Next r o → Then Other r p → o ≡ p
+  then_once (Ok x) next is h g = next x is h g
+  then_once (Err a) next is h g = h ∙ sym g
+
+  -- what comes once has stepped there
+  pub comes_once_by : ((r s : Result X Answer) → IsStep r → IsStep s → r ≡ s) → ((x : X) → IsStep (Ok x) → Next x o → Other x p → o ≡ p) → Comes IsStep Next o → Comes IsStep Other p → o ≡ p
+  comes_once_by one next h g = then_once g.step next g.is (subst (λ r. Then Next r o) (one h.step g.step h.is g.is) h.next) g.next
 
   pub comes_once : ((r s : Result X Answer) → IsStep r → IsStep s → r ≡ s) → ((x : X) → Next x o → Other x p → o ≡ p) → Comes IsStep Next o → Comes IsStep Other p → o ≡ p
-  comes_once one next h g = then_once g.step next (subst (λ r. Then Next r o) (one h.step g.step h.is g.is) h.next) g.next
+  comes_once one next = comes_once_by one (λ x is. next x)
 
 same_some : {A : Type 0} (x y : A) → Some x ≡ Some y → x ≡ y
 same_some x y e = cc e
@@ -155,6 +166,11 @@ tells_once log formula os o p h g =
     let same : h.found ≡ g.found = found_once os log.profile h.found g.found h.is g.is in
     one_hit g.found.weak log.setup log.entries formula o p (subst (λ (w : Analysed). TellsHit w.weak log.setup log.entries formula o) same h.tells) g.tells
 
+orders_once : (log : LogView) (limits : IsWithinLimits log.setup) (one other : Point) (os : List Outer) (o p : Outcome) → OrdersLog log one other os o → OrdersLog log one other os p → o ≡ p
+orders_once log limits one other os o p h g =
+    let same : h.found ≡ g.found = found_once os log.profile h.found g.found h.is g.is in
+    one_chain g.found.weak log.setup log.entries one other o p (weakened_runs g.found g.is.is) limits (subst (λ (w : Analysed). TellsChain w.weak log.setup log.entries one other o) same h.tells) g.tells
+
 -- ---- jobs
 
 -- the source of every job
@@ -187,22 +203,27 @@ OfBytes Next text bytes = Comes (IsLogIn bytes) (OfLog Next text)
 abbrev OfFile : (files : Files) (log : List ℕ) → (LogView → List Outer → Outcome → Type 0) → (text : List ℕ) → Outcome → Type 0
 OfFile files log Next text = Comes (IsFile (Some files) 536870912 part.Log log) (OfBytes Next text)
 
-by_log : (files : Files) (source log : List ℕ) (Next Other : LogView → List Outer → Outcome → Type 0) (o p : Outcome) → ((view : LogView) (os : List Outer) → Next view os o → Other view os p → o ≡ p)
+by_log : (files : Files) (source log : List ℕ) (Next Other : LogView → List Outer → Outcome → Type 0) (o p : Outcome) → ((view : LogView) → IsWithinLimits view.setup → (os : List Outer) → Next view os o → Other view os p → o ≡ p)
     → Comes (IsFile (Some files) 1048576 part.Source source) (OfFile files log Next) o → Comes (IsFile (Some files) 1048576 part.Source source) (OfFile files log Other) p → o ≡ p
 by_log files source log Next Other o p once h g =
     source_once files source (OfFile files log Next) (OfFile files log Other) o p
     (λ text. comes_once (IsFile (Some files) 536870912 part.Log log) (OfBytes Next text) (OfBytes Other text) o p (file_once files 536870912 part.Log log)
-    (λ bytes. comes_once (IsLogIn bytes) (OfLog Next text) (OfLog Other text) o p (log_once bytes)
-    (λ view. by_tree text (Next view) (Other view) o p (once view)))) h g
+    (λ bytes. comes_once_by (IsLogIn bytes) (OfLog Next text) (OfLog Other text) o p (log_once bytes)
+    (λ view is. by_tree text (Next view) (Other view) o p (once view is.1.setup)))) h g
 
 of_replay : (a b c d : Work) (files : Files) (source log : List ℕ) (reads : Option (List ℕ)) (o p : Outcome) → IsReplay a b (Some files) source log reads o → IsReplay c d (Some files) source log reads p → o ≡ p
-of_replay a b c d files source log reads o p h g = by_log files source log (λ view. Replays a b view reads) (λ view. Replays c d view reads) o p (λ view os. replays_once a b c d view reads os o p) h g
+of_replay a b c d files source log reads o p h g = by_log files source log (λ view. Replays a b view reads) (λ view. Replays c d view reads) o p (λ view limits os. replays_once a b c d view reads os o p) h g
 
 of_profile : (files : Files) (source log name : List ℕ) (o p : Outcome) → IsProfiling (Some files) source log name o → IsProfiling (Some files) source log name p → o ≡ p
-of_profile files source log name o p h g = by_log files source log (λ view. ShowsLog view name) (λ view. ShowsLog view name) o p (λ view os. shows_once view name os o p) h g
+of_profile files source log name o p h g = by_log files source log (λ view. ShowsLog view name) (λ view. ShowsLog view name) o p (λ view limits os. shows_once view name os o p) h g
 
 of_watch : (files : Files) (source log : List ℕ) (formula : Formula) (o p : Outcome) → IsWatching (Some files) source log formula o → IsWatching (Some files) source log formula p → o ≡ p
-of_watch files source log formula o p h g = by_log files source log (λ view. TellsLog view formula) (λ view. TellsLog view formula) o p (λ view os. tells_once view formula os o p) h g
+of_watch files source log formula o p h g = by_log files source log (λ view. TellsLog view formula) (λ view. TellsLog view formula) o p (λ view limits os. tells_once view formula os o p) h g
+
+of_chain : (files : Files) (source log : List ℕ) (one other : Event) (o p : Outcome) → IsChaining (Some files) source log one other o → IsChaining (Some files) source log one other p → o ≡ p
+of_chain files source log one other o p h g =
+    let Orders = λ (view : LogView). OrdersLog view (point_of one) (point_of other) in
+    by_log files source log Orders Orders o p (λ view limits os. orders_once view limits (point_of one) (point_of other) os o p) h g
 
 -- ---- jobs that record a run, where they are refused
 
@@ -230,6 +251,7 @@ one_refusal a b c d files left (Some (Record r)) o p unrun h g = of_record a b c
 one_refusal a b c d files left (Some (Replay source log reads)) o p unrun h g = of_replay a b c d files source log reads o p h.is g.is
 one_refusal a b c d files left (Some (Profile source log name)) o p unrun h g = of_profile files source log name o p h.is g.is
 one_refusal a b c d files left (Some (Watch source log formula)) o p unrun h g = of_watch files source log formula o p h.is g.is
+one_refusal a b c d files left (Some (Chain source log i j)) o p unrun h g = of_chain files source log i j o p h.is g.is
 one_refusal a b c d files left (Some (Make count name)) o p unrun h g = of_make a b c d count name o p unrun h.is g.is
 
 pub one_outcome : OneOutcome
@@ -240,4 +262,5 @@ one_outcome a b c d files left (Some (Record r)) o p none h g = absurd (none tt)
 one_outcome a b c d files left (Some (Replay source log reads)) o p none h g = of_replay a b c d files source log reads o p h.is g.is
 one_outcome a b c d files left (Some (Profile source log name)) o p none h g = of_profile files source log name o p h.is g.is
 one_outcome a b c d files left (Some (Watch source log formula)) o p none h g = of_watch files source log formula o p h.is g.is
+one_outcome a b c d files left (Some (Chain source log i j)) o p none h g = of_chain files source log i j o p h.is g.is
 one_outcome a b c d files left (Some (Make count name)) o p none h g = absurd (none tt)

@@ -2,7 +2,7 @@
 use Rattle.std.specs.Prelude.{◌≡◌, ◌≢◌, ℕ, List, Option, Some, None, Result, Ok, Err}
 use Rattle.answers.specs.Answers.{status_of}
 use Rattle.answers.specs.Jobs.{Asked}
-use Rattle.answers.specs.Jobs.Asked.{Races, Weaken, Record, Replay, Profile, Watch, Make}
+use Rattle.answers.specs.Jobs.Asked.{Races, Weaken, Record, Replay, Profile, Watch, Chain, Make}
 use Rattle.answers.specs.declared.answer.Answer.{Answer}
 use Rattle.answers.specs.declared.answer.Answer.TheVariants as answer
 use Rattle.answers.specs.declared.answer.Part.TheVariants as part
@@ -39,6 +39,7 @@ SourceIs files (Record asked) r = IsFile (Some files) 1048576 part.Source asked.
 SourceIs files (Replay source log reads) r = IsFile (Some files) 1048576 part.Source source r
 SourceIs files (Profile source log name) r = IsFile (Some files) 1048576 part.Source source r
 SourceIs files (Watch source log formula) r = IsFile (Some files) 1048576 part.Source source r
+SourceIs files (Chain source log one other) r = IsFile (Some files) 1048576 part.Source source r
 SourceIs files (Make count name) r = r ≡ Ok (program_text count)
 
 -- the profile that it is given
@@ -61,6 +62,7 @@ abbrev pub LogIs : Files → Asked → Result LogView Answer → Type 0
 LogIs files (Replay source log reads) r = IsLogFile files log r
 LogIs files (Profile source log name) r = IsLogFile files log r
 LogIs files (Watch source log formula) r = IsLogFile files log r
+LogIs files (Chain source log one other) r = IsLogFile files log r
 LogIs files _ r = Passes r
 
 -- the input of the run that it records
@@ -102,6 +104,7 @@ abbrev pub FollowsLog : Asked → Type 0
 FollowsLog (Replay source log reads) = Unit {0}
 FollowsLog (Profile source log name) = Unit {0}
 FollowsLog (Watch source log formula) = Unit {0}
+FollowsLog (Chain source log one other) = Unit {0}
 FollowsLog _ = ⊥
 
 -- which of the walk's accesses are kept

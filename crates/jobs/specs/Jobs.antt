@@ -2,15 +2,17 @@
 -- order in which a refusal comes.
 use Rattle.std.specs.Prelude.{◌≡◌, ℕ, Bool, nat_le, List, [], Option, Some, None}
 use Rattle.answers.specs.Jobs.{Asked, RecordAsked}
-use Rattle.answers.specs.Jobs.Asked.{Races, Weaken, Record, Replay, Profile, Watch, Make}
+use Rattle.answers.specs.Jobs.Asked.{Races, Weaken, Record, Replay, Profile, Watch, Chain, Make}
 use Rattle.answers.specs.declared.answer.Answer.TheVariants as answer
 use Rattle.answers.specs.declared.answer.Part.TheVariants as part
+use Rattle.answers.specs.declared.event.Event.{Event}
 use Rattle.outcomes.specs.Outcomes.{answers}
 use Rattle.outcomes.specs.Puts.{Put}
 use Rattle.outcomes.specs.Steps.{Comes, IsFile, IsInput}
 use Rattle.outcomes.specs.declared.outcome.Outcome.{Outcome}
 use Rattle.rr_base.specs.Files.{Files}
 use Rattle.thread_flow.specs.declared.access.Formula.{Formula}
+use Rattle.jobs.specs.Chainings.{OrdersLog, point_of}
 use Rattle.jobs.specs.Listings.{ListsRaces, ListsWeakLocks}
 use Rattle.job_profiles.specs.Profiles.{IsProfile, named}
 use Rattle.jobs.specs.Makings.{IsMaking, IsPutInMaking}
@@ -61,6 +63,14 @@ IsWatching files source log formula o =
     Comes (IsLogIn bytes) (λ view.
     Comes (IsTree text) (TellsLog view formula)))) o
 
+-- `chain`: reads what a replay reads, and puts nothing
+abbrev pub IsChaining : Option Files → (source log : List ℕ) → (one other : Event) → Outcome → Type 0
+IsChaining files source log one other o =
+    IsSource files source (λ text.
+    Comes (IsFile files 536870912 part.Log log) (λ bytes.
+    Comes (IsLogIn bytes) (λ view.
+    Comes (IsTree text) (OrdersLog view (point_of one) (point_of other))))) o
+
 -- `record`: only for a sound source is the input read, 1 MiB at most
 abbrev pub IsRecord : (old new : Work) → Option Files → (left : Option (List ℕ)) → RecordAsked → Outcome → Type 0
 IsRecord old new files left r o =
@@ -106,6 +116,7 @@ IsOutcomeOf old new files left (Some (Record r)) o = IsRecord old new files left
 IsOutcomeOf old new files left (Some (Replay source log reads)) o = IsReplay old new files source log reads o
 IsOutcomeOf old new files left (Some (Profile source log name)) o = IsProfiling files source log name o
 IsOutcomeOf old new files left (Some (Watch source log formula)) o = IsWatching files source log formula o
+IsOutcomeOf old new files left (Some (Chain source log one other)) o = IsChaining files source log one other o
 IsOutcomeOf old new files left (Some (Make count name)) o = IsMaking old new count name o
 
 -- .. and has done nothing but where the job has threads run, and the answer is of their run

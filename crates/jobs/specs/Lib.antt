@@ -4,6 +4,7 @@ pub mod Listings
 pub mod Replays
 pub mod Profilings
 pub mod Watchings
+pub mod Chainings
 pub mod Recordings
 pub mod Makings
 pub mod Jobs

@@ -1,7 +1,7 @@
 -- That a name is wanting which a job asks the shelf for, in the order of work.
 use Rattle.std.specs.Prelude.{ℕ, List, ◌⊎◌, Option, Some, None, Ok}
 use Rattle.answers.specs.Jobs.{Asked}
-use Rattle.answers.specs.Jobs.Asked.{Races, Weaken, Record, Replay, Profile, Watch, Make}
+use Rattle.answers.specs.Jobs.Asked.{Races, Weaken, Record, Replay, Profile, Watch, Chain, Make}
 use Rattle.answers.specs.declared.answer.Part.TheVariants as part
 use Rattle.job_profiles.specs.Profiles.{LacksProfile}
 use Rattle.outcomes.specs.Steps.{IsFile, Lacks}
@@ -20,4 +20,5 @@ LacksFile files (Some (Record r)) = LacksEither files r.source (LacksProfile fil
 LacksFile files (Some (Replay source log reads)) = LacksEither files source (Lacks files log)
 LacksFile files (Some (Profile source log name)) = LacksEither files source (Lacks files log)
 LacksFile files (Some (Watch source log formula)) = LacksEither files source (Lacks files log)
+LacksFile files (Some (Chain source log one other)) = LacksEither files source (Lacks files log)
 LacksFile files (Some (Make count name)) = ⊥

@@ -9,6 +9,7 @@ ghost use Rattle.outcomes.specs.Endings.{ComesTo, Ends, MayStop};
 ghost use Rattle.outcomes.specs.Faults.{StopCounts};
 ghost use Rattle.rr_base.specs.Faults.{Rose};
 
+use crate::chaining::chain_log;
 use crate::making::make;
 use crate::profiling::profile_log;
 use crate::races::races;
@@ -53,6 +54,12 @@ fn outcome_of_job<'a, R: Threads + Wait + Sync, I: Source, S: Keeper, C: Crew>(
             log,
             formula,
         } => watch_log(alloc, source, log, formula, shelf),
+        Job::Chain {
+            source,
+            log,
+            one,
+            other,
+        } => chain_log(alloc, source, log, one, other, shelf),
         Job::Make { count, name } => make(rt, alloc, count, name, shelf, crew),
     }
 }
@@ -90,7 +97,7 @@ fn do_job<'a, R: Threads + Wait + Sync, I: Source, O: Sink, S: Keeper, C: Crew>(
 }
 
 /// Does what the words after the program's name ask for, and answers the exit status: 0 where the run ended, or the listing, the
-/// profile or the access was written, 1 where the words are no job, 2 where the source is refused, 3 where a thread trapped, 4 where the log is refused, 5
+/// profile, the access or the chain was written, 1 where the words are no job, 2 where the source is refused, 3 where a thread trapped, 4 where the log is refused, 5
 /// where it isn't one of this program, 6 where the profile is refused, 7 where the input failed, 8 where the sink did, 9 where the
 /// shelf did, 10 where the crew did, 11 where a file or the input has too many bytes, 12 without memory. Nothing is put but where
 /// the run ended or a thread trapped, and a made source and its log, which are put on the way. Only a recording touches `input`, and

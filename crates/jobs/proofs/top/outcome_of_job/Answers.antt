@@ -68,6 +68,16 @@ returns-in-Watch-clause-outcome g c =
     subst (λ (j : Job). ComesTo (IsOutcome old new files left (Some (told j))) (PutsBefore (Some (told j))) files last c.watch_log.result) (sym c.in-Watch.is)
     (at_once old new files left _ files last c.watch_log.result refl c.watch_log.ensures.outcome c.watch_log.ensures.files (inr refl) (all_is_idle old new c.watch_log.result refl))
 
+pub returns-in-Chain-clause-outcome : goal.returns-in-Chain-clause-outcome
+returns-in-Chain-clause-outcome g c =
+    let files = g.S.Shelf.files c.args.shelf.now in
+    let left = g.I.Source.left c.args.input.now in
+    let old = work_of g.C.Crew c.args.crew.now in
+    let new = old in
+    let last = g.S.Shelf.files c.chain_log.new.shelf in
+    subst (λ (j : Job). ComesTo (IsOutcome old new files left (Some (told j))) (PutsBefore (Some (told j))) files last c.chain_log.result) (sym c.in-Chain.is)
+    (at_once old new files left _ files last c.chain_log.result refl c.chain_log.ensures.outcome c.chain_log.ensures.files (inr refl) (all_is_idle old new c.chain_log.result refl))
+
 pub returns-in-Make-clause-outcome : goal.returns-in-Make-clause-outcome
 returns-in-Make-clause-outcome g c =
     let files = g.S.Shelf.files c.args.shelf.now in
