@@ -3,6 +3,8 @@
 #![tactic(auto)]
 
 #[cfg(test)]
+mod chain_tests;
+#[cfg(test)]
 mod checks;
 #[cfg(test)]
 mod make_tests;
@@ -20,6 +22,8 @@ mod record_tests;
 mod region_tests;
 #[cfg(test)]
 mod tests;
+#[cfg(test)]
+mod walked;
 #[cfg(test)]
 mod watch_tests;
 #[cfg(test)]
