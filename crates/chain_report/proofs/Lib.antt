@@ -7,7 +7,10 @@ mod Ordering
 mod Entries
 mod Taken
 mod Exists
+mod Objects
+mod PastRows
 mod RowLinks
 mod LowestChain
+mod Directions
 mod MadeAt
 mod Deciding

@@ -15,11 +15,11 @@ use Rattle.chain_report.proofs.RowLinks.{FirstIs, found, not_found, there, has_l
 
 module _ (es : List Entry) (from to : Point) where
   -- where a chain leads
-  abbrev Led : Option ℕ → Type 0
+  abbrev pub Led : Option ℕ → Type 0
   Led None = Unit {0}
   Led (Some b) = IsLinked es from b
 
-  leads : (given : List (ℕ × ℕ)) (r : Option ℕ) → Led r → chain_from es from to r given ≡ true → (b : ℕ) × IsLinked es from b × (is_before to (slice_get es b) ≡ true)
+  pub leads : (given : List (ℕ × ℕ)) (r : Option ℕ) → Led r → chain_from es from to r given ≡ true → (b : ℕ) × IsLinked es from b × (is_before to (slice_get es b) ≡ true)
   leads [] None ok h = cc
   leads [] (Some b) ok h = (b, ok, h)
   leads (x ∷ rest) None ok h =

@@ -1,7 +1,10 @@
 -- Rows: chains of logs.
 use Rattle.std.proofs.Common.{◌≡◌, ℕ, List, [], ◌∷◌, Some, None, true, false, refl}
 use Rattle.chain_report.specs.declared.point.Point.{Point}
+use Rattle.chain_report.specs.declared.row.Row.{Row}
 use Rattle.chain_report.specs.Chains.{is_chain, passes}
+use Rattle.chain_report.specs.Directions.{may_lead}
+use Rattle.chain_report.specs.Past.{nothing, kept_after, link_by, got as got_by, let_go}
 use Rattle.chain_report.specs.Replayed.{released, acquired}
 use Rattle.sync_objects.specs.declared.entry.Entry.{Entry}
 use Rattle.sync_objects.specs.declared.mode.Mode.TheVariants.{Read, Write}
@@ -45,6 +48,13 @@ after_it = refl
 empty : is_chain tried (point 1 2) (point 2 7) [] ≡ false
 empty = refl
 
+-- thread 2's trylock comes behind thread 1's unlock, and nothing of thread 1 behind the trylock
+onwards : may_lead (point 1 2) (point 2 7) tried ≡ true
+onwards = refl
+
+back : may_lead (point 2 6) (point 1 3) tried ≡ false
+back = refl
+
 -- a lock that threads 1 and 2 read, and that thread 3 writes after them
 abbrev shared : List Entry
 shared =
@@ -85,3 +95,21 @@ not_held = refl
 -- who holds it already gets nothing
 held_already : acquired (entry 1 1 name.RdLock (object.Rw 9) ∷ []) (entry 1 3 name.WrLock (object.Rw 9)) ≡ None
 held_already = refl
+
+-- who doesn't hold a lock gets it, and lets it go in the mode in which it was held
+got_so : got_by name.RdLock None None ≡ Some Read
+got_so = refl
+
+let_go_so : let_go name.RwUnlock (Some Read) ≡ Some Read
+let_go_so = refl
+
+-- an entry that may begin a pass, and lets the lock go
+abbrev giver : OpName → Row
+giver op = record { entry = entry 1 3 op (object.Rw 9); eligible = true; released = Some Read; link = None }
+
+-- the first giver stays the first, and a reader gives to writers alone
+first_stays : link_by (kept_after (kept_after nothing (giver name.RwUnlock) 1) (giver name.RwUnlock) 3) name.WrLock (Some Write) ≡ Some 1
+first_stays = refl
+
+none_to_readers : link_by (kept_after nothing (giver name.RwUnlock) 1) name.RdLock (Some Read) ≡ None
+none_to_readers = refl

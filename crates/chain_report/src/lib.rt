@@ -6,9 +6,11 @@
 
 mod checker;
 mod finder;
+mod kept;
 mod laws;
 mod linking;
 mod lowest;
+mod past;
 mod point;
 mod replayed;
 mod row;
