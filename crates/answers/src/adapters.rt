@@ -3,6 +3,7 @@
 ghost use Rattle.std.specs.Prelude.{◌≡◌, ◌≤◌, ◌+◌, None, vec_len, IfOk, MatchResult};
 ghost use Rattle.rr_base.specs.Faults.{Rose, ShelfFaults};
 
+use crate::replacing::write_whole;
 use rr_base::{Failed, Shelf, ShelfEnd, Sink, SinkEnd, Source};
 use std::alloc::{AllocError, Global};
 use std::fs;
@@ -63,8 +64,9 @@ fn count_fault(faults: &mut u64)
     *faults = faults.saturating_add(1);
 }
 
-/// Why reading some bytes of a file ended early.
-enum FileEnd {
+/// Why reading or writing a file ended early.
+#[derive(Debug, Drop)]
+pub(crate) enum FileEnd {
     System(ErrorKind),
     OutOfMemory,
 }
@@ -110,12 +112,6 @@ fn read_file<R: Files>(
     read_front(alloc, &mut file, most)
 }
 
-fn write_file<R: Files>(system: &R, name: &str, bytes: &[u8]) -> Result<(), FileEnd> {
-    let mut file = fs::create(system, name)?;
-    file.write_all(bytes)?;
-    Ok(())
-}
-
 // What a shelf answers for such an end, which it counts where it is a fault.
 fn shelf_end(faults: &mut u64, end: FileEnd) -> ShelfEnd
     ensures { ShelfFaults result faults.old faults.new }
@@ -141,8 +137,8 @@ impl<R: Files> Shelf for FileShelf<R> {
         }
     }
 
-    fn put(&mut self, _alloc: Global, name: &str, bytes: &[u8]) -> Result<(), ShelfEnd> {
-        match write_file(&self.system, name, bytes) {
+    fn put(&mut self, alloc: Global, name: &str, bytes: &[u8]) -> Result<(), ShelfEnd> {
+        match write_whole(alloc, &self.system, name, bytes) {
             Ok(()) => Ok(()),
             Err(end) => Err(shelf_end(&mut self.faults, end)),
         }

@@ -14,6 +14,7 @@ mod job;
 mod number;
 mod predicate;
 mod reading;
+mod replacing;
 mod summary;
 mod telling;
 

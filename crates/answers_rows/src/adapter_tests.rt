@@ -1,6 +1,8 @@
+use crate::full_disk::FullDisk;
 use answers::{FileShelf, InSource, OutSink};
 use rr_base::{Failed, Shelf, ShelfEnd, Sink, SinkEnd, Source};
 use std::io::{self, ErrorKind, Read, Write};
+use std::os::unix::fs::symlink;
 use std::test::Fail;
 use std::time::Instant;
 use std::{env, fs};
@@ -63,6 +65,80 @@ fn a_folder_is_no_file(rt: HostRuntime) -> Result<(), Fail> {
     assert!(rt; matches!(shelf.get(alloc, folder.as_str(), 9), Err(ShelfEnd::Failed)));
     assert_eq!(rt;
         shelf.put(alloc, folder.as_str(), b"a"),
+        Err(ShelfEnd::Failed)
+    );
+    Ok(())
+}
+
+#[test]
+fn a_full_disk_leaves_the_old_file_whole(rt: HostRuntime) -> Result<(), Fail> {
+    let alloc = rt.alloc();
+    let folder = env::temp_dir(&rt)?;
+    let folder = folder.as_str();
+    let now = Instant::now(&rt)?;
+    let name = format!(in alloc; "{folder}/answers full {now:?}")?;
+    FileShelf::new(&rt).put(alloc, &name, b"the old content")?;
+    let mut shelf = FileShelf::new(FullDisk { system: &rt });
+    assert_eq!(rt; shelf.put(alloc, &name, b"new"), Err(ShelfEnd::Failed));
+    let mut shelf = FileShelf::new(&rt);
+    assert_eq!(rt;
+        shelf.get(alloc, &name, 99)?.as_slice(),
+        b"the old content".as_slice()
+    );
+    let beside = format!(in alloc; "{name}.0.new")?;
+    assert!(rt; !fs::exists(&rt, beside.as_str())?);
+    fs::remove_file(&rt, &name)?;
+    Ok(())
+}
+
+#[test]
+fn a_file_of_the_name_beside_is_kept(rt: HostRuntime) -> Result<(), Fail> {
+    let alloc = rt.alloc();
+    let folder = env::temp_dir(&rt)?;
+    let folder = folder.as_str();
+    let now = Instant::now(&rt)?;
+    let name = format!(in alloc; "{folder}/answers beside {now:?}")?;
+    let beside = format!(in alloc; "{name}.0.new")?;
+    let mut shelf = FileShelf::new(&rt);
+    fs::write(&rt, beside.as_str(), b"somebody's")?;
+    shelf.put(alloc, &name, b"12345")?;
+    assert_eq!(rt; shelf.get(alloc, &name, 9)?.as_slice(), b"12345".as_slice());
+    assert_eq!(rt;
+        shelf.get(alloc, &beside, 99)?.as_slice(),
+        b"somebody's".as_slice()
+    );
+    fs::remove_file(&rt, &name)?;
+    fs::remove_file(&rt, &beside)?;
+    Ok(())
+}
+
+#[test]
+fn a_link_stays_one(rt: HostRuntime) -> Result<(), Fail> {
+    let alloc = rt.alloc();
+    let folder = env::temp_dir(&rt)?;
+    let folder = folder.as_str();
+    let now = Instant::now(&rt)?;
+    let name = format!(in alloc; "{folder}/answers linked {now:?}")?;
+    let link = format!(in alloc; "{name}.link")?;
+    let mut shelf = FileShelf::new(&rt);
+    shelf.put(alloc, &name, b"old")?;
+    symlink(&rt, name.as_str(), link.as_str())?;
+    shelf.put(alloc, &link, b"new")?;
+    assert!(rt; fs::symlink_metadata(&rt, link.as_str())?.is_symlink());
+    assert_eq!(rt; shelf.get(alloc, &name, 9)?.as_slice(), b"new".as_slice());
+    fs::remove_file(&rt, &link)?;
+    fs::remove_file(&rt, &name)?;
+    Ok(())
+}
+
+#[test]
+fn a_device_is_written_into(rt: HostRuntime) -> Result<(), Fail> {
+    let alloc = rt.alloc();
+    let mut shelf = FileShelf::new(&rt);
+    shelf.put(alloc, "/dev/null", b"12345")?;
+    assert!(rt; !fs::metadata(&rt, "/dev/null")?.is_file());
+    assert_eq!(rt;
+        shelf.put(alloc, "/dev/full", b"12345"),
         Err(ShelfEnd::Failed)
     );
     Ok(())

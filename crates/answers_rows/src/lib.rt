@@ -5,4 +5,6 @@
 #[cfg(test)]
 mod adapter_tests;
 #[cfg(test)]
+mod full_disk;
+#[cfg(test)]
 mod tests;
