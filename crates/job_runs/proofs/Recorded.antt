@@ -1,5 +1,5 @@
 -- What a run of weakened code leaves.
-use Rattle.std.proofs.Common.{◌≡◌, ◌≤◌, refl, sym, ap, ◌∙◌, subst, ℕ, List, [], ◌∷◌, Err, Some, length}
+use Rattle.std.proofs.Common.{◌≡◌, ◌≤◌, refl, sym, ap, ◌∙◌, subst, ℕ, List, [], ◌∷◌, Result, Err, Some, length}
 use Rattle.std.specs.List.{AllByRecursion}
 use Rattle.answers.specs.Jobs.{RecordAsked, HasRecordLimits}
 use Rattle.core_run.specs.Histories.{run_of, lists_of, entries_in}
@@ -87,6 +87,14 @@ input_stops stop.ShelfFailed input_old input_new crew h = absurd h
 input_stops stop.InputFailed input_old input_new crew h = (h, refl)
 input_stops stop.CrewFailed input_old input_new crew h = absurd h
 input_stops stop.OutOfMemory input_old input_new crew h = (h, refl)
+
+-- it was no crew that failed
+pub no_crew : (X : Type 0) (r : Result Outcome Stop) (s : Stop) (old new : ℕ) → InputStops s old new → r ≡ Err s → r ≡ Err stop.CrewFailed → X
+no_crew X r (stop.Refused a) old new h is e = absurd (cc (is, e))
+no_crew X r stop.ShelfFailed old new h is e = absurd h
+no_crew X r stop.InputFailed old new h is e = absurd (cc (is, e))
+no_crew X r stop.CrewFailed old new h is e = absurd h
+no_crew X r stop.OutOfMemory old new h is e = absurd (cc (is, e))
 
 -- a crew after an input that was read
 pub crew_stops : (s : Stop) (input_old input_new crew_old crew_new : ℕ) → input_new ≡ input_old → CrewStops s crew_old crew_new → RunStops s input_old input_new crew_old crew_new

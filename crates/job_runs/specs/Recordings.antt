@@ -1,12 +1,14 @@
 -- A recorded run of weakened code: its log, and what is told of it.
-use Rattle.std.specs.Prelude.{◌≡◌, ℕ, List, [], ◌∷◌, length}
+use Rattle.std.specs.Prelude.{◌≡◌, ℕ, List, [], ◌∷◌, length, Option, Ok}
 use Rattle.std.specs.List.{AllByRecursion}
 use Rattle.access_order.specs.Orders.{AreOrdered}
 use Rattle.answers.specs.Jobs.{RecordAsked}
+use Rattle.answers.specs.declared.answer.Part.TheVariants as part
 use Rattle.lock_sound.specs.Weakened.{Analysed}
 use Rattle.order_log.specs.Log.{AreWithin, LogView}
 use Rattle.order_log.specs.Text.{log_text}
 use Rattle.outcomes.specs.Puts.{Put}
+use Rattle.outcomes.specs.Steps.{IsInput}
 use Rattle.outcomes.specs.declared.outcome.Outcome.{Outcome}
 use Rattle.profiles.specs.declared.profile.Profile.{Profile}
 use Rattle.recorder.specs.Records.{Records}
@@ -29,6 +31,10 @@ log_of r p input entries = record { setup = setup_of r input; profile = p; entri
 -- the log of the run, as a file of the name asked for
 abbrev pub log_put : RecordAsked → Profile → (input : List ℕ) → List Entry → Put
 log_put r p input entries = record { name = r.log; content = log_text (log_of r p input entries) }
+
+-- what is left of the input is no more than a recording takes: 1 MiB
+abbrev pub HasInput : (left : Option (List ℕ)) → Type 0
+HasInput left = (bytes : List ℕ) × IsInput left 1048576 part.Input (Ok bytes)
 
 -- ---- for clauses of this crate and of the one above
 

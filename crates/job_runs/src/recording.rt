@@ -3,7 +3,7 @@
 ghost use Rattle.std.specs.Prelude.{◌≡◌, ◌≤◌, ◌∷◌, [], length, IfOk, MatchResult, option_map};
 ghost use Rattle.answers.specs.Jobs.{HasRecordLimits, record_told};
 ghost use Rattle.answers.specs.declared.answer.Part.TheVariants as part;
-ghost use Rattle.job_runs.specs.Recordings.{IsLogged, IsRecorded, IsRunOf};
+ghost use Rattle.job_runs.specs.Recordings.{HasInput, IsLogged, IsRecorded, IsRunOf};
 ghost use Rattle.job_runs.specs.Works.{IsIdle, work_of};
 ghost use Rattle.walk_answers.specs.Walking.{outcome_of as outcome_by};
 ghost use Rattle.order_log.specs.Log.{AreWithin, HasNames};
@@ -128,6 +128,9 @@ pub fn recorded_code<'a, R: Threads + Wait + Sync, I: Source, C: Crew>(
     ensures outcome { Gives (Comes (IsInput (I.left input.old) 1048576 part.Input) (IsRecorded (work_of C.Crew crew.old) (work_of C.Crew crew.new) (record_told job.now) profile weakened.now)) result }
     ensures idle { IsIdle result (work_of C.Crew crew.old) (work_of C.Crew crew.new) }
     ensures faults { MatchResult result (λ _. (I.faults input.new ≡ I.faults input.old) × (C.faults crew.new ≡ C.faults crew.old)) (λ stop. RunStops stop (I.faults input.old) (I.faults input.new) (C.faults crew.old) (C.faults crew.new)) }
+    // Threads run only once the input is accepted.
+    ensures asks { result ≡ Err Stop.CrewFailed → HasInput (I.left input.old) }
+    ensures crew { (HasInput (I.left input.old) → ⊥) → crew.new ≡ crew.old }
 {
     let bytes = whole_input(alloc, input, INPUT_BYTES, Part::Input)?;
     match recorded_on(rt, alloc, weakened, profile, bytes, job, crew) {

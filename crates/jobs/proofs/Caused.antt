@@ -41,8 +41,9 @@ use Rattle.workload.specs.Program.{program_text}
 use Rattle.jobs.specs.Causes.{CauseOf, FollowsLog, InputIs, IsAccepted, IsDecided, IsLogFile, IsLogOf, LogIs, MayAnswer, kept_by, ProfileIs, Refuses, SourceIs, Walks, WentWell}
 use Rattle.jobs.specs.Causes.CauseOf.{NoJob, Refused, Answered, InputFailed, OutputFailed, ShelfFailed, CrewFailed, LacksMemory}
 use Rattle.jobs.specs.Causes.Refuses.{AtSource, AtProfile, AtLog, AtTree, AtInput}
+use Rattle.jobs.specs.Asks.{AsksCrew, AsksInput}
 use Rattle.jobs.specs.Chainings.{OrdersLog, point_of}
-use Rattle.jobs.specs.Jobs.{IsOutcome, IsOutcomeOf, PutsBefore, ReadsInput, RunsThreads, UsesShelf}
+use Rattle.jobs.specs.Jobs.{IsOutcome, IsOutcomeOf, PutsBefore, UsesShelf}
 use Rattle.jobs.specs.Laws.{StatusesHaveCauses}
 use Rattle.jobs.specs.Listings.{ListsRaces, ListsWeakLocks}
 use Rattle.job_runs.specs.Retold.{summary_told}
@@ -538,7 +539,7 @@ module _ (a b : Work) (files : Files) (left : List ℕ) (old new : Outside) (sta
   CauseIs job = CauseOf files left job old new status
 
   abbrev EndsSo : Option Asked → Type 0
-  EndsSo job = Ends (IsOutcome a b (Some files) (Some left) job) (PutsBefore job) (UsesShelf job) (ReadsInput job) (RunsThreads job) old new status
+  EndsSo job = Ends (IsOutcome a b (Some files) (Some left) job) (PutsBefore job) (UsesShelf job) (AsksInput (Some files) job) (AsksCrew (Some files) (Some left) job) old new status
 
   by_writes : (job : Option Asked) (text : List ℕ) (n : ℕ) → (status ≡ n → CauseIs job) → Writes text n old.out new.out status → CauseIs job
   by_writes job text n cause (Whole e took faults) = cause e

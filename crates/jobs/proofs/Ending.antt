@@ -18,7 +18,8 @@ use Rattle.outcomes.specs.declared.outcome.Outcome.{Outcome}
 use Rattle.outcomes.specs.declared.stop.Stop.{Stop}
 use Rattle.outcomes.specs.declared.stop.Stop.TheVariants as stop
 use Rattle.rr_base.specs.Files.{Files}
-use Rattle.jobs.specs.Jobs.{IsOutcome, PutsBefore, ReadsInput, RunsThreads, UsesShelf}
+use Rattle.jobs.specs.Asks.{AsksCrew, AsksInput}
+use Rattle.jobs.specs.Jobs.{IsOutcome, PutsBefore, UsesShelf}
 use Rattle.jobs.specs.Makings.{source_put}
 use Rattle.jobs.specs.Makings.IsPutInMaking.{Source}
 use Rattle.jobs.specs.Wants.{LacksFile}
@@ -38,7 +39,7 @@ puts_before (Some (Make count name)) = (source_put count name ∷ [], Source ref
 
 -- memory was wanting for the words, before anything was done
 pub memory_ends : (a b : Work) (files : Option Files) (left : Option (List ℕ)) (job : Option Asked) (old new : Outside) (result : ℕ) → new.files ≡ old.files → new.counts ≡ old.counts → TellsStop stop.OutOfMemory old.out new.out result
-    → Ends (IsOutcome a b files left job) (PutsBefore job) (UsesShelf job) (ReadsInput job) (RunsThreads job) old new result
+    → Ends (IsOutcome a b files left job) (PutsBefore job) (UsesShelf job) (AsksInput files job) (AsksCrew files left job) old new result
 memory_ends a b files left job old new result same counts tells =
     let before = puts_before job in
     WantsMemory tells.0 before.0 before.1 (record { made = []; rest = before.0; split = refl; files = no_puts old.files new.files same }) counts tells.1
@@ -46,7 +47,7 @@ memory_ends a b files left job old new result same counts tells =
 module _ (a b : Work) (files : Option Files) (left : Option (List ℕ)) (found : Option Job) (asked : Option Asked) (old new : Outside) (result : ℕ) (is : option_map told found ≡ asked) where
   -- how the call of these words ends
   abbrev EndsFor : Option Asked → Type 0
-  EndsFor job = Ends (IsOutcome a b files left job) (PutsBefore job) (UsesShelf job) (ReadsInput job) (RunsThreads job) old new result
+  EndsFor job = Ends (IsOutcome a b files left job) (PutsBefore job) (UsesShelf job) (AsksInput files job) (AsksCrew files left job) old new result
 
   -- the job that was found is that of the words
   pub for_found : (job : Option Job) → found ≡ job → EndsFor (option_map told job) → EndsFor asked
@@ -56,13 +57,13 @@ module _ (a b : Work) (files : Option Files) (left : Option (List ℕ)) (found :
   usage_ends e idle same counts w =
       let usage = stop.Refused answer.Usage in
       let comes = comes_at_once (IsOutcome a b files left None) (PutsBefore None) old.files new.files (Err usage) refl (record { is = refl; idle = λ _. idle }) same in
-      for_found None e (stopped (IsOutcome a b files left None) (PutsBefore None) (UsesShelf None) (ReadsInput None) (RunsThreads None) old new result usage comes counts tt w)
+      for_found None e (stopped (IsOutcome a b files left None) (PutsBefore None) (UsesShelf None) (AsksInput files None) (AsksCrew files left None) old new result usage comes counts tt w)
 
   pub found_ends : (job : Job) (o : Outcome) (between : ShelfSight) → found ≡ Some job → IsFoundSo (IsOutcome a b files left (Some (told job))) old.files between.files o → between.faults ≡ old.counts.shelf → new.counts.input ≡ old.counts.input → new.counts.crew ≡ old.counts.crew → Finishes o between (shelf_of new) old.out new.out result → EndsFor asked
-  found_ends job o between e h faults input crew f = for_found (Some job) e (finished (IsOutcome a b files left (Some (told job))) (PutsBefore (Some (told job))) (UsesShelf (Some (told job))) (ReadsInput (Some (told job))) (RunsThreads (Some (told job))) old new result o between h faults input crew f)
+  found_ends job o between e h faults input crew f = for_found (Some job) e (finished (IsOutcome a b files left (Some (told job))) (PutsBefore (Some (told job))) (UsesShelf (Some (told job))) (AsksInput files (Some (told job))) (AsksCrew files left (Some (told job))) old new result o between h faults input crew f)
 
-  pub stopped_ends : (job : Job) (s : Stop) → found ≡ Some job → ComesTo (IsOutcome a b files left (Some (told job))) (PutsBefore (Some (told job))) old.files new.files (Err s) → StopCounts s old.counts new.counts → MayStop (UsesShelf (Some (told job))) (ReadsInput (Some (told job))) (RunsThreads (Some (told job))) s → TellsStop s old.out new.out result → EndsFor asked
-  stopped_ends job s e h counts may tells = for_found (Some job) e (stopped (IsOutcome a b files left (Some (told job))) (PutsBefore (Some (told job))) (UsesShelf (Some (told job))) (ReadsInput (Some (told job))) (RunsThreads (Some (told job))) old new result s h counts may tells)
+  pub stopped_ends : (job : Job) (s : Stop) → found ≡ Some job → ComesTo (IsOutcome a b files left (Some (told job))) (PutsBefore (Some (told job))) old.files new.files (Err s) → StopCounts s old.counts new.counts → MayStop (UsesShelf (Some (told job))) (AsksInput files (Some (told job))) (AsksCrew files left (Some (told job))) s → TellsStop s old.out new.out result → EndsFor asked
+  stopped_ends job s e h counts may tells = for_found (Some job) e (stopped (IsOutcome a b files left (Some (told job))) (PutsBefore (Some (told job))) (UsesShelf (Some (told job))) (AsksInput files (Some (told job))) (AsksCrew files left (Some (told job))) old new result s h counts may tells)
 
 -- a shelf that failed for want of a file is told by 9, and no other stop is
 module _ (files : Option Files) (old new : Sight) (result : ℕ) (nine : result ≡ 9) where

@@ -1,3 +1,4 @@
+pub mod Asked
 pub mod Caused
 pub mod Ending
 pub mod Found

@@ -7,19 +7,23 @@ use Rattle.c_tree.specs.Tree.{Outer}
 use Rattle.core_run.specs.Histories.{run_of, HaveEnded}
 use Rattle.core_run.specs.Machine.{Told}
 use Rattle.profiles.specs.declared.profile.Profile.{Profile}
+use Rattle.job_profiles.specs.Profiles.{IsProfile, named}
 use Rattle.lock_sound.specs.Weakened.{Analysed}
+use Rattle.outcomes.proofs.InRow.{gives_next}
 use Rattle.outcomes.specs.Faults.{RunStops}
 use Rattle.outcomes.specs.Outcomes.{answers}
-use Rattle.outcomes.specs.Steps.{Comes, Gives, IsInput, Then}
+use Rattle.outcomes.specs.Steps.{Comes, Gives, IsFile, IsInput, Then}
 use Rattle.outcomes.specs.declared.outcome.Outcome.{Outcome}
 use Rattle.outcomes.specs.declared.stop.Stop.{Stop}
 use Rattle.outcomes.specs.declared.stop.Stop.TheVariants as stop
+use Rattle.rr_base.specs.Files.{Files}
 use Rattle.runs.specs.Labels.{Label}
 use Rattle.runs.specs.Steps.{State}
 use Rattle.sync_objects.specs.Setup.{SetupView, IsWithinLimits}
 use Rattle.job_runs.proofs.Recorded.{log_of, setup_within}
 use Rattle.job_runs.specs.Recordings.{setup_of, IsRecorded}
 use Rattle.job_runs.specs.Works.{Work}
+use Rattle.jobs.specs.Jobs.{IsRecord}
 use Rattle.jobs.specs.Recordings.{IsRecording}
 use Rattle.jobs.specs.Sources.{Compiles, IsFound, IsSourceWalk, IsTree}
 
@@ -84,3 +88,10 @@ runs_nothing source p stop.ShelfFailed input crew h = absurd h
 runs_nothing source p stop.InputFailed input crew h = absurd h
 runs_nothing source p stop.CrewFailed input crew h = absurd h
 runs_nothing source p stop.OutOfMemory input crew h = (refl, refl)
+
+-- what comes of a source's text and a profile that are accepted
+pub record_gives : (old new : Work) (files : Option Files) (left : Option (List ℕ)) (r : RecordAsked) (text source : List ℕ) (p q : Profile) (res : Result Outcome Stop) → IsFile files 1048576 part.Source r.source (Ok text) → IsProfile files r.profile (Ok p) → source ≡ text → q ≡ named p → Gives (Comes (IsTree source) (λ os. Comes (IsInput left 1048576 part.Input) (IsRecording old new r q os))) res → Gives (IsRecord old new files left r) res
+record_gives old new files left r text source p q res h i e f g =
+    let Next = λ (t : List ℕ) (x : Profile). Comes (IsTree t) (λ os. Comes (IsInput left 1048576 part.Input) (IsRecording old new r x os)) in
+    gives_next (IsFile files 1048576 part.Source r.source) (λ t. Comes (IsProfile files r.profile) (λ x. Next t (named x))) text res h
+    (gives_next (IsProfile files r.profile) (λ x. Next text (named x)) p res i (subst (λ t. Gives (Next t (named p)) res) e (subst (λ x. Gives (Next source x) res) f g)))

@@ -20,7 +20,8 @@ use Rattle.rr_base.specs.Faults.{Rose}
 use Rattle.rr_base.specs.Files.{Files}
 use Rattle.walk_answers.specs.Walking.{answer_of, formula_of, no_reads}
 use Rattle.workload.specs.Program.{program_text}
-use Rattle.jobs.specs.Jobs.{ReadsInput, RunsThreads, UsesShelf}
+use Rattle.jobs.specs.Asks.{AsksCrew, AsksInput}
+use Rattle.jobs.specs.Jobs.{UsesShelf}
 use Rattle.job_runs.specs.Logs.{IsLogIn}
 use Rattle.jobs.specs.Sources.{IsFound, IsTree}
 
@@ -127,10 +128,10 @@ pub data CauseOf (files : Files) (left : List ℕ) (job : Option Asked) (old new
   NoJob : job ≡ None → status ≡ 1 → CauseOf files left job old new status
   Refused : (asked : Asked) → job ≡ Some asked → (a : Answer) → Refuses files left asked a → status ≡ status_of a → CauseOf files left job old new status
   Answered : (asked : Asked) → job ≡ Some asked → IsAccepted files left asked → (a : Answer) → MayAnswer asked a → status ≡ status_of a → CauseOf files left job old new status
-  InputFailed : ReadsInput job → Rose old.counts.input new.counts.input → status ≡ 7 → CauseOf files left job old new status
+  InputFailed : AsksInput (Some files) job → Rose old.counts.input new.counts.input → status ≡ 7 → CauseOf files left job old new status
   OutputFailed : Rose old.out.faults new.out.faults → status ≡ 8 → CauseOf files left job old new status
   ShelfFailed : UsesShelf job → Rose old.counts.shelf new.counts.shelf → status ≡ 9 → CauseOf files left job old new status
-  CrewFailed : RunsThreads job → Rose old.counts.crew new.counts.crew → status ≡ 10 → CauseOf files left job old new status
+  CrewFailed : AsksCrew (Some files) (Some left) job → Rose old.counts.crew new.counts.crew → status ≡ 10 → CauseOf files left job old new status
   LacksMemory : status ≡ 12 → CauseOf files left job old new status
 
 -- no part of the outside failed, and memory was not wanting

@@ -87,11 +87,6 @@ abbrev pub UsesShelf : Option Asked → Type 0
 UsesShelf None = ⊥
 UsesShelf _ = Unit {0}
 
--- only `record` reads the standard input
-abbrev pub ReadsInput : Option Asked → Type 0
-ReadsInput (Some (Record r)) = Unit {0}
-ReadsInput _ = ⊥
-
 -- those that need a crew
 abbrev pub RunsThreads : Option Asked → Type 0
 RunsThreads (Some (Record r)) = Unit {0}

@@ -5,7 +5,8 @@ use Rattle.outcomes.specs.Endings.{Ends, Outside}
 use Rattle.outcomes.specs.declared.outcome.Outcome.{Outcome}
 use Rattle.rr_base.specs.Files.{Files}
 use Rattle.jobs.specs.Causes.{CauseOf, IsDecided, WentWell}
-use Rattle.jobs.specs.Jobs.{IsOutcome, PutsBefore, ReadsInput, RecordsRun, RunsThreads, UsesShelf}
+use Rattle.jobs.specs.Asks.{AsksCrew, AsksInput}
+use Rattle.jobs.specs.Jobs.{IsOutcome, PutsBefore, RecordsRun, UsesShelf}
 use Rattle.job_runs.specs.Works.{IsOfRun, Work}
 
 -- where the shelf tells its files, a job that records no run has one outcome, whatever its crew did before
@@ -19,5 +20,5 @@ OneRefusal = (a b c d : Work) (files : Files) (left : List ℕ) (job : Option As
 -- each status comes only of its cause; and where nothing failed, a cause in the words, the files or the input has its status
 abbrev pub StatusesHaveCauses : Type 0
 StatusesHaveCauses = (a b : Work) (files : Files) (left : List ℕ) (job : Option Asked) (old new : Outside) (status : ℕ)
-    → Ends (IsOutcome a b (Some files) (Some left) job) (PutsBefore job) (UsesShelf job) (ReadsInput job) (RunsThreads job) old new status
+    → Ends (IsOutcome a b (Some files) (Some left) job) (PutsBefore job) (UsesShelf job) (AsksInput (Some files) job) (AsksCrew (Some files) (Some left) job) old new status
     → CauseOf files left job old new status × (WentWell old new status → IsDecided files left job status)

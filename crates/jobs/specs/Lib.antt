@@ -7,6 +7,7 @@ pub mod Watchings
 pub mod Chainings
 pub mod Recordings
 pub mod Makings
+pub mod Asks
 pub mod Jobs
 pub mod Causes
 pub mod Laws

@@ -2,6 +2,7 @@
 
 ghost use Rattle.std.specs.Prelude.{◌≡◌, ◌≢◌, ◌≤◌, ◌^◌, [], ◌∷◌, ◌++◌, codes, length, string_bytes, Option, IfOk, MatchResult};
 ghost use Rattle.answers.specs.Jobs.{record_told};
+ghost use Rattle.jobs.specs.Asks.{HasTree};
 ghost use Rattle.jobs.specs.Makings as spec;
 ghost use Rattle.profiles.specs.declared.profile.Profile.TheVariants as profile;
 ghost use Rattle.jobs.specs.Sources.{Compiles, RunsAsSource};
@@ -107,6 +108,9 @@ pub(crate) fn make<'a, R: Threads + Wait + Sync, S: Keeper, C: Crew>(
     ensures faults { MatchResult result (λ _. (S.faults shelf.new ≡ S.faults shelf.old) × (C.faults crew.new ≡ C.faults crew.old)) (λ stop. CrewShelfStops stop (S.faults shelf.old) (S.faults shelf.new) (C.faults crew.old) (C.faults crew.new)) }
     ensures sound { S.IsSound shelf.old → S.IsSound shelf.new }
     ensures kept { S.IsSound shelf.old → result ≢ Err Stop.ShelfFailed }
+    // Threads run only once the text is accepted.
+    ensures runs { result ≡ Err Stop.CrewFailed → HasTree (program_text count) }
+    ensures crew { (HasTree (program_text count) → ⊥) → crew.new ≡ crew.old }
 {
     let source = program_of(alloc, count)?;
     let log = log_name(alloc, name)?;

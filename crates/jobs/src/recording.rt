@@ -1,9 +1,12 @@
 // A recorded run of a source.
 
-ghost use Rattle.std.specs.Prelude.{◌≡◌, ◌≤◌, ◌^◌, length, MatchResult};
+ghost use Rattle.std.specs.Prelude.{◌≡◌, ◌≤◌, ◌^◌, length, MatchResult, Some};
 ghost use Rattle.answers.specs.Jobs.{HasRecordLimits, record_told};
+ghost use Rattle.answers.specs.Jobs.Asked.{Record};
 ghost use Rattle.answers.specs.declared.answer.Part.TheVariants as part;
+ghost use Rattle.job_runs.specs.Recordings.{HasInput};
 ghost use Rattle.job_runs.specs.Works.{IsIdle, work_of};
+ghost use Rattle.jobs.specs.Asks.{AsksCrew, AsksInput, HasTree};
 ghost use Rattle.jobs.specs.Jobs.{IsRecord};
 ghost use Rattle.jobs.specs.Recordings.{IsRecording};
 ghost use Rattle.jobs.specs.Sources.{IsTree};
@@ -43,6 +46,10 @@ fn recorded<'a, R: Threads + Wait + Sync, I: Source, C: Crew>(
     ensures outcome { Gives (Comes (IsTree source.now) (λ os. Comes (IsInput (I.left input.old) 1048576 part.Input) (λ bytes. IsRecording (work_of C.Crew crew.old) (work_of C.Crew crew.new) (record_told job.now) profile os bytes))) result }
     ensures idle { IsIdle result (work_of C.Crew crew.old) (work_of C.Crew crew.new) }
     ensures faults { MatchResult result (λ _. (I.faults input.new ≡ I.faults input.old) × (C.faults crew.new ≡ C.faults crew.old)) (λ stop. RunStops stop (I.faults input.old) (I.faults input.new) (C.faults crew.old) (C.faults crew.new)) }
+    ensures reads { result ≡ Err Stop.InputFailed → HasTree source.now }
+    ensures runs { result ≡ Err Stop.CrewFailed → HasTree source.now × HasInput (I.left input.old) }
+    ensures input { (HasTree source.now → ⊥) → input.new ≡ input.old }
+    ensures crew { (HasTree source.now × HasInput (I.left input.old) → ⊥) → crew.new ≡ crew.old }
 {
     law_text_log();
     law_ordered_walk();
@@ -68,6 +75,11 @@ pub(crate) fn record_source<'a, R: Threads + Wait + Sync, I: Source, S: Keeper, 
     ensures faults { MatchResult result (λ _. (S.faults shelf.new ≡ S.faults shelf.old) × (I.faults input.new ≡ I.faults input.old) × (C.faults crew.new ≡ C.faults crew.old)) (λ stop. StopCounts stop (record { shelf = S.faults shelf.old; input = I.faults input.old; crew = C.faults crew.old }) (record { shelf = S.faults shelf.new; input = I.faults input.new; crew = C.faults crew.new })) }
     ensures sound { S.IsSound shelf.old → S.IsSound shelf.new }
     ensures lacks { S.IsSound shelf.old → result ≡ Err Stop.ShelfFailed → LacksEither (S.files shelf.old) job.now.source.now (LacksProfile (S.files shelf.old) (record_told job.now).profile) }
+    // The input is read only once the source and the profile are accepted, and threads run only once the input is.
+    ensures reads { result ≡ Err Stop.InputFailed → AsksInput (S.files shelf.old) (Some (Record (record_told job.now))) }
+    ensures runs { result ≡ Err Stop.CrewFailed → AsksCrew (S.files shelf.old) (I.left input.old) (Some (Record (record_told job.now))) }
+    ensures input { (AsksInput (S.files shelf.old) (Some (Record (record_told job.now))) → ⊥) → input.new ≡ input.old }
+    ensures crew { (AsksCrew (S.files shelf.old) (I.left input.old) (Some (Record (record_told job.now))) → ⊥) → crew.new ≡ crew.old }
 {
     let text = file(alloc, shelf, job.source, SOURCE_BYTES, Part::Source)?;
     let profile = profile_of(alloc, shelf, job.profile)?;

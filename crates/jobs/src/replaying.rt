@@ -2,6 +2,7 @@
 
 ghost use Rattle.std.specs.Prelude.{◌≡◌, ◌≤◌, ◌^◌, length, MatchResult, option_map};
 ghost use Rattle.job_runs.specs.Works.{IsIdle, work_of};
+ghost use Rattle.jobs.specs.Asks.{HasLog, HasSource, HasTree};
 ghost use Rattle.jobs.specs.Jobs.{IsReplay};
 ghost use Rattle.jobs.specs.Replays.{Replays};
 ghost use Rattle.jobs.specs.Sources.{IsTree};
@@ -38,6 +39,8 @@ fn replayed<'a, R: Threads + Wait + Sync, C: Crew>(
     ensures outcome { Gives (Comes (IsTree source.now) (Replays (work_of C.Crew crew.old) (work_of C.Crew crew.new) log.now (option_map (λ n. n.now) reads.entry))) result }
     ensures idle { IsIdle result (work_of C.Crew crew.old) (work_of C.Crew crew.new) }
     ensures faults { MatchResult result (λ _. C.faults crew.new ≡ C.faults crew.old) (λ stop. RefusingCrewStops stop (C.faults crew.old) (C.faults crew.new)) }
+    ensures runs { result ≡ Err Stop.CrewFailed → HasTree source.now }
+    ensures crew { (HasTree source.now → ⊥) → crew.new ≡ crew.old }
 {
     let _slots = log.setup().slots();
     law_text_erased_walk();
@@ -64,6 +67,9 @@ pub(crate) fn replay<'a, R: Threads + Wait + Sync, S: Keeper, C: Crew>(
     ensures faults { MatchResult result (λ _. (S.faults shelf.new ≡ S.faults shelf.old) × (C.faults crew.new ≡ C.faults crew.old)) (λ stop. CrewShelfStops stop (S.faults shelf.old) (S.faults shelf.new) (C.faults crew.old) (C.faults crew.new)) }
     ensures sound { S.IsSound shelf.old → S.IsSound shelf.new }
     ensures lacks { S.IsSound shelf.old → result ≡ Err Stop.ShelfFailed → LacksEither (S.files shelf.old) source.now (Lacks (S.files shelf.old) log.now) }
+    // Threads run only once the source and the log are accepted.
+    ensures runs { result ≡ Err Stop.CrewFailed → HasSource (S.files shelf.old) source.now × HasLog (S.files shelf.old) log.now }
+    ensures crew { (HasSource (S.files shelf.old) source.now × HasLog (S.files shelf.old) log.now → ⊥) → crew.new ≡ crew.old }
 {
     let text = file(alloc, shelf, source, SOURCE_BYTES, Part::Source)?;
     let bytes = file(alloc, shelf, log, LOG_BYTES, Part::Log)?;

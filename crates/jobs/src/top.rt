@@ -2,7 +2,8 @@
 
 ghost use Rattle.std.specs.Prelude.{◌≡◌, map, string_bytes, option_map, IfErr, IfSome, IsTrue, MatchResult, Some};
 ghost use Rattle.answers.specs.Jobs.{HasLimits, job_of as job_by, told};
-ghost use Rattle.jobs.specs.Jobs.{IsOutcome, PutsBefore, ReadsInput, RunsThreads, UsesShelf, is_status};
+ghost use Rattle.jobs.specs.Asks.{AsksCrew, AsksInput};
+ghost use Rattle.jobs.specs.Jobs.{IsOutcome, PutsBefore, UsesShelf, is_status};
 ghost use Rattle.jobs.specs.Wants.{LacksFile};
 ghost use Rattle.job_runs.specs.Works.{work_of};
 ghost use Rattle.outcomes.specs.Endings.{ComesTo, Ends, MayStop};
@@ -37,11 +38,11 @@ fn outcome_of_job<'a, R: Threads + Wait + Sync, I: Source, S: Keeper, C: Crew>(
     requires { HasLimits (told job) }
     ensures outcome { ComesTo (IsOutcome (work_of C.Crew crew.old) (work_of C.Crew crew.new) (S.files shelf.old) (I.left input.old) (Some (told job.entry))) (PutsBefore (Some (told job.entry))) (S.files shelf.old) (S.files shelf.new) result }
     ensures faults { MatchResult result (λ _. (S.faults shelf.new ≡ S.faults shelf.old) × (I.faults input.new ≡ I.faults input.old) × (C.faults crew.new ≡ C.faults crew.old)) (λ stop. StopCounts stop (record { shelf = S.faults shelf.old; input = I.faults input.old; crew = C.faults crew.old }) (record { shelf = S.faults shelf.new; input = I.faults input.new; crew = C.faults crew.new })) }
-    ensures causes { IfErr result (MayStop (UsesShelf (Some (told job.entry))) (ReadsInput (Some (told job.entry))) (RunsThreads (Some (told job.entry)))) }
+    ensures causes { IfErr result (MayStop (UsesShelf (Some (told job.entry))) (AsksInput (S.files shelf.old) (Some (told job.entry))) (AsksCrew (S.files shelf.old) (I.left input.old) (Some (told job.entry)))) }
     ensures sound { S.IsSound shelf.old → S.IsSound shelf.new }
     ensures lacks { S.IsSound shelf.old → result ≡ Err Stop.ShelfFailed → LacksFile (S.files shelf.old) (Some (told job.entry)) }
-    ensures input { (ReadsInput (Some (told job.entry)) → ⊥) → input.new ≡ input.old }
-    ensures crew { (RunsThreads (Some (told job.entry)) → ⊥) → crew.new ≡ crew.old }
+    ensures input { (AsksInput (S.files shelf.old) (Some (told job.entry)) → ⊥) → input.new ≡ input.old }
+    ensures crew { (AsksCrew (S.files shelf.old) (I.left input.old) (Some (told job.entry)) → ⊥) → crew.new ≡ crew.old }
 {
     match job {
         Job::Races { source } => races(alloc, source, shelf),
@@ -75,7 +76,7 @@ fn do_job<'a, R: Threads + Wait + Sync, I: Source, O: Sink, S: Keeper, C: Crew>(
     crew: &mut C,
 ) -> u8
     requires { IfSome found (λ job. HasLimits (told job)) }
-    ensures ends { let job = option_map told found.entry in Ends (IsOutcome (work_of C.Crew crew.old) (work_of C.Crew crew.new) (S.files shelf.old) (I.left input.old) job) (PutsBefore job) (UsesShelf job) (ReadsInput job) (RunsThreads job) (record { files = S.files shelf.old; counts = record { shelf = S.faults shelf.old; input = I.faults input.old; crew = C.faults crew.old }; out = record { held = O.held out.old; faults = O.faults out.old } }) (record { files = S.files shelf.new; counts = record { shelf = S.faults shelf.new; input = I.faults input.new; crew = C.faults crew.new }; out = record { held = O.held out.new; faults = O.faults out.new } }) result }
+    ensures ends { let job = option_map told found.entry in Ends (IsOutcome (work_of C.Crew crew.old) (work_of C.Crew crew.new) (S.files shelf.old) (I.left input.old) job) (PutsBefore job) (UsesShelf job) (AsksInput (S.files shelf.old) job) (AsksCrew (S.files shelf.old) (I.left input.old) job) (record { files = S.files shelf.old; counts = record { shelf = S.faults shelf.old; input = I.faults input.old; crew = C.faults crew.old }; out = record { held = O.held out.old; faults = O.faults out.old } }) (record { files = S.files shelf.new; counts = record { shelf = S.faults shelf.new; input = I.faults input.new; crew = C.faults crew.new }; out = record { held = O.held out.new; faults = O.faults out.new } }) result }
     ensures status { IsTrue (is_status result) }
     // Each of these comes only from a fault of its object.
     ensures read_fault { result ≡ 7 → Rose (I.faults input.old) (I.faults input.new) }
@@ -84,8 +85,8 @@ fn do_job<'a, R: Threads + Wait + Sync, I: Source, O: Sink, S: Keeper, C: Crew>(
     ensures crew_fault { result ≡ 10 → Rose (C.faults crew.old) (C.faults crew.new) }
     // A sound shelf fails only for want of a file that the job reads.
     ensures lacks { S.IsSound shelf.old → result ≡ 9 → LacksFile (S.files shelf.old) (option_map told found.entry) }
-    ensures input { (ReadsInput (option_map told found.entry) → ⊥) → input.new ≡ input.old }
-    ensures crew { (RunsThreads (option_map told found.entry) → ⊥) → crew.new ≡ crew.old }
+    ensures input { (AsksInput (S.files shelf.old) (option_map told found.entry) → ⊥) → input.new ≡ input.old }
+    ensures crew { (AsksCrew (S.files shelf.old) (I.left input.old) (option_map told found.entry) → ⊥) → crew.new ≡ crew.old }
 {
     let Some(job) = found else {
         return tell_answer(alloc, out, Answer::Usage);
@@ -112,7 +113,7 @@ pub fn chimera<R: Threads + Wait + Sync, I: Source, O: Sink, S: Keeper, C: Crew>
     shelf: &mut S,
     crew: &mut C,
 ) -> u8
-    ensures ends { let job = job_by (map string_bytes words.now) in Ends (IsOutcome (work_of C.Crew crew.old) (work_of C.Crew crew.new) (S.files shelf.old) (I.left input.old) job) (PutsBefore job) (UsesShelf job) (ReadsInput job) (RunsThreads job) (record { files = S.files shelf.old; counts = record { shelf = S.faults shelf.old; input = I.faults input.old; crew = C.faults crew.old }; out = record { held = O.held out.old; faults = O.faults out.old } }) (record { files = S.files shelf.new; counts = record { shelf = S.faults shelf.new; input = I.faults input.new; crew = C.faults crew.new }; out = record { held = O.held out.new; faults = O.faults out.new } }) result }
+    ensures ends { let job = job_by (map string_bytes words.now) in Ends (IsOutcome (work_of C.Crew crew.old) (work_of C.Crew crew.new) (S.files shelf.old) (I.left input.old) job) (PutsBefore job) (UsesShelf job) (AsksInput (S.files shelf.old) job) (AsksCrew (S.files shelf.old) (I.left input.old) job) (record { files = S.files shelf.old; counts = record { shelf = S.faults shelf.old; input = I.faults input.old; crew = C.faults crew.old }; out = record { held = O.held out.old; faults = O.faults out.old } }) (record { files = S.files shelf.new; counts = record { shelf = S.faults shelf.new; input = I.faults input.new; crew = C.faults crew.new }; out = record { held = O.held out.new; faults = O.faults out.new } }) result }
     ensures status { IsTrue (is_status result) }
     // Each of these comes only from a fault of its object.
     ensures read_fault { result ≡ 7 → Rose (I.faults input.old) (I.faults input.new) }
@@ -121,8 +122,8 @@ pub fn chimera<R: Threads + Wait + Sync, I: Source, O: Sink, S: Keeper, C: Crew>
     ensures crew_fault { result ≡ 10 → Rose (C.faults crew.old) (C.faults crew.new) }
     // A sound shelf fails only for want of a file that the job reads.
     ensures lacks { S.IsSound shelf.old → result ≡ 9 → LacksFile (S.files shelf.old) (job_by (map string_bytes words.now)) }
-    ensures input { (ReadsInput (job_by (map string_bytes words.now)) → ⊥) → input.new ≡ input.old }
-    ensures crew { (RunsThreads (job_by (map string_bytes words.now)) → ⊥) → crew.new ≡ crew.old }
+    ensures input { (AsksInput (S.files shelf.old) (job_by (map string_bytes words.now)) → ⊥) → input.new ≡ input.old }
+    ensures crew { (AsksCrew (S.files shelf.old) (I.left input.old) (job_by (map string_bytes words.now)) → ⊥) → crew.new ≡ crew.old }
 {
     match job_of(alloc, words) {
         Ok(found) => do_job(rt, alloc, found, input, out, shelf, crew),

@@ -213,6 +213,55 @@ static PROFILES: [(&[&str], &str, &str, u8); 5] = [
     (&["weaken", "a", "--profile=c"], "", "shelf fault\n", 9),
 ];
 
+// A refused source, profile or absent file is told where the input would fail, too; an accepted source comes to that fault.
+#[test]
+fn reads_no_input_for_a_refused_source(rt: HostRuntime) -> Result<(), Fail> {
+    let alloc = rt.alloc();
+    let outside = Outside {
+        read_fails: &[0],
+        ..SOUND
+    };
+    let words = ["record", "a", "l"];
+    let mut shelf = with_source(alloc, &["int main(void) { return x; }\n"])?;
+    check_in(
+        &rt,
+        alloc,
+        &words,
+        &outside,
+        &mut shelf,
+        ("source refused 9 1 25\n", 2),
+    )?;
+    let mut shelf = with_source(alloc, &[SHORT])?;
+    let missing = ["record", "c", "l"];
+    check_in(
+        &rt,
+        alloc,
+        &missing,
+        &outside,
+        &mut shelf,
+        ("shelf fault\n", 9),
+    )?;
+    let own = ["record", "a", "l", "--profile", "a"];
+    check_in(
+        &rt,
+        alloc,
+        &own,
+        &outside,
+        &mut shelf,
+        ("profile refused 21\n", 6),
+    )?;
+    check_in(
+        &rt,
+        alloc,
+        &words,
+        &outside,
+        &mut shelf,
+        ("read fault\n", 7),
+    )?;
+    assert!(&rt; shelf.content("l").is_none());
+    Ok(())
+}
+
 #[test]
 fn takes_a_profile(rt: HostRuntime) -> Result<(), Fail> {
     for &(words, profile, text, status) in &PROFILES {

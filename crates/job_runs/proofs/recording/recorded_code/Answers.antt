@@ -5,7 +5,7 @@ use Rattle.answers.specs.declared.answer.Part.TheVariants as part
 use Rattle.outcomes.proofs.InRow.{gives_stop}
 use Rattle.outcomes.specs.Steps.{Comes, IsInput}
 use Rattle.job_runs.specs.Recordings.{IsRecorded}
-use Rattle.job_runs.proofs.Recorded.{crew_gives, crew_stops, input_stops}
+use Rattle.job_runs.proofs.Recorded.{crew_gives, crew_stops, input_stops, no_crew}
 use Rattle.job_runs.proofs.Worked.{all_is_idle, crew_is_idle, ran, told_of_run}
 use Rattle.job_runs.proofs.recording.recorded_code.Goals as goal
 
@@ -36,3 +36,17 @@ returns-in-Ok-clause-idle g c = ran _ _ c.in-Ok.recording.outcome (told_of_run c
 
 pub returns-in-Err-clause-idle : goal.returns-in-Err-clause-idle
 returns-in-Err-clause-idle g c = crew_is_idle _ _ c.in-Err.stop _ _ c.in-Err.ensures.faults
+
+pub returns-in_err-bytes-clause-asks : goal.returns-in_err-bytes-clause-asks
+returns-in_err-bytes-clause-asks g c =
+    let p = err_from_is_err_and c.from_residual.result c.from_residual.ensures.1 in
+    no_crew _ _ c.in_err-bytes.field-0.0 _ _ c.in_err-bytes.ensures.faults (rw (p.1, p.2) refl)
+
+pub returns-in-Err-clause-asks : goal.returns-in-Err-clause-asks
+returns-in-Err-clause-asks g c failed = (c.in_ok-bytes.bytes, c.in_ok-bytes.ensures.content)
+
+pub returns-in-Ok-clause-crew : goal.returns-in-Ok-clause-crew
+returns-in-Ok-clause-crew g c none = absurd (none (c.in_ok-bytes.bytes, c.in_ok-bytes.ensures.content))
+
+pub returns-in-Err-clause-crew : goal.returns-in-Err-clause-crew
+returns-in-Err-clause-crew g c none = absurd (none (c.in_ok-bytes.bytes, c.in_ok-bytes.ensures.content))

@@ -1,6 +1,7 @@
 use Rattle.std.proofs.Common.{◌≡◌, ◌≤◌, refl, sym, ◌∙◌, subst, length, Err, arith}
 use Rattle.std.proofs.lemmas.Result.{err_from_is_err_and}
 use Rattle.profiles.specs.declared.profile.Profile.TheVariants as profile
+use Rattle.jobs.specs.Asks.{HasTree}
 use Rattle.jobs.specs.Sources.{RunsAsSource}
 use Rattle.workload.specs.Program.{program_text}
 use Rattle.jobs.proofs.Found.{same_compile}
@@ -57,3 +58,15 @@ returns-clause-outcome g c =
 
 pub returns-clause-faults : goal.returns-clause-faults
 returns-clause-faults g c = later_ends c.made.result _ _ _ _ _ _ c.made.ensures.faults c.in_ok-keep.ensures.faults refl
+
+pub returns-clause-runs : goal.returns-clause-runs
+returns-clause-runs g c failed =
+    let text : c.as_slice-text.result.now ≡ program_text c.args.count = c.as_slice-text.ensures ∙ c.in_ok-source.ensures.text in
+    let runs = c.in_ok-weakened.ensures.runs in
+    subst HasTree text (runs.os, runs.tree)
+
+pub returns-clause-crew : goal.returns-clause-crew
+returns-clause-crew g c none =
+    let text : c.as_slice-text.result.now ≡ program_text c.args.count = c.as_slice-text.ensures ∙ c.in_ok-source.ensures.text in
+    let runs = c.in_ok-weakened.ensures.runs in
+    absurd (none (subst HasTree text (runs.os, runs.tree)))

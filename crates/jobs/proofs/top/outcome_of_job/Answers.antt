@@ -1,10 +1,13 @@
 use Rattle.std.proofs.Common.{inl, inr, refl, sym, subst, Some}
+use Rattle.std.specs.Prelude.{IfErr}
 use Rattle.answers.specs.Jobs.{told}
 use Rattle.answers.specs.declared.job.Job.{Job}
-use Rattle.jobs.specs.Jobs.{IsOutcome, PutsBefore}
+use Rattle.jobs.specs.Asks.{AsksCrew, AsksInput}
+use Rattle.jobs.specs.Jobs.{IsOutcome, PutsBefore, UsesShelf}
 use Rattle.job_runs.specs.Works.{work_of}
-use Rattle.outcomes.specs.Endings.{ComesTo}
+use Rattle.outcomes.specs.Endings.{ComesTo, MayStop}
 use Rattle.job_runs.proofs.Worked.{all_is_idle}
+use Rattle.jobs.proofs.Asked.{none_read, stops_by}
 use Rattle.jobs.proofs.Worked.{at_once, with_work}
 use Rattle.jobs.proofs.top.outcome_of_job.Goals as goal
 
@@ -87,3 +90,28 @@ returns-in-Make-clause-outcome g c =
     let last = g.S.Shelf.files c.make.new.shelf in
     subst (λ (j : Job). ComesTo (IsOutcome old new files left (Some (told j))) (PutsBefore (Some (told j))) files last c.make.result) (sym c.in-Make.is)
     (with_work old new files left _ _ files last c.make.result c.make.ensures.outcome (inl tt) c.make.ensures.idle)
+
+pub returns-in-Record-clause-causes : goal.returns-in-Record-clause-causes
+returns-in-Record-clause-causes g c =
+    let files = g.S.Shelf.files c.args.shelf.now in
+    let left = g.I.Source.left c.args.input.now in
+    subst (λ (j : Job). IfErr c.record_source.result (MayStop (UsesShelf (Some (told j))) (AsksInput files (Some (told j))) (AsksCrew files left (Some (told j))))) (sym c.in-Record.is)
+    (stops_by _ _ _ c.record_source.result tt c.record_source.ensures.reads c.record_source.ensures.runs)
+
+pub returns-in-Replay-clause-causes : goal.returns-in-Replay-clause-causes
+returns-in-Replay-clause-causes g c =
+    let files = g.S.Shelf.files c.args.shelf.now in
+    let left = g.I.Source.left c.args.input.now in
+    subst (λ (j : Job). IfErr c.replay.result (MayStop (UsesShelf (Some (told j))) (AsksInput files (Some (told j))) (AsksCrew files left (Some (told j))))) (sym c.in-Replay.is)
+    (stops_by _ _ _ c.replay.result tt (none_read _ _ c.replay.result _ _ _ _ c.replay.ensures.faults) c.replay.ensures.runs)
+
+pub returns-in-Record-clause-input : goal.returns-in-Record-clause-input
+returns-in-Record-clause-input g c none =
+    let files = g.S.Shelf.files c.args.shelf.now in
+    c.record_source.ensures.input (subst (λ (j : Job). AsksInput files (Some (told j)) → ⊥) c.in-Record.is none)
+
+pub returns-in-Record-clause-crew : goal.returns-in-Record-clause-crew
+returns-in-Record-clause-crew g c none =
+    let files = g.S.Shelf.files c.args.shelf.now in
+    let left = g.I.Source.left c.args.input.now in
+    c.record_source.ensures.crew (subst (λ (j : Job). AsksCrew files left (Some (told j)) → ⊥) c.in-Record.is none)
