@@ -34,7 +34,7 @@ abbrev main_of : Statement → Function
 main_of body = record { name = codes "main"; place = at 2; formals = 0; pointers = false ∷ []; objects = []; arrivals = []; gives_pointer = false; body = body }
 
 abbrev program_of : Statement → Program
-program_of body = record { functions = main_of body ∷ []; sites = site_g ∷ []; globals = 0 ∷ []; global_kinds = kind.Whole ∷ []; global_bases = Some 0 ∷ [] }
+program_of body = record { functions = main_of body ∷ []; pointers = []; sites = site_g ∷ []; globals = 0 ∷ []; global_kinds = kind.Whole ∷ []; global_bases = Some 0 ∷ [] }
 
 -- int g; int main(void) { g = 1 + 2; return g; }
 abbrev first_program : Program
@@ -137,6 +137,7 @@ f = record {
 abbrev call_program : Program
 call_program = record {
   functions = f ∷ main_of (compute (store g (call 0 (and_exp (z 6) no_exp) false (at 8)) (at 8))) ∷ [];
+  pointers = [];
   sites = site_g ∷ record { name = codes "f.n@6:1"; layout = record { size = 1; element = 1; kinds = kind.Whole ∷ [] }; at = record { line = 6; column = 1 } } ∷ [];
   globals = 0 ∷ [];
   global_kinds = kind.Whole ∷ [];
@@ -165,3 +166,34 @@ pub print_events_are : events (run_of print_program (setup 10) 0) (answers 4) �
     done action.Mark [] (pos 0) ∷ done (action.Operate op.Print object_id.Output) (codes "A<B") (pos 0) ∷ done (action.Operate op.Print object_id.Output) (codes "\n") (pos 0)
     ∷ done (action.Operate op.HaltAll object_id.Halt) [] (pos 0) ∷ []
 print_events_are = refl
+
+-- int twice(int a) { return a + a; }
+abbrev twice : Function
+twice = record { name = codes "twice"; place = at 1; formals = 1; pointers = false ∷ []; objects = []; arrivals = []; gives_pointer = false; body = gives (Some (binary binary_op.Add (register 0 false (at 1)) (register 0 false (at 1)) (at 1))) (at 1) }
+
+-- int main(void) { g = f(4); return 0; } where f is a pointer with this word, declared at line 6, and the name of `twice` alone is taken
+abbrev pointer_program : Exp → Program
+pointer_program word = record {
+  functions = twice ∷ main_of (compute (store g (call 2 (and_exp word (and_exp (z 4) no_exp)) false (at 8)) (at 8))) ∷ [];
+  pointers = record { kinds = false ∷ []; gives_pointer = false; place = at 6; targets = 0 ∷ [] } ∷ [];
+  sites = site_g ∷ [];
+  globals = 0 ∷ [];
+  global_kinds = kind.Whole ∷ [];
+  global_bases = Some 0 ∷ [];
+}
+
+-- the call through the pointer makes a Mark, and then that of its target another
+pub pointer_events_are : events (run_of (pointer_program (z 1)) (setup 10) 0) (answers 5) ≡
+    done action.Mark [] (pos 0) ∷ done action.Mark [] (pos 0) ∷ done action.Mark [] (pos 0) ∷ done (action.Store 2 8) [] (pos 0) ∷ done (action.Operate op.HaltAll object_id.Halt) [] (pos 0) ∷ []
+pointer_events_are = refl
+
+-- a null pointer traps at the declaration, and so does one to `main`
+pub null_pointer_traps : events (run_of (pointer_program (z 0)) (setup 10) 0) (answers 3) ≡ done action.Mark [] (pos 0) ∷ done action.Mark [] (pos 0) ∷ trapped trap.BadDereference 6 ∷ []
+null_pointer_traps = refl
+
+pub other_pointer_traps : events (run_of (pointer_program (z 2)) (setup 10) 0) (answers 3) ≡ done action.Mark [] (pos 0) ∷ done action.Mark [] (pos 0) ∷ trapped trap.BadDereference 6 ∷ []
+other_pointer_traps = refl
+
+-- a limit that the target reaches traps there too
+pub limit_at_target : events (run_of (pointer_program (z 1)) (setup 2) 0) (answers 3) ≡ done action.Mark [] (pos 0) ∷ done action.Mark [] (pos 0) ∷ trapped trap.Limit 6 ∷ []
+limit_at_target = refl

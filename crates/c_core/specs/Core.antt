@@ -88,9 +88,21 @@ pub record Function : Type 0 where
   pub gives_pointer : Bool
   pub body : Statement
 
+-- a type of pointers to functions
+pub record Pointer : Type 0 where
+  -- whether each formal is a pointer
+  pub kinds : List Bool
+  pub gives_pointer : Bool
+  -- of the name in the first declaration of such a pointer
+  pub place : Position
+  -- the functions of this type whose names stand as values somewhere
+  pub targets : List ℕ
+
 -- a whole source as core trees, and its global cells as numbers
 pub record Program : Type 0 where
   pub functions : List Function
+  -- a call through a pointer has the number of its type, counted on from the functions, and the pointer as its first argument
+  pub pointers : List Pointer
   pub sites : List Site
   -- the start words and the kinds of the global cells
   pub globals : List ℕ

@@ -1,5 +1,5 @@
 -- What a core tree does, by recursion on it (C99 5.1.2.3, 6.5, 6.8; POSIX.1-2017 threads).
-use Rattle.std.specs.Prelude.{ℕ, zero, suc, ◌+◌, ◌*◌, ◌-◌, ◌^◌, nat_le, nat_eq, Bool, true, false, not, if◌then◌else◌, ℤ, pos, ◌-ℤ◌, ◌*ℤ◌, List, [], ◌∷◌, length, codes, position, unwrap_or, Option, Some, None, slice_get, slice_index_or, Result, Ok, Err}
+use Rattle.std.specs.Prelude.{ℕ, zero, suc, ◌+◌, ◌*◌, ◌-◌, ◌^◌, nat_le, nat_eq, Bool, true, false, not, if◌then◌else◌, ℤ, pos, ◌-ℤ◌, ◌*ℤ◌, List, [], ◌∷◌, length, codes, position, unwrap_or, Option, Some, None, map, ◌++◌, find, slice_get, slice_index_or, Result, Ok, Err}
 use Rattle.std.specs.Str.{bytes_eq}
 use Rattle.sync_objects.specs.Setup.{SetupView}
 use Rattle.sync_objects.specs.declared.object.ObjId.TheVariants as object_id
@@ -8,6 +8,7 @@ use Rattle.rr_base.specs.declared.trap.Trap.{Trap}
 use Rattle.rr_base.specs.declared.trap.Trap.TheVariants as trap
 use Rattle.rr_base.specs.declared.layout.CellKind.{CellKind}
 use Rattle.rr_base.specs.declared.layout.Site.{Site}
+use Rattle.rr_base.specs.declared.position.Position.{Position}
 use Rattle.abstract_machine.specs.declared.library_call.LibraryCall.{LibraryCall}
 use Rattle.abstract_machine.specs.declared.event.Due.{Due}
 use Rattle.abstract_machine.specs.declared.event.Due.TheVariants as due
@@ -26,7 +27,7 @@ use Rattle.c_core.specs.declared.value.UnaryOp.TheVariants as unary_op
 use Rattle.c_core.specs.declared.value.Change.{Change}
 use Rattle.c_core.specs.declared.value.Change.TheVariants as change
 use Rattle.c_core.specs.Core as core
-use Rattle.c_core.specs.Core.{Exp, null, register, object, global, load, unary, binary, move, advance, member, between, to_pointer, to_number, copy, both, either, conditional, comma, set_register, store, change_register, change_cell, call, library, allocate, Exps, no_exp, and_exp, Statement, block, compute, branch, branch_else, while_loop, do_loop, for_loop, break_at, continue_at, gives, Statements, no_statement, and_statement, Arrival, arrives, Function, Program}
+use Rattle.c_core.specs.Core.{Exp, null, register, object, global, load, unary, binary, move, advance, member, between, to_pointer, to_number, copy, both, either, conditional, comma, set_register, store, change_register, change_cell, call, library, allocate, Exps, no_exp, and_exp, Statement, block, compute, branch, branch_else, while_loop, do_loop, for_loop, break_at, continue_at, gives, Statements, no_statement, and_statement, Arrival, arrives, Function, Pointer, Program}
 use Rattle.c_core.specs.Runs.{Run, does, traps, ends, State, M, ◌>>=◌, ◌>>◌, pure, trap_at, result_at, printing, event, read_register, write_register, read_object, choose}
 
 -- ---- kinds
@@ -139,10 +140,43 @@ Calls = ℕ → List ℕ → ℕ → M ℕ
 abbrev pub is_main : Function → Bool
 is_main f = bytes_eq f.name (codes "main")
 
--- the line of its name; 0 where there is no such function
-abbrev pub line_of_function : Option Function → ℕ
-line_of_function None = 0
-line_of_function (Some f) = f.place.line
+-- what a number calls: the functions come first, and after them the types of pointers to functions
+pub data Callee : Type 0 where
+  defined : Function → Callee
+  -- the function to which the first argument points
+  pointed : Pointer → Callee
+
+-- in the order of their numbers
+abbrev pub callees : Program → List Callee
+callees p = map defined p.functions ++ map pointed p.pointers
+
+-- whether a program starts with it
+abbrev pub is_start : Callee → Bool
+is_start (defined f) = is_main f
+is_start (pointed q) = false
+
+-- its name, or the first declaration of a pointer of its type
+abbrev pub place_of : Callee → Position
+place_of (defined f) = f.place
+place_of (pointed q) = q.place
+
+-- the sites of its objects: a call through a pointer has none of its own
+abbrev pub objects_of : Callee → List ℕ
+objects_of (defined f) = f.objects
+objects_of (pointed q) = []
+
+-- 0 where there is no such callee
+abbrev pub line_of_callee : Option Callee → ℕ
+line_of_callee None = 0
+line_of_callee (Some c) = (place_of c).line
+
+-- the pointer to a function, by the function's number; 0 is the null pointer
+abbrev pub function_word : ℕ → ℕ
+function_word n = word (pos (n + 1))
+
+-- the function to which the word points
+abbrev pub target_of : List ℕ → ℕ → Option ℕ
+target_of targets w = find (λ n. nat_eq w (function_word n)) targets
 
 -- the number of the function `main`
 abbrev pub main_of : Program → ℕ
@@ -340,28 +374,46 @@ module _ (p : Program) (s : SetupView) (t : ℕ) where
     store_at at.line pointer (access_kind (slice_index_or pointers n false)) w
     stored pointers more
 
-  abbrev pub enter_made : Function → List ℕ → ℕ → Option (List ℕ × ℕ) → M (Unit {0})
-  enter_made f ws line None = trap_at line trap.ArenaFull
-  enter_made f ws line (Some made) = λ σ k. does action.Mark [] (λ answer. k tt (entered σ ws made.0 made.1))
+  abbrev pub enter_made : List ℕ → ℕ → Option (List ℕ × ℕ) → M (Unit {0})
+  enter_made ws line None = trap_at line trap.ArenaFull
+  enter_made ws line (Some made) = λ σ k. does action.Mark [] (λ answer. k tt (entered σ ws made.0 made.1))
 
-  -- the Mark with which a function is entered, or the first trap that stands in its place
-  abbrev pub enter : Function → List ℕ → ℕ → M (Unit {0})
-  enter f ws line = λ σ k.
+  -- the Mark with which a callee is entered, or the first trap that stands in its place
+  abbrev pub enter : Callee → List ℕ → ℕ → M (Unit {0})
+  enter c ws line = λ σ k.
       if nat_le s.limit σ.count then traps trap.Limit line
       else if nat_le most_frames σ.depth then traps trap.Depth line
-      else enter_made f ws line (made_objects p.sites arena_end f.objects σ.arena) σ k
+      else enter_made ws line (made_objects p.sites arena_end (objects_of c) σ.arena) σ k
 
-  abbrev pub body_of : Calls → Function → M Completion
-  body_of calls f = stored f.pointers f.arrivals >> meaning calls f.body
+  -- the words of so many registers from r on
+  abbrev pub read_registers : ℕ → ℕ → M (List ℕ)
+  read_registers zero r = pure []
+  read_registers (suc n) r = do
+    w ← read_register r
+    ws ← read_registers n (r + 1)
+    pure (w ∷ ws)
 
-  abbrev pub called : Calls → Option Function → List ℕ → ℕ → M ℕ
+  -- nothing is called through a pointer that points to no function of its type
+  abbrev pub target_called : Calls → ℕ → List ℕ → Option ℕ → M Completion
+  target_called calls line ws None = trap_at line trap.BadDereference
+  target_called calls line ws (Some n) = calls n ws line >>= λ w. pure (returns w line)
+
+  -- a call through a pointer calls its target with the arguments that follow (C99 6.5.2.2)
+  abbrev pub body_of : Calls → Callee → M Completion
+  body_of calls (defined f) = stored f.pointers f.arrivals >> meaning calls f.body
+  body_of calls (pointed q) = do
+    w ← read_register 0
+    ws ← read_registers (length q.kinds) 1
+    target_called calls q.place.line ws (target_of q.targets w)
+
+  abbrev pub called : Calls → Option Callee → List ℕ → ℕ → M ℕ
   called calls None ws line = pure 0
-  called calls (Some f) ws line = λ σ. (enter f ws line >> (body_of calls f >>= λ flow inner k. k (word_given flow) (left σ inner))) σ
+  called calls (Some c) ws line = λ σ. (enter c ws line >> (body_of calls c >>= λ flow inner k. k (word_given flow) (left σ inner))) σ
 
   -- Calls nested so deep: each has a Mark, so the limit comes first.
   abbrev pub calls_of : ℕ → Calls
-  calls_of zero f ws line = trap_at line trap.Limit
-  calls_of (suc n) f ws line = called (calls_of n) (slice_get p.functions f) ws line
+  calls_of zero c ws line = trap_at line trap.Limit
+  calls_of (suc n) c ws line = called (calls_of n) (slice_get (callees p) c) ws line
 
   -- ---- threads
 
@@ -375,24 +427,24 @@ module _ (p : Program) (s : SetupView) (t : ℕ) where
       (event s.limit line (action.Operate op.Leave object_id.Threads) >> pure tt))
 
   -- where there is no such function, only the Mark comes
-  abbrev pub first_function : Option Function → List ℕ → M (Unit {0})
+  abbrev pub first_function : Option Callee → List ℕ → M (Unit {0})
   first_function None ws = event s.limit 0 action.Mark >> pure tt
-  first_function (Some f) ws =
-      enter f ws f.place.line >> (body_of (calls_of s.limit) f >>= λ flow. finish (is_main f) (line_given f.place.line flow) (word_given flow))
+  first_function (Some c) ws =
+      enter c ws (place_of c).line >> (body_of (calls_of s.limit) c >>= λ flow. finish (is_start c) (line_given (place_of c).line flow) (word_given flow))
 
   -- a thread is begun by its start, with a function, and loads its argument
   abbrev pub begun : M (Unit {0})
   begun = do
     f ← event s.limit 0 (action.Operate op.Begin (object_id.Slot t))
-    w ← event s.limit (line_of_function (slice_get p.functions (count_in f))) (action.Load (argument_cell t))
-    first_function (slice_get p.functions (count_in f)) (word w ∷ [])
+    w ← event s.limit (line_of_callee (slice_get (callees p) (count_in f))) (action.Load (argument_cell t))
+    first_function (slice_get (callees p) (count_in f)) (word w ∷ [])
 
   -- nothing of a thread has run
   abbrev pub start : State
   start = record { registers = λ _. 0; objects = λ _. 0; count = 0; arena = arena_start; printed = 0; depth = 0 }
 
   abbrev pub thread_of : ℕ → M (Unit {0})
-  thread_of zero = first_function (slice_get p.functions (main_of p)) []
+  thread_of zero = first_function (slice_get (callees p) (main_of p)) []
   thread_of (suc k) = begun
 
   -- what a thread of the program does

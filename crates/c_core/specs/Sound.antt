@@ -17,7 +17,7 @@ use Rattle.c_core.specs.declared.value.UnaryOp.TheVariants as unary_op
 use Rattle.c_core.specs.declared.value.Change.{Change}
 use Rattle.c_core.specs.declared.value.Change.TheVariants as change
 use Rattle.c_core.specs.Core as core
-use Rattle.c_core.specs.Core.{Exp, null, register, object, global, load, unary, binary, move, advance, member, between, to_pointer, to_number, copy, both, either, conditional, comma, set_register, store, change_register, change_cell, call, library, allocate, Exps, no_exp, and_exp, Statement, block, compute, branch, branch_else, while_loop, do_loop, for_loop, break_at, continue_at, gives, Statements, no_statement, and_statement, Arrival, arrives, Function, Program}
+use Rattle.c_core.specs.Core.{Exp, null, register, object, global, load, unary, binary, move, advance, member, between, to_pointer, to_number, copy, both, either, conditional, comma, set_register, store, change_register, change_cell, call, library, allocate, Exps, no_exp, and_exp, Statement, block, compute, branch, branch_else, while_loop, do_loop, for_loop, break_at, continue_at, gives, Statements, no_statement, and_statement, Arrival, arrives, Function, Pointer, Program}
 use Rattle.c_core.specs.Meaning.{is_pointer, is_pointer_change, is_main}
 
 -- ---- kinds
@@ -57,12 +57,20 @@ abbrev pub formal_kinds : Function → List Bool
 formal_kinds f = take f.formals f.pointers
 
 -- the function with the number is not `main`, takes values of these kinds, and gives a pointer or not
+abbrev pub IsFunction : Program → ℕ → List Bool → Bool → Type 0
+IsFunction p n kinds pointer = (f : Function) × (slice_get p.functions n ≡ Some f) × (is_main f ≡ false) × (formal_kinds f ≡ kinds) × (f.gives_pointer ≡ pointer)
+
+-- the number is that of a type of pointers to functions: in front of what these take comes the pointer, a whole number
+abbrev pub IsPointerType : Program → ℕ → List Bool → Bool → Type 0
+IsPointerType p n kinds pointer = (k : ℕ) × (q : Pointer) × (n ≡ length p.functions + k) × (slice_get p.pointers k ≡ Some q) × (false ∷ q.kinds ≡ kinds) × (q.gives_pointer ≡ pointer)
+
+-- what has the number takes values of these kinds, and gives a pointer or not
 abbrev pub IsCallable : Program → ℕ → List Bool → Bool → Type 0
-IsCallable p n kinds pointer = (f : Function) × (slice_get p.functions n ≡ Some f) × (is_main f ≡ false) × (formal_kinds f ≡ kinds) × (f.gives_pointer ≡ pointer)
+IsCallable p n kinds pointer = IsFunction p n kinds pointer ⊎ IsPointerType p n kinds pointer
 
 -- a thread is started with a function that takes a pointer and gives one
 abbrev pub Starts : Program → LibraryCall → Type 0
-Starts p (library_call.Create n) = IsCallable p n (true ∷ []) true
+Starts p (library_call.Create n) = IsFunction p n (true ∷ []) true
 Starts p _ = Unit {0}
 
 -- the first site has the number 1
@@ -172,6 +180,8 @@ pub record IsSound (p : Program) : Type 0 where
   -- one function is `main`, and it has no formals
   pub one_main : count_by is_main p.functions ≡ 1
   pub main_alone : (k : ℕ) (f : Function) → slice_get p.functions k ≡ Some f → is_main f ≡ true → f.formals ≡ 0
+  -- a pointer points to functions of its type
+  pub targets : (k : ℕ) (q : Pointer) → slice_get p.pointers k ≡ Some q → (i n : ℕ) → slice_get q.targets i ≡ Some n → IsFunction p n q.kinds q.gives_pointer
   -- each global cell has a kind
   pub cell_kinds : length p.global_kinds ≡ length p.globals
   -- each site is told whether its object is a global's
@@ -179,6 +189,6 @@ pub record IsSound (p : Program) : Type 0 where
   -- each site has a layout
   pub layouts : sites_fit p.sites ≡ true
   -- the limits
-  pub few_functions : length p.functions ≤ 2 ^ 20
+  pub few_functions : length p.functions + length p.pointers ≤ 2 ^ 20
   pub few_sites : length p.sites ≤ 1023
   pub few_cells : length p.globals ≤ 2 ^ 20

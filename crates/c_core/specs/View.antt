@@ -12,8 +12,9 @@ use Rattle.c_core.specs.declared.value.Assignment.TheBlock.{Simple, Operates, Ch
 use Rattle.c_core.specs.declared.statement.Statement.{Statement as RustStatement, Block', Compute, If', IfElse', While', Do', For', Break, Continue, Return, Row_of-Statement, end_of-Statement, more_of-Statement}
 use Rattle.c_core.specs.declared.program.Arrival.{Arrival as RustArrival}
 use Rattle.c_core.specs.declared.program.CoreFunction.{CoreFunction}
+use Rattle.c_core.specs.declared.program.PointerType.{PointerType}
 use Rattle.c_core.specs.declared.program.Core.{Core}
-use Rattle.c_core.specs.Core.{Exp, number, null, register, object, global, load, unary, binary, move, advance, member, between, to_pointer, to_number, copy, both, either, conditional, comma, set_register, store, change_register, change_cell, call, library, allocate, Exps, no_exp, and_exp, Statement, block, compute, branch, branch_else, while_loop, do_loop, for_loop, break_at, continue_at, gives, Statements, no_statement, and_statement, Arrival, arrives, Function, Program}
+use Rattle.c_core.specs.Core.{Exp, number, null, register, object, global, load, unary, binary, move, advance, member, between, to_pointer, to_number, copy, both, either, conditional, comma, set_register, store, change_register, change_cell, call, library, allocate, Exps, no_exp, and_exp, Statement, block, compute, branch, branch_else, while_loop, do_loop, for_loop, break_at, continue_at, gives, Statements, no_statement, and_statement, Arrival, arrives, Function, Pointer, Program}
 
 -- an expression without parts of its own
 abbrev pub simple_of : RustSimple → Position → Exp
@@ -103,10 +104,15 @@ function_of f = record {
   body = stmt_of f.body;
 }
 
+-- the crate's type of pointers to functions
+abbrev pub pointer_of : PointerType → Pointer
+pointer_of q = record { kinds = q.formals; gives_pointer = q.gives_pointer; place = q.at; targets = q.targets }
+
 -- the crate's whole program, seen as the plain one
 abbrev pub core_of : Core → Program
 core_of c = record {
   functions = map function_of c.functions;
+  pointers = map pointer_of c.pointers;
   sites = c.sites;
   globals = c.globals;
   global_kinds = c.global_kinds;

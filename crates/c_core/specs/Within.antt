@@ -1,10 +1,10 @@
 -- What a core tree names is there.
-use Rattle.std.specs.Prelude.{◌≡◌, ℕ, ◌<◌, Bool, List, [], ◌∷◌, length, slice_get, Option, Some, None}
+use Rattle.std.specs.Prelude.{◌≡◌, ℕ, ◌+◌, ◌<◌, Bool, List, [], ◌∷◌, length, slice_get, Option, Some, None}
 use Rattle.c_core.specs.Core as core
 use Rattle.c_core.specs.Core.{Exp, null, register, object, global, load, unary, binary, move, advance, member, between, to_pointer, to_number, copy, both, either, conditional, comma, set_register, store, change_register, change_cell, call, library, allocate, Exps, no_exp, and_exp, Statement, block, compute, branch, branch_else, while_loop, do_loop, for_loop, break_at, continue_at, gives, Statements, no_statement, and_statement, Arrival, arrives, Function, Program}
 use Rattle.c_core.specs.Meaning.{main_of}
 
--- Objects and functions, of which there are so many, and registers, of which it is told whether they are pointers. A register
+-- Objects, and functions with types of pointers to functions, of which there are so many, and registers, of which it is told whether they are pointers. A register
 -- that is read or changed is of the kind that the tree says.
 abbrev mutual
   pub IsWithinExp : (registers : List Bool) (objects functions : ℕ) → Exp → Type 0
@@ -66,11 +66,11 @@ abbrev pub AreWithinArrivals : (registers objects : ℕ) → List Arrival → Ty
 AreWithinArrivals rs os [] = Unit {0}
 AreWithinArrivals rs os (arrives n k at ∷ more) = (n < rs) × (k < os) × AreWithinArrivals rs os more
 
--- in a program of so many functions; the formals that arrive, then the body
+-- in a program of so many functions and types of pointers to them; the formals that arrive, then the body
 abbrev pub IsWithinFunction : ℕ → Function → Type 0
 IsWithinFunction fs f = AreWithinArrivals (length f.pointers) (length f.objects) f.arrivals × IsWithinStatement f.pointers (length f.objects) fs f.body
 
 -- each function's registers, objects and functions are there, and so is `main`
 pub record IsWithin (p : Program) : Type 0 where
   pub main : main_of p < length p.functions
-  pub functions : (i : ℕ) (f : Function) → slice_get p.functions i ≡ Some f → IsWithinFunction (length p.functions) f
+  pub functions : (i : ℕ) (f : Function) → slice_get p.functions i ≡ Some f → IsWithinFunction (length p.functions + length p.pointers) f

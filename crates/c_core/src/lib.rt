@@ -7,6 +7,6 @@ mod program;
 mod statement;
 mod value;
 
-pub use program::{Arrival, Core, CoreFunction};
+pub use program::{Arrival, Core, CoreFunction, PointerType};
 pub use statement::Statement;
 pub use value::{Assignment, Call, Change, Choice, Operation, Simple, UnaryOp, Value};

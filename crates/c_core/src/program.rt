@@ -27,10 +27,25 @@ pub struct CoreFunction {
     pub body: Statement,
 }
 
+/// A type of pointers to functions. A pointer to function number n is the whole number n + 1.
+#[derive(Drop)]
+pub struct PointerType {
+    /// Whether each formal is a pointer.
+    pub formals: List<bool>,
+    pub gives_pointer: bool,
+    /// The place of the name in the first declaration of such a pointer.
+    pub at: Position,
+    /// The functions of this type whose names stand as values somewhere.
+    pub targets: List<u32>,
+}
+
 /// A source with names and types settled. Function 0 is the first that it defines; site 1 is the first of `sites`.
 #[derive(Drop)]
 pub struct Core {
     pub functions: List<CoreFunction>,
+    /// A call through a pointer has the number of the pointer's type, counted on from the functions, and takes the pointer
+    /// as its first argument.
+    pub pointers: List<PointerType>,
     pub sites: List<Site>,
     /// The start words of the global cells; the base of an address counts from the first of them.
     pub globals: List<u64>,

@@ -1,3 +1,4 @@
 pub mod Defined
+pub mod Listed
 pub mod Made
 pub mod Rows

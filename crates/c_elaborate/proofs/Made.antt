@@ -1,8 +1,7 @@
 -- What is made in steps: the body of a function, and a list of functions.
 use Rattle.std.proofs.Common.{◌≡◌, List, [], ◌∷◌, ◌++◌, map, ap, ◌∙◌}
 use Rattle.std.proofs.lemmas.List.{map-append}
-use Rattle.c_tree.specs.declared.program.Param.{Param}
-use Rattle.c_tree.specs.Tree.{Parts}
+use Rattle.c_tree.specs.Tree.{Formal, Parts}
 use Rattle.c_numbers.specs.Numbered.{Numbered}
 use Rattle.c_locals.specs.Addresses.{after_formals, numbered_from}
 use Rattle.c_programs.specs.Declarators.{after_params}
@@ -16,7 +15,7 @@ use Rattle.c_statements.specs.Statements.{block_of, all_elaborated}
 
 -- ---- a body
 
-pub body_made : (s : Source) (f : Frame) (outside inside : Known) (begun numbers : Numbered) (ps : List Param) (parts : Parts) (before made : List RustStatement) →
+pub body_made : (s : Source) (f : Frame) (outside inside : Known) (begun numbers : Numbered) (ps : List Formal) (parts : Parts) (before made : List RustStatement) →
     before ≡ [] → inside ≡ after_params outside ps → begun ≡ record { next = f.first; scopes = [] ∷ [] } → numbers ≡ after_formals begun ps →
     map stmt_of made ≡ map stmt_of before ++ all_elaborated (context_in s f inside numbers) parts →
     block_of (map stmt_of made) ≡ block_of (all_elaborated (context_in s f (after_params outside ps) (numbered_from f.first ps)) parts)

@@ -1,22 +1,25 @@
 -- The core tree of a whole source (C99 6.9).
 use Rattle.std.specs.Prelude.{ℕ, ◌+◌, List, [], ◌∷◌, ◌++◌}
 use Rattle.c_tree.specs.declared.name.Name.{Name}
-use Rattle.c_tree.specs.declared.program.Params.{Params}
-use Rattle.c_tree.specs.Tree.{Code, defined, prototype, Outer, structure, function, objects}
+use Rattle.c_tree.specs.Tree.{Formals, Code, defined, prototype, Outer, structure, function, objects}
 use Rattle.c_types.specs.declared.names.Signature.{Signature}
 use Rattle.c_types.specs.Scopes.{Known, opened}
-use Rattle.c_names.specs.Sources.{listed_params, known_at_start}
-use Rattle.c_programs.specs.Programs.{signature_of, after_function, after_outer}
+use Rattle.c_names.specs.Sources.{listed_params}
+use Rattle.c_names.specs.Signatures.{signature_of}
+use Rattle.c_names.specs.Known.{known_at_start}
+use Rattle.c_programs.specs.Programs.{after_function, after_outer}
 use Rattle.c_locals.specs.Addresses.{count_of_outer, program_addressed}
+use Rattle.c_locals.specs.Taken.{program_taken}
 use Rattle.c_spots.specs.Spots.{known_after, program_spots}
 use Rattle.c_sites.specs.Sites.{kinds_of_structs, program_sites}
 use Rattle.c_core.specs.Core as core
 use Rattle.c_operators.specs.Context.{Source}
 use Rattle.c_elaborate.specs.Functions.{definition}
+use Rattle.c_elaborate.specs.Pointers.{source_pointers}
 use Rattle.c_globals.specs.Globals.{globals_after, global_kinds, global_bases, objects_words}
 
 -- one function for a definition, and none for a prototype
-abbrev pub code_functions : Source → List ℕ → Known → ℕ → Name → Signature → Params → Code → List core.Function
+abbrev pub code_functions : Source → List ℕ → Known → ℕ → Name → Signature → Formals → Code → List core.Function
 code_functions s ns known n name f ps prototype = []
 code_functions s ns known n name f ps (defined parts at) =
     definition s ns (opened (after_function known name f (defined parts at))) n name f.result (listed_params ps) parts ∷ []
@@ -56,6 +59,7 @@ source_of os = record {
 unfoldable pub core_of_source : List Outer → core.Program
 core_of_source os = record {
   functions = outers_functions (source_of os) (program_addressed os) (known_at_start os) 0 os;
+  pointers = source_pointers (known_after (known_at_start os) os) (program_taken os);
   sites = program_sites os;
   globals = outers_words (source_of os) (known_at_start os) os;
   global_kinds = global_kinds (program_spots os) (program_sites os);

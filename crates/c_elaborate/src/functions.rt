@@ -34,8 +34,8 @@ fn body_of<'a>(
     params: &'a [Param],
     parts: &'a [Part],
 ) -> Result<Box<Statement>, AllocError>
-    ensures known { OnOk result (known_of table.new ≡ after_parts (after_params (known_of table.old) params.now) (listed_parts (map tree.part_of parts.now))) }
-    ensures body { IfOk result (λ s. stmt_of s.value ≡ spec_statements.block_of (spec_statements.all_elaborated (context_in (source_in source.now) (frame_in frame.now) (after_params (known_of table.old) params.now) (numbering.numbered_from frame.now.first params.now)) (listed_parts (map tree.part_of parts.now)))) }
+    ensures known { OnOk result (known_of table.new ≡ after_parts (after_params (known_of table.old) (map tree.formal_of params.now)) (listed_parts (map tree.part_of parts.now))) }
+    ensures body { IfOk result (λ s. stmt_of s.value ≡ spec_statements.block_of (spec_statements.all_elaborated (context_in (source_in source.now) (frame_in frame.now) (after_params (known_of table.old) (map tree.formal_of params.now)) (numbering.numbered_from frame.now.first (map tree.formal_of params.now))) (listed_parts (map tree.part_of parts.now)))) }
 {
     let mut numbers = NumberTable::new(alloc, frame.first)?;
     pass_formals(alloc, table, &mut numbers, params)?;
@@ -58,8 +58,8 @@ fn defined<'a>(
     formals: &[Local],
     locals: &[Local],
 ) -> Result<CoreFunction, AllocError>
-    ensures known { OnOk result (known_of table.new ≡ after_parts (after_params (known_of table.old) params.now) (listed_parts (map tree.part_of parts.now))) }
-    ensures function { IfOk result (λ f. function_of f ≡ spec.definition_by (source_in source.now) (after_params (known_of table.old) params.now) first name.now gives params.now (listed_parts (map tree.part_of parts.now)) formals.now locals.now) }
+    ensures known { OnOk result (known_of table.new ≡ after_parts (after_params (known_of table.old) (map tree.formal_of params.now)) (listed_parts (map tree.part_of parts.now))) }
+    ensures function { IfOk result (λ f. function_of f ≡ spec.definition_by (source_in source.now) (after_params (known_of table.old) (map tree.formal_of params.now)) first name.now gives (map tree.formal_of params.now) (listed_parts (map tree.part_of parts.now)) formals.now locals.now) }
 {
     let frame = frame_of(alloc, first, formals, locals, gives)?;
     let body = body_of(alloc, source, &frame, table, params, parts)?;
@@ -78,9 +78,9 @@ pub fn definition<'a>(
     params: &'a [Param],
     parts: &'a [Part],
 ) -> Result<CoreFunction, AllocError>
-    ensures known { OnOk result (known_of table.new ≡ after_parts (after_params (known_of table.old) params.now) (listed_parts (map tree.part_of parts.now))) }
-    ensures next { OnOk result (next.new ≡ next.old + (length params.now + count_of_parts (listed_parts (map tree.part_of parts.now)))) }
-    ensures function { IfOk result (λ f. function_of f ≡ spec.definition (source_in source.now) marks.now.numbers (known_of table.old) next.old name.now gives params.now (listed_parts (map tree.part_of parts.now))) }
+    ensures known { OnOk result (known_of table.new ≡ after_parts (after_params (known_of table.old) (map tree.formal_of params.now)) (listed_parts (map tree.part_of parts.now))) }
+    ensures next { OnOk result (next.new ≡ next.old + (length (map tree.formal_of params.now) + count_of_parts (listed_parts (map tree.part_of parts.now)))) }
+    ensures function { IfOk result (λ f. function_of f ≡ spec.definition (source_in source.now) marks.now.numbers (known_of table.old) next.old name.now gives (map tree.formal_of params.now) (listed_parts (map tree.part_of parts.now))) }
 {
     let first = *next;
     let kept = kept_in(alloc, marks, first, params, parts)?;

@@ -3,6 +3,7 @@
 #![tactic(auto)]
 
 mod functions;
+mod pointers;
 mod whole;
 
 pub use whole::elaborate;

@@ -1,29 +1,33 @@
 //! The core tree of a whole source (C99 6.9).
 ghost use Rattle.std.specs.Prelude.{◌≡◌, ◌+◌, ◌++◌, ◌∷◌, [], IfOk, OnOk, length, map};
 ghost use Rattle.c_tree.specs.Tree.{listed_parts};
-ghost use Rattle.c_tree.specs.View.{code_of, fields_of, outer_of, part_of, program_of};
+ghost use Rattle.c_tree.specs.View.{code_of, fields_of, formal_of, formals_of, outer_of, part_of, program_of};
 ghost use Rattle.c_locals.specs.Addresses.{count_of_code, count_of_outer, count_of_parts, program_addressed};
-ghost use Rattle.c_names.specs.Sources.{listed_params, known_at_start};
+ghost use Rattle.c_names.specs.Sources.{listed_params};
+ghost use Rattle.c_names.specs.Signatures as signatures;
+ghost use Rattle.c_names.specs.Known.{known_at_start};
 ghost use Rattle.c_programs.specs.Declarators.{after_struct};
 ghost use Rattle.c_programs.specs.Programs as programs;
 ghost use Rattle.c_types.specs.Scopes.{opened};
 ghost use Rattle.c_spots.specs.Spots.{program_spots};
 ghost use Rattle.c_sites.specs.Sites.{program_sites};
-ghost use Rattle.c_names.specs.Table.{known_of};
+ghost use Rattle.c_locals.specs.Taken.{program_taken};
+ghost use Rattle.c_names.specs.Table.{known_of, texts_of};
 ghost use Rattle.c_sites.specs.Typed.{program_in};
-ghost use Rattle.c_core.specs.View.{core_of, function_of};
+ghost use Rattle.c_core.specs.View.{core_of, function_of, pointer_of};
 ghost use Rattle.c_elaborate.specs.Functions.{definition};
 ghost use Rattle.c_globals.specs.Globals as spec_globals;
 ghost use Rattle.c_operators.specs.Views.{source_in};
 ghost use Rattle.c_elaborate.specs.Whole as spec;
 
 use crate::functions::definition;
-use c_core::{Core, CoreFunction};
+use crate::pointers::source_pointers;
+use c_core::{Core, CoreFunction, PointerType};
 use c_globals::{global_bases, global_kinds, globals_in, push_objects};
-use c_locals::{Marks, addressed_in};
-use c_names::{Table, listed};
+use c_locals::{Marks, Taken, addressed_in, taken_in};
+use c_names::{Table, listed, signature_of};
 use c_operators::Source;
-use c_programs::{declare_function, note_struct, signature_of};
+use c_programs::{declare_function, note_struct};
 use c_sites::{Typed, kinds_of_structs};
 use c_spots::spots_in;
 use c_tree::{Body, External, Member, Name, Param, Params, Part, Program, Specifier};
@@ -45,8 +49,8 @@ fn push_definition<'a>(
     out: &mut List<CoreFunction>,
 ) -> Result<(), AllocError>
     ensures known { OnOk result (known_of table.new ≡ known_of table.old) }
-    ensures next { OnOk result (next.new ≡ next.old + (length params.now + count_of_parts (listed_parts (map part_of parts.now)))) }
-    ensures out { OnOk result (map function_of out.new ≡ map function_of out.old ++ definition (source_in source.now) marks.now.numbers (opened (known_of table.old)) next.old name.now gives params.now (listed_parts (map part_of parts.now)) ∷ []) }
+    ensures next { OnOk result (next.new ≡ next.old + (length (map formal_of params.now) + count_of_parts (listed_parts (map part_of parts.now)))) }
+    ensures out { OnOk result (map function_of out.new ≡ map function_of out.old ++ definition (source_in source.now) marks.now.numbers (opened (known_of table.old)) next.old name.now gives (map formal_of params.now) (listed_parts (map part_of parts.now)) ∷ []) }
 {
     table.open(alloc)?;
     let function = definition(
@@ -71,9 +75,9 @@ fn push_function<'a>(
     body: &'a Body,
     out: &mut List<CoreFunction>,
 ) -> Result<(), AllocError>
-    ensures known { OnOk result (known_of table.new ≡ programs.after_function (known_of table.old) name.now (programs.signature_of (known_of table.old) specifier.now stars params.now) (code_of body.now)) }
-    ensures next { OnOk result (next.new ≡ next.old + count_of_code (listed_params params.now) (code_of body.now)) }
-    ensures out { OnOk result (map function_of out.new ≡ map function_of out.old ++ spec.code_functions (source_in source.now) marks.now.numbers (known_of table.old) next.old name.now (programs.signature_of (known_of table.old) specifier.now stars params.now) params.now (code_of body.now)) }
+    ensures known { OnOk result (known_of table.new ≡ programs.after_function (known_of table.old) name.now (signatures.signature_of (known_of table.old) specifier.now stars (formals_of params.now)) (code_of body.now)) }
+    ensures next { OnOk result (next.new ≡ next.old + count_of_code (listed_params (formals_of params.now)) (code_of body.now)) }
+    ensures out { OnOk result (map function_of out.new ≡ map function_of out.old ++ spec.code_functions (source_in source.now) marks.now.numbers (known_of table.old) next.old name.now (signatures.signature_of (known_of table.old) specifier.now stars (formals_of params.now)) (formals_of params.now) (code_of body.now)) }
 {
     let signature = signature_of(alloc, &*table, specifier, stars, params)?;
     let gives = signature.result;
@@ -199,56 +203,58 @@ fn source_of<'a>(
     Ok((source, global_kinds, global_bases))
 }
 
-/// The functions of a source, the start words and the kinds of its global cells and the first ones of its globals, where
-/// the marks and the sites are known.
+/// All that the core tree of a source holds but its sites.
+#[derive(Drop)]
+struct Made {
+    functions: List<CoreFunction>,
+    pointers: List<PointerType>,
+    globals: List<u64>,
+    global_kinds: List<CellKind>,
+    global_bases: List<Option<u32>>,
+}
+
+/// What is made of a source, where the marks, the names that stand as values and the sites are known.
 #[tactic(auto, unfolding(crate::specs::Whole::core_of_source))]
 fn made_of(
     alloc: Global,
     marks: &Marks,
+    taken: &Taken,
     program: &Program,
     sites: &[Site],
-) -> Result<
-    (
-        List<CoreFunction>,
-        List<u64>,
-        List<CellKind>,
-        List<Option<u32>>,
-    ),
-    AllocError,
->
+) -> Result<Made, AllocError>
     requires marks { marks.now.numbers ≡ program_addressed (program_of program.now) }
+    requires taken { texts_of taken.now.names.keys ≡ program_taken (program_of program.now) }
     requires sites { sites.now ≡ program_sites (program_of program.now) }
-    ensures functions { IfOk result (λ r. map function_of r.0 ≡ (spec.core_of_source (program_of program.now)).functions) }
-    ensures words { IfOk result (λ r. r.1 ≡ (spec.core_of_source (program_of program.now)).globals) }
-    ensures kinds { IfOk result (λ r. r.2 ≡ (spec.core_of_source (program_of program.now)).global_kinds) }
-    ensures bases { IfOk result (λ r. r.3 ≡ (spec.core_of_source (program_of program.now)).global_bases) }
+    ensures functions { IfOk result (λ r. map function_of r.functions ≡ (spec.core_of_source (program_of program.now)).functions) }
+    ensures pointers { IfOk result (λ r. map pointer_of r.pointers ≡ (spec.core_of_source (program_of program.now)).pointers) }
+    ensures words { IfOk result (λ r. r.globals ≡ (spec.core_of_source (program_of program.now)).globals) }
+    ensures kinds { IfOk result (λ r. r.global_kinds ≡ (spec.core_of_source (program_of program.now)).global_kinds) }
+    ensures bases { IfOk result (λ r. r.global_bases ≡ (spec.core_of_source (program_of program.now)).global_bases) }
 {
-    let (source, kinds, bases) = source_of(alloc, marks, program, sites)?;
-    let (functions, words) = walked(alloc, &source, marks, program)?;
-    Ok((functions, words, kinds, bases))
+    let (source, global_kinds, global_bases) = source_of(alloc, marks, program, sites)?;
+    let pointers = source_pointers(alloc, &source.whole, taken)?;
+    let (functions, globals) = walked(alloc, &source, marks, program)?;
+    Ok(Made {
+        functions,
+        pointers,
+        globals,
+        global_kinds,
+        global_bases,
+    })
 }
 
-/// The same of a source without a fault.
-fn parts_of(
-    alloc: Global,
-    typed: &Typed,
-) -> Result<
-    (
-        List<CoreFunction>,
-        List<u64>,
-        List<CellKind>,
-        List<Option<u32>>,
-    ),
-    AllocError,
->
-    ensures functions { IfOk result (λ r. map function_of r.0 ≡ (spec.core_of_source (program_of (program_in typed.now))).functions) }
-    ensures words { IfOk result (λ r. r.1 ≡ (spec.core_of_source (program_of (program_in typed.now))).globals) }
-    ensures kinds { IfOk result (λ r. r.2 ≡ (spec.core_of_source (program_of (program_in typed.now))).global_kinds) }
-    ensures bases { IfOk result (λ r. r.3 ≡ (spec.core_of_source (program_of (program_in typed.now))).global_bases) }
+/// What is made of a source without a fault.
+fn parts_of(alloc: Global, typed: &Typed) -> Result<Made, AllocError>
+    ensures functions { IfOk result (λ r. map function_of r.functions ≡ (spec.core_of_source (program_of (program_in typed.now))).functions) }
+    ensures pointers { IfOk result (λ r. map pointer_of r.pointers ≡ (spec.core_of_source (program_of (program_in typed.now))).pointers) }
+    ensures words { IfOk result (λ r. r.globals ≡ (spec.core_of_source (program_of (program_in typed.now))).globals) }
+    ensures kinds { IfOk result (λ r. r.global_kinds ≡ (spec.core_of_source (program_of (program_in typed.now))).global_kinds) }
+    ensures bases { IfOk result (λ r. r.global_bases ≡ (spec.core_of_source (program_of (program_in typed.now))).global_bases) }
 {
     let program = typed.program();
     let marks = addressed_in(alloc, program)?;
-    made_of(alloc, &marks, program, typed.sites().as_slice())
+    let taken = taken_in(alloc, program)?;
+    made_of(alloc, &marks, &taken, program, typed.sites().as_slice())
 }
 
 /// What a source without a fault does.
@@ -260,12 +266,13 @@ fn parts_of(
 pub fn elaborate(alloc: Global, typed: Typed) -> Result<Core, AllocError>
     ensures { IfOk result (λ c. core_of c ≡ spec.core_of_source (program_of (program_in typed))) }
 {
-    let (functions, globals, global_kinds, global_bases) = parts_of(alloc, &typed)?;
+    let made = parts_of(alloc, &typed)?;
     Ok(Core {
-        functions,
+        functions: made.functions,
+        pointers: made.pointers,
         sites: typed.into_sites(),
-        globals,
-        global_kinds,
-        global_bases,
+        globals: made.globals,
+        global_kinds: made.global_kinds,
+        global_bases: made.global_bases,
     })
 }

@@ -1,8 +1,7 @@
 -- As many locals are kept as are declared.
 use Rattle.std.proofs.Common.{◌≡◌, ℕ, ◌+◌, List, [], ◌∷◌, length, map, refl, ap, ◌∙◌, arith, length-append}
 use Rattle.std.proofs.lemmas.List.{length-map}
-use Rattle.c_tree.specs.declared.program.Param.{Param}
-use Rattle.c_tree.specs.Tree.{Declares, declares, Start, start_declares, start_computes, Statement, block, compute, break_at, continue_at, gives, branch, branch_else, while_loop, do_loop, for_loop, Parts, no_part, and_declares, and_does}
+use Rattle.c_tree.specs.Tree.{Formal, Declares, declares, Start, start_declares, start_computes, Statement, block, compute, break_at, continue_at, gives, branch, branch_else, while_loop, do_loop, for_loop, Parts, no_part, and_declares, and_does}
 use Rattle.c_locals.specs.Addresses.{count_of_declares, count_of_start, count_of_locals, count_of_parts}
 use Rattle.c_frames.specs.declared.local.Local.{Local}
 use Rattle.c_frames.specs.Frames.{formal_of, marked}
@@ -37,14 +36,14 @@ mutual
   parts_length (and_declares d ps) = omega (arith, length-append (declares_locals d) (parts_locals ps), declares_length d, parts_length ps)
   parts_length (and_does s ps) = omega (arith, length-append (statement_locals s) (parts_locals ps), statement_length s, parts_length ps)
 
-pub formals_length : (ns : List ℕ) (n : ℕ) (ps : List Param) → length (marked ns n (map formal_of ps)) ≡ length ps
+pub formals_length : (ns : List ℕ) (n : ℕ) (ps : List Formal) → length (marked ns n (map formal_of ps)) ≡ length ps
 formals_length ns n ps = marked_length ns n (map formal_of ps) ∙ length-map ps formal_of
 
 pub locals_length : (ns : List ℕ) (n : ℕ) (ps : Parts) → length (marked ns n (parts_locals ps)) ≡ count_of_parts ps
 locals_length ns n ps = marked_length ns n (parts_locals ps) ∙ parts_length ps
 
 -- after a definition the numbers of its formals and locals are used
-pub definition_after : (ns : List ℕ) (n m last : ℕ) (ps : List Param) (parts : Parts) (locals : List Local) →
+pub definition_after : (ns : List ℕ) (n m last : ℕ) (ps : List Formal) (parts : Parts) (locals : List Local) →
     m ≡ n + length ps → locals ≡ marked ns m (parts_locals parts) → last ≡ m + length locals →
     last ≡ n + (length ps + count_of_parts parts)
 definition_after ns n m last ps parts locals e l b =

@@ -1,8 +1,9 @@
 -- Where each formal and local of a function is kept, and what its core tree says of them (C99 6.9.1).
 use Rattle.std.specs.Prelude.{ℕ, ◌+◌, nat_lt, Bool, false, not, ◌||◌, if◌then◌else◌, List, [], ◌∷◌, ◌++◌, length, map, Option, Some, None}
 use Rattle.rr_base.specs.declared.layout.Site.{Site}
+use Rattle.rr_base.specs.declared.position.Position.{Position}
 use Rattle.c_tree.specs.declared.name.Name.{Name}
-use Rattle.c_tree.specs.declared.program.Param.{Param}
+use Rattle.c_tree.specs.Tree.{Formal, formal, formal_pointer}
 use Rattle.c_types.specs.declared.library.StarredType.{StarredType}
 use Rattle.c_rules.specs.Faults.{name_place}
 use Rattle.c_locals.specs.Kept.{is_kept}
@@ -18,13 +19,14 @@ use Rattle.c_frames.specs.Locals.{local_at}
 -- ---- the formals and locals of a function, in the order of the text
 
 -- a formal without a name is never kept in cells
-abbrev pub formal_at : Param → Option Name → Local
-formal_at p None = local_at false (nat_lt 0 p.stars) p.at
-formal_at p (Some name) = local_at (is_kept p.specifier p.stars []) (nat_lt 0 p.stars) (name_place name)
+abbrev pub formal_at : Bool → Bool → Option Name → Position → Local
+formal_at kept pointer None at = local_at false pointer at
+formal_at kept pointer (Some name) at = local_at kept pointer (name_place name)
 
--- a formal of C99 6.7.5.3, by the specifier, stars and name that it has
-abbrev pub formal_of : Param → Local
-formal_of p = formal_at p p.name
+-- a formal of C99 6.7.5.3, by the specifier, stars and name that it has; a pointer to functions is a number
+abbrev pub formal_of : Formal → Local
+formal_of (formal s stars name at) = formal_at (is_kept s stars []) (nat_lt 0 stars) name at
+formal_of (formal_pointer s stars name ps at) = local_at false false (name_place name)
 
 -- those to which `&` is applied, by their numbers from n on, are kept in cells too
 abbrev pub marked : List ℕ → ℕ → List Local → List Local

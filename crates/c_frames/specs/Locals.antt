@@ -1,8 +1,8 @@
 -- The locals that statements declare (C99 6.8), in the order of the text.
-use Rattle.std.specs.Prelude.{nat_lt, Bool, List, [], ◌++◌, map}
+use Rattle.std.specs.Prelude.{nat_lt, Bool, false, List, [], ◌++◌, map}
 use Rattle.rr_base.specs.declared.position.Position.{Position}
 use Rattle.c_tree.specs.declared.ctype.Specifier.{Specifier}
-use Rattle.c_tree.specs.Tree.{Declared, declared, Object, Declares, declares, Start, start_declares, start_computes, Statement, block, compute, break_at, continue_at, gives, branch, branch_else, while_loop, do_loop, for_loop, Parts, no_part, and_declares, and_does}
+use Rattle.c_tree.specs.Tree.{Declared, declared, declared_pointer, Object, Declares, declares, Start, start_declares, start_computes, Statement, block, compute, break_at, continue_at, gives, branch, branch_else, while_loop, do_loop, for_loop, Parts, no_part, and_declares, and_does}
 use Rattle.c_rules.specs.Faults.{name_place}
 use Rattle.c_names.specs.Sources.{declared_by}
 use Rattle.c_locals.specs.Kept.{is_kept}
@@ -12,9 +12,10 @@ use Rattle.c_frames.specs.declared.local.Local.{Local}
 abbrev pub local_at : Bool → Bool → Position → Local
 local_at kept pointer at = record { is_kept = kept; is_pointer = pointer; at = at }
 
--- by its own stars and lengths behind the shared specifier
+-- by its own stars and lengths behind the shared specifier; a pointer to functions is a number
 abbrev pub local_declared : Specifier → Declared → Local
 local_declared s (declared stars name lengths) = local_at (is_kept s stars lengths) (nat_lt 0 stars) (name_place name)
+local_declared s (declared_pointer stars name ps) = local_at false false (name_place name)
 
 -- whether it has a first value changes nothing here
 abbrev pub local_of : Specifier → Object → Local

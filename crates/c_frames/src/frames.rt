@@ -14,8 +14,8 @@ ghost use Rattle.c_operators.specs.Views.{frame_in, source_in};
 
 use crate::local::{Local, push_parts_locals};
 use c_core::{Arrival, CoreFunction, Statement};
-use c_locals::{Marks, is_kept};
-use c_names::Table;
+use c_locals::{Marks, is_kept_formal};
+use c_names::{Table, param_name};
 use c_numbers::NumberTable;
 use c_operators::{Frame, Home, Source, site_at};
 use c_programs::declare_param;
@@ -23,22 +23,40 @@ use c_rules::name_place;
 use c_tree::{Name, Param, Part};
 use c_types::StarredType;
 use c_values::gives_pointer;
-use rr_base::{Bytes, List, Site, length_sum, sum};
+use rr_base::{Bytes, List, Position, Site, length_sum, sum};
 use std::alloc::{AllocError, Global};
 
-fn formal_of(param: &Param) -> Local
-    ensures { result ≡ spec.formal_of param.now }
+/// A formal without a name is never kept in cells.
+fn formal_at(is_kept: bool, is_pointer: bool, name: &Option<Name>, at: Position) -> Local
+    ensures { result ≡ spec.formal_at is_kept is_pointer name.now at }
 {
-    let is_pointer = param.stars > 0;
-    match &param.name {
+    match name {
         None => Local {
             is_kept: false,
             is_pointer,
-            at: param.at,
+            at,
         },
         Some(name) => Local {
-            is_kept: is_kept(&param.specifier, param.stars, &[]),
+            is_kept,
             is_pointer,
+            at: name_place(name),
+        },
+    }
+}
+
+fn formal_of(param: &Param) -> Local
+    ensures { result ≡ spec.formal_of (tree.formal_of param.now) }
+{
+    match param {
+        Param::Object {
+            stars,
+            name,
+            at,
+            ..
+        } => formal_at(is_kept_formal(param), *stars > 0, name, *at),
+        Param::Pointer { name, .. } => Local {
+            is_kept: false,
+            is_pointer: false,
             at: name_place(name),
         },
     }
@@ -73,7 +91,7 @@ fn formals_of(
     first: usize,
     params: &[Param],
 ) -> Result<List<Local>, AllocError>
-    ensures { IfOk result (λ ls. ls ≡ spec.marked marks.now.numbers first (map spec.formal_of params.now)) }
+    ensures { IfOk result (λ ls. ls ≡ spec.marked marks.now.numbers first (map spec.formal_of (map tree.formal_of params.now))) }
 {
     let mut formals = List::new(alloc);
     for param in params {
@@ -233,12 +251,12 @@ pub fn pass_formals<'a>(
     numbers: &mut NumberTable<'a>,
     params: &'a [Param],
 ) -> Result<(), AllocError>
-    ensures known { OnOk result (known_of table.new ≡ after_params (known_of table.old) params.now) }
-    ensures numbers { OnOk result (numbered_of numbers.new ≡ numbering.after_formals (numbered_of numbers.old) params.now) }
+    ensures known { OnOk result (known_of table.new ≡ after_params (known_of table.old) (map tree.formal_of params.now)) }
+    ensures numbers { OnOk result (numbered_of numbers.new ≡ numbering.after_formals (numbered_of numbers.old) (map tree.formal_of params.now)) }
 {
     for param in params {
         declare_param(alloc, table, param)?;
-        match &param.name {
+        match param_name(param) {
             None => numbers.skip()?,
             Some(name) => numbers.number(name)?,
         }
@@ -306,9 +324,9 @@ pub fn kept_in(
     params: &[Param],
     parts: &[Part],
 ) -> Result<Kept, AllocError>
-    ensures formals { IfOk result (λ k. k.formals ≡ spec.marked marks.now.numbers first (map spec.formal_of params.now)) }
-    ensures locals { IfOk result (λ k. k.locals ≡ spec.marked marks.now.numbers (first + length params.now) (parts_locals (listed_parts (map tree.part_of parts.now)))) }
-    ensures last { IfOk result (λ k. k.last ≡ first + (length params.now + count_of_parts (listed_parts (map tree.part_of parts.now)))) }
+    ensures formals { IfOk result (λ k. k.formals ≡ spec.marked marks.now.numbers first (map spec.formal_of (map tree.formal_of params.now))) }
+    ensures locals { IfOk result (λ k. k.locals ≡ spec.marked marks.now.numbers (first + length (map tree.formal_of params.now)) (parts_locals (listed_parts (map tree.part_of parts.now)))) }
+    ensures last { IfOk result (λ k. k.last ≡ first + (length (map tree.formal_of params.now) + count_of_parts (listed_parts (map tree.part_of parts.now)))) }
 {
     let middle = length_sum(first, params.len())?;
     let formals = formals_of(alloc, marks, first, params)?;

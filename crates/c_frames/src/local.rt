@@ -4,7 +4,8 @@ ghost use Rattle.c_tree.specs.Tree.{listed_parts};
 ghost use Rattle.c_tree.specs.View as tree;
 ghost use Rattle.c_frames.specs.Locals as spec;
 
-use c_locals::is_kept;
+use c_locals::is_kept_declared;
+use c_names::declared_name;
 use c_rules::name_place;
 use c_tree::{Declaration, Declarator, ForStart, Item, Part, Specifier, Stmt};
 use rr_base::{List, Position};
@@ -24,10 +25,14 @@ pub struct Local {
 fn local_declared(specifier: &Specifier, declarator: &Declarator) -> Local
     ensures { result ≡ spec.local_declared specifier.now (tree.declared_of declarator.now) }
 {
+    let is_pointer = match declarator {
+        Declarator::Object { stars, .. } => *stars > 0,
+        Declarator::Pointer { .. } => false,
+    };
     Local {
-        is_kept: is_kept(specifier, declarator.stars, declarator.lengths.as_slice()),
-        is_pointer: declarator.stars > 0,
-        at: name_place(&declarator.name),
+        is_kept: is_kept_declared(specifier, declarator),
+        is_pointer,
+        at: name_place(declared_name(declarator)),
     }
 }
 

@@ -3,7 +3,7 @@ use Rattle.std.specs.Prelude.{ℕ, ◌+◌, ◌-◌, true, if◌then◌else◌, 
 use Rattle.rr_base.specs.declared.layout.CellKind.{CellKind}
 use Rattle.rr_base.specs.declared.layout.Site.{Site}
 use Rattle.rr_base.specs.Words.{pack}
-use Rattle.c_text.specs.Texts.{Text}
+use Rattle.c_text.specs.Texts.{Text, entry_of}
 use Rattle.abstract_machine.specs.Values.{word}
 use Rattle.c_tree.specs.declared.ctype.Specifier.{Specifier}
 use Rattle.c_tree.specs.Tree.{Exp, named, prefix, paren, Init, value, braces, mutex_start, cond_start, rwlock_start, Inits, no_init, and_init, Object, plain, initialised}
@@ -11,13 +11,13 @@ use Rattle.c_types.specs.declared.types.ObjectType.{ObjectType}
 use Rattle.c_types.specs.Numbers.{Computed}
 use Rattle.c_types.specs.Constants.{is_constant}
 use Rattle.c_constants.specs.Values.{value_here}
-use Rattle.c_types.specs.Scopes.{Known, with_name}
+use Rattle.c_types.specs.Scopes.{Known, with_name, function_numbered}
 use Rattle.c_programs.specs.Declarators.{declared_type}
 use Rattle.c_programs.specs.Initials.{part_at, part_type}
 use Rattle.c_names.specs.Sources.{declared_by}
 use Rattle.c_programs.specs.Statements.{after_declared}
 use Rattle.c_spots.specs.Spots.{Holder, a_global, a_local, an_allocation, Spot}
-use Rattle.c_operators.specs.Context.{Source, global_named}
+use Rattle.c_operators.specs.Context.{Source, function_word}
 use Rattle.c_initials.specs.Initials.{kinds_of_some}
 
 -- ---- addresses
@@ -67,9 +67,14 @@ global_bases base (spot ∷ spots) (s ∷ sites) = holder_base spot.holder base 
 
 -- ---- start words
 
--- a global array, or what `&` is applied to; else null
+-- the pointer to the global, or to the function of this number
+abbrev pub named_word : Option ℕ → Option ℕ → ℕ
+named_word (Some w) f = w
+named_word None f = function_word f
+
+-- a global array, what `&` is applied to, or a function, which may be defined later; else null
 abbrev pub address_word : Source → Exp → ℕ
-address_word s (named name at) = global_named s name
+address_word s (named name at) = named_word (entry_of s.globals name) (function_numbered s.whole name)
 address_word s (prefix op e at) = address_word s e
 address_word s (paren e at) = address_word s e
 address_word s _ = 0

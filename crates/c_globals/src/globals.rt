@@ -5,7 +5,8 @@ ghost use Rattle.c_tree.specs.Tree.{listed_inits, plain};
 ghost use Rattle.c_tree.specs.View.{declared_of, exp_of, init_of, object_of};
 ghost use Rattle.c_programs.specs.Declarators.{declared_type};
 ghost use Rattle.c_programs.specs.Initials.{part_at, part_type};
-ghost use Rattle.c_types.specs.Scopes.{with_name};
+ghost use Rattle.c_text.specs.Texts.{entry_of};
+ghost use Rattle.c_types.specs.Scopes.{function_numbered, with_name};
 ghost use Rattle.c_types.specs.Shown.{shown_maybe};
 ghost use Rattle.c_spots.specs.SpotViews.{shown_holder, shown_spots};
 ghost use Rattle.c_programs.specs.Statements.{after_declared, after_objects};
@@ -15,8 +16,8 @@ ghost use Rattle.c_operators.specs.Views.{globals_of, source_in};
 
 use c_constants::is_constant;
 use c_initials::kinds_of_some;
-use c_names::Table;
-use c_operators::Source;
+use c_names::{Table, declared_name};
+use c_operators::{Source, function_word};
 use c_programs::{copy_of, declare_object, declared_type, part_at, ref_of};
 use c_rules::value_of;
 use c_spots::{Holder, Spot};
@@ -183,25 +184,38 @@ pub fn global_bases(
     Ok(bases)
 }
 
-/// A global array, or what `&` is applied to; else null.
-fn address_word(source: &Source, e: &Expr) -> u64
-    ensures { result ≡ spec.address_word (source_in source.now) (exp_of e.now) }
+/// The pointer to a global or a function, by its name.
+fn named_word(source: &Source, name: &[u8]) -> Result<u64, AllocError>
+    ensures { IfOk result (λ w. w ≡ spec.named_word (entry_of (source_in source.now).globals name.now) (function_numbered (source_in source.now).whole name.now)) }
 {
-    match e {
-        Expr::Name { name, .. } => source.global_named(name.as_slice()).word(),
-        Expr::Prefix { operand, .. } => address_word(source, operand),
-        Expr::Paren { inner, .. } => address_word(source, inner),
-        _ => 0,
+    match source.globals.get(name) {
+        Some(address) => Ok(*address),
+        None => {
+            let word = function_word(source.whole.function_numbered(name))?;
+            Ok(u64::from(word))
+        }
     }
 }
 
-fn constant_word<N: Names>(source: &Source, names: &N, e: &Expr) -> u64
-    ensures { result ≡ spec.constant_word (source_in source.now) (N.known names.now) (exp_of e.now) }
+/// A global array, what `&` is applied to, or a function; else null.
+fn address_word(source: &Source, e: &Expr) -> Result<u64, AllocError>
+    ensures { IfOk result (λ w. w ≡ spec.address_word (source_in source.now) (exp_of e.now)) }
+{
+    match e {
+        Expr::Name { name, .. } => named_word(source, name.as_slice()),
+        Expr::Prefix { operand, .. } => address_word(source, operand),
+        Expr::Paren { inner, .. } => address_word(source, inner),
+        _ => Ok(0),
+    }
+}
+
+fn constant_word<N: Names>(source: &Source, names: &N, e: &Expr) -> Result<u64, AllocError>
+    ensures { IfOk result (λ w. w ≡ spec.constant_word (source_in source.now) (N.known names.now) (exp_of e.now)) }
 {
     if is_constant(e) {
         match value_of(names, e) {
-            Ok(number) => number.cast_unsigned(),
-            Err(_) => 0,
+            Ok(number) => Ok(number.cast_unsigned()),
+            Err(_) => Ok(0),
         }
     } else {
         address_word(source, e)
@@ -244,7 +258,10 @@ fn push_start<'h>(
     ensures { OnOk result (out.new ≡ out.old ++ spec.start_words (source_in source.now) (known_of table.now) (shown_maybe of.entry) (init_of initial.now)) }
 {
     match initial {
-        Initial::Value(e) => out.push(constant_word(source, table, e)),
+        Initial::Value(e) => {
+            let word = constant_word(source, table, e)?;
+            out.push(word)
+        }
         Initial::Braces { parts, .. } => {
             let many = kinds_of_some(alloc, source, of)?.len();
             let mut words = List::new(alloc);
@@ -287,7 +304,7 @@ fn push_plain<'a>(
 {
     let of = declared_type(alloc, &*table, specifier, declarator)?;
     push_zeros(kinds_of_some(alloc, source, ref_of(&of))?.len(), out)?;
-    declare_object(table, true, &declarator.name, of)
+    declare_object(table, true, declared_name(declarator), of)
 }
 
 fn push_initialised<'a>(
@@ -304,7 +321,7 @@ fn push_initialised<'a>(
 {
     let of = declared_type(alloc, &*table, specifier, declarator)?;
     let kept = copy_of(alloc, &of)?;
-    declare_object(table, true, &declarator.name, of)?;
+    declare_object(table, true, declared_name(declarator), of)?;
     push_start(alloc, source, &*table, ref_of(&kept), initial, out)
 }
 

@@ -6,14 +6,15 @@ use Rattle.rr_base.specs.declared.position.Position.{Position}
 use Rattle.c_print.specs.Kinds.{p}
 use Rattle.c_grammar.specs.Marks.{Lexeme, lexeme, Mark, mark, erase, AllLow}
 use Rattle.c_grammar.specs.Grammar.{OfStars, OfRaisingStars}
-use Rattle.c_grammar.specs.Phrase.{Phrase, TreeOf, Head, function_head, object_head}
-use Rattle.c_grammar.specs.Parse.{Class, Value, kind_of, grab, follows_declarator, Rule, ret, one, heads, choose, Outcome, Got, Stuck, Spent, Nesting, Parser, and_then, taken, token, passes, outer_head, run}
+use Rattle.c_grammar.specs.Phrase.{Phrase, TreeOf, Head, function_head, object_head, pointer_head, Front, object_front, pointer_front}
+use Rattle.c_grammar.specs.Parse.{Class, Value, kind_of, grab, follows_declarator, Rule, ret, one, heads, fronts, choose, Outcome, Got, Stuck, Spent, Nesting, Parser, and_then, taken, token, passes, outer_head, declarator_front, run}
 use Rattle.c_grammar.specs.Parse as rule
 use Rattle.c_grammar.specs.Rules.{rules, rank, read_within, read}
 use Rattle.c_grammar.proofs.Tokens.{grabs}
-use Rattle.c_grammar.proofs.Language.{OfHead, Of}
+use Rattle.c_grammar.proofs.Language.{OfHead, OfFront, Of}
 use Rattle.c_grammar.proofs.Enough.{read_unspent}
-use Rattle.c_grammar.proofs.Heads.{AllStars, head_named, decided_is, le_true}
+use Rattle.c_grammar.proofs.Heads.{AllStars, head_open, head_named, decided_is, le_true}
+use Rattle.c_grammar.proofs.Fronts.{front_open, front_named}
 use Rattle.c_grammar.proofs.Ends.{EndsAt, HeadEndsAt, Chosen}
 use Rattle.c_grammar.proofs.Outermost.{chooses}
 
@@ -59,6 +60,29 @@ head_complete limit (object_head n x at) ms mid (m1, hk, en) ends low =
           ∙ ap (λ z. Got (object_head z x at) (erase mid)) s.count,
       low1.1,
     )
+head_complete limit (pointer_head n) ms mid (m1, hk, (q, eo)) ends low =
+    let s = stars_of limit 0 n ms m1 hk low in
+    let whole : erase ms ≡ s.stars ++ lexeme (p punct.OpenParen) q ∷ erase mid = s.whole ∙ ap (λ z. s.stars ++ z) (ap erase eo) in
+    (ap (outer_head limit) whole ∙ head_open limit s.stars (lexeme (p punct.OpenParen) q) (erase mid) s.all refl ∙ ap (λ z. Got (pointer_head z) (erase mid)) s.count, (subst (AllLow limit) eo s.low).1)
+
+-- a context in which an object's name stands within the limit
+object_low : (limit l n : ℕ) (x : List ℕ) (at : Position) (ms m1 mid : List Mark) → OfRaisingStars l n ms m1 → m1 ≡ mark (kind.Name x) at (l + n) ∷ mid → AllLow limit ms → l ≤ limit
+object_low limit l zero x at ms m1 mid h e low = let here = subst (AllLow limit) (h ∙ e) low in omega (arith, here.0)
+object_low limit l (suc n) x at ms m1 mid h e low = let here = subst (AllLow limit) h.1.1 low in omega (arith, here.0)
+
+front_complete : (limit l : ℕ) (h : Front) (ms mid : List Mark) → OfFront l h ms mid → AllLow limit ms → (declarator_front limit l (erase ms) ≡ Got h (erase mid)) × AllLow limit mid
+front_complete limit l (object_front n x at) ms mid (m1, hk, en) low =
+    let both = raising_of limit l n ms m1 hk low (object_low limit l n x at ms m1 mid hk en low) in
+    let s = both.0 in
+    let whole : erase ms ≡ s.stars ++ lexeme (kind.Name x) at ∷ erase mid = s.whole ∙ ap (λ z. s.stars ++ z) (ap erase en) in (
+      ap (declarator_front limit l) whole ∙ front_named limit l s.stars (lexeme (kind.Name x) at) (erase mid) x s.all refl (omega (arith, s.count, both.1)) ∙ ap (λ z. Got (object_front z x at) (erase mid)) s.count,
+      (subst (AllLow limit) en s.low).1,
+    )
+front_complete limit l (pointer_front n) ms mid (m1, hk, (q, eo)) low =
+    let s = stars_of limit l n ms m1 hk low in
+    let low1 = subst (AllLow limit) eo s.low in
+    let whole : erase ms ≡ s.stars ++ lexeme (p punct.OpenParen) q ∷ erase mid = s.whole ∙ ap (λ z. s.stars ++ z) (ap erase eo) in
+    (ap (declarator_front limit l) whole ∙ front_open limit l s.stars (lexeme (p punct.OpenParen) q) (erase mid) s.all refl low1.0 ∙ ap (λ z. Got (pointer_front z) (erase mid)) s.count, low1.1)
 
 -- what is so of the parser of each phrase
 abbrev Completes : ℕ → ((n : Phrase) → Parser (TreeOf n)) → Type 0
@@ -88,6 +112,8 @@ module _ (limit : ℕ) (env : (n : Phrase) → Parser (TreeOf n)) (done : Comple
       passed_on (env m (erase ms)) (λ y. run limit env (f y)) r x mid rest (done m r ms mid has ends low (λ e. n (ap (λ o. and_then o (λ y. run limit env (f y))) e))) (λ low n. run_complete (f r) x mid rest h low n) n
   run_complete (heads f) x ms rest (r, mid, has, ends, h) low n =
       passed_on (outer_head limit (erase ms)) (λ y. run limit env (f y)) r x mid rest (head_complete limit r ms mid has ends low) (λ low n. run_complete (f r) x mid rest h low n) n
+  run_complete (fronts l f) x ms rest (r, mid, has, h) low n =
+      passed_on (declarator_front limit l (erase ms)) (λ y. run limit env (f y)) r x mid rest (front_complete limit l r ms mid has low) (λ low n. run_complete (f r) x mid rest h low n) n
   run_complete (choose test g k) x ms rest (inl h) low n =
       let is : run limit env (choose test g k) (erase ms) ≡ run limit env g (erase ms) = ap (λ b. cond b (run limit env g (erase ms)) (run limit env k (erase ms))) h.0 in
       let end = run_complete g x ms rest h.1 low (λ e. n (is ∙ e)) in (is ∙ end.0, end.1)

@@ -18,10 +18,10 @@ use Rattle.c_print.specs.Kinds.{p, w}
 use Rattle.c_grammar.specs.Marks.{Mark, mark, erase}
 use Rattle.c_grammar.specs.Grammar.{ends_open, OfExp}
 use Rattle.c_grammar.specs.Phrase as phrase
-use Rattle.c_grammar.specs.Phrase.{Phrase, TreeOf, Head, function_head, object_head}
-use Rattle.c_grammar.specs.Parse.{sign, key, a_prefix, a_binary, an_assign, Value, kind_of, is_of, is_type, follows_declarator, passes, Rule, ret, one, heads, choose}
+use Rattle.c_grammar.specs.Phrase.{Phrase, TreeOf, Head, function_head, object_head, pointer_head, Front}
+use Rattle.c_grammar.specs.Parse.{sign, key, a_prefix, a_binary, an_assign, Value, kind_of, is_of, is_type, follows_declarator, passes, Rule, ret, one, heads, fronts, choose}
 use Rattle.c_grammar.specs.Parse as rule
-use Rattle.c_grammar.proofs.Language.{OfHead, Of}
+use Rattle.c_grammar.proofs.Language.{OfHead, OfFront, Of}
 
 -- ---- what goes on with an expression
 
@@ -109,7 +109,7 @@ EndsAt (phrase.atom l) e ms = sees punct.OpenParen ms ≡ false
 EndsAt (phrase.postfix l left) e ms = joins_next ms ≤ 4
 EndsAt (phrase.arguments l) es ms = Unit {0}
 EndsAt (phrase.maybe_expression l stop) e ms = ((stop ≡ punct.Semicolon) ⊎ (stop ≡ punct.CloseParen)) × (sees stop ms ≡ true)
-EndsAt (phrase.raising_stars l n) k ms = sees punct.Star ms ≡ false
+EndsAt (phrase.pointer l) x ms = Unit {0}
 EndsAt (phrase.declarator l) d ms = joins_next ms ≤ 2
 EndsAt (phrase.lengths l es) all ms = joins_next ms ≤ 2
 EndsAt (phrase.initial l) i ms = joins_next ms ≤ 1
@@ -121,10 +121,10 @@ EndsAt (phrase.declaration l) d ms = Unit {0}
 EndsAt (phrase.start l) s ms = Unit {0}
 EndsAt (phrase.statement l) s ms = ends_open s ≡ true → reads_word word.Else ms ≡ false
 EndsAt (phrase.parts l ps) all ms = sees punct.CloseBrace ms ≡ true
-EndsAt phrase.param x ms = AfterParam ms
-EndsAt (phrase.param_after s) x ms = AfterParam ms
-EndsAt (phrase.more_params xs) all ms = sees punct.CloseParen ms ≡ true
-EndsAt phrase.params xs ms = sees punct.CloseParen ms ≡ true
+EndsAt (phrase.param l) x ms = AfterParam ms
+EndsAt (phrase.param_after l s) x ms = AfterParam ms
+EndsAt (phrase.more_params l xs) all ms = sees punct.CloseParen ms ≡ true
+EndsAt (phrase.params l) xs ms = sees punct.CloseParen ms ≡ true
 EndsAt phrase.code c ms = Unit {0}
 EndsAt (phrase.more_declared ds) all ms = sees punct.Semicolon ms ≡ true
 EndsAt phrase.member f ms = Unit {0}
@@ -136,6 +136,7 @@ EndsAt (phrase.program os) all ms = ms ≡ []
 abbrev pub HeadEndsAt : Head → List Mark → Type 0
 HeadEndsAt (function_head n x at) ms = Unit {0}
 HeadEndsAt (object_head n x at) ms = (sees punct.OpenParen ms ≡ false) × (next_is follows_declarator ms ≡ true)
+HeadEndsAt (pointer_head n) ms = Unit {0}
 
 -- what a rule reads, where each choice is made by the next token
 abbrev pub Chosen : {A : Type 0} → Rule A → A → List Mark → List Mark → Type 0
@@ -143,6 +144,7 @@ Chosen (ret a) x ms rest = (x ≡ a) × (ms ≡ rest)
 Chosen (one c l f) x ms rest = (v : Value c) × (at : Position) × (mid : List Mark) × (ms ≡ mark (kind_of c v) at l ∷ mid) × Chosen (f v at) x mid rest
 Chosen (rule.call n f) x ms rest = (r : TreeOf n) × (mid : List Mark) × Of n r ms mid × EndsAt n r mid × Chosen (f r) x mid rest
 Chosen (heads f) x ms rest = (h : Head) × (mid : List Mark) × OfHead h ms mid × HeadEndsAt h mid × Chosen (f h) x mid rest
+Chosen (fronts l f) x ms rest = (h : Front) × (mid : List Mark) × OfFront l h ms mid × Chosen (f h) x mid rest
 Chosen (choose test g h) x ms rest = ((next_is test ms ≡ true) × Chosen g x ms rest) ⊎ ((next_is test ms ≡ false) × Chosen h x ms rest)
 
 -- ---- from the next token

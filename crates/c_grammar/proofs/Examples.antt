@@ -7,20 +7,19 @@ use Rattle.c_lexer.specs.declared.token.Word.TheVariants as word
 use Rattle.c_tree.specs.declared.name.Name.{Name}
 use Rattle.c_tree.specs.declared.ctype.Specifier.{Specifier}
 use Rattle.c_tree.specs.declared.ctype.Specifier.TheVariants as specifier
-use Rattle.c_tree.specs.declared.program.Params.TheVariants as params
-use Rattle.c_tree.specs.Tree.{Exp, number, paren, declared, mutex_start, plain, Declared, declares, start_computes, compute, prototype, fields, objects}
+use Rattle.c_tree.specs.Tree.{Exp, number, paren, formal, no_formals, declared, mutex_start, plain, Declared, declares, start_computes, compute, prototype, fields, objects}
 use Rattle.rr_base.specs.declared.position.Position.{Position}
 use Rattle.rr_base.specs.Positions.{position_at}
 use Rattle.c_print.specs.Kinds.{p, w}
 use Rattle.c_grammar.specs.Grammar.{specifier_place}
 use Rattle.c_grammar.specs.Marks.{Mark, mark}
 use Rattle.c_grammar.specs.Phrase as phrase
-use Rattle.c_grammar.specs.Phrase.{Phrase, object_head, initials}
-use Rattle.c_grammar.specs.Parse.{kind_of, Rule, ret, one, heads, choose}
+use Rattle.c_grammar.specs.Phrase.{Phrase, object_head, object_front, initials}
+use Rattle.c_grammar.specs.Parse.{kind_of, Rule, ret, one, heads, fronts, choose}
 use Rattle.c_grammar.specs.Parse as rule
 use Rattle.c_grammar.proofs.Tokens.{example}
 use Rattle.c_grammar.proofs.Works.{HasPhrase, spells_both}
-use Rattle.c_grammar.proofs.Language.{OfHead, Of, Lang}
+use Rattle.c_grammar.proofs.Language.{OfHead, OfFront, Of, Lang}
 
 abbrev at : Position
 at = position_at 1 1
@@ -73,7 +72,12 @@ some_of (phrase.atom l) = (zero_at, zero_mark l ∷ [], λ k. (refl, refl))
 some_of (phrase.postfix l e) = (e, [], λ k. ([], (refl, refl)))
 some_of (phrase.arguments l) = ([], sign punct.CloseParen l ∷ [], λ k. (sign punct.CloseParen l ∷ k, refl, (at, refl)))
 some_of (phrase.maybe_expression l stop) = (None, [], λ k. refl)
-some_of (phrase.raising_stars l n) = (n, [], λ k. (0, same_level n, refl))
+some_of (phrase.pointer l) = (
+  (a_name, no_formals),
+  sign punct.Star l ∷ name_mark l ∷ sign punct.CloseParen l ∷ sign punct.OpenParen (suc l) ∷ sign punct.CloseParen (suc l) ∷ [],
+  λ k. let close = sign punct.CloseParen (suc l) ∷ k in
+      (name_mark l ∷ sign punct.CloseParen l ∷ sign punct.OpenParen (suc l) ∷ close, (at, refl), (sign punct.CloseParen l ∷ sign punct.OpenParen (suc l) ∷ close, refl, (sign punct.OpenParen (suc l) ∷ close, (at, refl), (close, (at, refl), (close, refl, (at, refl)))))),
+)
 some_of (phrase.declarator l) = (an_object, name_mark (l + 0) ∷ [], some_declared l)
 some_of (phrase.lengths l es) = (es, [], λ k. ([], sym (append-nil es), refl))
 some_of (phrase.initial l) = (mutex_start at, mark (w word.PthreadMutexInitializer) at (suc l) ∷ [], λ k. refl)
@@ -89,10 +93,10 @@ some_of (phrase.declaration l) = (
 some_of (phrase.start l) = (start_computes None, sign punct.Semicolon l ∷ [], λ k. (sign punct.Semicolon l ∷ k, refl, (at, refl)))
 some_of (phrase.statement l) = (compute None at, sign punct.Semicolon (suc l) ∷ [], λ k. refl)
 some_of (phrase.parts l ps) = (ps, [], λ k. ([], sym (append-nil ps), refl))
-some_of phrase.param = (record { specifier = int; stars = 0; name = None; at = at }, int_mark 0 ∷ [], λ k. (refl, (k, refl, (k, refl, refl))))
-some_of (phrase.param_after s) = (record { specifier = s; stars = 0; name = None; at = specifier_place s }, [], λ k. (refl, refl, (k, refl, refl)))
-some_of (phrase.more_params xs) = (xs, [], λ k. ([], sym (append-nil xs), refl))
-some_of phrase.params = (params.Nothing, [], λ k. refl)
+some_of (phrase.param l) = (formal int 0 None at, int_mark l ∷ [], λ k. (refl, (k, refl, (k, refl, refl))))
+some_of (phrase.param_after l s) = (formal s 0 None (specifier_place s), [], λ k. inl (0, None, refl, (k, refl, refl)))
+some_of (phrase.more_params l xs) = (xs, [], λ k. ([], sym (append-nil xs), refl))
+some_of (phrase.params l) = (no_formals, [], λ k. refl)
 some_of phrase.code = (prototype, sign punct.Semicolon 0 ∷ [], λ k. (at, refl))
 some_of (phrase.more_declared ds) = (ds, [], λ k. ([], sym (append-nil ds), refl))
 some_of phrase.member = (
@@ -116,6 +120,9 @@ some_of (phrase.program os) = (os, [], λ k. ([], sym (append-nil os), refl))
 pub some_head : HasPhrase OfHead
 some_head = (object_head 0 [] at, name_mark 0 ∷ [], λ k. (name_mark 0 ∷ k, refl, refl))
 
+pub some_front : (l : ℕ) → HasPhrase (OfFront l)
+some_front l = (object_front 0 [] at, name_mark (l + 0) ∷ [], λ k. (name_mark (l + 0) ∷ k, refl, refl))
+
 pub some_lang : {A : Type 0} (limit : ℕ) (g : Rule A) → HasPhrase (Lang g)
 some_lang limit (ret a) = (a, [], λ k. (refl, refl))
 some_lang limit (one c l f) =
@@ -127,4 +134,7 @@ some_lang limit (rule.call n f) =
 some_lang limit (heads f) =
     let next = some_lang limit (f some_head.0) in
     (next.0, some_head.1 ++ next.1, spells_both limit OfHead (λ x. Lang (f x)) some_head.0 next.0 some_head.1 next.1 some_head.2 next.2)
+some_lang limit (fronts l f) =
+    let this = some_front l in let next = some_lang limit (f this.0) in
+    (next.0, this.1 ++ next.1, spells_both limit (OfFront l) (λ x. Lang (f x)) this.0 next.0 this.1 next.1 this.2 next.2)
 some_lang limit (choose test g h) = let next = some_lang limit h in (next.0, next.1, λ k. inr (next.2 k))

@@ -1,19 +1,17 @@
 -- What each phrase of the rules may be, by the grammar.
-use Rattle.std.proofs.Common.{◌≡◌, ◌⊎◌, ℕ, suc, ◌+◌, ◌≤◌, Bool, true, false, List, [], ◌∷◌, ◌++◌}
+use Rattle.std.proofs.Common.{◌≡◌, ◌⊎◌, ℕ, suc, ◌+◌, ◌≤◌, Bool, true, false, List, [], ◌∷◌, ◌++◌, Option}
 use Rattle.c_lexer.specs.declared.token.Kind.TheVariants as kind
 use Rattle.c_lexer.specs.declared.token.Punct.TheVariants as punct
 use Rattle.c_tree.specs.declared.name.Name.{Name}
 use Rattle.c_tree.specs.declared.expr.BinaryOp.{BinaryOp}
-use Rattle.c_tree.specs.declared.program.Param.{Param}
-use Rattle.c_tree.specs.declared.program.Params.{Params}
-use Rattle.c_tree.specs.Tree.{Exp, index, member, arrow, post_increment, post_decrement, listed, named, call, number, letter, text, null, Declared, Init, listed_inits, Object, plain, initialised, Part, listed_parts, Code, Fields, Outer, function, objects}
+use Rattle.c_tree.specs.Tree.{Exp, index, member, arrow, post_increment, post_decrement, listed, named, call, number, letter, text, null, Formal, formal, formal_pointer, Formals, listed_row, Declared, Init, listed_inits, Object, plain, initialised, Part, listed_parts, Code, Fields, Outer, function, objects}
 use Rattle.rr_base.specs.declared.position.Position.{Position}
 use Rattle.c_print.specs.Kinds.{p, binary_punct}
 use Rattle.c_grammar.specs.Marks.{Mark, mark, erase, Beginning, own, other, ◌>>◌, maybe, provided}
-use Rattle.c_grammar.specs.Grammar.{specifier_place, binds, is_cast, OfName, OfSpecifier, OfStars, OfType, OfExp, OfExps, OfMore, OfMaybe, OfRaisingStars, OfLengths, OfDeclared, OfInit, OfMoreInits, OfObject, OfMoreObjects, OfObjects, OfDeclares, OfStart, OfStatement, OfParts, OfMaybeName, OfParam, OfMoreParams, OfParams, OfCode, OfMoreDeclared, OfFields, OfMoreFields, OfOuter, OfProgram}
+use Rattle.c_grammar.specs.Grammar.{specifier_place, binds, is_cast, OfName, OfSpecifier, OfStars, OfType, OfExp, OfExps, OfMore, OfMaybe, OfMaybeName, OfPointed, OfPointer, OfFormal, OfFormals, OfMoreFormals, OfRaisingStars, OfLengths, OfDeclared, OfInit, OfMoreInits, OfObject, OfMoreObjects, OfObjects, OfDeclares, OfStart, OfStatement, OfParts, OfCode, OfMoreDeclared, OfFields, OfMoreFields, OfOuter, OfProgram}
 use Rattle.c_grammar.specs.Phrase as phrase
-use Rattle.c_grammar.specs.Phrase.{Phrase, TreeOf, Head, function_head, object_head, initials}
-use Rattle.c_grammar.specs.Parse.{sign, Value, kind_of, is_of, passes, Rule, ret, one, heads, choose}
+use Rattle.c_grammar.specs.Phrase.{Phrase, TreeOf, Head, function_head, object_head, pointer_head, Front, object_front, pointer_front, initials}
+use Rattle.c_grammar.specs.Parse.{sign, Value, kind_of, is_of, passes, Rule, ret, one, heads, fronts, choose}
 use Rattle.c_grammar.specs.Parse as rule
 use Rattle.c_grammar.specs.Rules.{push}
 
@@ -68,6 +66,11 @@ is_atom _ = false
 abbrev pub OfHead : Head → Beginning
 OfHead (function_head n x at) = OfStars 0 n >> own (kind.Name x) at 0 >> other (p punct.OpenParen) 0
 OfHead (object_head n x at) = OfRaisingStars 0 n >> own (kind.Name x) at n
+OfHead (pointer_head n) = OfStars 0 n >> other (p punct.OpenParen) 0
+
+abbrev pub OfFront : ℕ → Front → Beginning
+OfFront l (object_front n x at) = OfRaisingStars l n >> own (kind.Name x) at (l + n)
+OfFront l (pointer_front n) = OfStars l n >> other (p punct.OpenParen) l
 
 -- ---- phrases
 
@@ -95,7 +98,7 @@ Of (phrase.atom l) e = provided (is_atom e ≡ true) (OfExp l e)
 Of (phrase.postfix l left) e = λ ms rest. (ops : List Postfix) × Postfixed l left ops e ms rest
 Of (phrase.arguments l) es = OfExps l (listed es) >> other (p punct.CloseParen) l
 Of (phrase.maybe_expression l stop) e = OfMaybe l e
-Of (phrase.raising_stars l n) k = λ ms rest. (m : ℕ) × (k ≡ n + m) × OfRaisingStars (l + n) m ms rest
+Of (phrase.pointer l) x = OfPointed l x.0 (OfFormals (suc l) x.1)
 Of (phrase.declarator l) d = OfDeclared l d
 Of (phrase.lengths l es) all = λ ms rest. (more : List Exp) × (all ≡ es ++ more) × OfLengths l more ms rest
 Of (phrase.initial l) i = OfInit l i
@@ -107,17 +110,19 @@ Of (phrase.declaration l) d = OfDeclares l d
 Of (phrase.start l) s = OfStart l s
 Of (phrase.statement l) s = OfStatement l s
 Of (phrase.parts l ps) all = λ ms rest. (more : List Part) × (all ≡ ps ++ more) × OfParts l (listed_parts more) ms rest
-Of phrase.param x = OfParam x
-Of (phrase.param_after s) x = λ ms rest. (x.specifier ≡ s) × (x.at ≡ specifier_place s) × (OfStars 0 x.stars >> OfMaybeName x.name) ms rest
-Of (phrase.more_params xs) all = λ ms rest. (more : List Param) × (all ≡ xs ++ more) × OfMoreParams more ms rest
-Of phrase.params xs = OfParams xs
+Of (phrase.param l) x = OfFormal l x
+Of (phrase.param_after l s) x = λ ms rest.
+    ((n : ℕ) × (name : Option Name) × (x ≡ formal s n name (specifier_place s)) × (OfStars l n >> OfMaybeName l name) ms rest)
+    ⊎ ((n : ℕ) × (name : Name) × (xs : Formals) × (x ≡ formal_pointer s n name xs (specifier_place s)) × OfPointer l n name (OfFormals (suc l) xs) ms rest)
+Of (phrase.more_params l xs) all = λ ms rest. (more : List Formal) × (all ≡ xs ++ more) × OfMoreFormals l (listed_row more) ms rest
+Of (phrase.params l) xs = OfFormals l xs
 Of phrase.code c = OfCode c
 Of (phrase.more_declared ds) all = λ ms rest. (more : List Declared) × (all ≡ ds ++ more) × OfMoreDeclared more ms rest
 Of phrase.member f = OfFields f
 Of (phrase.more_members fs) all = λ ms rest. (more : List Fields) × (all ≡ fs ++ more) × OfMoreFields more ms rest
 Of phrase.outer o = OfOuter o
 Of (phrase.outer_after is_static s at) o = λ ms rest.
-    ((n : ℕ) × (name : Name) × (xs : Params) × (c : Code) × (o ≡ function is_static s n name xs c) × (OfStars 0 n >> OfName 0 name >> other (p punct.OpenParen) 0 >> OfParams xs >> other (p punct.CloseParen) 0 >> OfCode c) ms rest)
+    ((n : ℕ) × (name : Name) × (xs : Formals) × (c : Code) × (o ≡ function is_static s n name xs c) × (OfStars 0 n >> OfName 0 name >> other (p punct.OpenParen) 0 >> OfFormals 0 xs >> other (p punct.CloseParen) 0 >> OfCode c) ms rest)
     ⊎ ((os : List Object) × (o ≡ objects is_static s os at) × (OfObjects 0 os >> other (p punct.Semicolon) 0) ms rest)
 Of (phrase.program os) all = λ ms rest. (more : List Outer) × (all ≡ os ++ more) × OfProgram more ms rest
 
@@ -129,6 +134,7 @@ Lang (ret a) x ms rest = (x ≡ a) × (ms ≡ rest)
 Lang (one c l f) x ms rest = (v : Value c × Position) × (mid : List Mark) × (ms ≡ mark (kind_of c v.0) v.1 l ∷ mid) × Lang (f v.0 v.1) x mid rest
 Lang (rule.call n f) x ms rest = (r : TreeOf n) × (mid : List Mark) × Of n r ms mid × Lang (f r) x mid rest
 Lang (heads f) x ms rest = (h : Head) × (mid : List Mark) × OfHead h ms mid × Lang (f h) x mid rest
+Lang (fronts l f) x ms rest = (h : Front) × (mid : List Mark) × OfFront l h ms mid × Lang (f h) x mid rest
 Lang (choose test g h) x ms rest = Lang g x ms rest ⊎ Lang h x ms rest
 
 -- everything that it may read is so
@@ -137,4 +143,5 @@ Holds (ret a) ms Q = Q a ms
 Holds (one c l f) ms Q = (v : Value c) (at : Position) (mid : List Mark) → ms ≡ mark (kind_of c v) at l ∷ mid → Holds (f v at) mid Q
 Holds (rule.call n f) ms Q = (r : TreeOf n) (mid : List Mark) → Of n r ms mid → Holds (f r) mid Q
 Holds (heads f) ms Q = (h : Head) (mid : List Mark) → OfHead h ms mid → Holds (f h) mid Q
+Holds (fronts l f) ms Q = (h : Front) (mid : List Mark) → OfFront l h ms mid → Holds (f h) mid Q
 Holds (choose test g h) ms Q = Holds g ms Q × Holds h ms Q

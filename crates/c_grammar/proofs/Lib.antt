@@ -4,6 +4,7 @@ pub mod Language
 pub mod Enough
 pub mod Examples
 pub mod Heads
+pub mod Fronts
 pub mod Grouping
 pub mod Sound
 pub mod Reading
@@ -15,3 +16,4 @@ pub mod Outermost
 pub mod Complete
 pub mod Exactly
 pub mod Prints
+pub mod Rows

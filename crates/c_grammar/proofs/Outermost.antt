@@ -7,22 +7,20 @@ use Rattle.c_lexer.specs.declared.token.Word.TheVariants as word
 use Rattle.c_tree.specs.declared.name.Name.{Name}
 use Rattle.c_tree.specs.declared.ctype.Specifier.{Specifier}
 use Rattle.c_tree.specs.declared.ctype.Specifier.TheVariants as specifiers
-use Rattle.c_tree.specs.declared.program.Param.{Param}
-use Rattle.c_tree.specs.declared.program.Params.TheVariants as params_of
-use Rattle.c_tree.specs.Tree.{Exp, Declared, declared, Object, plain, initialised, Statement, block, compute, break_at, continue_at, gives, branch, branch_else, while_loop, do_loop, for_loop, defined, prototype, Fields, fields, Outer, structure, function, objects}
+use Rattle.c_tree.specs.Tree.{Exp, Formal, formal, formal_pointer, Formals, no_formals, void_formals, listed_formals, FormalRow, no_formal, and_formal, listed_row, Declared, declared, declared_pointer, Object, plain, initialised, Statement, block, compute, break_at, continue_at, gives, branch, branch_else, while_loop, do_loop, for_loop, defined, prototype, Fields, fields, Outer, structure, function, objects}
 use Rattle.rr_base.specs.declared.position.Position.{Position}
 use Rattle.c_print.specs.Kinds.{p, w}
 use Rattle.c_grammar.specs.Marks.{Mark, mark}
-use Rattle.c_grammar.specs.Grammar.{specifier_place, ends_open, OfName, OfSpecifier, OfStars, OfRaisingStars, OfLengths, OfMoreObjects, OfStatement, OfParts, OfMaybeName, OfMoreParams, OfMoreDeclared, OfFields, OfOuter}
+use Rattle.c_grammar.specs.Grammar.{specifier_place, ends_open, is_void_alone, OfName, OfSpecifier, OfStars, OfRaisingStars, OfLengths, OfMoreObjects, OfStatement, OfParts, OfMaybeName, OfPointed, OfFormal, OfFormals, OfMoreFormals, OfMoreDeclared, OfFields, OfOuter}
 use Rattle.c_grammar.specs.Phrase as phrase
-use Rattle.c_grammar.specs.Phrase.{Phrase, function_head, object_head}
-use Rattle.c_grammar.specs.Parse.{sign, key, a_name, is_of, is_type, follows_declarator, Rule, ret, one, choose}
+use Rattle.c_grammar.specs.Phrase.{Phrase, function_head, object_head, pointer_head}
+use Rattle.c_grammar.specs.Parse.{sign, key, a_name, is_of, is_type, follows_declarator, begins_declarator, Rule, ret, one, choose}
 use Rattle.c_grammar.specs.Parse as rule
-use Rattle.c_grammar.specs.Rules.{rules}
+use Rattle.c_grammar.specs.Rules.{rules, objects_after_rule}
 use Rattle.c_grammar.proofs.Language.{Of}
 use Rattle.c_grammar.proofs.Ends.{joins, joins_next, next_is, sees, reads_word, AfterParam, Chosen, by_test, joins_test, not_begun, not_open_brace, not_break, not_continue, not_return, not_if, not_while, not_do, not_for, not_semicolon}
 use Rattle.c_grammar.proofs.Expressions.{Chooses, joins_at, one_of_more, none_of_more, chooses_specifier, chooses_stars, before_stars, zero_plus, type_begins, chooses_type, chooses_expression, chooses_more, chooses_assignment, chooses_conditional, chooses_operands, chooses_chain, chooses_unary, chooses_unary_plain, chooses_enclosed, chooses_opened, chooses_atom, chooses_postfix, chooses_arguments, chooses_maybe}
-use Rattle.c_grammar.proofs.Statements.{chooses_raising, chooses_declarator, chooses_lengths, chooses_initial, chooses_more_initials, chooses_object, chooses_object_after, before_objects, chooses_more_objects, begins_object, declared_begins, objects_begin, after_type, chooses_declaration, chooses_start, chooses_parts, as_parts, parts_as, type_no_close}
+use Rattle.c_grammar.proofs.Statements.{chooses_pointer, chooses_declarator, chooses_lengths, chooses_initial, chooses_more_initials, chooses_object, chooses_object_after, before_objects, chooses_more_objects, declared_begins, objects_begin, after_type, chooses_declaration, chooses_start, chooses_parts, as_parts, parts_as, type_no_close}
 
 -- ---- statements
 
@@ -258,63 +256,102 @@ after_param test a b ms (inr h) = by_test (is_of (sign punct.CloseParen)) test f
     is (kind.Punct punct.CloseParen) h = b
     is _ h = cc
 
-before_name : (test : Kind → Bool) → test (p punct.Comma) ≡ false → test (p punct.CloseParen) ≡ false → ((x : List ℕ) → test (kind.Name x) ≡ false) → (n : Option Name) (ms rest : List Mark) → OfMaybeName n ms rest → AfterParam rest → next_is test ms ≡ false
-before_name test a b c None ms rest h e = ap (next_is test) h ∙ after_param test a b rest e
-before_name test a b c (Some n) ms rest h e = ap (next_is test) h ∙ c n.text
+before_name : (test : Kind → Bool) → test (p punct.Comma) ≡ false → test (p punct.CloseParen) ≡ false → ((x : List ℕ) → test (kind.Name x) ≡ false) → (l : ℕ) (n : Option Name) (ms rest : List Mark) → OfMaybeName l n ms rest → AfterParam rest → next_is test ms ≡ false
+before_name test a b c l None ms rest h e = ap (next_is test) h ∙ after_param test a b rest e
+before_name test a b c l (Some n) ms rest h e = ap (next_is test) h ∙ c n.text
 
-chooses_param : Chooses phrase.param
-chooses_param x ms rest (e, (m1, hs, (m2, hk, hn))) ends = (
-  x.specifier,
+chooses_param : (l : ℕ) → Chooses (phrase.param l)
+chooses_param l (formal s k name at) ms rest (e, (m1, hs, (m2, hk, hn))) ends = (
+  s,
   m1,
   hs,
   (
-    before_stars (is_of (key word.Long)) refl 0 x.stars m1 m2 hk (before_name (is_of (key word.Long)) refl refl (λ _. refl) x.name m2 rest hn ends),
-    before_stars (is_of (key word.Int)) refl 0 x.stars m1 m2 hk (before_name (is_of (key word.Int)) refl refl (λ _. refl) x.name m2 rest hn ends),
+    before_stars (is_of (key word.Long)) refl l k m1 m2 hk (before_name (is_of (key word.Long)) refl refl (λ _. refl) l name m2 rest hn ends),
+    before_stars (is_of (key word.Int)) refl l k m1 m2 hk (before_name (is_of (key word.Int)) refl refl (λ _. refl) l name m2 rest hn ends),
   ),
-  (x, rest, (refl, e, (m2, hk, hn)), ends, (refl, refl)),
+  (formal s k name at, rest, inl (k, name, ap (formal s k name) e, (m2, hk, hn)), ends, (refl, refl)),
+)
+chooses_param l (formal_pointer s k name xs at) ms rest (e, (m1, hs, (m2, hk, (m3, (q, eo), hp)))) ends = (
+  s,
+  m1,
+  hs,
+  (
+    before_stars (is_of (key word.Long)) refl l k m1 m2 hk (ap (reads_word word.Long) eo),
+    before_stars (is_of (key word.Int)) refl l k m1 m2 hk (ap (reads_word word.Int) eo),
+  ),
+  (formal_pointer s k name xs at, rest, inr (k, name, xs, ap (formal_pointer s k name xs) e, (m2, hk, (m3, (q, eo), hp))), ends, (refl, refl)),
 )
 
-param_is : (s t : Specifier) (k : ℕ) (n : Option Name) (at : Position) → t ≡ s → at ≡ specifier_place s → Path Param (record { specifier = t; stars = k; name = n; at = at }) (record { specifier = s; stars = k; name = n; at = specifier_place s })
-param_is s t k n at e d = ap (λ (z : Specifier). record { specifier = z; stars = k; name = n; at = at }) e ∙ ap (λ (q : Position). record { specifier = s; stars = k; name = n; at = q }) d
+chooses_param_after : (l : ℕ) (s : Specifier) → Chooses (phrase.param_after l s)
+chooses_param_after l s x ms rest (inl (k, None, is, (m1, hk, hn))) ends = (
+  k,
+  m1,
+  (k, zero_plus k, hk),
+  before_name (is_of (sign punct.Star)) refl refl (λ _. refl) l None m1 rest hn ends,
+  inr (
+    before_name (is_of (sign punct.OpenParen)) refl refl (λ _. refl) l None m1 rest hn ends,
+    inr (ap (next_is (is_of a_name)) hn ∙ after_param (is_of a_name) refl refl rest ends, (is, hn)),
+  ),
+)
+chooses_param_after l s x ms rest (inl (k, Some n, is, (m1, hk, hn))) ends =
+    (k, m1, (k, zero_plus k, hk), ap (sees punct.Star) hn, inr (ap (sees punct.OpenParen) hn, inl (ap (next_is (is_of a_name)) hn, (n.text, n.at, rest, hn, (is, refl)))))
+chooses_param_after l s x ms rest (inr (k, name, xs, is, (m1, hk, (m2, (q, eo), hp)))) ends =
+    (k, m1, (k, zero_plus k, hk), ap (sees punct.Star) eo, inl (ap (sees punct.OpenParen) eo, (tt, q, m2, eo, ((name, xs), rest, hp, tt, (is, refl)))))
 
-param_chosen : (s t : Specifier) (k : ℕ) (n : Option Name) (at : Position) (ms rest : List Mark) → Of (phrase.param_after s) (record { specifier = t; stars = k; name = n; at = at }) ms rest → AfterParam rest → Chosen (rules (phrase.param_after s)) (record { specifier = t; stars = k; name = n; at = at }) ms rest
-param_chosen s t k None at ms rest (e, d, (m1, hk, hn)) ends =
-    (k, m1, (k, zero_plus k, hk), before_name (is_of (sign punct.Star)) refl refl (λ _. refl) None m1 rest hn ends, inr (ap (next_is (is_of a_name)) hn ∙ after_param (is_of a_name) refl refl rest ends, (param_is s t k None at e d, hn)))
-param_chosen s t k (Some n) at ms rest (e, d, (m1, hk, hn)) ends =
-    (k, m1, (k, zero_plus k, hk), before_name (is_of (sign punct.Star)) refl refl (λ _. refl) (Some n) m1 rest hn ends, inl (ap (next_is (is_of a_name)) hn, (n.text, n.at, rest, hn, (param_is s t k (Some n) at e d, refl))))
-
-before_params : (xs : List Param) (ms rest : List Mark) → OfMoreParams xs ms rest → sees punct.CloseParen rest ≡ true → AfterParam ms
-before_params [] ms rest h e = inr (ap (sees punct.CloseParen) h ∙ e)
-before_params (x ∷ xs) ms rest h e = inl (ap (sees punct.Comma) h.1.1)
+before_params : (l : ℕ) (xs : FormalRow) (ms rest : List Mark) → OfMoreFormals l xs ms rest → sees punct.CloseParen rest ≡ true → AfterParam ms
+before_params l no_formal ms rest h e = inr (ap (sees punct.CloseParen) h ∙ e)
+before_params l (and_formal x xs) ms rest h e = inl (ap (sees punct.Comma) h.1.1)
 
 close_no_comma : (k : Kind) → is_of (sign punct.CloseParen) k ≡ true → is_of (sign punct.Comma) k ≡ false
 close_no_comma (kind.Punct punct.Comma) h = cc
 close_no_comma _ h = refl
 
-chooses_more_params : (xs : List Param) → Chooses (phrase.more_params xs)
-chooses_more_params xs all ms rest ([], e, h) ends = inr (ap (sees punct.Comma) h ∙ by_test (is_of (sign punct.CloseParen)) (is_of (sign punct.Comma)) false close_no_comma rest ends, (none_of_more xs all e, h))
-chooses_more_params xs all ms rest (y ∷ ys, e, (m1, (at, ec), (m2, hy, hm))) ends =
-    inl (ap (sees punct.Comma) ec, (tt, at, m1, ec, (y, m2, hy, before_params ys m2 rest hm ends, (all, rest, (ys, one_of_more xs y ys all e, hm), ends, (refl, refl)))))
+chooses_more_params : (l : ℕ) (xs : List Formal) → Chooses (phrase.more_params l xs)
+chooses_more_params l xs all ms rest ([], e, h) ends = inr (ap (sees punct.Comma) h ∙ by_test (is_of (sign punct.CloseParen)) (is_of (sign punct.Comma)) false close_no_comma rest ends, (none_of_more xs all e, h))
+chooses_more_params l xs all ms rest (y ∷ ys, e, (m1, (at, ec), (m2, hy, hm))) ends =
+    inl (ap (sees punct.Comma) ec, (tt, at, m1, ec, (y, m2, hy, before_params l (listed_row ys) m2 rest hm ends, (all, rest, (ys, one_of_more xs y ys all e, hm), ends, (refl, refl)))))
 
 type_no_paren : (k : Kind) → is_type k ≡ true → is_of (sign punct.CloseParen) k ≡ false
 type_no_paren (kind.Punct x) h = cc
 type_no_paren _ h = refl
 
-chooses_params : Chooses phrase.params
-chooses_params params_of.Nothing ms rest h ends = inl (ap (sees punct.CloseParen) h ∙ ends, (refl, h))
-chooses_params params_of.Void ms rest (at, e) ends =
-    let x : Param = record { specifier = specifiers.Void at; stars = 0; name = None; at = at } in
+formal_begins : (l : ℕ) (x : Formal) (ms rest : List Mark) → OfFormal l x ms rest → next_is is_type ms ≡ true
+formal_begins l (formal s n name at) ms rest h = type_begins l s ms h.1.0 h.1.1
+formal_begins l (formal_pointer s n name xs at) ms rest h = type_begins l s ms h.1.0 h.1.1
+
+abbrev as_row : FormalRow → List Formal
+as_row no_formal = []
+as_row (and_formal x xs) = x ∷ as_row xs
+
+row_as : (xs : FormalRow) → listed_row (as_row xs) ≡ xs
+row_as no_formal = refl
+row_as (and_formal x xs) = ap (and_formal x) (row_as xs)
+
+chooses_params : (l : ℕ) → Chooses (phrase.params l)
+chooses_params l no_formals ms rest h ends = inl (ap (sees punct.CloseParen) h ∙ ends, (refl, h))
+chooses_params l void_formals ms rest (at, e) ends =
+    let x = formal (specifiers.Void at) 0 None at in
     inr (ap (sees punct.CloseParen) e, (x, rest, (refl, (rest, e, (rest, refl, refl))), inr ends, (x ∷ [], rest, ([], refl, refl), ends, (refl, refl))))
-chooses_params (params_of.Listed []) ms rest h ends = absurd h
-chooses_params (params_of.Listed (x ∷ xs)) ms rest (v, (m1, hx, hm)) ends =
+chooses_params l (listed_formals no_formal) ms rest h ends = absurd h.1
+chooses_params l (listed_formals (and_formal x xs)) ms rest (v, (m1, hx, hm)) ends =
     inr (
-      by_test is_type (is_of (sign punct.CloseParen)) false type_no_paren ms (type_begins 0 x.specifier ms hx.1.0 hx.1.1),
+      by_test is_type (is_of (sign punct.CloseParen)) false type_no_paren ms (formal_begins l x ms m1 hx),
       (
         x,
         m1,
         hx,
-        before_params xs m1 rest hm ends,
-        (x ∷ xs, rest, (xs, refl, hm), ends, (ap (λ b. cond b params_of.Void (params_of.Listed (x ∷ xs))) (sym v), refl)),
+        before_params l xs m1 rest hm ends,
+        (
+          x ∷ as_row xs,
+          rest,
+          (as_row xs, refl, subst (λ z. OfMoreFormals l z m1 rest) (sym (row_as xs)) hm),
+          ends,
+          (
+            ap (λ b. cond b void_formals (listed_formals (and_formal x xs))) (sym v)
+                ∙ ap (λ z. cond (is_void_alone (and_formal x z)) void_formals (listed_formals (and_formal x z))) (sym (row_as xs)),
+            refl,
+          ),
+        ),
       ),
     )
 
@@ -358,11 +395,11 @@ chooses_more_members fs all ms rest (f ∷ gs, e, (m1, hf, hm)) ends =
 
 -- ---- functions and objects
 
-stars_begin : (n : ℕ) (name : Name) (ms mid rest : List Mark) → OfStars 0 n ms mid → OfName 0 name mid rest → next_is begins_object ms ≡ true
-stars_begin zero name ms mid rest h e = ap (next_is begins_object) (h ∙ e)
-stars_begin (suc n) name ms mid rest h e = ap (next_is begins_object) h.1.1
+stars_begin : (n : ℕ) (name : Name) (ms mid rest : List Mark) → OfStars 0 n ms mid → OfName 0 name mid rest → next_is begins_declarator ms ≡ true
+stars_begin zero name ms mid rest h e = ap (next_is begins_declarator) (h ∙ e)
+stars_begin (suc n) name ms mid rest h e = ap (next_is begins_declarator) h.1.1
 
-after_begins : (is_static : Bool) (s : Specifier) (at : Position) (o : Outer) (ms rest : List Mark) → Of (phrase.outer_after is_static s at) o ms rest → next_is begins_object ms ≡ true
+after_begins : (is_static : Bool) (s : Specifier) (at : Position) (o : Outer) (ms rest : List Mark) → Of (phrase.outer_after is_static s at) o ms rest → next_is begins_declarator ms ≡ true
 after_begins is_static s at o ms rest (inl h) = stars_begin h.0 h.1 ms h.5.0 h.5.2.0 h.5.1 h.5.2.1
 after_begins is_static s at o ms rest (inr h) = objects_begin 0 h.0 ms h.2.0 h.2.1
 
@@ -375,20 +412,32 @@ follows_lengths : (n : ℕ) (es : List Exp) (ms mid : List Mark) → OfLengths n
 follows_lengths n [] ms mid h e = (ap (sees punct.OpenParen) h ∙ e.0, ap (next_is follows_declarator) h ∙ e.1)
 follows_lengths n (x ∷ xs) ms mid h e = (ap (sees punct.OpenParen) h.1.1.1, ap (next_is follows_declarator) h.1.1.1)
 
+-- after the declarator of the first object
+first_past : (is_static : Bool) (s : Specifier) (at : Position) (o : Outer) (d : Declared) (x : Object) (os : List Object) (mc md me rest : List Mark) (q : Position)
+    → o ≡ objects is_static s (x ∷ os) at → Of (phrase.object_past 0 d) x mc md → OfMoreObjects 0 os md me → me ≡ mark (p punct.Semicolon) q 0 ∷ rest → Chosen (objects_after_rule is_static s at d) o mc rest
+first_past is_static s at o d x os mc md me rest q is hx hm ec =
+    let stop = joins_at 0 (mark (p punct.Semicolon) q 0) me rest ec (omega arith) in (x, md, hx, before_objects 0 os md me hm stop, (x ∷ os, me, (os, refl, hm), stop, (tt, q, rest, ec, (is, refl))))
+
 -- the first object, and those after it
 first_object : (is_static : Bool) (s : Specifier) (at : Position) (o : Outer) (n : ℕ) (name : Name) (es : List Exp) (x : Object) (os : List Object) (ms ma mb mc md me rest : List Mark) (q : Position)
     → o ≡ objects is_static s (x ∷ os) at → OfRaisingStars 0 n ms ma → OfName (0 + n) name ma mb → OfLengths (0 + n) es mb mc → Of (phrase.object_past 0 (declared n name es)) x mc md → OfMoreObjects 0 os md me → me ≡ mark (p punct.Semicolon) q 0 ∷ rest
     → (sees punct.OpenParen mc ≡ false) × (next_is follows_declarator mc ≡ true) → joins_next mc ≤ 2 → Chosen (rules (phrase.outer_after is_static s at)) o ms rest
 first_object is_static s at o n name es x os ms ma mb mc md me rest q is hk en hl hx hm ec follows low =
     let same : 0 + n ≡ n = sym (zero_plus n) in
-    let stop = joins_at 0 (mark (p punct.Semicolon) q 0) me rest ec (omega arith) in
     let lengths = subst (λ z. OfLengths z es mb mc) same hl in (
       object_head n name.text name.at,
       mb,
       (ma, hk, subst (λ z. OfName z name ma mb) same en),
       follows_lengths n es mb mc lengths follows,
-      (es, mc, (es, refl, lengths), low, (x, md, hx, before_objects 0 os md me hm stop, (x ∷ os, me, (os, refl, hm), stop, (tt, q, rest, ec, (is, refl))))),
+      (es, mc, (es, refl, lengths), low, first_past is_static s at o (declared n name es) x os mc md me rest q is hx hm ec),
     )
+
+-- the same where it is a pointer to a function
+first_pointer : (is_static : Bool) (s : Specifier) (at : Position) (o : Outer) (n : ℕ) (name : Name) (xs : Formals) (x : Object) (os : List Object) (ms ma mb mc md me rest : List Mark) (q there : Position)
+    → o ≡ objects is_static s (x ∷ os) at → OfStars 0 n ms ma → ma ≡ mark (p punct.OpenParen) there 0 ∷ mb → OfPointed 0 name (OfFormals 1 xs) mb mc → Of (phrase.object_past 0 (declared_pointer n name xs)) x mc md → OfMoreObjects 0 os md me → me ≡ mark (p punct.Semicolon) q 0 ∷ rest
+    → Chosen (rules (phrase.outer_after is_static s at)) o ms rest
+first_pointer is_static s at o n name xs x os ms ma mb mc md me rest q there is hk eo hp hx hm ec =
+    (pointer_head n, mb, (ma, hk, (there, eo)), tt, ((name, xs), mc, hp, tt, first_past is_static s at o (declared_pointer n name xs) x os mc md me rest q is hx hm ec))
 
 chooses_outer_after : (is_static : Bool) (s : Specifier) (at : Position) → Chooses (phrase.outer_after is_static s at)
 chooses_outer_after is_static s at o ms rest (inl (n, name, xs, c, is, (m1, hk, (m2, en, (m3, (p3, e3), (m4, hx, (m5, (p5, e5), hc))))))) ends =
@@ -399,8 +448,12 @@ chooses_outer_after is_static s at o ms rest (inr (plain (declared n name es) �
     first_object is_static s at o n name es (plain (declared n name es)) os ms ma mb m2 m2 m1 rest q is hk en hl (inl (refl, refl)) hm ec (follows_objects os m2 m1 rest q hm ec) (omega (arith, before_objects 0 os m2 m1 hm stop))
 chooses_outer_after is_static s at o ms rest (inr (initialised (declared n name es) i there ∷ os, is, (m1, (m2, (mc, (ma, hk, (mb, en, hl)), (md, ei, hi)), hm), (q, ec)))) ends =
     first_object is_static s at o n name es (initialised (declared n name es) i there) os ms ma mb mc m2 m1 rest q is hk en hl (inr (i, there, refl, (md, ei, hi))) hm ec (ap (sees punct.OpenParen) ei, ap (next_is follows_declarator) ei) (joins_at 2 (mark (p punct.Assign) there 0) mc md ei (omega arith))
+chooses_outer_after is_static s at o ms rest (inr (plain (declared_pointer n name xs) ∷ os, is, (m1, (m2, (ma, hk, (mb, (there, eo), hp)), hm), (q, ec)))) ends =
+    first_pointer is_static s at o n name xs (plain (declared_pointer n name xs)) os ms ma mb m2 m2 m1 rest q there is hk eo hp (inl (refl, refl)) hm ec
+chooses_outer_after is_static s at o ms rest (inr (initialised (declared_pointer n name xs) i at2 ∷ os, is, (m1, (m2, (mc, (ma, hk, (mb, (there, eo), hp)), (md, ei, hi)), hm), (q, ec)))) ends =
+    first_pointer is_static s at o n name xs (initialised (declared_pointer n name xs) i at2) os ms ma mb mc m2 m1 rest q there is hk eo hp (inr (i, at2, refl, (md, ei, hi))) hm ec
 
-object_no_brace : (k : Kind) → begins_object k ≡ true → is_of (sign punct.OpenBrace) k ≡ false
+object_no_brace : (k : Kind) → begins_declarator k ≡ true → is_of (sign punct.OpenBrace) k ≡ false
 object_no_brace (kind.Punct punct.OpenBrace) h = cc
 object_no_brace _ h = refl
 
@@ -421,7 +474,7 @@ plainly (specifiers.Struct name at) o ms m2 rest (m1, e, en) h =
             name.at,
             m2,
             en,
-            inr (by_test begins_object (is_of (sign punct.OpenBrace)) false object_no_brace m2 (after_begins false (specifiers.Struct name at) at o m2 rest h), (o, rest, h, tt, (refl, refl))),
+            inr (by_test begins_declarator (is_of (sign punct.OpenBrace)) false object_no_brace m2 (after_begins false (specifiers.Struct name at) at o m2 rest h), (o, rest, h, tt, (refl, refl))),
           ),
         ),
       ),
@@ -517,7 +570,7 @@ chooses (phrase.atom l) = chooses_atom l
 chooses (phrase.postfix l a) = chooses_postfix l a
 chooses (phrase.arguments l) = chooses_arguments l
 chooses (phrase.maybe_expression l stop) = chooses_maybe l stop
-chooses (phrase.raising_stars l n) = chooses_raising l n
+chooses (phrase.pointer l) = chooses_pointer l
 chooses (phrase.declarator l) = chooses_declarator l
 chooses (phrase.lengths l es) = chooses_lengths l es
 chooses (phrase.initial l) = chooses_initial l
@@ -529,10 +582,10 @@ chooses (phrase.declaration l) = chooses_declaration l
 chooses (phrase.start l) = chooses_start l
 chooses (phrase.statement l) = chooses_statement l
 chooses (phrase.parts l ps) = chooses_parts l ps
-chooses phrase.param = chooses_param
-chooses (phrase.param_after s) = λ x. param_chosen s x.specifier x.stars x.name x.at
-chooses (phrase.more_params xs) = chooses_more_params xs
-chooses phrase.params = chooses_params
+chooses (phrase.param l) = chooses_param l
+chooses (phrase.param_after l s) = chooses_param_after l s
+chooses (phrase.more_params l xs) = chooses_more_params l xs
+chooses (phrase.params l) = chooses_params l
 chooses phrase.code = chooses_code
 chooses (phrase.more_declared ds) = chooses_more_declared ds
 chooses phrase.member = chooses_member

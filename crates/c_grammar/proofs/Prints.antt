@@ -8,14 +8,11 @@ use Rattle.c_tree.specs.declared.name.Name.{Name}
 use Rattle.c_tree.specs.declared.ctype.Specifier.{Specifier}
 use Rattle.c_tree.specs.declared.ctype.Specifier.TheVariants as specifier
 use Rattle.c_tree.specs.declared.ctype.CType.{CType}
-use Rattle.c_tree.specs.declared.program.Params.{Params}
-use Rattle.c_tree.specs.declared.program.Params.TheVariants as params
-use Rattle.c_tree.specs.declared.program.Param.{Param}
-use Rattle.c_tree.specs.Tree.{Exp, comma, assign, conditional, binary, prefix, sizeof_exp, sizeof_type, cast, index, member, arrow, post_increment, post_decrement, named, call, number, letter, text, null, paren, Exps, no_exp, and_exp, Declared, declared, Init, value, braces, mutex_start, cond_start, rwlock_start, Inits, no_init, and_init, Object, plain, initialised, Declares, declares, Start, start_declares, start_computes, Statement, block, compute, break_at, continue_at, gives, branch, branch_else, while_loop, do_loop, for_loop, Parts, no_part, and_declares, and_does, Code, defined, prototype, Fields, fields, Outer, structure, function, objects}
+use Rattle.c_tree.specs.Tree.{Exp, comma, assign, conditional, binary, prefix, sizeof_exp, sizeof_type, cast, index, member, arrow, post_increment, post_decrement, named, call, number, letter, text, null, paren, Exps, no_exp, and_exp, Formal, formal, formal_pointer, Formals, no_formals, void_formals, listed_formals, FormalRow, no_formal, and_formal, Declared, declared, declared_pointer, Init, value, braces, mutex_start, cond_start, rwlock_start, Inits, no_init, and_init, Object, plain, initialised, Declares, declares, Start, start_declares, start_computes, Statement, block, compute, break_at, continue_at, gives, branch, branch_else, while_loop, do_loop, for_loop, Parts, no_part, and_declares, and_does, Code, defined, prototype, Fields, fields, Outer, structure, function, objects}
 use Rattle.rr_base.specs.declared.position.Position.{Position}
-use Rattle.c_print.specs.Kinds.{p, w, prefix_punct, binary_punct, assign_punct, name_kind, if_there, specifier_kinds, stars_kinds, type_kinds, exp_kinds, exps_kinds, rest_kinds, maybe_kinds, length_kinds, declared_kinds, init_kinds, inits_kinds, rest_init_kinds, object_kinds, rest_objects_kinds, objects_kinds, declares_kinds, start_kinds, stmt_kinds, parts_kinds, named_kinds, param_kinds, rest_params_kinds, params_kinds, code_kinds, rest_declared_kinds, all_declared_kinds, fields_kinds, all_fields_kinds, outer_kinds, kinds_of}
+use Rattle.c_print.specs.Kinds.{p, w, prefix_punct, binary_punct, assign_punct, name_kind, if_there, specifier_kinds, stars_kinds, type_kinds, exp_kinds, exps_kinds, rest_kinds, maybe_kinds, length_kinds, declared_kinds, init_kinds, inits_kinds, rest_init_kinds, object_kinds, rest_objects_kinds, objects_kinds, declares_kinds, start_kinds, stmt_kinds, parts_kinds, named_kinds, pointer_kinds, formal_kinds, formals_kinds, formal_row_kinds, rest_formals_kinds, code_kinds, rest_declared_kinds, all_declared_kinds, fields_kinds, all_fields_kinds, outer_kinds, kinds_of}
 use Rattle.c_grammar.specs.Marks.{Mark, kinds_at, Beginning, own, other, ◌>>◌, nothing, maybe, provided}
-use Rattle.c_grammar.specs.Grammar.{name_place, OfName, OfSpecifier, OfStars, OfType, OfExp, OfExps, OfMore, OfMaybe, OfRaisingStars, OfLengths, OfDeclared, OfInit, OfInits, OfMoreInits, OfObject, OfMoreObjects, OfObjects, OfDeclares, OfStart, OfStatement, OfParts, OfMaybeName, OfParam, OfMoreParams, OfParams, OfCode, OfMoreDeclared, OfAllDeclared, OfFields, OfMoreFields, OfAllFields, OfStatic, OfOuter, OfProgram}
+use Rattle.c_grammar.specs.Grammar.{name_place, OfName, OfSpecifier, OfStars, OfType, OfExp, OfExps, OfMore, OfMaybe, OfRaisingStars, OfLengths, OfDeclared, OfInit, OfInits, OfMoreInits, OfObject, OfMoreObjects, OfObjects, OfDeclares, OfStart, OfStatement, OfParts, OfMaybeName, OfPointer, OfFormal, OfFormals, OfFormalRow, OfMoreFormals, OfCode, OfMoreDeclared, OfAllDeclared, OfFields, OfMoreFields, OfAllFields, OfStatic, OfOuter, OfProgram}
 
 -- what begins so begins with tokens of these kinds
 record Prints (ks : List Kind) (r : Beginning) : Type 0 where
@@ -97,6 +94,31 @@ maybe_exp : (l : ℕ) (e : Option Exp) → Prints (maybe_kinds e) (OfMaybe l e)
 maybe_exp l None = none
 maybe_exp l (Some e) = exp l e
 
+maybe_name : (l : ℕ) (n : Option Name) → Prints (named_kinds n) (OfMaybeName l n)
+maybe_name l None = none
+maybe_name l (Some n) = name l n
+
+pointer : (l n : ℕ) (x : Name) {ks : List Kind} {r : Beginning} → Prints ks r → Prints (pointer_kinds n x ks) (OfPointer l n x r)
+pointer l n x y = stars l n & t (p punct.OpenParen) l & t (p punct.Star) l & name l x & t (p punct.CloseParen) l & t (p punct.OpenParen) (suc l) & y & t (p punct.CloseParen) (suc l)
+
+mutual
+  param : (l : ℕ) (x : Formal) → Prints (formal_kinds x) (OfFormal l x)
+  param l (formal s n x at) = given _ (specifiers l s & stars l n & maybe_name l x)
+  param l (formal_pointer s n x xs at) = given _ (specifiers l s & pointer l n x (formals (suc l) xs))
+
+  formals : (l : ℕ) (xs : Formals) → Prints (formals_kinds xs) (OfFormals l xs)
+  formals l no_formals = none
+  formals l void_formals = t (w word.Void) l
+  formals l (listed_formals xs) = given _ (formal_row l xs)
+
+  formal_row : (l : ℕ) (xs : FormalRow) → Prints (formal_row_kinds xs) (OfFormalRow l xs)
+  formal_row l no_formal = record { says = λ ms rest h. absurd h }
+  formal_row l (and_formal x xs) = param l x & more_formals l xs
+
+  more_formals : (l : ℕ) (xs : FormalRow) → Prints (rest_formals_kinds xs) (OfMoreFormals l xs)
+  more_formals l no_formal = none
+  more_formals l (and_formal x xs) = t (p punct.Comma) l & param l x & more_formals l xs
+
 raising : (l n : ℕ) → Prints (stars_kinds n) (OfRaisingStars l n)
 raising l zero = none
 raising l (suc n) = t (p punct.Star) (suc l) & raising (suc l) n
@@ -107,6 +129,7 @@ lengths l (e ∷ es) = given _ (t (p punct.OpenBracket) (suc l) & exp l e & t (p
 
 declarator : (l : ℕ) (d : Declared) → Prints (declared_kinds d) (OfDeclared l d)
 declarator l (declared n x es) = raising l n & name (l + n) x & lengths (l + n) es
+declarator l (declared_pointer n x xs) = pointer l n x (formals (suc l) xs)
 
 mutual
   init : (l : ℕ) (i : Init) → Prints (init_kinds i) (OfInit l i)
@@ -164,23 +187,6 @@ mutual
   parts l (and_declares d ps) = declaration l d & parts l ps
   parts l (and_does s ps) = statement l s & parts l ps
 
-maybe_name : (n : Option Name) → Prints (named_kinds n) (OfMaybeName n)
-maybe_name None = none
-maybe_name (Some n) = name 0 n
-
-param : (x : Param) → Prints (param_kinds x) (OfParam x)
-param x = given _ (specifiers 0 x.specifier & stars 0 x.stars & maybe_name x.name)
-
-more_params : (xs : List Param) → Prints (rest_params_kinds xs) (OfMoreParams xs)
-more_params [] = none
-more_params (x ∷ xs) = t (p punct.Comma) 0 & param x & more_params xs
-
-all_params : (xs : Params) → Prints (params_kinds xs) (OfParams xs)
-all_params params.Nothing = none
-all_params params.Void = t (w word.Void) 0
-all_params (params.Listed []) = record { says = λ ms rest h. absurd h }
-all_params (params.Listed (x ∷ xs)) = given _ (param x & more_params xs)
-
 code : (c : Code) → Prints (code_kinds c) (OfCode c)
 code (defined ps at) = o (p punct.OpenBrace) at 0 & parts 0 ps & t (p punct.CloseBrace) 0
 code prototype = t (p punct.Semicolon) 0
@@ -210,7 +216,7 @@ statics false s at = given _ none
 
 outer : (x : Outer) → Prints (outer_kinds x) (OfOuter x)
 outer (structure n fs) = t (w word.Struct) 0 & name 0 n & t (p punct.OpenBrace) 0 & all_members fs & t (p punct.CloseBrace) 0 & t (p punct.Semicolon) 0
-outer (function b s n x xs c) = if_some b (w word.Static) (t (w word.Static) 0) & specifiers 0 s & stars 0 n & name 0 x & t (p punct.OpenParen) 0 & all_params xs & t (p punct.CloseParen) 0 & code c
+outer (function b s n x xs c) = if_some b (w word.Static) (t (w word.Static) 0) & specifiers 0 s & stars 0 n & name 0 x & t (p punct.OpenParen) 0 & formals 0 xs & t (p punct.CloseParen) 0 & code c
 outer (objects b s os at) = statics b s at & specifiers 0 s & all_objects 0 os & t (p punct.Semicolon) 0
 
 program : (os : List Outer) → Prints (kinds_of os) (OfProgram os)

@@ -1,5 +1,5 @@
 -- What a rule reads is a phrase of the grammar.
-use Rattle.std.proofs.Common.{◌≡◌, inl, inr, ℕ, zero, suc, ◌+◌, ◌≤◌, Bool, true, false, cond, ◌&&◌, List, [], ◌∷◌, ◌++◌, Option, None, refl, sym, ◌∙◌, ap, subst, append_assoc, append-nil, arith}
+use Rattle.std.proofs.Common.{◌≡◌, inl, inr, ℕ, zero, suc, ◌+◌, ◌≤◌, Bool, true, false, cond, ◌&&◌, List, [], ◌∷◌, ◌++◌, Option, Some, None, refl, sym, ◌∙◌, ap, subst, append_assoc, append-nil, arith}
 use Rattle.c_lexer.specs.declared.token.Kind.TheVariants as kind
 use Rattle.c_lexer.specs.declared.token.Punct.TheVariants as punct
 use Rattle.c_lexer.specs.declared.token.Word.TheVariants as word
@@ -8,19 +8,17 @@ use Rattle.c_tree.specs.declared.ctype.Specifier.{Specifier}
 use Rattle.c_tree.specs.declared.ctype.Specifier.TheVariants as specifiers
 use Rattle.c_tree.specs.declared.expr.PrefixOp.{PrefixOp}
 use Rattle.c_tree.specs.declared.expr.PrefixOp.TheVariants as prefix_op
-use Rattle.c_tree.specs.declared.program.Param.{Param}
-use Rattle.c_tree.specs.declared.program.Params.TheVariants as params_of
-use Rattle.c_tree.specs.Tree.{Exp, comma, named, call, number, letter, text, null, paren, listed, Declared, declared, Init, listed_inits, Object, Statement, branch, branch_else, part_declares, part_does, listed_parts, Outer}
+use Rattle.c_tree.specs.Tree.{Exp, comma, named, call, number, letter, text, null, paren, listed, Formal, formal, formal_pointer, void_formals, listed_formals, FormalRow, no_formal, and_formal, listed_row, Declared, declared, declared_pointer, Init, listed_inits, Object, Statement, branch, branch_else, part_declares, part_does, listed_parts, Outer}
 use Rattle.rr_base.specs.declared.position.Position.{Position}
 use Rattle.c_print.specs.Kinds.{p, w}
-use Rattle.c_grammar.specs.Grammar.{specifier_place, first_place, binds, postfixes_in, OfMaybeName, ends_open, is_void, is_nameless, is_void_alone, OfSpecifier, OfStars, OfExp, OfExps, OfRaisingStars, OfLengths, OfDeclared, OfInit, OfInits, OfObject, OfObjects, OfStatement, OfParts, OfParam, OfMoreParams, OfParams, OfAllDeclared, OfAllFields, OfOuter}
+use Rattle.c_grammar.specs.Grammar.{specifier_place, first_place, binds, postfixes_in, OfMaybeName, OfFormal, OfFormals, OfMoreFormals, ends_open, is_void, is_nameless, is_void_alone, OfSpecifier, OfStars, OfExp, OfExps, OfLengths, OfDeclared, OfInit, OfInits, OfObject, OfObjects, OfStatement, OfParts, OfAllDeclared, OfAllFields, OfOuter}
 use Rattle.c_grammar.specs.Marks.{Mark, mark, own, other, ◌>>◌, maybe}
 use Rattle.c_grammar.specs.Phrase as phrase
-use Rattle.c_grammar.specs.Phrase.{Phrase, Head, function_head, object_head, Initials, initials}
-use Rattle.c_grammar.specs.Parse.{sign, key, a_prefix, kind_of, is_of, Rule, ret, one, heads, choose}
+use Rattle.c_grammar.specs.Phrase.{Phrase, Head, function_head, object_head, pointer_head, Front, object_front, pointer_front, Initials, initials}
+use Rattle.c_grammar.specs.Parse.{sign, key, a_prefix, kind_of, is_of, Rule, ret, one, heads, fronts, choose}
 use Rattle.c_grammar.specs.Parse as rule
-use Rattle.c_grammar.specs.Rules.{name_of, rules, braces_after, after_head, params_from}
-use Rattle.c_grammar.proofs.Language.{link, by_index, by_member, by_arrow, by_increment, by_decrement, is_atom, open_mark, starts_open, OfHead, Of, Lang, Holds}
+use Rattle.c_grammar.specs.Rules.{name_of, rules, braces_after, objects_after_rule, after_front, after_head, params_from}
+use Rattle.c_grammar.proofs.Language.{link, by_index, by_member, by_arrow, by_increment, by_decrement, is_atom, open_mark, starts_open, OfHead, OfFront, Of, Lang, Holds}
 use Rattle.c_grammar.proofs.Grouping.{no_operators, no_cast, of_chained, of_postfixed}
 
 pub holds : {A : Type 0} (g : Rule A) (ms : List Mark) (Q : A → List Mark → Type 0) → Holds g ms Q → (x : A) (rest : List Mark) → Lang g x ms rest → Q x rest
@@ -28,6 +26,7 @@ holds (ret a) ms Q h x rest e = subst (λ z. Q z rest) (sym e.0) (subst (λ z. Q
 holds (one c l f) ms Q h x rest e = holds (f e.0.0 e.0.1) e.1 Q (h e.0.0 e.0.1 e.1 e.2) x rest e.3
 holds (rule.call n f) ms Q h x rest e = holds (f e.0) e.1 Q (h e.0 e.1 e.2) x rest e.3
 holds (heads f) ms Q h x rest e = holds (f e.0) e.1 Q (h e.0 e.1 e.2) x rest e.3
+holds (fronts l f) ms Q h x rest e = holds (f e.0) e.1 Q (h e.0 e.1 e.2) x rest e.3
 holds (choose test g k) ms Q h x rest (inl e) = holds g ms Q h.0 x rest e
 holds (choose test g k) ms Q h x rest (inr e) = holds k ms Q h.1 x rest e
 
@@ -47,9 +46,6 @@ from_none n m e = omega (arith, e)
 
 stars_of : (l n : ℕ) (ms rest : List Mark) → Of (phrase.stars l 0) n ms rest → OfStars l n ms rest
 stars_of l n ms rest h = subst (λ z. OfStars l z ms rest) (from_none n h.0 h.1) h.2
-
-raising_of : (l n : ℕ) (ms rest : List Mark) → Of (phrase.raising_stars l 0) n ms rest → OfRaisingStars l n ms rest
-raising_of l n ms rest h = subst (λ z. OfRaisingStars z n ms rest) (sym (same_level l)) (subst (λ z. OfRaisingStars (l + 0) z ms rest) (from_none n h.0 h.1) h.2)
 
 prefix_not_open : (op : PrefixOp) → is_of (sign punct.OpenParen) (kind_of a_prefix op) ≡ false
 prefix_not_open prefix_op.Minus = refl
@@ -102,14 +98,23 @@ join_object l d o ms m1 m2 h (inr k) = subst (λ z. OfObject l z ms m2) (sym k.2
 zero_plus : (n : ℕ) → n ≡ 0 + n
 zero_plus n = omega arith
 
+-- after the declarator of the first object
+objects_hold : (is_static : Bool) (s : Specifier) (at : Position) (d : Declared) (ms m2 : List Mark) → OfDeclared 0 d ms m2 → Holds (objects_after_rule is_static s at d) m2 (λ o rest. Of (phrase.outer_after is_static s at) o ms rest)
+objects_hold is_static s at d ms m2 h = λ o m3 g os m4 i v p2 m5 e2. inr (os, refl, (m4, subst (λ z. OfObjects 0 z ms m4) (sym i.1) (m3, join_object 0 d o ms m2 m3 h g, i.2), (p2, e2)))
+
 head_holds : (is_static : Bool) (s : Specifier) (at : Position) (ms m1 : List Mark) (h : Head) → OfHead h ms m1 → Holds (after_head is_static s at h) m1 (λ o rest. Of (phrase.outer_after is_static s at) o ms rest)
 head_holds is_static s at ms m1 (function_head n x there) k =
     λ xs m2 j v p2 m3 e2 c m4 g. inl (n, name_of x there, xs, c, refl, (k.0, k.1, (k.2.0, k.2.1, (m1, k.2.2, (m2, j, (m3, (p2, e2), g))))))
 head_holds is_static s at ms m1 (object_head n x there) k =
-    λ es m2 j o m3 g os m4 i v p2 m5 e2.
+    λ es m2 j.
     let d : OfDeclared 0 (declared n (name_of x there) es) ms m2 =
     (k.0, k.1, (m1, subst (λ z. own (kind.Name x) there z k.0 m1) (zero_plus n) k.2, subst (λ z. OfLengths z es m1 m2) (zero_plus n) (subst (λ z. OfLengths n z m1 m2) (sym j.1) j.2))) in
-    inr (os, refl, (m4, subst (λ z. OfObjects 0 z ms m4) (sym i.1) (m3, join_object 0 (declared n (name_of x there) es) o ms m2 m3 d g, i.2), (p2, e2)))
+    objects_hold is_static s at (declared n (name_of x there) es) ms m2 d
+head_holds is_static s at ms m1 (pointer_head n) k = λ x m2 j. objects_hold is_static s at (declared_pointer n x.0 x.1) ms m2 (k.0, k.1, (m1, k.2, j))
+
+front_holds : (l : ℕ) (ms m1 : List Mark) (h : Front) → OfFront l h ms m1 → Holds (after_front l h) m1 (λ d rest. OfDeclared l d ms rest)
+front_holds l ms m1 (object_front n x at) k = λ es m2 j. (k.0, k.1, (m1, k.2, subst (λ z. OfLengths (l + n) z m1 m2) (sym j.1) j.2))
+front_holds l ms m1 (pointer_front n) k = λ x m2 j. (k.0, k.1, (m1, k.2, j))
 
 outer_static : (s : Specifier) (at : Position) (o : Outer) (ms m1 m2 m3 : List Mark) → ms ≡ mark (w word.Static) at 0 ∷ m1 → OfSpecifier 0 s m1 m2 → Of (phrase.outer_after true s at) o m2 m3 → OfOuter o ms m3
 outer_static s at o ms m1 m2 m3 e h (inl k) = subst (λ z. OfOuter z ms m3) (sym k.4) (m1, (at, e), (m2, h, k.5))
@@ -120,14 +125,20 @@ outer_plain s o ms m2 m3 h (inl k) = subst (λ z. OfOuter z ms m3) (sym k.4) (ms
 outer_plain s o ms m2 m3 h (inr k) = subst (λ z. OfOuter z ms m3) (sym k.1) (ms, (refl, refl), (m2, h, k.2))
 
 -- `void` alone is one token
-void_token : (s : Specifier) (n : Option Name) (k : ℕ) (ms mid rest : List Mark) → (is_void s && is_nameless n k) ≡ true → (OfSpecifier 0 s >> OfStars 0 k >> OfMaybeName n) ms mid → mid ≡ rest → OfParams params_of.Void ms rest
-void_token (specifiers.Void at) None zero ms mid rest v h e = (at, h.1 ∙ ap (λ z. mark (w word.Void) at 0 ∷ z) (h.2.1 ∙ h.2.2 ∙ e))
-void_token _ _ _ ms mid rest v h e = cc
+void_token : (l : ℕ) (s : Specifier) (n : Option Name) (k : ℕ) (ms mid rest : List Mark) → (is_void s && is_nameless n k) ≡ true → (OfSpecifier l s >> OfStars l k >> OfMaybeName l n) ms mid → mid ≡ rest → OfFormals l void_formals ms rest
+void_token l (specifiers.Void at) None zero ms mid rest v h e = (at, h.1 ∙ ap (λ z. mark (w word.Void) at l ∷ z) (h.2.1 ∙ h.2.2 ∙ e))
+void_token l _ _ _ ms mid rest v h e = cc
 
-params_hold : (x : Param) (more : List Param) (ms mid rest : List Mark) → OfParam x ms mid → OfMoreParams more mid rest → (b : Bool) → is_void_alone (x ∷ more) ≡ b → OfParams (cond b params_of.Void (params_of.Listed (x ∷ more))) ms rest
-params_hold x [] ms mid rest h k true e = void_token x.specifier x.name x.stars ms mid rest e h.1 k
-params_hold x (y ∷ more) ms mid rest h k true e = cc
-params_hold x more ms mid rest h k false e = (e, (mid, h, k))
+params_hold : (l : ℕ) (x : Formal) (more : FormalRow) (ms mid rest : List Mark) → OfFormal l x ms mid → OfMoreFormals l more mid rest → (b : Bool) → is_void_alone (and_formal x more) ≡ b → OfFormals l (cond b void_formals (listed_formals (and_formal x more))) ms rest
+params_hold l (formal s n name at) no_formal ms mid rest h k true e = void_token l s name n ms mid rest e h.1 k
+params_hold l (formal_pointer s n name xs at) no_formal ms mid rest h k true e = cc
+params_hold l (formal s n name at) (and_formal y more) ms mid rest h k true e = cc
+params_hold l (formal_pointer s n name xs at) (and_formal y more) ms mid rest h k true e = cc
+params_hold l x more ms mid rest h k false e = (e, (mid, h, k))
+
+join_param : (l : ℕ) (s : Specifier) (x : Formal) (ms m1 m2 : List Mark) → OfSpecifier l s ms m1 → Of (phrase.param_after l s) x m1 m2 → OfFormal l x ms m2
+join_param l s x ms m1 m2 h (inl (n, name, is, k)) = subst (λ z. OfFormal l z ms m2) (sym is) (refl, (m1, h, k))
+join_param l s x ms m1 m2 h (inr (n, name, xs, is, k)) = subst (λ z. OfFormal l z ms m2) (sym is) (refl, (m1, h, k))
 
 -- ---- each rule
 
@@ -186,14 +197,8 @@ sound (phrase.postfix l a) ms = (
 )
 sound (phrase.arguments l) ms = (λ v at m1 e. (ms, refl, (at, e)), λ e m1 h es m2 k v p2 m3 d. (m2, subst (λ z. OfExps l (listed z) ms m2) (sym k.1) (h.0, (m1, h.1, k.2)), (p2, d)))
 sound (phrase.maybe_expression l stop) ms = (refl, λ e m1 h. h)
-sound (phrase.raising_stars l n) ms = (
-  λ v at m1 e k m2 h. (suc h.0, omega (arith, h.1), (m1, (at, e), subst (λ z. OfRaisingStars z h.0 m1 m2) (next l n) h.2)),
-  (0, same_level n, refl),
-)
-  where
-    next : (l n : ℕ) → l + suc n ≡ suc (l + n)
-    next l n = omega arith
-sound (phrase.declarator l) ms = λ n m1 h x at m2 e es m3 k. (m1, raising_of l n ms m1 h, (m2, e, subst (λ z. OfLengths (l + n) z m2 m3) (sym k.1) k.2))
+sound (phrase.pointer l) ms = λ v p1 m1 e1 x at m2 e2 v3 p3 m3 e3 v4 p4 m4 e4 xs m5 h v6 p6 m6 e6. (m1, (p1, e1), (m2, e2, (m3, (p3, e3), (m4, (p4, e4), (m5, h, (p6, e6))))))
+sound (phrase.declarator l) ms = λ h m1 k. front_holds l ms m1 h k
 sound (phrase.lengths l es) ms = (
   λ v at m1 e x m2 h v2 p2 m3 d all m4 k. (x ∷ k.0, more_after es x k.0 all k.1, (h.0, (m1, (at, e), (m2, h.1, (m3, (p2, d), k.2))))),
   ([], none_after es, refl),
@@ -247,10 +252,13 @@ sound (phrase.parts l ps) ms = (
     λ s m1 h all m2 k. (part_does s ∷ k.0, more_after ps (part_does s) k.0 all k.1, (m1, h, k.2)),
   ),
 )
-sound phrase.param ms = λ s m1 h x m2 k. (k.1 ∙ ap specifier_place (sym k.0), (m1, subst (λ z. OfSpecifier 0 z ms m1) (sym k.0) h, k.2))
-sound (phrase.param_after s) ms = λ n m1 h. (λ x at m2 e. (refl, refl, (m1, stars_of 0 n ms m1 h, e)), (refl, refl, (m1, stars_of 0 n ms m1 h, refl)))
-sound (phrase.more_params xs) ms = (λ v at m1 e x m2 h all m3 k. (x ∷ k.0, more_after xs x k.0 all k.1, (m1, (at, e), (m2, h, k.2))), ([], none_after xs, refl))
-sound phrase.params ms = (refl, λ x m1 h xs m2 k. subst (λ z. OfParams (params_from z) ms m2) (sym k.1) (params_hold x k.0 ms m1 m2 h k.2 (is_void_alone (x ∷ k.0)) refl))
+sound (phrase.param l) ms = λ s m1 h x m2 k. join_param l s x ms m1 m2 h k
+sound (phrase.param_after l s) ms = λ n m1 h. (
+  λ v at m2 e x m3 k. inr (n, x.0, x.1, refl, (m1, stars_of l n ms m1 h, (m2, (at, e), k))),
+  (λ x at m2 e. inl (n, Some (name_of x at), refl, (m1, stars_of l n ms m1 h, e)), inl (n, None, refl, (m1, stars_of l n ms m1 h, refl))),
+)
+sound (phrase.more_params l xs) ms = (λ v at m1 e x m2 h all m3 k. (x ∷ k.0, more_after xs x k.0 all k.1, (m1, (at, e), (m2, h, k.2))), ([], none_after xs, refl))
+sound (phrase.params l) ms = (refl, λ x m1 h xs m2 k. subst (λ z. OfFormals l (params_from z) ms m2) (sym k.1) (params_hold l x (listed_row k.0) ms m1 m2 h k.2 (is_void_alone (and_formal x (listed_row k.0))) refl))
 sound phrase.code ms = (λ v at m1 e ps m2 h v2 p2 m3 d. (m1, e, (m2, subst (λ z. OfParts 0 (listed_parts z) m1 m2) (sym h.1) h.2, (p2, d))), λ v at m1 e. (at, e))
 sound (phrase.more_declared ds) ms = (λ v at m1 e x m2 h all m3 k. (x ∷ k.0, more_after ds x k.0 all k.1, (m1, (at, e), (m2, h, k.2))), ([], none_after ds, refl))
 sound phrase.member ms = λ s m1 h d m2 k ds m3 j v at m4 e. (refl, (m1, h, (m3, subst (λ z. OfAllDeclared z m1 m3) (sym j.1) (m2, k, j.2), (at, e))))

@@ -1,35 +1,28 @@
 -- The rules of declarations, statements and what stands outermost choose what the grammar has.
-use Rattle.std.proofs.Common.{◌≡◌, inl, inr, ℕ, zero, suc, ◌+◌, ◌≤◌, Bool, true, false, List, [], ◌∷◌, Option, Some, None, refl, sym, ◌∙◌, ap, subst, append_assoc, append-nil, arith}
+use Rattle.std.proofs.Common.{◌≡◌, inl, inr, ℕ, zero, suc, ◌≤◌, Bool, true, false, List, [], ◌∷◌, Option, Some, None, refl, sym, ◌∙◌, ap, subst, append_assoc, append-nil, arith}
 use Rattle.c_lexer.specs.declared.token.Kind.{Kind}
 use Rattle.c_lexer.specs.declared.token.Kind.TheVariants as kind
 use Rattle.c_lexer.specs.declared.token.Punct.TheVariants as punct
 use Rattle.c_lexer.specs.declared.token.Word.TheVariants as word
-use Rattle.c_tree.specs.Tree.{Exp, Declared, declared, Init, value, braces, mutex_start, cond_start, rwlock_start, Inits, no_init, and_init, listed_inits, Object, plain, initialised, Declares, declares, start_declares, start_computes, Statement, block, compute, break_at, continue_at, gives, branch, branch_else, while_loop, do_loop, for_loop, Parts, no_part, and_declares, and_does, Part, part_declares, part_does, listed_parts}
+use Rattle.c_tree.specs.Tree.{Exp, Declared, declared, declared_pointer, Init, value, braces, mutex_start, cond_start, rwlock_start, Inits, no_init, and_init, listed_inits, Object, plain, initialised, Declares, declares, start_declares, start_computes, Statement, block, compute, break_at, continue_at, gives, branch, branch_else, while_loop, do_loop, for_loop, Parts, no_part, and_declares, and_does, Part, part_declares, part_does, listed_parts}
 use Rattle.c_print.specs.Kinds.{p}
 use Rattle.c_grammar.specs.Marks.{Mark, mark, other, maybe}
-use Rattle.c_grammar.specs.Grammar.{OfMaybe, OfRaisingStars, OfDeclared, OfInit, OfMoreInits, OfObject, OfMoreObjects, OfObjects, OfDeclares, OfStatement, OfParts}
+use Rattle.c_grammar.specs.Grammar.{OfMaybe, OfDeclared, OfInit, OfMoreInits, OfObject, OfMoreObjects, OfObjects, OfDeclares, OfStatement, OfParts}
 use Rattle.c_grammar.specs.Phrase as phrase
-use Rattle.c_grammar.specs.Phrase.{Phrase, initials}
-use Rattle.c_grammar.specs.Parse.{sign, key, is_of, is_type}
+use Rattle.c_grammar.specs.Phrase.{object_front, pointer_front, initials}
+use Rattle.c_grammar.specs.Parse.{sign, key, is_of, is_type, begins_declarator}
 use Rattle.c_grammar.proofs.Ends.{joins, joins_next, next_is, sees, reads_word, AfterType, by_joins, by_test, joins_test, no_comma, no_equals, no_bracket, begins_exp, exp_begins, not_begun, not_open_brace, not_close_brace, not_pthread_mutex_initializer, not_pthread_cond_initializer, not_pthread_rwlock_initializer, not_type}
-use Rattle.c_grammar.proofs.Expressions.{Chooses, joins_at, one_of_more, none_of_more, zero_plus, type_begins}
+use Rattle.c_grammar.proofs.Expressions.{Chooses, joins_at, one_of_more, none_of_more, type_begins}
 
 -- ---- declarators
 
-raise : (l n : ℕ) → l + suc n ≡ suc (l + n)
-raise l n = omega arith
-
-pub chooses_raising : (l n : ℕ) → Chooses (phrase.raising_stars l n)
-chooses_raising l n k ms rest (zero, e, h) ends = inr (ap (sees punct.Star) h ∙ ends, (omega (arith, e), h))
-chooses_raising l n k ms rest (suc m, e, h) ends =
-    inl (ap (sees punct.Star) h.1.1, (tt, h.1.0, h.0, h.1.1, (k, rest, (m, omega (arith, e), subst (λ z. OfRaisingStars z m h.0 rest) (sym (raise l n)) h.2), ends, (refl, refl))))
-
-same_level : (l : ℕ) → l ≡ l + 0
-same_level l = omega arith
+pub chooses_pointer : (l : ℕ) → Chooses (phrase.pointer l)
+chooses_pointer l x ms rest (m1, (p1, e1), (m2, en, (m3, (p3, e3), (m4, (p4, e4), (m5, h, (p6, e6)))))) ends =
+    (tt, p1, m1, e1, (x.0.text, x.0.at, m2, en, (tt, p3, m3, e3, (tt, p4, m4, e4, (x.1, m5, h, ap (sees punct.CloseParen) e6, (tt, p6, rest, e6, (refl, refl)))))))
 
 pub chooses_declarator : (l : ℕ) → Chooses (phrase.declarator l)
-chooses_declarator l (declared n name es) ms rest (m1, hs, (m2, en, hl)) ends =
-    (n, m1, (n, zero_plus n, subst (λ z. OfRaisingStars z n ms m1) (same_level l) hs), ap (sees punct.Star) en, (name.text, name.at, m2, en, (es, rest, (es, refl, hl), ends, (refl, refl))))
+chooses_declarator l (declared n name es) ms rest (m1, hs, (m2, en, hl)) ends = (object_front n name.text name.at, m2, (m1, hs, en), (es, rest, (es, refl, hl), ends, (refl, refl)))
+chooses_declarator l (declared_pointer n name xs) ms rest (m1, hs, (m2, eo, hp)) ends = (pointer_front n, m2, (m1, hs, eo), ((name, xs), rest, hp, tt, (refl, refl)))
 
 pub chooses_lengths : (l : ℕ) (es : List Exp) → Chooses (phrase.lengths l es)
 chooses_lengths l es all ms rest ([], e, h) ends = inr (ap (sees punct.OpenBracket) h ∙ by_joins 4 (is_of (sign punct.OpenBracket)) no_bracket rest (omega (arith, ends)), (none_of_more es all e, h))
@@ -159,33 +152,30 @@ chooses_more_objects l os all ms rest (x ∷ xs, e, (m1, (at, ec), (m2, hx, hm))
 
 -- ---- what an object or a parameter begins with
 
-abbrev pub begins_object : Kind → Bool
-begins_object (kind.Name x) = true
-begins_object (kind.Punct punct.Star) = true
-begins_object _ = false
+pub declared_begins : (l : ℕ) (d : Declared) (ms rest : List Mark) → OfDeclared l d ms rest → next_is begins_declarator ms ≡ true
+declared_begins l (declared zero name es) ms rest h = ap (next_is begins_declarator) (h.1 ∙ h.2.1)
+declared_begins l (declared (suc n) name es) ms rest h = ap (next_is begins_declarator) h.1.1.1
+declared_begins l (declared_pointer zero name xs) ms rest h = ap (next_is begins_declarator) (h.1 ∙ h.2.1.1)
+declared_begins l (declared_pointer (suc n) name xs) ms rest h = ap (next_is begins_declarator) h.1.1.1
 
-pub declared_begins : (l : ℕ) (d : Declared) (ms rest : List Mark) → OfDeclared l d ms rest → next_is begins_object ms ≡ true
-declared_begins l (declared zero name es) ms rest h = ap (next_is begins_object) (h.1 ∙ h.2.1)
-declared_begins l (declared (suc n) name es) ms rest h = ap (next_is begins_object) h.1.1.1
-
-pub object_begins : (l : ℕ) (o : Object) (ms rest : List Mark) → OfObject l o ms rest → next_is begins_object ms ≡ true
+pub object_begins : (l : ℕ) (o : Object) (ms rest : List Mark) → OfObject l o ms rest → next_is begins_declarator ms ≡ true
 object_begins l (plain d) ms rest h = declared_begins l d ms rest h
 object_begins l (initialised d i at) ms rest h = declared_begins l d ms h.0 h.1
 
-pub objects_begin : (l : ℕ) (os : List Object) (ms rest : List Mark) → OfObjects l os ms rest → next_is begins_object ms ≡ true
+pub objects_begin : (l : ℕ) (os : List Object) (ms rest : List Mark) → OfObjects l os ms rest → next_is begins_declarator ms ≡ true
 objects_begin l [] ms rest h = absurd h
 objects_begin l (o ∷ os) ms rest h = object_begins l o ms h.0 h.1
 
-object_no_long : (k : Kind) → begins_object k ≡ true → is_of (key word.Long) k ≡ false
+object_no_long : (k : Kind) → begins_declarator k ≡ true → is_of (key word.Long) k ≡ false
 object_no_long (kind.Word x) h = cc
 object_no_long _ h = refl
 
-object_no_int : (k : Kind) → begins_object k ≡ true → is_of (key word.Int) k ≡ false
+object_no_int : (k : Kind) → begins_declarator k ≡ true → is_of (key word.Int) k ≡ false
 object_no_int (kind.Word x) h = cc
 object_no_int _ h = refl
 
-pub after_type : (ms : List Mark) → next_is begins_object ms ≡ true → AfterType ms
-after_type ms h = (by_test begins_object (is_of (key word.Long)) false object_no_long ms h, by_test begins_object (is_of (key word.Int)) false object_no_int ms h)
+pub after_type : (ms : List Mark) → next_is begins_declarator ms ≡ true → AfterType ms
+after_type ms h = (by_test begins_declarator (is_of (key word.Long)) false object_no_long ms h, by_test begins_declarator (is_of (key word.Int)) false object_no_int ms h)
 
 pub chooses_declaration : (l : ℕ) → Chooses (phrase.declaration l)
 chooses_declaration l (declares s [] at) ms rest (e, (m1, hs, (m2, ho, (q, ec)))) ends = absurd ho

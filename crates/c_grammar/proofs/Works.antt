@@ -76,6 +76,15 @@ pub record Works {A : Type 0} (limit : ℕ) (p q : Parser A) (L : Language A) : 
   pub lost : (ts : List Lexeme) (f : Fault) (rest : List Lexeme) → p ts ≡ Stuck f rest → Lost limit q L ts f rest
 
 module _ (limit : ℕ) where
+  -- what is so of an answer
+  abbrev pub Fits : {A : Type 0} → Parser A → Language A → List Lexeme → Outcome A → Type 0
+  Fits q L ts (Got a rest) = Found limit q L ts a rest
+  Fits q L ts (Stuck f rest) = Lost limit q L ts f rest
+  Fits q L ts Spent = Unit {0}
+
+  pub works_by : {A : Type 0} (p q : Parser A) (L : Language A) → ((ts : List Lexeme) → Fits q L ts (p ts)) → Works limit p q L
+  works_by p q L fits = record { found = λ ts a rest e. subst (Fits q L ts) e (fits ts); lost = λ ts f rest e. subst (Fits q L ts) e (fits ts) }
+
   -- a, and no token
   abbrev pub IsNow : {A : Type 0} → A → Language A
   IsNow a x ms rest = (x ≡ a) × (ms ≡ rest)

@@ -11,10 +11,7 @@ use Rattle.c_tree.specs.declared.ctype.Specifier.TheVariants as specifier
 use Rattle.c_tree.specs.declared.ctype.CType.{CType}
 use Rattle.c_tree.specs.declared.expr.BinaryOp.{BinaryOp}
 use Rattle.c_tree.specs.declared.expr.BinaryOp.TheVariants as binary_op
-use Rattle.c_tree.specs.declared.program.Params.{Params}
-use Rattle.c_tree.specs.declared.program.Params.TheVariants as params
-use Rattle.c_tree.specs.declared.program.Param.{Param}
-use Rattle.c_tree.specs.Tree.{Exp, comma, assign, conditional, binary, prefix, sizeof_exp, sizeof_type, cast, index, member, arrow, post_increment, post_decrement, named, call, number, letter, text, null, paren, Exps, no_exp, and_exp, Declared, declared, Init, value, braces, mutex_start, cond_start, rwlock_start, Inits, no_init, and_init, Object, plain, initialised, Declares, declares, Start, start_declares, start_computes, Statement, block, compute, break_at, continue_at, gives, branch, branch_else, while_loop, do_loop, for_loop, Parts, no_part, and_declares, and_does, Code, defined, prototype, Fields, fields, Outer, structure, function, objects}
+use Rattle.c_tree.specs.Tree.{Exp, comma, assign, conditional, binary, prefix, sizeof_exp, sizeof_type, cast, index, member, arrow, post_increment, post_decrement, named, call, number, letter, text, null, paren, Exps, no_exp, and_exp, Formal, formal, formal_pointer, Formals, no_formals, void_formals, listed_formals, FormalRow, no_formal, and_formal, Declared, declared, declared_pointer, Init, value, braces, mutex_start, cond_start, rwlock_start, Inits, no_init, and_init, Object, plain, initialised, Declares, declares, Start, start_declares, start_computes, Statement, block, compute, break_at, continue_at, gives, branch, branch_else, while_loop, do_loop, for_loop, Parts, no_part, and_declares, and_does, Code, defined, prototype, Fields, fields, Outer, structure, function, objects}
 use Rattle.rr_base.specs.declared.position.Position.{Position}
 use Rattle.c_print.specs.Kinds.{p, w, prefix_punct, binary_punct, assign_punct}
 use Rattle.c_grammar.specs.Marks.{Beginning, own, other, ◌>>◌, nothing, never, maybe, provided}
@@ -199,6 +196,58 @@ abbrev pub OfMaybe : ℕ → Option Exp → Beginning
 OfMaybe l None = nothing
 OfMaybe l (Some e) = OfExp l e
 
+-- ---- parameters
+
+-- the name of a parameter, which need have none (C99 6.7.5.3)
+abbrev pub OfMaybeName : ℕ → Option Name → Beginning
+OfMaybeName l None = nothing
+OfMaybeName l (Some n) = OfName l n
+
+-- `void`, whatever stars or name follow it
+abbrev pub is_void : Specifier → Bool
+is_void (specifier.Void at) = true
+is_void _ = false
+
+-- neither a name nor a star, so that the specifier stands alone
+abbrev pub is_nameless : Option Name → ℕ → Bool
+is_nameless None zero = true
+is_nameless _ _ = false
+
+-- the word `void` alone, which is no parameter
+abbrev pub is_void_alone : FormalRow → Bool
+is_void_alone (and_formal (formal s n name place) no_formal) = is_void s && is_nameless name n
+is_void_alone _ = false
+
+-- `*name)(parameters)`, where the parameters and their parentheses stand one level deeper
+abbrev pub OfPointed : ℕ → Name → Beginning → Beginning
+OfPointed l name xs = other (p punct.Star) l >> OfName l name >> other (p punct.CloseParen) l >> other (p punct.OpenParen) (suc l) >> xs >> other (p punct.CloseParen) (suc l)
+
+-- a pointer to a function (C99 6.7.5.3), as `** (*name)(parameters)`: the stars of its result, its name, its parameters
+abbrev pub OfPointer : ℕ → ℕ → Name → Beginning → Beginning
+OfPointer l n name xs = OfStars l n >> other (p punct.OpenParen) l >> OfPointed l name xs
+
+abbrev mutual
+  -- one parameter, whose place is that of its specifier
+  pub OfFormal : ℕ → Formal → Beginning
+  OfFormal l (formal s n name place) = provided (place ≡ specifier_place s) (OfSpecifier l s >> OfStars l n >> OfMaybeName l name)
+  OfFormal l (formal_pointer s n name xs place) = provided (place ≡ specifier_place s) (OfSpecifier l s >> OfPointer l n name (OfFormals (suc l) xs))
+
+  -- what stands in a function's parentheses (C99 6.7.5.3)
+  pub OfFormals : ℕ → Formals → Beginning
+  OfFormals l no_formals = nothing
+  OfFormals l void_formals = other (w word.Void) l
+  OfFormals l (listed_formals xs) = provided (is_void_alone xs ≡ false) (OfFormalRow l xs)
+
+  -- one or more
+  pub OfFormalRow : ℕ → FormalRow → Beginning
+  OfFormalRow l no_formal = never
+  OfFormalRow l (and_formal x xs) = OfFormal l x >> OfMoreFormals l xs
+
+  -- the parameters after the first, each with a comma before it
+  pub OfMoreFormals : ℕ → FormalRow → Beginning
+  OfMoreFormals l no_formal = nothing
+  OfMoreFormals l (and_formal x xs) = other (p punct.Comma) l >> OfFormal l x >> OfMoreFormals l xs
+
 -- ---- declarations
 
 -- stars each of which raises the level
@@ -214,6 +263,7 @@ OfLengths l (e ∷ es) = provided (2 ≤ binds e) (other (p punct.OpenBracket) (
 -- a declarator (C99 6.7.5), without its specifier
 abbrev pub OfDeclared : ℕ → Declared → Beginning
 OfDeclared l (declared n name lengths) = OfRaisingStars l n >> OfName (l + n) name >> OfLengths (l + n) lengths
+OfDeclared l (declared_pointer n name xs) = OfPointer l n name (OfFormals (suc l) xs)
 
 abbrev mutual
   pub OfInit : ℕ → Init → Beginning
@@ -297,42 +347,6 @@ abbrev mutual
 
 -- ---- the outermost level
 
--- the name of a parameter, which need have none (C99 6.7.5.3)
-abbrev pub OfMaybeName : Option Name → Beginning
-OfMaybeName None = nothing
-OfMaybeName (Some n) = OfName 0 n
-
--- one parameter, whose place is that of its specifier
-abbrev pub OfParam : Param → Beginning
-OfParam x = provided (x.at ≡ specifier_place x.specifier) (OfSpecifier 0 x.specifier >> OfStars 0 x.stars >> OfMaybeName x.name)
-
--- the parameters after the first, each with a comma before it
-abbrev pub OfMoreParams : List Param → Beginning
-OfMoreParams [] = nothing
-OfMoreParams (x ∷ xs) = other (p punct.Comma) 0 >> OfParam x >> OfMoreParams xs
-
--- `void`, whatever stars or name follow it
-abbrev pub is_void : Specifier → Bool
-is_void (specifier.Void at) = true
-is_void _ = false
-
--- neither a name nor a star, so that the specifier stands alone
-abbrev pub is_nameless : Option Name → ℕ → Bool
-is_nameless None zero = true
-is_nameless _ _ = false
-
--- the word `void` alone, which is no parameter
-abbrev pub is_void_alone : List Param → Bool
-is_void_alone (x ∷ []) = is_void x.specifier && is_nameless x.name x.stars
-is_void_alone _ = false
-
--- what stands in a function's parentheses (C99 6.7.5.3)
-abbrev pub OfParams : Params → Beginning
-OfParams params.Nothing = nothing
-OfParams params.Void = other (w word.Void) 0
-OfParams (params.Listed []) = never
-OfParams (params.Listed (x ∷ xs)) = provided (is_void_alone (x ∷ xs) ≡ false) (OfParam x >> OfMoreParams xs)
-
 -- a body in braces, or the semicolon of a prototype
 abbrev pub OfCode : Code → Beginning
 OfCode (defined ps place) = own (p punct.OpenBrace) place 0 >> OfParts 0 ps >> other (p punct.CloseBrace) 0
@@ -371,7 +385,7 @@ OfStatic false s place = provided (place ≡ specifier_place s) nothing
 abbrev pub OfOuter : Outer → Beginning
 OfOuter (structure name fs) = other (w word.Struct) 0 >> OfName 0 name >> other (p punct.OpenBrace) 0 >> OfAllFields fs >> other (p punct.CloseBrace) 0 >> other (p punct.Semicolon) 0
 OfOuter (function is_static s n name xs code) =
-    maybe is_static (other (w word.Static) 0) >> OfSpecifier 0 s >> OfStars 0 n >> OfName 0 name >> other (p punct.OpenParen) 0 >> OfParams xs >> other (p punct.CloseParen) 0 >> OfCode code
+    maybe is_static (other (w word.Static) 0) >> OfSpecifier 0 s >> OfStars 0 n >> OfName 0 name >> other (p punct.OpenParen) 0 >> OfFormals 0 xs >> other (p punct.CloseParen) 0 >> OfCode code
 OfOuter (objects is_static s os place) = OfStatic is_static s place >> OfSpecifier 0 s >> OfObjects 0 os >> other (p punct.Semicolon) 0
 
 -- a whole source, which may also be empty

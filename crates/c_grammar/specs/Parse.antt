@@ -1,5 +1,5 @@
 -- The parser on lists: rules as data, and how they are run on tokens.
-use Rattle.std.specs.Prelude.{ℕ, suc, ℤ, Bool, true, false, if◌then◌else◌, nat_le, ◌==◌, List, [], ◌∷◌, drop, Option, Some, None, is_some}
+use Rattle.std.specs.Prelude.{ℕ, suc, ◌+◌, ◌-◌, ℤ, Bool, true, false, if◌then◌else◌, nat_le, ◌==◌, List, [], ◌∷◌, drop, Option, Some, None, is_some}
 use Rattle.c_lexer.specs.declared.token.Kind.{Kind}
 use Rattle.c_lexer.specs.declared.token.Kind.TheVariants as kind
 use Rattle.c_lexer.specs.declared.token.Punct.{Punct}
@@ -15,7 +15,7 @@ use Rattle.c_tree.specs.declared.expr.AssignOp.TheVariants as assign_op
 use Rattle.rr_base.specs.declared.position.Position.{Position}
 use Rattle.c_print.specs.Kinds.{prefix_punct, binary_punct, assign_punct}
 use Rattle.c_grammar.specs.Marks.{Lexeme}
-use Rattle.c_grammar.specs.Phrase.{Phrase, TreeOf, Head, function_head, object_head}
+use Rattle.c_grammar.specs.Phrase.{Phrase, TreeOf, Head, function_head, object_head, pointer_head, Front, object_front, pointer_front}
 
 -- ---- tokens by class
 
@@ -221,6 +221,13 @@ follows_declarator (kind.Punct punct.Comma) = true
 follows_declarator (kind.Punct punct.Semicolon) = true
 follows_declarator _ = false
 
+-- what may begin a declarator
+abbrev pub begins_declarator : Kind → Bool
+begins_declarator (kind.Punct punct.Star) = true
+begins_declarator (kind.Punct punct.OpenParen) = true
+begins_declarator (kind.Name x) = true
+begins_declarator _ = false
+
 -- ---- rules
 
 -- how a phrase is read, as data, so that proofs can look at it
@@ -233,6 +240,8 @@ pub data Rule (A : Type 0) : Type 0 where
   call : (n : Phrase) → (TreeOf n → Rule A) → Rule A
   -- the head of a function or object
   heads : (Head → Rule A) → Rule A
+  -- the front of a declarator in a context at a level
+  fronts : ℕ → (Front → Rule A) → Rule A
   -- the first if the next token passes the test, else the second
   choose : (Kind → Bool) → Rule A → Rule A → Rule A
 
@@ -296,9 +305,32 @@ decided limit stars n x place ts =
 abbrev pub decided_by : ℕ → List Lexeme → ℕ → Outcome (List ℕ × Position) → Outcome Head
 decided_by limit stars n o = and_then o (λ x. decided limit stars n x.0 x.1)
 
--- at file level: stars, a name, and whether it is a function
+-- After n stars: a parenthesis makes it a pointer to a function, whose stars raise no level.
+abbrev pub headed : ℕ → List Lexeme → ℕ → Parser Head
+headed limit stars n ts =
+    if passes (is_of (sign punct.OpenParen)) ts then Got (pointer_head n) (drop 1 ts)
+    else decided_by limit stars n (token limit a_name 0 ts)
+
+-- at file level: stars, and whether a function, an object or a pointer to a function comes
 abbrev pub outer_head : ℕ → Parser Head
-outer_head limit ts = decided_by limit ts (star_count ts) (token limit a_name 0 (drop (star_count ts) ts))
+outer_head limit ts = headed limit ts (star_count ts) (drop (star_count ts) ts)
+
+-- After n stars and a name of an object: where a star stands too deep it is only now known to.
+abbrev pub named_front : ℕ → ℕ → List Lexeme → ℕ → List ℕ → Position → Parser Front
+named_front limit l stars n x place ts = if nat_le (l + n) limit then Got (object_front n x place) ts else Stuck Nesting (drop (limit - l) stars)
+
+-- After n stars in a context at level l: a parenthesis makes it a pointer to a function, and a name an object. The stars of a
+-- pointer raise no level, but each star of an object does.
+abbrev pub fronted : ℕ → ℕ → List Lexeme → ℕ → Parser Front
+fronted limit l stars n ts =
+    if passes (is_of (sign punct.OpenParen)) ts then Got (pointer_front n) (drop 1 ts)
+    else and_then (token limit a_name 0 ts) (λ x. named_front limit l stars n x.0 x.1)
+
+-- of a declarator: stars, and whether an object or a pointer to a function comes
+abbrev pub declarator_front : ℕ → ℕ → Parser Front
+declarator_front limit l ts =
+    if nat_le l limit then fronted limit l ts (star_count ts) (drop (star_count ts) ts)
+    else (if passes begins_declarator ts then Stuck Nesting ts else Stuck Syntax ts)
 
 -- with a parser for each phrase
 abbrev pub run : {A : Type 0} → ℕ → ((n : Phrase) → Parser (TreeOf n)) → Rule A → Parser A
@@ -306,4 +338,5 @@ run limit env (ret a) = λ ts. Got a ts
 run limit env (one c l f) = token limit c l >>= λ x. run limit env (f x.0 x.1)
 run limit env (call n f) = env n >>= λ x. run limit env (f x)
 run limit env (heads f) = outer_head limit >>= λ h. run limit env (f h)
+run limit env (fronts l f) = declarator_front limit l >>= λ h. run limit env (f h)
 run limit env (choose test g h) = λ ts. if passes test ts then run limit env g ts else run limit env h ts

@@ -3,15 +3,22 @@ use Rattle.std.specs.Prelude.{ℕ, Bool, List, Option}
 use Rattle.c_lexer.specs.declared.token.Punct.{Punct}
 use Rattle.c_tree.specs.declared.ctype.Specifier.{Specifier}
 use Rattle.c_tree.specs.declared.ctype.CType.{CType}
-use Rattle.c_tree.specs.declared.program.Params.{Params}
-use Rattle.c_tree.specs.declared.program.Param.{Param}
-use Rattle.c_tree.specs.Tree.{Exp, Declared, Init, Object, Declares, Start, Statement, Part, Code, Fields, Outer}
+use Rattle.c_tree.specs.declared.name.Name.{Name}
+use Rattle.c_tree.specs.Tree.{Exp, Formal, Formals, Declared, Init, Object, Declares, Start, Statement, Part, Code, Fields, Outer}
 use Rattle.rr_base.specs.declared.position.Position.{Position}
 
--- Stars, a name and its place: of a function, with the parenthesis after it, or of an object.
+-- What is declared at file level, by its stars: a function, with its name, the name's place and the parenthesis after it;
+-- an object, with its name and the place; or a pointer to a function, with the parenthesis before it.
 pub data Head : Type 0 where
   function_head : ℕ → List ℕ → Position → Head
   object_head : ℕ → List ℕ → Position → Head
+  pointer_head : ℕ → Head
+
+-- What a declarator is of, by its stars: an object, with its name and the place, or a pointer to a function, with the
+-- parenthesis before it.
+pub data Front : Type 0 where
+  object_front : ℕ → List ℕ → Position → Front
+  pointer_front : ℕ → Front
 
 -- initials, and whether a comma stands after the last
 pub data Initials : Type 0 where
@@ -43,7 +50,8 @@ pub data Phrase : Type 0 where
   arguments : ℕ → Phrase
   -- an expression, or none before this token
   maybe_expression : ℕ → Punct → Phrase
-  raising_stars : ℕ → ℕ → Phrase
+  -- a pointer to a function after the parenthesis before it: its name and its parameters
+  pointer : ℕ → Phrase
   declarator : ℕ → Phrase
   lengths : ℕ → List Exp → Phrase
   initial : ℕ → Phrase
@@ -55,10 +63,10 @@ pub data Phrase : Type 0 where
   start : ℕ → Phrase
   statement : ℕ → Phrase
   parts : ℕ → List Part → Phrase
-  param : Phrase
-  param_after : Specifier → Phrase
-  more_params : List Param → Phrase
-  params : Phrase
+  param : ℕ → Phrase
+  param_after : ℕ → Specifier → Phrase
+  more_params : ℕ → List Formal → Phrase
+  params : ℕ → Phrase
   code : Phrase
   more_declared : List Declared → Phrase
   member : Phrase
@@ -86,7 +94,7 @@ TreeOf (atom l) = Exp
 TreeOf (postfix l e) = Exp
 TreeOf (arguments l) = List Exp
 TreeOf (maybe_expression l stop) = Option Exp
-TreeOf (raising_stars l n) = ℕ
+TreeOf (pointer l) = Name × Formals
 TreeOf (declarator l) = Declared
 TreeOf (lengths l es) = List Exp
 TreeOf (initial l) = Init
@@ -98,10 +106,10 @@ TreeOf (declaration l) = Declares
 TreeOf (start l) = Start
 TreeOf (statement l) = Statement
 TreeOf (parts l ps) = List Part
-TreeOf param = Param
-TreeOf (param_after s) = Param
-TreeOf (more_params xs) = List Param
-TreeOf params = Params
+TreeOf (param l) = Formal
+TreeOf (param_after l s) = Formal
+TreeOf (more_params l xs) = List Formal
+TreeOf (params l) = Formals
 TreeOf code = Code
 TreeOf (more_declared ds) = List Declared
 TreeOf member = Fields

@@ -8,15 +8,12 @@ use Rattle.c_tree.specs.declared.name.Name.{Name}
 use Rattle.c_tree.specs.declared.ctype.Specifier.{Specifier}
 use Rattle.c_tree.specs.declared.ctype.Specifier.TheVariants as specifiers
 use Rattle.c_tree.specs.declared.expr.BinaryOp.{BinaryOp}
-use Rattle.c_tree.specs.declared.program.Param.{Param}
-use Rattle.c_tree.specs.declared.program.Params.{Params}
-use Rattle.c_tree.specs.declared.program.Params.TheVariants as params_of
-use Rattle.c_tree.specs.Tree.{Exp, comma, assign, conditional, binary, prefix, sizeof_exp, sizeof_type, cast, index, member, arrow, post_increment, post_decrement, named, call, number, letter, text, null, paren, listed, Declared, declared, Init, value, braces, mutex_start, cond_start, rwlock_start, listed_inits, Object, plain, initialised, Declares, declares, Start, start_declares, start_computes, Statement, block, compute, break_at, continue_at, gives, branch, branch_else, while_loop, do_loop, for_loop, Part, part_declares, part_does, listed_parts, Code, defined, prototype, Fields, fields, Outer, structure, function, objects}
+use Rattle.c_tree.specs.Tree.{Exp, comma, assign, conditional, binary, prefix, sizeof_exp, sizeof_type, cast, index, member, arrow, post_increment, post_decrement, named, call, number, letter, text, null, paren, listed, Formal, formal, formal_pointer, Formals, no_formals, void_formals, listed_formals, listed_row, Declared, declared, declared_pointer, Init, value, braces, mutex_start, cond_start, rwlock_start, listed_inits, Object, plain, initialised, Declares, declares, Start, start_declares, start_computes, Statement, block, compute, break_at, continue_at, gives, branch, branch_else, while_loop, do_loop, for_loop, Part, part_declares, part_does, listed_parts, Code, defined, prototype, Fields, fields, Outer, structure, function, objects}
 use Rattle.rr_base.specs.declared.position.Position.{Position}
 use Rattle.c_grammar.specs.Grammar.{specifier_place, tightness, first_place, ends_open, is_void_alone}
 use Rattle.c_grammar.specs.Phrase as phrase
-use Rattle.c_grammar.specs.Phrase.{Phrase, TreeOf, Head, function_head, object_head, Initials, initials}
-use Rattle.c_grammar.specs.Parse.{sign, key, a_name, a_number, a_letter, a_text, a_prefix, a_binary, an_assign, is_of, is_type, Rule, ret, one, heads, choose, Spent, Parser, run}
+use Rattle.c_grammar.specs.Phrase.{Phrase, TreeOf, Head, function_head, object_head, pointer_head, Front, object_front, pointer_front, Initials, initials}
+use Rattle.c_grammar.specs.Parse.{sign, key, a_name, a_number, a_letter, a_text, a_prefix, a_binary, an_assign, is_of, is_type, Rule, ret, one, heads, fronts, choose, Spent, Parser, run}
 use Rattle.c_grammar.specs.Parse as rule
 
 -- ---- short forms
@@ -173,15 +170,48 @@ arguments_rule l =
 abbrev pub maybe_rule : ℕ → Punct → Rule (Option Exp)
 maybe_rule l stop = on_punct stop (ret None) (rule.call (phrase.expression l) (λ e. ret (Some e)))
 
+-- ---- parameters
+
+-- one of them (C99 6.7.5.3)
+abbrev pub param_rule : ℕ → Rule Formal
+param_rule l = rule.call (phrase.specifier l) (λ s. rule.call (phrase.param_after l s) (λ x. ret x))
+
+-- past the specifier of a parameter: stars, and a pointer to a function, a name or nothing
+abbrev pub param_after_rule : ℕ → Specifier → Rule Formal
+param_after_rule l s =
+    rule.call (phrase.stars l 0) (λ n.
+    on_punct punct.OpenParen (punct_rule punct.OpenParen l (λ _. rule.call (phrase.pointer l) (λ x. ret (formal_pointer s n x.0 x.1 (specifier_place s)))))
+    (choose (is_of a_name) (one a_name l (λ x at. ret (formal s n (Some (name_of x at)) (specifier_place s))))
+    (ret (formal s n None (specifier_place s)))))
+
+-- further parameters after commas, where some were read before
+abbrev pub more_params_rule : ℕ → List Formal → Rule (List Formal)
+more_params_rule l xs = on_punct punct.Comma (punct_rule punct.Comma l (λ _. rule.call (phrase.param l) (λ x. rule.call (phrase.more_params l (xs ++ x ∷ [])) (λ all. ret all)))) (ret xs)
+
+-- the word `void` alone means that there are none
+abbrev pub params_from : List Formal → Formals
+params_from xs = if is_void_alone (listed_row xs) then void_formals else listed_formals (listed_row xs)
+
+-- up to the parenthesis that closes them
+abbrev pub params_rule : ℕ → Rule Formals
+params_rule l = on_punct punct.CloseParen (ret no_formals) (rule.call (phrase.param l) (λ x. rule.call (phrase.more_params l (x ∷ [])) (λ xs. ret (params_from xs))))
+
 -- ---- declarations
 
--- stars of an object, each one level deeper, where n were read before
-abbrev pub raising_stars_rule : ℕ → ℕ → Rule ℕ
-raising_stars_rule l n = on_punct punct.Star (punct_rule punct.Star (suc (l + n)) (λ _. rule.call (phrase.raising_stars l (suc n)) (λ k. ret k))) (ret n)
+-- past the parenthesis before it, a pointer to a function (C99 6.7.5.3), whose parameters stand one level deeper
+abbrev pub pointer_rule : ℕ → Rule (Name × Formals)
+pointer_rule l =
+    punct_rule punct.Star l (λ _. one a_name l (λ x at. punct_rule punct.CloseParen l (λ _.
+    punct_rule punct.OpenParen (suc l) (λ _. rule.call (phrase.params (suc l)) (λ xs. punct_rule punct.CloseParen (suc l) (λ _. ret (name_of x at, xs)))))))
 
--- stars, a name and array lengths (C99 6.7.5)
+-- the rest of a declarator (C99 6.7.5)
+abbrev pub after_front : ℕ → Front → Rule Declared
+after_front l (object_front n x at) = rule.call (phrase.lengths (l + n) []) (λ es. ret (declared n (name_of x at) es))
+after_front l (pointer_front n) = rule.call (phrase.pointer l) (λ x. ret (declared_pointer n x.0 x.1))
+
+-- a declarator, without its specifier
 abbrev pub declarator_rule : ℕ → Rule Declared
-declarator_rule l = rule.call (phrase.raising_stars l 0) (λ n. one a_name (l + n) (λ x at. rule.call (phrase.lengths (l + n) []) (λ es. ret (declared n (name_of x at) es))))
+declarator_rule l = fronts l (λ h. after_front l h)
 
 -- further array lengths (C99 6.7.5.2), where some were read before
 abbrev pub lengths_rule : ℕ → List Exp → Rule (List Exp)
@@ -345,25 +375,6 @@ part_rule l = choose is_type (rule.call (phrase.declaration l) (λ d. ret (part_
 
 -- ---- the outermost level
 
--- past the specifier of a parameter: stars, and a name if any
-abbrev pub param_after_rule : Specifier → Rule Param
-param_after_rule s =
-    rule.call (phrase.stars 0 0) (λ n.
-    choose (is_of a_name) (one a_name 0 (λ x at. ret (record { specifier = s; stars = n; name = Some (name_of x at); at = specifier_place s })))
-    (ret (record { specifier = s; stars = n; name = None; at = specifier_place s })))
-
--- further parameters after commas, where some were read before
-abbrev pub more_params_rule : List Param → Rule (List Param)
-more_params_rule xs = on_punct punct.Comma (punct_rule punct.Comma 0 (λ _. rule.call phrase.param (λ x. rule.call (phrase.more_params (xs ++ x ∷ [])) (λ all. ret all)))) (ret xs)
-
--- the word `void` alone means that there are none (C99 6.7.5.3)
-abbrev pub params_from : List Param → Params
-params_from xs = if is_void_alone xs then params_of.Void else params_of.Listed xs
-
--- up to the parenthesis that closes them
-abbrev pub params_rule : Rule Params
-params_rule = on_punct punct.CloseParen (ret params_of.Nothing) (rule.call phrase.param (λ x. rule.call (phrase.more_params (x ∷ [])) (λ xs. ret (params_from xs))))
-
 -- a function's body, or the semicolon of a prototype
 abbrev pub code_rule : Rule Code
 code_rule =
@@ -387,19 +398,27 @@ more_members_rule fs = on_punct punct.CloseBrace (ret fs) (rule.call phrase.memb
 
 -- after the parenthesis of its parameters: whether `static` stands before it, the specifier, stars, the name
 abbrev pub function_rule : Bool → Specifier → ℕ → List ℕ → Position → Rule Outer
-function_rule is_static s n x there = rule.call phrase.params (λ xs. punct_rule punct.CloseParen 0 (λ _. rule.call phrase.code (λ c. ret (function is_static s n (name_of x there) xs c))))
+function_rule is_static s n x there = rule.call (phrase.params 0) (λ xs. punct_rule punct.CloseParen 0 (λ _. rule.call phrase.code (λ c. ret (function is_static s n (name_of x there) xs c))))
 
--- after the name of the first, with the place of the first token before the stars
+-- after the declarator of the first, with the place of the first token of all
+abbrev pub objects_after_rule : Bool → Specifier → Position → Declared → Rule Outer
+objects_after_rule is_static s at d =
+    rule.call (phrase.object_past 0 d) (λ o.
+    rule.call (phrase.more_objects 0 (o ∷ [])) (λ os. punct_rule punct.Semicolon 0 (λ _. ret (objects is_static s os at))))
+
+-- after the name of the first
 abbrev pub objects_rule : Bool → Specifier → Position → ℕ → List ℕ → Position → Rule Outer
-objects_rule is_static s at n x there =
-    rule.call (phrase.lengths n []) (λ es.
-    rule.call (phrase.object_past 0 (declared n (name_of x there) es)) (λ o.
-    rule.call (phrase.more_objects 0 (o ∷ [])) (λ os. punct_rule punct.Semicolon 0 (λ _. ret (objects is_static s os at)))))
+objects_rule is_static s at n x there = rule.call (phrase.lengths n []) (λ es. objects_after_rule is_static s at (declared n (name_of x there) es))
+
+-- after the parenthesis of the first, a pointer to a function
+abbrev pub pointers_rule : Bool → Specifier → Position → ℕ → Rule Outer
+pointers_rule is_static s at n = rule.call (phrase.pointer 0) (λ x. objects_after_rule is_static s at (declared_pointer n x.0 x.1))
 
 -- After the specifier: whether `static` stands before it, the specifier, and the place of the first token.
 abbrev pub after_head : Bool → Specifier → Position → Head → Rule Outer
 after_head is_static s at (function_head n x there) = function_rule is_static s n x there
 after_head is_static s at (object_head n x there) = objects_rule is_static s at n x there
+after_head is_static s at (pointer_head n) = pointers_rule is_static s at n
 
 -- past a specifier at file level: a function or objects
 abbrev pub outer_after_rule : Bool → Specifier → Position → Rule Outer
@@ -450,7 +469,7 @@ rules (phrase.atom l) = atom_rule l
 rules (phrase.postfix l a) = postfix_rule l a
 rules (phrase.arguments l) = arguments_rule l
 rules (phrase.maybe_expression l stop) = maybe_rule l stop
-rules (phrase.raising_stars l n) = raising_stars_rule l n
+rules (phrase.pointer l) = pointer_rule l
 rules (phrase.declarator l) = declarator_rule l
 rules (phrase.lengths l es) = lengths_rule l es
 rules (phrase.initial l) = initial_rule l
@@ -462,10 +481,10 @@ rules (phrase.declaration l) = declaration_rule l
 rules (phrase.start l) = start_rule l
 rules (phrase.statement l) = statement_rule l
 rules (phrase.parts l ps) = parts_rule l ps
-rules phrase.param = rule.call (phrase.specifier 0) (λ s. rule.call (phrase.param_after s) (λ x. ret x))
-rules (phrase.param_after s) = param_after_rule s
-rules (phrase.more_params xs) = more_params_rule xs
-rules phrase.params = params_rule
+rules (phrase.param l) = param_rule l
+rules (phrase.param_after l s) = param_after_rule l s
+rules (phrase.more_params l xs) = more_params_rule l xs
+rules (phrase.params l) = params_rule l
 rules phrase.code = code_rule
 rules (phrase.more_declared ds) = more_declared_rule ds
 rules phrase.member = member_rule
@@ -495,9 +514,9 @@ rank (phrase.enclosed l at) = 7
 rank (phrase.opened l at) = 8
 rank (phrase.arguments l) = 7
 rank (phrase.maybe_expression l stop) = 7
-rank (phrase.raising_stars l n) = 0
+rank (phrase.pointer l) = 0
 rank (phrase.lengths l es) = 0
-rank (phrase.declarator l) = 1
+rank (phrase.declarator l) = 0
 rank (phrase.initial l) = 6
 rank (phrase.more_initials l is) = 0
 rank (phrase.object_past l d) = 0
@@ -507,10 +526,10 @@ rank (phrase.declaration l) = 3
 rank (phrase.start l) = 8
 rank (phrase.statement l) = 7
 rank (phrase.parts l ps) = 8
-rank phrase.param = 2
-rank (phrase.param_after s) = 1
-rank (phrase.more_params xs) = 0
-rank phrase.params = 3
+rank (phrase.param l) = 2
+rank (phrase.param_after l s) = 1
+rank (phrase.more_params l xs) = 0
+rank (phrase.params l) = 3
 rank phrase.code = 0
 rank (phrase.more_declared ds) = 0
 rank phrase.member = 2

@@ -1,6 +1,6 @@
 -- The first values of a block's objects (C99 6.7.8): a store for each cell, one after another, all at the `=`. Braces that
 -- end early leave the remaining cells 0. A mutex, a condition variable, a barrier or a read-write lock starts without a store.
-use Rattle.std.specs.Prelude.{ℕ, ◌+◌, ◌-◌, Bool, true, false, pos, List, [], ◌∷◌, ◌++◌, drop, Option, Some, None}
+use Rattle.std.specs.Prelude.{ℕ, ◌+◌, ◌-◌, pos, List, [], ◌∷◌, ◌++◌, drop, Option, Some, None}
 use Rattle.rr_base.specs.declared.layout.CellKind.{CellKind}
 use Rattle.rr_base.specs.declared.layout.CellKind.TheVariants as cell
 use Rattle.c_tree.specs.Tree.{Exp, Init, value, braces, mutex_start, cond_start, rwlock_start, Inits, no_init, and_init}
@@ -14,7 +14,9 @@ use Rattle.c_core.specs.Core as core
 use Rattle.c_operators.specs.declared.home.Home.{Home}
 use Rattle.c_operators.specs.declared.home.Home.TheVariants as home
 use Rattle.c_operators.specs.Context.{Source, Context}
-use Rattle.c_values.specs.Expressions.{is_pointer_type, wanted_of}
+use Rattle.c_operators.specs.declared.denoted.WordKind.{WordKind}
+use Rattle.c_operators.specs.declared.denoted.WordKind.TheVariants as kind
+use Rattle.c_values.specs.Expressions.{kind_of_type, wanted_of}
 
 -- no cells where the type has a fault
 abbrev pub kinds_of_some : Source → Option ObjectType → List CellKind
@@ -49,7 +51,7 @@ type_of_part known t i = part_type (part_at known t i)
 abbrev mutual
   -- a part of the type that begins at the offset
   pub started : Context → ℕ → Position → Option ObjectType → ℕ → Init → List core.Statement
-  started h k at t offset (value e) = cell_stored k at offset (wanted_of h (is_pointer_type t) no_target e) ∷ []
+  started h k at t offset (value e) = cell_stored k at offset (wanted_of h (kind_of_type t) no_target e) ∷ []
   started h k at t offset (braces is trailing context) = parts_started h k at t offset 0 offset is
   started h k at t offset (mutex_start context) = []
   started h k at t offset (cond_start context) = []
@@ -65,27 +67,28 @@ abbrev mutual
 -- ---- a register: braces may stand round its value
 
 -- what a register gets where its braces are empty
-abbrev pub zero_word : Bool → Position → core.Exp
-zero_word true at = core.null at
-zero_word false at = core.number (pos 0) at
+abbrev pub zero_word : WordKind → Position → core.Exp
+zero_word kind.Number at = core.number (pos 0) at
+zero_word kind.Pointer at = core.null at
+zero_word kind.Function at = core.number (pos 0) at
 
 abbrev mutual
-  pub first_word : Context → Bool → Target → Position → Init → core.Exp
-  first_word h pointer w at (value e) = wanted_of h pointer w e
-  first_word h pointer w at (braces is trailing context) = first_of_braces h pointer at is
-  first_word h pointer w at (mutex_start context) = zero_word pointer at
-  first_word h pointer w at (cond_start context) = zero_word pointer at
-  first_word h pointer w at (rwlock_start context) = zero_word pointer at
+  pub first_word : Context → WordKind → Target → Position → Init → core.Exp
+  first_word h k w at (value e) = wanted_of h k w e
+  first_word h k w at (braces is trailing context) = first_of_braces h k at is
+  first_word h k w at (mutex_start context) = zero_word k at
+  first_word h k w at (cond_start context) = zero_word k at
+  first_word h k w at (rwlock_start context) = zero_word k at
 
-  pub first_of_braces : Context → Bool → Position → Inits → core.Exp
-  first_of_braces h pointer at no_init = zero_word pointer at
-  first_of_braces h pointer at (and_init i is) = first_word h pointer no_target at i
+  pub first_of_braces : Context → WordKind → Position → Inits → core.Exp
+  first_of_braces h k at no_init = zero_word k at
+  first_of_braces h k at (and_init i is) = first_word h k no_target at i
 
 -- ---- either
 
 -- a single value goes to the first cell, and braces fill all
 abbrev pub object_begun : Context → ℕ → Option ObjectType → Init → Position → List core.Statement
-object_begun h k t (value e) at = core.compute (core.store (core.object k at) (wanted_of h (is_pointer_type t) (value_target t) e) at) ∷ []
+object_begun h k t (value e) at = core.compute (core.store (core.object k at) (wanted_of h (kind_of_type t) (value_target t) e) at) ∷ []
 object_begun h k t (braces is trailing context) at = parts_started h k at t 0 0 0 is
 object_begun h k t (mutex_start context) at = []
 object_begun h k t (cond_start context) at = []
@@ -94,5 +97,5 @@ object_begun h k t (rwlock_start context) at = []
 -- the local of the type that is kept there starts as something
 abbrev pub begun : Context → Option Home → Option ObjectType → Init → Position → List core.Statement
 begun h None t i at = []
-begun h (Some (home.Register n)) t i at = core.compute (core.set_register n (first_word h (is_pointer_type t) (value_target t) at i) at) ∷ []
+begun h (Some (home.Register n)) t i at = core.compute (core.set_register n (first_word h (kind_of_type t) (value_target t) at i) at) ∷ []
 begun h (Some (home.Object k)) t i at = object_begun h k t i at

@@ -6,16 +6,16 @@ ghost use Rattle.c_types.specs.Shown.{shown_maybe, shown_target};
 ghost use Rattle.c_programs.specs.Initials.{value_target};
 ghost use Rattle.c_core.specs.Core as core;
 ghost use Rattle.c_core.specs.View.{exp_of, stmt_of};
-ghost use Rattle.c_values.specs.Expressions.{is_pointer_type};
+ghost use Rattle.c_values.specs.Expressions.{kind_of_type};
 ghost use Rattle.c_initials.specs.Initials as spec;
 ghost use Rattle.c_operators.specs.Views.{context_of, source_in};
 
 use c_core::{Statement, Value};
-use c_operators::{Context, Home, Source, make};
+use c_operators::{Context, Home, Source, WordKind, make};
 use c_programs::{part_at, ref_of, value_target};
 use c_tree::Initial;
 use c_types::{ObjectType, Target, TypeRef, put_layered};
-use c_values::{is_pointer_type, wanted};
+use c_values::{kind_of_type, wanted};
 use rr_base::{CellKind, List, Position, sum};
 use std::alloc::{AllocError, Global};
 
@@ -166,7 +166,7 @@ fn push_started<'h>(
 {
     match initial {
         Initial::Value(e) => {
-            let value = wanted(alloc, context, is_pointer_type(of), Target::No, e)?;
+            let value = wanted(alloc, context, kind_of_type(of), Target::No, e)?;
             push_stored(alloc, object, at, offset, value, out)
         }
         Initial::Braces { parts, .. } => {
@@ -208,13 +208,12 @@ fn push_parts<'h>(
     push_rest(alloc, context.source, object, at, of, begin, offset, out)
 }
 
-fn zero_word(alloc: Global, pointer: bool, at: Position) -> Result<Box<Value>, AllocError>
-    ensures { IfOk result (λ v. exp_of v.value ≡ spec.zero_word pointer at) }
+fn zero_word(alloc: Global, kind: WordKind, at: Position) -> Result<Box<Value>, AllocError>
+    ensures { IfOk result (λ v. exp_of v.value ≡ spec.zero_word kind at) }
 {
-    if pointer {
-        make::null(alloc, at)
-    } else {
-        make::number(alloc, 0, at)
+    match kind {
+        WordKind::Pointer => make::null(alloc, at),
+        WordKind::Number | WordKind::Function => make::number(alloc, 0, at),
     }
 }
 
@@ -222,21 +221,21 @@ fn zero_word(alloc: Global, pointer: bool, at: Position) -> Result<Box<Value>, A
 fn first_word<'h>(
     alloc: Global,
     context: Context<'h, '_>,
-    pointer: bool,
+    kind: WordKind,
     target: Target<'h>,
     at: Position,
     initial: &Initial,
 ) -> Result<Box<Value>, AllocError>
-    ensures { IfOk result (λ v. exp_of v.value ≡ spec.first_word (context_of context.entry) pointer (shown_target target.entry) at (init_of initial.now)) }
+    ensures { IfOk result (λ v. exp_of v.value ≡ spec.first_word (context_of context.entry) kind (shown_target target.entry) at (init_of initial.now)) }
 {
     match initial {
-        Initial::Value(e) => wanted(alloc, context, pointer, target, e),
+        Initial::Value(e) => wanted(alloc, context, kind, target, e),
         Initial::Braces { parts, .. } => match parts.as_slice() {
-            [] => zero_word(alloc, pointer, at),
-            [first, ..] => first_word(alloc, context, pointer, Target::No, at, first),
+            [] => zero_word(alloc, kind, at),
+            [first, ..] => first_word(alloc, context, kind, Target::No, at, first),
         },
         Initial::Mutex { .. } | Initial::Cond { .. } | Initial::RwLock { .. } => {
-            zero_word(alloc, pointer, at)
+            zero_word(alloc, kind, at)
         }
     }
 }
@@ -255,7 +254,7 @@ fn push_object<'h>(
 {
     match initial {
         Initial::Value(e) => {
-            let value = wanted(alloc, context, is_pointer_type(of), value_target(of), e)?;
+            let value = wanted(alloc, context, kind_of_type(of), value_target(of), e)?;
             let begin = make::object(alloc, object, at)?;
             let store = make::store(alloc, begin, value, at)?;
             out.push(Statement::Compute(Box::into_inner(store)))
@@ -277,12 +276,12 @@ fn push_register<'h>(
     at: Position,
     out: &mut List<Statement>,
 ) -> Result<(), AllocError>
-    ensures { OnOk result (map stmt_of out.new ≡ map stmt_of out.old ++ core.compute (core.set_register register (spec.first_word (context_of context.entry) (is_pointer_type (shown_maybe of.entry)) (value_target (shown_maybe of.entry)) at (init_of initial.now)) at) ∷ []) }
+    ensures { OnOk result (map stmt_of out.new ≡ map stmt_of out.old ++ core.compute (core.set_register register (spec.first_word (context_of context.entry) (kind_of_type (shown_maybe of.entry)) (value_target (shown_maybe of.entry)) at (init_of initial.now)) at) ∷ []) }
 {
     let word = first_word(
         alloc,
         context,
-        is_pointer_type(of),
+        kind_of_type(of),
         value_target(of),
         at,
         initial,

@@ -2,9 +2,8 @@
 use Rattle.std.proofs.Common.{◌≡◌, ℕ, ◌+◌, List, [], ◌∷◌, length, drop, Option, None, Some, refl, sym, ap, ◌∙◌, arith}
 use Rattle.c_text.specs.Texts.{Text}
 use Rattle.c_tree.specs.declared.name.Name.{Name}
-use Rattle.c_tree.specs.declared.program.Param.{Param}
-use Rattle.c_tree.specs.Tree.{Declared, Object, Declares, declares, Start, start_declares, start_computes, Parts, no_part, and_declares, and_does}
-use Rattle.c_names.specs.Sources.{declared_name, declared_by}
+use Rattle.c_tree.specs.Tree.{Formal, Declared, Object, Declares, declares, Start, start_declares, start_computes, Parts, no_part, and_declares, and_does}
+use Rattle.c_names.specs.Sources.{declared_name, param_name, declared_by}
 use Rattle.c_numbers.specs.Numbered.{Numbered, following, inside, outside, numbered_in}
 use Rattle.c_locals.specs.Addresses.{after_name, after_names, after_declaration, after_for_start, past_statement, past_parts, count_of_declares, count_of_start, count_of_locals, count_of_parts, after_formal, after_formals, numbered_from}
 
@@ -92,19 +91,19 @@ pub for_numbers : (before opened begun filled after : Numbered) (s : Start) (n :
 for_numbers before opened begun filled after s n o b f a =
     a ∙ ap outside (f ∙ ap (λ k. following k n) (b ∙ ap (λ k. after_for_start k s) o)) ∙ outside_for before s n
 
-formals_next : (known : Numbered) (ps : List Param) → (after_formals known ps).next ≡ known.next + length ps
+formals_next : (known : Numbered) (ps : List Formal) → (after_formals known ps).next ≡ known.next + length ps
 formals_next known [] = omega arith
-formals_next known (p ∷ ps) = omega (arith, formals_next (after_formal known p.name) ps, formal_next known p.name)
+formals_next known (p ∷ ps) = omega (arith, formals_next (after_formal known (param_name p)) ps, formal_next known (param_name p))
   where
     formal_next : (known : Numbered) (name : Option Name) → (after_formal known name).next ≡ known.next + 1
     formal_next known None = after_next known 1
     formal_next known (Some name) = after_next _ 1
 
-definition_next : (n : ℕ) (ps : List Param) (parts : Parts) → (past_parts (numbered_from n ps) parts).next ≡ n + (length ps + count_of_parts parts)
+definition_next : (n : ℕ) (ps : List Formal) (parts : Parts) → (past_parts (numbered_from n ps) parts).next ≡ n + (length ps + count_of_parts parts)
 definition_next n ps parts = omega (arith, parts_next (numbered_from n ps) parts, formals_next (record { next = n; scopes = [] ∷ [] }) ps)
 
 -- the formals and locals of a definition are numbered one after another
-pub definition_numbers : (n last : ℕ) (begun named filled : Numbered) (ps : List Param) (parts : Parts) →
+pub definition_numbers : (n last : ℕ) (begun named filled : Numbered) (ps : List Formal) (parts : Parts) →
     begun ≡ record { next = n; scopes = [] ∷ [] } → named ≡ after_formals begun ps → filled ≡ past_parts named parts → last ≡ filled.next →
     last ≡ n + (length ps + count_of_parts parts)
 definition_numbers n last begun named filled ps parts b m f l =

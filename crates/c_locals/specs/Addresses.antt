@@ -2,10 +2,9 @@
 -- of definitions are numbered from 0 in the order of the text.
 use Rattle.std.specs.Prelude.{ℕ, ◌+◌, ◌==◌, Bool, true, false, ◌||◌, List, [], ◌∷◌, ◌++◌, length, slice_index_or, Option, Some, None}
 use Rattle.c_tree.specs.declared.name.Name.{Name}
-use Rattle.c_tree.specs.declared.program.Param.{Param}
-use Rattle.c_tree.specs.Tree.{Exp, comma, assign, conditional, binary, prefix, sizeof_exp, sizeof_type, cast, index, member, arrow, post_increment, post_decrement, named, call, number, letter, text, null, paren, Exps, no_exp, and_exp, Declared, declared, Init, value, braces, mutex_start, cond_start, rwlock_start, Inits, no_init, and_init, Object, plain, initialised, Declares, declares, Start, start_declares, start_computes, Statement, block, compute, break_at, continue_at, gives, branch, branch_else, while_loop, do_loop, for_loop, Parts, no_part, and_declares, and_does, Code, defined, prototype, Outer, structure, function, objects}
+use Rattle.c_tree.specs.Tree.{Exp, comma, assign, conditional, binary, prefix, sizeof_exp, sizeof_type, cast, index, member, arrow, post_increment, post_decrement, named, call, number, letter, text, null, paren, Exps, no_exp, and_exp, Formal, Declared, declared, declared_pointer, Init, value, braces, mutex_start, cond_start, rwlock_start, Inits, no_init, and_init, Object, plain, initialised, Declares, declares, Start, start_declares, start_computes, Statement, block, compute, break_at, continue_at, gives, branch, branch_else, while_loop, do_loop, for_loop, Parts, no_part, and_declares, and_does, Code, defined, prototype, Outer, structure, function, objects}
 use Rattle.c_types.specs.Constants.{is_address}
-use Rattle.c_names.specs.Sources.{declared_name, listed_params, declared_by}
+use Rattle.c_names.specs.Sources.{declared_name, listed_params, param_name, declared_by}
 use Rattle.c_numbers.specs.Numbered.{Numbered, number_seen, following, number_name, inside}
 
 -- ---- expressions
@@ -80,6 +79,7 @@ abbrev mutual
 -- of a declarator only its lengths may hold an `&`
 abbrev pub declared_addressed : Numbered → Declared → List ℕ
 declared_addressed known (declared stars name lengths) = lengths_addressed known lengths
+declared_addressed known (declared_pointer stars name ps) = []
 
 -- from the end of its declarator on a name is seen (C99 6.2.1)
 abbrev pub after_name : Numbered → Declared → Numbered
@@ -193,21 +193,21 @@ after_formal known None = following known 1
 after_formal known (Some name) = number_name known name
 
 -- the formals take numbers in their order
-abbrev pub after_formals : Numbered → List Param → Numbered
+abbrev pub after_formals : Numbered → List Formal → Numbered
 after_formals known [] = known
-after_formals known (p ∷ ps) = after_formals (after_formal known p.name) ps
+after_formals known (p ∷ ps) = after_formals (after_formal known (param_name p)) ps
 
 -- a function's own names
-abbrev pub numbered_from : ℕ → List Param → Numbered
+abbrev pub numbered_from : ℕ → List Formal → Numbered
 numbered_from n ps = after_formals (record { next = n; scopes = [] ∷ [] }) ps
 
 -- a definition has numbers for its formals and its locals
-abbrev pub count_of_code : List Param → Code → ℕ
+abbrev pub count_of_code : List Formal → Code → ℕ
 count_of_code ps prototype = 0
 count_of_code ps (defined parts at) = length ps + count_of_parts parts
 
 -- where its first formal has the number n; a prototype has no `&`
-abbrev pub code_addressed : ℕ → List Param → Code → List ℕ
+abbrev pub code_addressed : ℕ → List Formal → Code → List ℕ
 code_addressed n ps prototype = []
 code_addressed n ps (defined parts at) = parts_addressed (numbered_from n ps) parts
 

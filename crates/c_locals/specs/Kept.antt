@@ -2,7 +2,7 @@
 use Rattle.std.specs.Prelude.{ℕ, ◌==◌, Bool, true, false, ◌&&◌, ◌||◌, List, [], ◌∷◌}
 use Rattle.c_tree.specs.declared.ctype.Specifier.{Specifier}
 use Rattle.c_tree.specs.declared.ctype.Specifier.TheVariants as specifier
-use Rattle.c_tree.specs.Tree.{Exp, Declared, declared}
+use Rattle.c_tree.specs.Tree.{Exp, Formal, formal, formal_pointer, Declared, declared, declared_pointer}
 
 -- a struct, a mutex, a condition variable, a barrier or a read-write lock
 abbrev pub is_kept_specifier : Specifier → Bool
@@ -25,6 +25,12 @@ is_some_length (e ∷ es) = true
 abbrev pub is_kept : Specifier → ℕ → List Exp → Bool
 is_kept s stars lengths = is_some_length lengths || ((stars == 0) && is_kept_specifier s)
 
--- the same, by a declarator and its specifier
+-- the same, by a declarator and its specifier. A pointer to functions is a number
 abbrev pub is_kept_declared : Specifier → Declared → Bool
 is_kept_declared s (declared stars name lengths) = is_kept s stars lengths
+is_kept_declared s (declared_pointer stars name ps) = false
+
+-- a formal is never an array
+abbrev pub is_kept_formal : Formal → Bool
+is_kept_formal (formal s stars name at) = is_kept s stars []
+is_kept_formal (formal_pointer s stars name ps at) = false

@@ -1,3 +1,4 @@
 pub mod Addresses
 pub mod Kept
 pub mod Roots
+pub mod Taken

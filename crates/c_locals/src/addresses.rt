@@ -1,14 +1,14 @@
 //! To which locals and formals `&` is applied anywhere in a source: they are kept in cells (C99 6.5.3.2).
 ghost use Rattle.std.specs.Prelude.{◌≡◌, ◌+◌, ◌++◌, OnOk, IfOk, map, length};
 ghost use Rattle.c_tree.specs.Tree.{listed, listed_inits, listed_parts};
-ghost use Rattle.c_tree.specs.View.{exp_of, maybe_of, declared_of, init_of, object_of, declares_of, start_of, stmt_of, part_of, code_of, outer_of, program_of};
+ghost use Rattle.c_tree.specs.View.{exp_of, maybe_of, formal_of, declared_of, init_of, object_of, declares_of, start_of, stmt_of, part_of, code_of, outer_of, program_of};
 ghost use Rattle.c_locals.specs.Addresses as spec;
 ghost use Rattle.c_numbers.specs.NumberTables.{numbered_of};
 ghost use Rattle.c_types.specs.Constants.{is_address};
 ghost use Rattle.c_names.specs.Sources.{declared_by};
 
 use crate::marks::Marks;
-use c_names::listed;
+use c_names::{declared_name, listed, param_name};
 use c_numbers::NumberTable;
 use c_tree::{
     Body, Declaration, Declarator, Expr, External, ForStart, Initial, Item, Param, Params, Part,
@@ -158,6 +158,19 @@ fn push_maybe_addressed(
     }
 }
 
+fn push_lengths(
+    table: &NumberTable,
+    lengths: &[Expr],
+    out: &mut List<usize>,
+) -> Result<(), AllocError>
+    ensures { OnOk result (out.new ≡ out.old ++ spec.lengths_addressed (numbered_of table.now) (map exp_of lengths.now)) }
+{
+    for length in lengths {
+        push_addressed(table, length, out)?;
+    }
+    Ok(())
+}
+
 fn push_declared(
     table: &NumberTable,
     declarator: &Declarator,
@@ -165,10 +178,10 @@ fn push_declared(
 ) -> Result<(), AllocError>
     ensures { OnOk result (out.new ≡ out.old ++ spec.declared_addressed (numbered_of table.now) (declared_of declarator.now)) }
 {
-    for length in declarator.lengths.as_slice() {
-        push_addressed(table, length, out)?;
+    match declarator {
+        Declarator::Object { lengths, .. } => push_lengths(table, lengths.as_slice(), out),
+        Declarator::Pointer { .. } => Ok(()),
     }
-    Ok(())
 }
 
 #[cycle(initial_addressed)]
@@ -214,7 +227,7 @@ fn push_object<'a>(
     match item {
         Item::Plain(declarator) => {
             push_declared(&*table, declarator, out)?;
-            table.number(&declarator.name)
+            table.number(declared_name(declarator))
         }
         Item::Initialised {
             declarator,
@@ -222,7 +235,7 @@ fn push_object<'a>(
             ..
         } => {
             push_declared(&*table, declarator, out)?;
-            table.number(&declarator.name)?;
+            table.number(declared_name(declarator))?;
             push_initial(&*table, initial, out)
         }
     }
@@ -360,11 +373,14 @@ fn push_parts<'a>(
 }
 
 /// The names of the formals are numbered. One without a name has a number too.
-fn number_formals<'a>(table: &mut NumberTable<'a>, params: &'a [Param]) -> Result<(), AllocError>
-    ensures { OnOk result (numbered_of table.new ≡ spec.after_formals (numbered_of table.old) params.now) }
+pub fn number_formals<'a>(
+    table: &mut NumberTable<'a>,
+    params: &'a [Param],
+) -> Result<(), AllocError>
+    ensures { OnOk result (numbered_of table.new ≡ spec.after_formals (numbered_of table.old) (map formal_of params.now)) }
 {
     for param in params {
-        match &param.name {
+        match param_name(param) {
             None => table.skip()?,
             Some(name) => table.number(name)?,
         }
@@ -380,8 +396,8 @@ fn push_definition(
     parts: &[Part],
     out: &mut List<usize>,
 ) -> Result<usize, AllocError>
-    ensures next { IfOk result (λ n. n ≡ next + (length params.now + spec.count_of_parts (listed_parts (map part_of parts.now)))) }
-    ensures out { OnOk result (out.new ≡ out.old ++ spec.parts_addressed (spec.numbered_from next params.now) (listed_parts (map part_of parts.now))) }
+    ensures next { IfOk result (λ n. n ≡ next + (length (map formal_of params.now) + spec.count_of_parts (listed_parts (map part_of parts.now)))) }
+    ensures out { OnOk result (out.new ≡ out.old ++ spec.parts_addressed (spec.numbered_from next (map formal_of params.now)) (listed_parts (map part_of parts.now))) }
 {
     let mut table = NumberTable::new(alloc, next)?;
     number_formals(&mut table, params)?;
@@ -396,8 +412,8 @@ fn push_code(
     body: &Body,
     out: &mut List<usize>,
 ) -> Result<usize, AllocError>
-    ensures next { IfOk result (λ n. n ≡ next + spec.count_of_code params.now (code_of body.now)) }
-    ensures out { OnOk result (out.new ≡ out.old ++ spec.code_addressed next params.now (code_of body.now)) }
+    ensures next { IfOk result (λ n. n ≡ next + spec.count_of_code (map formal_of params.now) (code_of body.now)) }
+    ensures out { OnOk result (out.new ≡ out.old ++ spec.code_addressed next (map formal_of params.now) (code_of body.now)) }
 {
     match body {
         Body::Block { parts, .. } => push_definition(alloc, next, params, parts.as_slice(), out),

@@ -10,9 +10,8 @@ ghost use Rattle.c_types.specs.Scopes.{has_name};
 ghost use Rattle.c_names.specs.Table.{texts_of};
 
 use c_names::{put_text, third_name};
-use c_rules::is_main;
 use c_tree::{Body, Declaration, Expr, External, ForStart, Initial, Item, Part, Program, Stmt};
-use c_types::{LibraryName, library_named};
+use c_types::{LibraryName, is_main, library_named};
 use indexmap::IndexSet;
 use std::alloc::{AllocError, Global};
 

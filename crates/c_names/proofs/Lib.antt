@@ -1,1 +1,4 @@
+pub mod ListedParams
+pub mod Numbers
+mod Rows
 pub mod Tables

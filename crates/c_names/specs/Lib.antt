@@ -1,3 +1,6 @@
+pub mod Known
+pub mod Pointers
+pub mod Signatures
 pub mod Sources
 pub mod Started
 pub mod Table

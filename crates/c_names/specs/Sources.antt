@@ -1,13 +1,9 @@
--- What a source names: its declarators, its parameters, and the structs and functions that it defines. And what is known
--- where it begins.
-use Rattle.std.specs.Prelude.{ℕ, ◌+◌, ◌^◌, min, Bool, true, false, List, [], ◌∷◌}
+-- What a source names: its declarators, its parameters, and the structs and functions that it defines.
+use Rattle.std.specs.Prelude.{ℕ, ◌+◌, ◌^◌, min, Bool, true, false, List, [], ◌∷◌, Option, Some}
 use Rattle.c_text.specs.Texts.{Text}
 use Rattle.c_tree.specs.declared.name.Name.{Name}
-use Rattle.c_tree.specs.declared.program.Param.{Param}
-use Rattle.c_tree.specs.declared.program.Params.{Params}
-use Rattle.c_tree.specs.declared.program.Params.TheVariants as params
-use Rattle.c_tree.specs.Tree.{Declared, declared, Object, plain, initialised, Code, defined, prototype, Outer, structure, function, objects}
-use Rattle.c_types.specs.Scopes.{Known, with_text}
+use Rattle.c_tree.specs.Tree.{Formal, formal, formal_pointer, Formals, no_formals, void_formals, listed_formals, FormalRow, no_formal, and_formal, Declared, declared, declared_pointer, Object, plain, initialised, Code, defined, prototype, Outer, structure, function, objects}
+use Rattle.c_types.specs.Scopes.{with_text}
 
 -- the greatest number of cells that all globals may have
 abbrev pub most_global_cells : ℕ
@@ -16,17 +12,28 @@ most_global_cells = 2 ^ 20
 -- faults of a declarator stand at this name
 abbrev pub declared_name : Declared → Name
 declared_name (declared stars name lengths) = name
+declared_name (declared_pointer stars name ps) = name
 
 -- what is declared, without what it starts as
 abbrev pub declared_by : Object → Declared
 declared_by (plain d) = d
 declared_by (initialised d i at) = d
 
+-- parameters, one after another
+abbrev pub row_params : FormalRow → List Formal
+row_params no_formal = []
+row_params (and_formal p ps) = p ∷ row_params ps
+
+-- the name of a parameter, if it has one
+abbrev pub param_name : Formal → Option Name
+param_name (formal s stars name at) = name
+param_name (formal_pointer s stars name ps at) = Some name
+
 -- `()` and `(void)` both list none
-abbrev pub listed_params : Params → List Param
-listed_params params.Nothing = []
-listed_params params.Void = []
-listed_params (params.Listed ps) = ps
+abbrev pub listed_params : Formals → List Formal
+listed_params no_formals = []
+listed_params void_formals = []
+listed_params (listed_formals ps) = row_params ps
 
 -- the cells of the globals with these ones. More than all globals may have count as one more than that
 abbrev pub global_cells_with : Bool → ℕ → ℕ → ℕ
@@ -51,15 +58,3 @@ functions_with names [] = names
 functions_with names (structure name fs ∷ os) = functions_with names os
 functions_with names (function is_static s stars name ps code ∷ os) = functions_with (named_by code names name.text) os
 functions_with names (objects is_static s items at ∷ os) = functions_with names os
-
--- what is known where a source begins
-abbrev pub known_at_start : List Outer → Known
-known_at_start os = record {
-  struct_names = structs_with [] os;
-  structs = [];
-  sizes = [];
-  defined = functions_with [] os;
-  begun = [];
-  global_cells = 0;
-  scopes = [] ∷ [];
-}

@@ -38,6 +38,8 @@ known_of t = record {
   sizes = t.sizes;
   defined = texts_of t.defined.keys;
   begun = texts_of t.begun.keys;
+  pointers = t.pointers;
+  function_types = t.function_types;
   global_cells = t.global_cells;
   scopes = scopes_of t.scopes;
 }

@@ -1,11 +1,17 @@
-//! The names of a C source: the table of those that are declared so far, the parameters that a function lists, and the
-//! name that a thread is started with. It stands on `c_types`.
+//! The names of a C source: the table of those that are declared so far, the parameters that a function lists, the types
+//! of functions and of pointers to them, and the name that a thread is started with. It stands on `c_types`.
 #![tactic(auto)]
 
 mod params;
+mod pointers;
+mod signatures;
 mod started;
 mod table;
 
-pub use params::listed;
+pub use params::{declared_name, listed, param_name};
+pub use signatures::{
+    cannot_give, cannot_pass, is_struct_specifier, is_void_specifier, pointed_by, pointer_of,
+    signature_of,
+};
 pub use started::third_name;
 pub use table::{Declared, Members, Table, put_text};

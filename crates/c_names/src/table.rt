@@ -1,14 +1,18 @@
 //! The table of names: what is known at a place of a source, kept while its text is passed (C99 6.2.1, 6.2.3).
 ghost use Rattle.std.specs.Prelude.{◌≡◌, ◌++◌, ◌∷◌, [], map, slice_get, true, Some, length, IfOk, OnOk};
+ghost use Rattle.std.specs.Option.{option_map};
 ghost use Rattle.c_text.specs.Texts.{entry_of};
 ghost use Rattle.c_tree.specs.View.{outer_of, program_of};
 ghost use Rattle.c_types.specs.Scopes as spec;
-ghost use Rattle.c_names.specs.Sources.{global_cells_with, known_at_start, structs_with, functions_with};
+ghost use Rattle.c_types.specs.Signatures.{pointed_types};
+ghost use Rattle.c_names.specs.Sources.{global_cells_with, structs_with, functions_with};
+ghost use Rattle.c_names.specs.Known.{names_at_start, known_at_start};
 ghost use Rattle.c_types.specs.Shown.{shown_meaning, shown_member, shown_maybe};
 ghost use Rattle.c_names.specs.Table.{texts_of, meaning_of, scope_of, scopes_of, members_of, known_of};
 
+use crate::pointers::{function_types_in, pointer_among, pointers_in, type_among};
 use c_tree::{Body, External, Program};
-use c_types::{Meaning, Names, ObjectType, Signature, TypeRef, cells_of_layered};
+use c_types::{Meaning, Names, ObjectType, PointerType, Signature, TypeRef, cells_of_layered};
 use indexmap::{IndexMap, IndexSet};
 use rr_base::List;
 use std::alloc::{AllocError, Global};
@@ -57,6 +61,8 @@ pub struct Table<'a> {
     sizes: List<u32>,
     defined: IndexSet<&'a [u8]>,
     begun: IndexSet<&'a [u8]>,
+    pointers: List<PointerType>,
+    function_types: List<Signature>,
     global_cells: u32,
     /// The innermost scope last.
     scopes: List<Scope<'a>>,
@@ -155,13 +161,12 @@ fn index_in(members: &Members, name: &[u8]) -> Option<usize>
 }
 
 impl<'a> Table<'a> {
-    /// What is known where the source begins.
-    pub fn new(alloc: Global, program: &'a Program) -> Result<Table<'a>, AllocError>
-        ensures { IfOk result (λ t. known_of t ≡ known_at_start (program_of program.now)) }
+    fn of_names(alloc: Global, externals: &'a [External]) -> Result<Table<'a>, AllocError>
+        ensures { IfOk result (λ t. known_of t ≡ names_at_start (map outer_of externals.now)) }
     {
         let mut struct_names = IndexSet::new(alloc);
         let mut defined = IndexSet::new(alloc);
-        for external in program.externals.as_slice() {
+        for external in externals {
             note_struct(&mut struct_names, external)?;
             note_function(&mut defined, external)?;
         }
@@ -173,9 +178,22 @@ impl<'a> Table<'a> {
             sizes: List::new(alloc),
             defined,
             begun: IndexSet::new(alloc),
+            pointers: List::new(alloc),
+            function_types: List::new(alloc),
             global_cells: 0,
             scopes,
         })
+    }
+
+    /// What is known where the source begins.
+    pub fn new(alloc: Global, program: &'a Program) -> Result<Table<'a>, AllocError>
+        ensures { IfOk result (λ t. known_of t ≡ known_at_start (program_of program.now)) }
+    {
+        let externals = program.externals.as_slice();
+        let mut table = Table::of_names(alloc, externals)?;
+        table.pointers = pointers_in(alloc, &table, externals)?;
+        table.function_types = function_types_in(alloc, &table, externals)?;
+        Ok(table)
     }
 
     /// Opens a scope.
@@ -245,6 +263,27 @@ impl<'a> Table<'a> {
         self.defined.get_index_of(name)
     }
 
+    /// How many functions the file defines.
+    pub fn function_count(&self) -> usize
+        ensures { result ≡ length (known_of self.now).defined }
+    {
+        self.defined.len()
+    }
+
+    /// The name of the function with this number.
+    pub fn function_name(&self, number: usize) -> Option<&[u8]>
+        ensures { option_map (λ n. n.now) result ≡ slice_get (known_of self.now).defined number }
+    {
+        self.defined.get_index(number).copied()
+    }
+
+    /// The types of the pointers to functions that the file declares.
+    pub fn pointers(&self) -> &[PointerType]
+        ensures { result.now ≡ (known_of self.now).pointers }
+    {
+        self.pointers.as_slice()
+    }
+
     /// The definition of the function begins.
     pub fn begin_function(&mut self, name: &'a [u8]) -> Result<(), AllocError>
         ensures { OnOk result (known_of self.new ≡ record (known_of self.old) { begun = spec.with_text (known_of self.old).begun name.now }) }
@@ -312,6 +351,27 @@ impl<'a> Names for Table<'a> {
             1
         } else {
             cells_of_layered(of.layers, of.base, self.sizes.as_slice())
+        }
+    }
+
+    fn pointer_numbered(&self, of: &Signature) -> Option<usize> {
+        pointer_among(self.pointers.as_slice(), of)
+    }
+
+    fn type_numbered(&self, of: &Signature) -> Option<usize> {
+        match pointer_among(self.pointers.as_slice(), of) {
+            Some(number) => Some(number),
+            None => match type_among(self.function_types.as_slice(), of) {
+                Some(number) => Some(self.pointers.len() + number),
+                None => None,
+            },
+        }
+    }
+
+    fn signature_numbered<'s>(&'s self, number: usize) -> Option<&'s Signature> {
+        match self.pointers.get(number) {
+            Some(of) => Some(&of.signature),
+            None => None,
         }
     }
 

@@ -6,12 +6,12 @@ use Rattle.c_types.specs.declared.types.ObjectType.{ObjectType}
 use Rattle.c_types.specs.Scopes.{Known, cells_of_some}
 use Rattle.c_operators.specs.Context.{cells_of_first}
 
-drop_none : {A : Type 0} (xs : List A) (i : ℕ) → slice_get xs i ≡ None → drop i xs ≡ []
+pub drop_none : {A : Type 0} (xs : List A) (i : ℕ) → slice_get xs i ≡ None → drop i xs ≡ []
 drop_none [] i e = drop_all i [] (omega arith)
 drop_none (x ∷ xs) zero e = cc
 drop_none (x ∷ xs) (suc i) e = drop_none xs i e
 
-drop_met : {A : Type 0} (xs : List A) (i : ℕ) (x : A) → slice_get xs i ≡ Some x → drop i xs ≡ x ∷ drop (i + 1) xs
+pub drop_met : {A : Type 0} (xs : List A) (i : ℕ) (x : A) → slice_get xs i ≡ Some x → drop i xs ≡ x ∷ drop (i + 1) xs
 drop_met xs i x e = drop_more xs i x (slice_get_within xs i x e) ∙ ap (λ y. y ∷ drop (i + 1) xs) (get_or_from_slice_get xs i x x e)
 
 cells_of_nothing : (known : Known) (n : ℕ) → cells_of_first known n [] ≡ 0

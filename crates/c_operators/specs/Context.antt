@@ -1,5 +1,5 @@
 -- What is known where an expression stands: of the whole source, of its function, and of its place.
-use Rattle.std.specs.Prelude.{ℕ, zero, suc, ◌+◌, ◌-◌, ◌==◌, nat_le, Bool, ◌&&◌, if◌then◌else◌, List, [], ◌∷◌, position, slice_get, Option, Some, None}
+use Rattle.std.specs.Prelude.{ℕ, zero, suc, ◌+◌, ◌-◌, ◌==◌, nat_le, Bool, ◌&&◌, if◌then◌else◌, List, [], ◌∷◌, length, position, slice_get, Option, Some, None}
 use Rattle.rr_base.specs.declared.layout.CellKind.{CellKind}
 use Rattle.rr_base.specs.declared.layout.Site.{Site}
 use Rattle.c_text.specs.Texts.{Text, entry_of}
@@ -101,3 +101,12 @@ offset_in s (Some k) name = offset_numbered s.whole (members_of (slice_get s.who
 abbrev pub function_counted : Option ℕ → ℕ
 function_counted None = 0
 function_counted (Some i) = i
+
+-- a pointer to the function: one more than its number, since 0 is null
+abbrev pub function_word : Option ℕ → ℕ
+function_word None = 0
+function_word (Some i) = i + 1
+
+-- a call through a pointer of a type goes by the number of the type, counted on from the functions of the source
+abbrev pub pointer_counted : Known → ℕ → ℕ
+pointer_counted known k = length known.defined + k

@@ -1,9 +1,11 @@
 -- What stands for an expression of a source, and the word that it gives where a number or a pointer is wanted (C99 6.3.2).
 use Rattle.std.specs.Prelude.{ℕ, Bool, true, false, if◌then◌else◌, pos}
 use Rattle.rr_base.specs.declared.position.Position.{Position}
-use Rattle.c_types.specs.Operands.{Standing, no_type, zero_literal, null_literal, a_value, a_place, Operand, any_operand, whole, zero_operand, null_operand, pointing, no_operand, operand_of}
+use Rattle.c_types.specs.Operands.{Standing, no_type, zero_literal, null_literal, a_value, a_place, Operand, any_operand, whole, zero_operand, null_operand, pointing, function_operand, no_operand, operand_of, are_whole, are_functions}
 use Rattle.c_types.specs.Types.{layered_is_array}
 use Rattle.c_core.specs.Core as core
+use Rattle.c_operators.specs.declared.denoted.WordKind.{WordKind}
+use Rattle.c_operators.specs.declared.denoted.WordKind.TheVariants as kind
 
 -- the place in the type of the core tree
 abbrev pub position_of : Position → Position
@@ -17,6 +19,8 @@ pub data Denoted : Type 0 where
   denoted_cells : core.Exp → Position → Denoted
   -- the literal `0`, which is a null pointer where a pointer is wanted
   denoted_zero : Position → Denoted
+  -- `NULL`, which is 0 where a pointer to functions is wanted
+  denoted_null : Position → Denoted
   denoted_value : core.Exp → Denoted
 
 -- an expression with what it is
@@ -39,7 +43,22 @@ is_pointing any_operand = false
 is_pointing whole = false
 is_pointing zero_operand = false
 is_pointing null_operand = false
+is_pointing (function_operand k) = false
 is_pointing no_operand = false
+
+-- what the word of an object or a value is
+abbrev pub kind_of : Operand → WordKind
+kind_of (pointing t) = kind.Pointer
+kind_of (function_operand k) = kind.Function
+kind_of any_operand = kind.Number
+kind_of whole = kind.Number
+kind_of zero_operand = kind.Number
+kind_of null_operand = kind.Number
+kind_of no_operand = kind.Number
+
+-- what two words are that are compared, or of which one is chosen
+abbrev pub kind_of_both : Operand → Operand → WordKind
+kind_of_both a b = if are_whole a b then kind.Number else if are_functions a b then kind.Function else kind.Pointer
 
 -- such an object is not loaded but gives its address (C99 6.3.2.1)
 abbrev pub is_array : Standing → Bool
@@ -54,19 +73,31 @@ abbrev pub value_by : Standing → Denoted → core.Exp
 value_by s (denoted_register n at) = core.register n (is_pointing (operand_of s)) at
 value_by s (denoted_cells e at) = if is_array s then e else core.load e (is_pointing (operand_of s)) at
 value_by s (denoted_zero at) = core.number (pos 0) at
+value_by s (denoted_null at) = core.null at
 value_by s (denoted_value e) = e
 
--- where a pointer is wanted: the literal `0` becomes null (C99 6.3.2.3)
+-- where a pointer to an object is wanted: the literal `0` becomes null (C99 6.3.2.3)
 abbrev pub pointer_by : Standing → Denoted → core.Exp
 pointer_by s (denoted_register n at) = value_by s (denoted_register n at)
 pointer_by s (denoted_cells e at) = value_by s (denoted_cells e at)
 pointer_by s (denoted_zero at) = core.null at
+pointer_by s (denoted_null at) = core.null at
 pointer_by s (denoted_value e) = e
+
+-- where a pointer to functions is wanted, which is a number: `NULL` becomes 0
+abbrev pub function_by : Standing → Denoted → core.Exp
+function_by s (denoted_register n at) = value_by s (denoted_register n at)
+function_by s (denoted_cells e at) = value_by s (denoted_cells e at)
+function_by s (denoted_zero at) = core.number (pos 0) at
+function_by s (denoted_null at) = core.number (pos 0) at
+function_by s (denoted_value e) = e
 
 -- where no pointer is wanted
 abbrev pub value_in : Part → core.Exp
 value_in p = value_by p.standing p.denoted
 
--- the word where a pointer is wanted or not
-abbrev pub wanted_in : Bool → Part → core.Exp
-wanted_in pointer p = if pointer then pointer_by p.standing p.denoted else value_in p
+-- the word where one of the kind is wanted
+abbrev pub wanted_in : WordKind → Part → core.Exp
+wanted_in kind.Number p = value_in p
+wanted_in kind.Pointer p = pointer_by p.standing p.denoted
+wanted_in kind.Function p = function_by p.standing p.denoted

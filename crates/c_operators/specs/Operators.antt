@@ -1,6 +1,6 @@
 -- What C's operators make of their operands (C99 6.5). An operator is judged by what its operands are; which cases there
 -- are is decided by the types.
-use Rattle.std.specs.Prelude.{ℕ, Bool, true, false, not, ◌&&◌, if◌then◌else◌, pos}
+use Rattle.std.specs.Prelude.{ℕ, Bool, true, false, ◌&&◌, if◌then◌else◌, pos}
 use Rattle.abstract_machine.specs.declared.operator.BinaryOp.{BinaryOp as FlowOp}
 use Rattle.abstract_machine.specs.declared.operator.BinaryOp.TheVariants as flow
 use Rattle.c_tree.specs.declared.expr.BinaryOp.{BinaryOp}
@@ -15,7 +15,8 @@ use Rattle.c_core.specs.declared.value.UnaryOp.TheVariants as unary
 use Rattle.c_core.specs.declared.value.Change.{Change}
 use Rattle.c_core.specs.declared.value.Change.TheVariants as change
 use Rattle.c_core.specs.Core as core
-use Rattle.c_operators.specs.Denoted.{Denoted, denoted_register, denoted_cells, denoted_zero, denoted_value, Part, operand_in, is_pointing, value_in, wanted_in}
+use Rattle.c_operators.specs.declared.denoted.WordKind.TheVariants as kind
+use Rattle.c_operators.specs.Denoted.{Denoted, denoted_register, denoted_cells, denoted_zero, denoted_null, denoted_value, Part, operand_in, is_pointing, kind_of, kind_of_both, value_in, wanted_in}
 use Rattle.c_operators.specs.Context.{Source, element_of}
 
 -- an operator on two words; `&&` and `||` are none of these
@@ -71,12 +72,12 @@ abbrev pub difference_in : Source → Part → Part → Position → core.Exp
 difference_in s a b at =
     if is_pointing (operand_in a) && is_whole (operand_in b) then core.move (value_in a) (value_in b) (element_of s (operand_in a)) true at
     else if are_whole (operand_in a) (operand_in b) then core.binary flow.Subtract (value_in a) (value_in b) at
-    else core.between (wanted_in true a) (wanted_in true b) (element_of_either s (operand_in a) (operand_in b)) at
+    else core.between (wanted_in kind.Pointer a) (wanted_in kind.Pointer b) (element_of_either s (operand_in a) (operand_in b)) at
 
--- two numbers, or two pointers that are compared
+-- two numbers, or two pointers that are compared, to objects or to functions
 abbrev pub operated_in : FlowOp → Part → Part → Position → core.Exp
 operated_in o a b at =
-    core.binary o (wanted_in (not (are_whole (operand_in a) (operand_in b))) a) (wanted_in (not (are_whole (operand_in a) (operand_in b))) b) at
+    core.binary o (wanted_in (kind_of_both (operand_in a) (operand_in b)) a) (wanted_in (kind_of_both (operand_in a) (operand_in b)) b) at
 
 -- each operator between two operands, C99 6.5.5 to 6.5.14
 abbrev pub binary_in : Source → BinaryOp → Part → Part → Position → core.Exp
@@ -86,10 +87,10 @@ binary_in s op.Add a b at = sum_in s a b at
 binary_in s op.Subtract a b at = difference_in s a b at
 binary_in s o a b at = operated_in (flow_operator o) a b at
 
--- `a ? b : c`, whose results both are numbers or both are pointers
+-- `a ? b : c`, whose results both are numbers, or both are pointers to objects or to functions
 abbrev pub conditional_in : Part → Part → Part → Position → core.Exp
 conditional_in a b c at =
-    core.conditional (value_in a) (wanted_in (not (are_whole (operand_in b) (operand_in c))) b) (wanted_in (not (are_whole (operand_in b) (operand_in c))) c) at
+    core.conditional (value_in a) (wanted_in (kind_of_both (operand_in b) (operand_in c)) b) (wanted_in (kind_of_both (operand_in b) (operand_in c)) c) at
 
 -- an element of an array: the place is the moved pointer
 abbrev pub index_in : Source → Part → Part → Position → Denoted
@@ -110,6 +111,7 @@ abbrev pub changed_by : Change → Denoted → core.Exp → Bool → Position �
 changed_by c (denoted_register n loaded) by old at = core.change_register n c by old at
 changed_by c (denoted_cells e loaded) by old at = core.change_cell e loaded c by old at
 changed_by c (denoted_zero loaded) by old at = by
+changed_by c (denoted_null loaded) by old at = by
 changed_by c (denoted_value e) by old at = by
 
 -- for `++`, `--` and compound assignments: the left side is evaluated once
@@ -125,11 +127,12 @@ abbrev pub stored_in : Denoted → core.Exp → Position → core.Exp
 stored_in (denoted_register n loaded) e at = core.set_register n e at
 stored_in (denoted_cells to loaded) e at = core.store to e at
 stored_in (denoted_zero loaded) e at = e
+stored_in (denoted_null loaded) e at = e
 stored_in (denoted_value v) e at = e
 
 -- `=` stores the right side, and all others change the left side by it
 abbrev pub assigned_in : Source → AssignOp → Part → Part → Position → core.Exp
-assigned_in s assign_op.Assign a b at = stored_in a.denoted (wanted_in (is_pointing (operand_in a)) b) at
+assigned_in s assign_op.Assign a b at = stored_in a.denoted (wanted_in (kind_of (operand_in a)) b) at
 assigned_in s o a b at = changed_in s (changing_operator o) a (value_in b) false at
 
 -- ---- operators with one operand
@@ -139,6 +142,7 @@ abbrev pub address_in : Denoted → Denoted
 address_in (denoted_cells e loaded) = denoted_value e
 address_in (denoted_register n at) = denoted_zero at
 address_in (denoted_zero at) = denoted_zero at
+address_in (denoted_null at) = denoted_zero at
 address_in (denoted_value e) = denoted_value e
 
 -- the unary operators of C99 6.5.3, with `++` and `--` before their operand
@@ -172,6 +176,7 @@ abbrev pub member_in : Denoted → ℕ → Position → Denoted
 member_in (denoted_cells e loaded) by at = denoted_cells (core.member e by at) at
 member_in (denoted_register n loaded) by at = denoted_zero at
 member_in (denoted_zero loaded) by at = denoted_zero at
+member_in (denoted_null loaded) by at = denoted_zero at
 member_in (denoted_value e) by at = denoted_value e
 
 -- the member so many cells into the struct to which the operand points

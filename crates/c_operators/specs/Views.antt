@@ -16,7 +16,7 @@ use Rattle.c_operators.specs.declared.denoted.Part.{Part as RustPart}
 use Rattle.c_operators.specs.declared.context.Source.{Source as RustSource}
 use Rattle.c_operators.specs.declared.context.Frame.{Frame as RustFrame}
 use Rattle.c_operators.specs.declared.context.Context.{Context as RustHere}
-use Rattle.c_operators.specs.Denoted.{Denoted, denoted_register, denoted_cells, denoted_zero, denoted_value, Part, part_by}
+use Rattle.c_operators.specs.Denoted.{Denoted, denoted_register, denoted_cells, denoted_zero, denoted_null, denoted_value, Part, part_by}
 use Rattle.c_operators.specs.Context.{Source, Frame, Context}
 
 -- a place in the list of those behind commas, which may be empty
@@ -29,6 +29,7 @@ abbrev pub denoted_of : RustDenoted → Denoted
 denoted_of (rust.Register n at) = denoted_register n at
 denoted_of (rust.Cells e at) = denoted_cells (exp_of e.value) at
 denoted_of (rust.Zero at) = denoted_zero at
+denoted_of (rust.Null at) = denoted_null at
 denoted_of (rust.Value e) = denoted_value (exp_of e.value)
 
 -- its type shows by the view of the type crate

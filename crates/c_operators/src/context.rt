@@ -2,6 +2,7 @@
 ghost use Rattle.std.specs.Prelude.{◌≡◌, IfOk, position, slice_get};
 ghost use Rattle.c_types.specs.Shown.{shown_operand, shown_maybe};
 ghost use Rattle.c_types.specs.Scopes.{cells_of_some, members_of};
+ghost use Rattle.c_names.specs.Table.{known_of};
 ghost use Rattle.c_operators.specs.Context as spec;
 ghost use Rattle.c_operators.specs.Views.{source_in, frame_in, context_of};
 
@@ -84,6 +85,32 @@ pub fn function_counted(number: Option<usize>) -> Result<u32, AllocError>
     }
 }
 
+/// The pointer to a function, by its number: 0 where there is none.
+pub fn function_word(number: Option<usize>) -> Result<u32, AllocError>
+    ensures { IfOk result (λ n. n ≡ spec.function_word number) }
+{
+    match number {
+        None => Ok(0),
+        Some(index) => match u32::try_from(index) {
+            Ok(number) if number < u32::MAX => Ok(number + 1),
+            _ => Err(AllocError),
+        },
+    }
+}
+
+/// The number of a call through a pointer of a type, by the number of the type.
+pub fn pointer_counted(table: &Table, number: usize) -> Result<u32, AllocError>
+    ensures { IfOk result (λ n. n ≡ spec.pointer_counted (known_of table.now) number) }
+{
+    let Some(counted) = table.function_count().checked_add(number) else {
+        return Err(AllocError);
+    };
+    match u32::try_from(counted) {
+        Ok(counted) => Ok(counted),
+        Err(_) => Err(AllocError),
+    }
+}
+
 impl Frame {
     fn home_numbered(&self, number: Option<usize>) -> Option<Home>
         ensures { result ≡ spec.home_numbered (frame_in self.now) number }
@@ -114,7 +141,12 @@ impl<'a> Source<'a> {
     {
         match operand {
             Operand::Pointing(to) => self.whole.cells_of(to),
-            Operand::Any | Operand::Whole | Operand::Zero | Operand::Null | Operand::Unfit => 0,
+            Operand::Any
+            | Operand::Whole
+            | Operand::Zero
+            | Operand::Null
+            | Operand::Function(_)
+            | Operand::Unfit => 0,
         }
     }
 

@@ -8,7 +8,7 @@ ghost use Rattle.c_operators.specs.Views.{denoted_of, part_of};
 use crate::constant::Constant;
 use crate::make;
 use c_core::Value;
-use c_types::{Operand, Standing, is_array};
+use c_types::{Operand, Standing, are_functions, are_whole, is_array};
 use rr_base::Position;
 use std::alloc::{AllocError, Global};
 
@@ -21,7 +21,47 @@ pub enum Denoted {
     Cells { through: Box<Value>, at: Position },
     /// The literal `0`, which is a null pointer where a pointer is wanted.
     Zero { at: Position },
+    /// `NULL`, which is 0 where a pointer to functions is wanted.
+    Null { at: Position },
     Value(Box<Value>),
+}
+
+/// What a word is.
+#[derive(Clone, Copy)]
+pub enum WordKind {
+    Number,
+    /// A pointer to an object.
+    Pointer,
+    /// A pointer to functions, which is a number.
+    Function,
+}
+
+impl WordKind {
+    /// What the word of an object or a value is.
+    pub fn of(operand: Operand) -> WordKind
+        ensures { result ≡ spec.kind_of (shown_operand operand.entry) }
+    {
+        match operand {
+            Operand::Pointing(_) => WordKind::Pointer,
+            Operand::Function(_) => WordKind::Function,
+            Operand::Any | Operand::Whole | Operand::Zero | Operand::Null | Operand::Unfit => {
+                WordKind::Number
+            }
+        }
+    }
+
+    /// What two words are that are compared, or of which one is chosen.
+    pub fn of_both(a: Operand, b: Operand) -> WordKind
+        ensures { result ≡ spec.kind_of_both (shown_operand a.entry) (shown_operand b.entry) }
+    {
+        if are_whole(a, b) {
+            WordKind::Number
+        } else if are_functions(a, b) {
+            WordKind::Function
+        } else {
+            WordKind::Pointer
+        }
+    }
 }
 
 /// Whether its word is a pointer.
@@ -30,7 +70,12 @@ pub fn is_pointing(of: Operand) -> bool
 {
     match of {
         Operand::Pointing(_) => true,
-        Operand::Any | Operand::Whole | Operand::Zero | Operand::Null | Operand::Unfit => false,
+        Operand::Any
+        | Operand::Whole
+        | Operand::Zero
+        | Operand::Null
+        | Operand::Function(_)
+        | Operand::Unfit => false,
     }
 }
 
@@ -66,16 +111,33 @@ impl Denoted {
                 }
             }
             Denoted::Zero { at } => make::number(alloc, 0, at),
+            Denoted::Null { at } => make::null(alloc, at),
             Denoted::Value(value) => Ok(value),
         }
     }
 
-    /// The same where a pointer is wanted.
-    pub fn into_pointer(self, alloc: Global, of: Standing) -> Result<Box<Value>, AllocError>
+    /// The same where a pointer to an object is wanted.
+    fn into_pointer(self, alloc: Global, of: Standing) -> Result<Box<Value>, AllocError>
         ensures { IfOk result (λ v. exp_of v.value ≡ spec.pointer_by (shown_standing of.entry) (denoted_of self)) }
     {
         match self {
             Denoted::Zero { at } => make::null(alloc, at),
+            Denoted::Null { at } => make::null(alloc, at),
+            Denoted::Register { number, at } => Denoted::Register { number, at }.into_value(
+                alloc, of,
+            ),
+            Denoted::Cells { through, at } => Denoted::Cells { through, at }.into_value(alloc, of),
+            Denoted::Value(value) => Ok(value),
+        }
+    }
+
+    /// The same where a pointer to functions is wanted.
+    fn into_function(self, alloc: Global, of: Standing) -> Result<Box<Value>, AllocError>
+        ensures { IfOk result (λ v. exp_of v.value ≡ spec.function_by (shown_standing of.entry) (denoted_of self)) }
+    {
+        match self {
+            Denoted::Zero { at } => make::number(alloc, 0, at),
+            Denoted::Null { at } => make::number(alloc, 0, at),
             Denoted::Register { number, at } => Denoted::Register { number, at }.into_value(
                 alloc, of,
             ),
@@ -113,19 +175,19 @@ impl<'a> Part<'a> {
         denoted.into_value(alloc, standing)
     }
 
-    /// The word that it gives where a pointer is wanted or not.
-    pub fn into_wanted(self, alloc: Global, pointer: bool) -> Result<Box<Value>, AllocError>
-        ensures { IfOk result (λ v. exp_of v.value ≡ spec.wanted_in pointer (part_of self.entry)) }
+    /// The word that it gives where one of the kind is wanted.
+    pub fn into_wanted(self, alloc: Global, kind: WordKind) -> Result<Box<Value>, AllocError>
+        ensures { IfOk result (λ v. exp_of v.value ≡ spec.wanted_in kind (part_of self.entry)) }
     {
         let Part {
             standing,
             denoted,
             ..
         } = self;
-        if pointer {
-            denoted.into_pointer(alloc, standing)
-        } else {
-            denoted.into_value(alloc, standing)
+        match kind {
+            WordKind::Number => denoted.into_value(alloc, standing),
+            WordKind::Pointer => denoted.into_pointer(alloc, standing),
+            WordKind::Function => denoted.into_function(alloc, standing),
         }
     }
 }

@@ -12,7 +12,9 @@ mod operators;
 
 pub use commas::{joined, push_last};
 pub use constant::Constant;
-pub use context::{Context, Frame, Source, function_counted, site_at};
-pub use denoted::{Denoted, Part, is_pointing};
+pub use context::{
+    Context, Frame, Source, function_counted, function_word, pointer_counted, site_at,
+};
+pub use denoted::{Denoted, Part, WordKind, is_pointing};
 pub use home::Home;
 pub use operators::{arrow, assigned, binary, cast, conditional, index, member, prefix, stepped};

@@ -8,7 +8,7 @@ ghost use Rattle.c_operators.specs.Operators as spec;
 ghost use Rattle.c_operators.specs.Views.{denoted_of, part_of, source_in};
 
 use crate::context::Source;
-use crate::denoted::{Denoted, Part, is_pointing};
+use crate::denoted::{Denoted, Part, WordKind, is_pointing};
 use crate::make;
 use abstract_machine::BinaryOp as FlowOp;
 use c_core::{Change, UnaryOp, Value};
@@ -59,18 +59,18 @@ fn changing_operator(op: AssignOp) -> FlowOp
     }
 }
 
-/// The two words in their order, each where a pointer is wanted or not.
+/// The two words in their order, each where one of the kind is wanted.
 fn both_wanted(
     alloc: Global,
-    pointer: bool,
+    kind: WordKind,
     left: Part,
     right: Part,
 ) -> Result<(Box<Value>, Box<Value>), AllocError>
-    ensures left { IfOk result (λ r. exp_of r.0.value ≡ wanted_in pointer (part_of left.entry)) }
-    ensures right { IfOk result (λ r. exp_of r.1.value ≡ wanted_in pointer (part_of right.entry)) }
+    ensures left { IfOk result (λ r. exp_of r.0.value ≡ wanted_in kind (part_of left.entry)) }
+    ensures right { IfOk result (λ r. exp_of r.1.value ≡ wanted_in kind (part_of right.entry)) }
 {
-    let left = left.into_wanted(alloc, pointer)?;
-    let right = right.into_wanted(alloc, pointer)?;
+    let left = left.into_wanted(alloc, kind)?;
+    let right = right.into_wanted(alloc, kind)?;
     Ok((left, right))
 }
 
@@ -85,7 +85,7 @@ fn sum(
     ensures { IfOk result (λ v. exp_of v.value ≡ spec.sum_in (source_in source.now) (part_of left.entry) (part_of right.entry) at) }
 {
     let (a, b) = (left.operand(), right.operand());
-    let (left, right) = both_wanted(alloc, false, left, right)?;
+    let (left, right) = both_wanted(alloc, WordKind::Number, left, right)?;
     if is_pointing(a) {
         make::move_by(alloc, left, right, source.element_of(a), false, at)
     } else if is_pointing(b) {
@@ -118,18 +118,18 @@ fn difference(
 {
     let (a, b) = (left.operand(), right.operand());
     if is_pointing(a) && b.is_whole() {
-        let (left, right) = both_wanted(alloc, false, left, right)?;
+        let (left, right) = both_wanted(alloc, WordKind::Number, left, right)?;
         make::move_by(alloc, left, right, source.element_of(a), true, at)
     } else if are_whole(a, b) {
-        let (left, right) = both_wanted(alloc, false, left, right)?;
+        let (left, right) = both_wanted(alloc, WordKind::Number, left, right)?;
         make::binary(alloc, FlowOp::Subtract, left, right, at)
     } else {
-        let (left, right) = both_wanted(alloc, true, left, right)?;
+        let (left, right) = both_wanted(alloc, WordKind::Pointer, left, right)?;
         make::between(alloc, left, right, element_of_either(source, a, b), at)
     }
 }
 
-/// An operator on two numbers, or two pointers that are compared.
+/// An operator on two numbers, or two pointers that are compared, to objects or to functions.
 fn operated(
     alloc: Global,
     op: FlowOp,
@@ -139,8 +139,8 @@ fn operated(
 ) -> Result<Box<Value>, AllocError>
     ensures { IfOk result (λ v. exp_of v.value ≡ spec.operated_in op (part_of left.entry) (part_of right.entry) at) }
 {
-    let pointer = !are_whole(left.operand(), right.operand());
-    let (left, right) = both_wanted(alloc, pointer, left, right)?;
+    let kind = WordKind::of_both(left.operand(), right.operand());
+    let (left, right) = both_wanted(alloc, kind, left, right)?;
     make::binary(alloc, op, left, right, at)
 }
 
@@ -157,11 +157,11 @@ pub fn binary(
 {
     match op {
         BinaryOp::LogicalOr => {
-            let (left, right) = both_wanted(alloc, false, left, right)?;
+            let (left, right) = both_wanted(alloc, WordKind::Number, left, right)?;
             make::either(alloc, left, right, at)
         }
         BinaryOp::LogicalAnd => {
-            let (left, right) = both_wanted(alloc, false, left, right)?;
+            let (left, right) = both_wanted(alloc, WordKind::Number, left, right)?;
             make::both(alloc, left, right, at)
         }
         BinaryOp::Add => sum(alloc, source, left, right, at),
@@ -180,9 +180,9 @@ pub fn conditional(
 ) -> Result<Box<Value>, AllocError>
     ensures { IfOk result (λ v. exp_of v.value ≡ spec.conditional_in (part_of test.entry) (part_of yes.entry) (part_of no.entry) at) }
 {
-    let pointer = !are_whole(yes.operand(), no.operand());
+    let kind = WordKind::of_both(yes.operand(), no.operand());
     let test = test.into_value(alloc)?;
-    let (yes, no) = both_wanted(alloc, pointer, yes, no)?;
+    let (yes, no) = both_wanted(alloc, kind, yes, no)?;
     make::conditional(alloc, test, yes, no, at)
 }
 
@@ -233,7 +233,7 @@ fn changed_by(
             through,
             at: loaded_at,
         } => make::change_cell(alloc, through, loaded_at, change, by, gives_old, at),
-        Denoted::Zero { .. } | Denoted::Value(_) => Ok(by),
+        Denoted::Zero { .. } | Denoted::Null { .. } | Denoted::Value(_) => Ok(by),
     }
 }
 
@@ -280,7 +280,7 @@ fn stored(
     match place {
         Denoted::Register { number, .. } => make::set_register(alloc, number, value, at),
         Denoted::Cells { through, .. } => make::store(alloc, through, value, at),
-        Denoted::Zero { .. } | Denoted::Value(_) => Ok(value),
+        Denoted::Zero { .. } | Denoted::Null { .. } | Denoted::Value(_) => Ok(value),
     }
 }
 
@@ -297,7 +297,7 @@ pub fn assigned(
 {
     match op {
         AssignOp::Assign => {
-            let value = right.into_wanted(alloc, is_pointing(left.operand()))?;
+            let value = right.into_wanted(alloc, WordKind::of(left.operand()))?;
             let Part { denoted, .. } = left;
             stored(alloc, denoted, value, at)
         }
@@ -314,7 +314,9 @@ fn address(of: Denoted) -> Denoted
 {
     match of {
         Denoted::Cells { through, .. } => Denoted::Value(through),
-        Denoted::Register { at, .. } | Denoted::Zero { at } => Denoted::Zero { at },
+        Denoted::Register { at, .. } | Denoted::Zero { at } | Denoted::Null { at } => {
+            Denoted::Zero { at }
+        }
         Denoted::Value(value) => Denoted::Value(value),
     }
 }
@@ -378,7 +380,8 @@ fn is_some_address(of: Operand) -> bool
 {
     match of {
         Operand::Pointing(_) | Operand::Null => true,
-        Operand::Any | Operand::Whole | Operand::Zero | Operand::Unfit => false,
+        Operand::Any | Operand::Whole | Operand::Zero | Operand::Function(_) | Operand::Unfit =>
+            false,
     }
 }
 
@@ -409,7 +412,9 @@ pub fn member(alloc: Global, of: Denoted, by: u32, at: Position) -> Result<Denot
             let through = make::member(alloc, through, by, at)?;
             Ok(Denoted::Cells { through, at })
         }
-        Denoted::Register { .. } | Denoted::Zero { .. } => Ok(Denoted::Zero { at }),
+        Denoted::Register { .. } | Denoted::Zero { .. } | Denoted::Null { .. } => {
+            Ok(Denoted::Zero { at })
+        }
         Denoted::Value(value) => Ok(Denoted::Value(value)),
     }
 }

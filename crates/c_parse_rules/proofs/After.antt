@@ -6,7 +6,7 @@ use Rattle.rr_base.specs.declared.position.Position.{Position}
 use Rattle.c_grammar.specs.Marks.{Lexeme}
 use Rattle.c_grammar.specs.Phrase as phrase
 use Rattle.c_grammar.specs.Phrase.{Phrase}
-use Rattle.c_grammar.specs.Parse.{is_of, sign, Outcome, Got, Stuck, Spent, Parser, and_then, passes, token, outer_head, Rule, ret, one, heads, choose, run}
+use Rattle.c_grammar.specs.Parse.{is_of, sign, Outcome, Got, Stuck, Spent, Parser, and_then, passes, token, outer_head, declarator_front, Rule, ret, one, heads, fronts, choose, run}
 use Rattle.c_grammar.specs.Parse as rule
 use Rattle.c_grammar.specs.Rules.{read, test_rule, for_head_rule, do_end_rule, if_rule, while_rule, do_rule, for_rule, else_rule, simple_rule}
 use Rattle.c_parse_rules.proofs.Steps.{by_rule}
@@ -17,6 +17,7 @@ bind (ret a) f = f a
 bind (one c l g) f = one c l (λ v p. bind (g v p) f)
 bind (rule.call n g) f = rule.call n (λ x. bind (g x) f)
 bind (heads g) f = heads (λ h. bind (g h) f)
+bind (fronts l g) f = fronts l (λ h. bind (g h) f)
 bind (choose test g h) f = choose test (bind g f) (bind h f)
 
 after : {A B C : Type 0} (o : Outcome C) (g : C → Parser A) (k : A → Parser B) (h : C → Parser B) → ((x : C) (us : List Lexeme) → h x us ≡ and_then (g x us) k) → and_then o h ≡ and_then (and_then o g) k
@@ -33,6 +34,7 @@ run_bind (ret a) f us = refl
 run_bind (one c l g) f us = after (token 256 c l us) (λ x. run 256 (read 256) (g x.0 x.1)) (λ x. run 256 (read 256) (f x)) (λ x. run 256 (read 256) (bind (g x.0 x.1) f)) (λ x vs. run_bind (g x.0 x.1) f vs)
 run_bind (rule.call n g) f us = after (read 256 n us) (λ x. run 256 (read 256) (g x)) (λ x. run 256 (read 256) (f x)) (λ x. run 256 (read 256) (bind (g x) f)) (λ x vs. run_bind (g x) f vs)
 run_bind (heads g) f us = after (outer_head 256 us) (λ x. run 256 (read 256) (g x)) (λ x. run 256 (read 256) (f x)) (λ x. run 256 (read 256) (bind (g x) f)) (λ x vs. run_bind (g x) f vs)
+run_bind (fronts l g) f us = after (declarator_front 256 l us) (λ x. run 256 (read 256) (g x)) (λ x. run 256 (read 256) (f x)) (λ x. run 256 (read 256) (bind (g x) f)) (λ x vs. run_bind (g x) f vs)
 run_bind (choose test g h) f us =
     either_rule (passes test us) (run 256 (read 256) (bind g f) us) (run 256 (read 256) (bind h f) us) (run 256 (read 256) g us) (run 256 (read 256) h us) (λ x. run 256 (read 256) (f x)) (run_bind g f us) (run_bind h f us)
 

@@ -3,15 +3,14 @@ use Rattle.std.proofs.Common.{◌≡◌, ◌≢◌, ℕ, ◌≤◌, ◌<◌, Boo
 use Rattle.std.proofs.lemmas.List.{length-map}
 use Rattle.c_lexer.specs.declared.token.Punct.TheVariants as punct
 use Rattle.c_lexer.specs.declared.token.Token.{Token}
-use Rattle.c_tree.specs.declared.program.Param.{Param}
 use Rattle.c_tree.specs.declared.ctype.Specifier.{Specifier}
-use Rattle.c_tree.specs.Tree.{Exp, Object, Declares, Statement, Part, part_declares, part_does, Declared, declared, Fields, Outer}
+use Rattle.c_tree.specs.Tree.{Formal, Object, Declares, Statement, Part, part_declares, part_does, Declared, Fields, Outer}
 use Rattle.rr_base.specs.declared.position.Position.{Position}
 use Rattle.c_grammar.specs.Marks.{Lexeme}
 use Rattle.c_grammar.specs.Phrase as phrase
 use Rattle.c_grammar.specs.Phrase.{Phrase, TreeOf}
 use Rattle.c_grammar.specs.Parse.{is_of, sign, is_type, Outcome, Got, Stuck, Spent, Fault, Parser, and_then, passes, token, run}
-use Rattle.c_grammar.specs.Rules.{read, name_of, part_rule, objects_rule}
+use Rattle.c_grammar.specs.Rules.{read, part_rule, objects_after_rule}
 use Rattle.c_parse_rules.specs.Gives.{lexeme_of, lexemes}
 use Rattle.c_grammar.proofs.Enough.{eats, read_no_more, read_fewer}
 use Rattle.c_parse_rules.proofs.Steps.{by_rule}
@@ -79,9 +78,9 @@ part_shorter l ts rest x e = omega (arith, part_fewer l (passes is_type (lexemes
 
 -- ---- the outermost level
 
-pub params_turn : (xs : List Param) (ts mid rest : List Lexeme) (x : Unit {0} × Position) (p : Param) → passes (is_of (sign punct.Comma)) ts ≡ true → token 256 (sign punct.Comma) 0 ts ≡ Got x mid → read 256 phrase.param mid ≡ Got p rest
-    → read 256 (phrase.more_params xs) ts ≡ read 256 (phrase.more_params (xs ++ p ∷ [])) rest
-params_turn xs ts mid rest x p h k r = rw (by_rule (phrase.more_params xs) ts, h, k, r) (all_got (read 256 (phrase.more_params (xs ++ p ∷ [])) rest))
+pub params_turn : (l : ℕ) (xs : List Formal) (ts mid rest : List Lexeme) (x : Unit {0} × Position) (y : Formal) → passes (is_of (sign punct.Comma)) ts ≡ true → token 256 (sign punct.Comma) l ts ≡ Got x mid → read 256 (phrase.param l) mid ≡ Got y rest
+    → read 256 (phrase.more_params l xs) ts ≡ read 256 (phrase.more_params l (xs ++ y ∷ [])) rest
+params_turn l xs ts mid rest x y h k r = rw (by_rule (phrase.more_params l xs) ts, h, k, r) (all_got (read 256 (phrase.more_params l (xs ++ y ∷ [])) rest))
 
 pub declared_turn : (ds : List Declared) (ts mid rest : List Lexeme) (x : Unit {0} × Position) (d : Declared) → passes (is_of (sign punct.Comma)) ts ≡ true → token 256 (sign punct.Comma) 0 ts ≡ Got x mid → read 256 (phrase.declarator 0) mid ≡ Got d rest
     → read 256 (phrase.more_declared ds) ts ≡ read 256 (phrase.more_declared (ds ++ d ∷ [])) rest
@@ -101,12 +100,12 @@ program_over os = by_rule (phrase.program os) []
 
 -- ---- where they end
 
-pub params_stuck : (xs : List Param) (ts mid : List Lexeme) (x : Unit {0} × Position) (f : Fault) (rest : List Lexeme) → passes (is_of (sign punct.Comma)) ts ≡ true → token 256 (sign punct.Comma) 0 ts ≡ Got x mid → read 256 phrase.param mid ≡ Stuck f rest
-    → read 256 (phrase.more_params xs) ts ≡ Stuck f rest
-params_stuck xs ts mid x f rest h k r = rw (by_rule (phrase.more_params xs) ts, h, k, r) refl
+pub params_stuck : (l : ℕ) (xs : List Formal) (ts mid : List Lexeme) (x : Unit {0} × Position) (f : Fault) (rest : List Lexeme) → passes (is_of (sign punct.Comma)) ts ≡ true → token 256 (sign punct.Comma) l ts ≡ Got x mid → read 256 (phrase.param l) mid ≡ Stuck f rest
+    → read 256 (phrase.more_params l xs) ts ≡ Stuck f rest
+params_stuck l xs ts mid x f rest h k r = rw (by_rule (phrase.more_params l xs) ts, h, k, r) refl
 
-pub params_over : (xs : List Param) (ts : List Lexeme) → passes (is_of (sign punct.Comma)) ts ≡ false → read 256 (phrase.more_params xs) ts ≡ Got xs ts
-params_over xs ts h = rw (by_rule (phrase.more_params xs) ts, h) refl
+pub params_over : (l : ℕ) (xs : List Formal) (ts : List Lexeme) → passes (is_of (sign punct.Comma)) ts ≡ false → read 256 (phrase.more_params l xs) ts ≡ Got xs ts
+params_over l xs ts h = rw (by_rule (phrase.more_params l xs) ts, h) refl
 
 pub declared_stuck : (ds : List Declared) (ts mid : List Lexeme) (x : Unit {0} × Position) (f : Fault) (rest : List Lexeme) → passes (is_of (sign punct.Comma)) ts ≡ true → token 256 (sign punct.Comma) 0 ts ≡ Got x mid → read 256 (phrase.declarator 0) mid ≡ Stuck f rest
     → read 256 (phrase.more_declared ds) ts ≡ Stuck f rest
@@ -137,7 +136,6 @@ pub program_ends : (os : List Outer) (ts : List Token) → ts ≡ [] → read 25
 program_ends os [] e = program_over os
 program_ends os (t ∷ ts) e = cc
 
-pub objects_stuck : (is_static : Bool) (s : Specifier) (at : Position) (n : ℕ) (x : List ℕ) (there : Position) (us following first all : List Lexeme) (es : List Exp) (o : Object) (os : List Object) (f : Fault) (rest : List Lexeme)
-    → read 256 (phrase.lengths n []) us ≡ Got es following → read 256 (phrase.object_past 0 (declared n (name_of x there) es)) following ≡ Got o first → read 256 (phrase.more_objects 0 (o ∷ [])) first ≡ Got os all
-    → token 256 (sign punct.Semicolon) 0 all ≡ Stuck f rest → run 256 (read 256) (objects_rule is_static s at n x there) us ≡ Stuck f rest
-objects_stuck is_static s at n x there us following first all es o os f rest h k r z = rw (h, k, r, z) refl
+pub objects_stuck : (is_static : Bool) (s : Specifier) (at : Position) (d : Declared) (us first all : List Lexeme) (o : Object) (os : List Object) (f : Fault) (rest : List Lexeme) → read 256 (phrase.object_past 0 d) us ≡ Got o first → read 256 (phrase.more_objects 0 (o ∷ [])) first ≡ Got os all
+    → token 256 (sign punct.Semicolon) 0 all ≡ Stuck f rest → run 256 (read 256) (objects_after_rule is_static s at d) us ≡ Stuck f rest
+objects_stuck is_static s at d us first all o os f rest k r z = rw (k, r, z) refl

@@ -2,8 +2,7 @@
 use Rattle.std.proofs.Common.{◌≡◌, ℕ, Bool, List}
 use Rattle.c_lexer.specs.declared.token.Punct.{Punct}
 use Rattle.c_tree.specs.declared.ctype.Specifier.{Specifier}
-use Rattle.c_tree.specs.declared.program.Param.{Param}
-use Rattle.c_tree.specs.Tree.{Exp, Declared, Init, Object, Part, Fields, Outer}
+use Rattle.c_tree.specs.Tree.{Exp, Formal, Declared, Init, Object, Part, Fields, Outer}
 use Rattle.rr_base.specs.declared.position.Position.{Position}
 use Rattle.c_grammar.specs.Marks.{Lexeme}
 use Rattle.c_grammar.specs.Phrase.{Phrase}
@@ -69,8 +68,8 @@ arguments_rules l ts = by_rule (phrase.arguments l) ts
 pub maybe_expression_rules : (l : ℕ) (stop : Punct) (ts : List Lexeme) → read 256 (phrase.maybe_expression l stop) ts ≡ run 256 (read 256) (rules (phrase.maybe_expression l stop)) ts
 maybe_expression_rules l stop ts = by_rule (phrase.maybe_expression l stop) ts
 
-pub raising_stars_rules : (l : ℕ) (n : ℕ) (ts : List Lexeme) → read 256 (phrase.raising_stars l n) ts ≡ run 256 (read 256) (rules (phrase.raising_stars l n)) ts
-raising_stars_rules l n ts = by_rule (phrase.raising_stars l n) ts
+pub pointer_rules : (l : ℕ) (ts : List Lexeme) → read 256 (phrase.pointer l) ts ≡ run 256 (read 256) (rules (phrase.pointer l)) ts
+pointer_rules l ts = by_rule (phrase.pointer l) ts
 
 pub declarator_rules : (l : ℕ) (ts : List Lexeme) → read 256 (phrase.declarator l) ts ≡ run 256 (read 256) (rules (phrase.declarator l)) ts
 declarator_rules l ts = by_rule (phrase.declarator l) ts
@@ -105,17 +104,17 @@ statement_rules l ts = by_rule (phrase.statement l) ts
 pub parts_rules : (l : ℕ) (ps : List Part) (ts : List Lexeme) → read 256 (phrase.parts l ps) ts ≡ run 256 (read 256) (rules (phrase.parts l ps)) ts
 parts_rules l ps ts = by_rule (phrase.parts l ps) ts
 
-pub param_rules : (ts : List Lexeme) → read 256 phrase.param ts ≡ run 256 (read 256) (rules phrase.param) ts
-param_rules ts = by_rule phrase.param ts
+pub param_rules : (l : ℕ) (ts : List Lexeme) → read 256 (phrase.param l) ts ≡ run 256 (read 256) (rules (phrase.param l)) ts
+param_rules l ts = by_rule (phrase.param l) ts
 
-pub param_after_rules : (s : Specifier) (ts : List Lexeme) → read 256 (phrase.param_after s) ts ≡ run 256 (read 256) (rules (phrase.param_after s)) ts
-param_after_rules s ts = by_rule (phrase.param_after s) ts
+pub param_after_rules : (l : ℕ) (s : Specifier) (ts : List Lexeme) → read 256 (phrase.param_after l s) ts ≡ run 256 (read 256) (rules (phrase.param_after l s)) ts
+param_after_rules l s ts = by_rule (phrase.param_after l s) ts
 
-pub more_params_rules : (xs : List Param) (ts : List Lexeme) → read 256 (phrase.more_params xs) ts ≡ run 256 (read 256) (rules (phrase.more_params xs)) ts
-more_params_rules xs ts = by_rule (phrase.more_params xs) ts
+pub more_params_rules : (l : ℕ) (xs : List Formal) (ts : List Lexeme) → read 256 (phrase.more_params l xs) ts ≡ run 256 (read 256) (rules (phrase.more_params l xs)) ts
+more_params_rules l xs ts = by_rule (phrase.more_params l xs) ts
 
-pub params_rules : (ts : List Lexeme) → read 256 phrase.params ts ≡ run 256 (read 256) (rules phrase.params) ts
-params_rules ts = by_rule phrase.params ts
+pub params_rules : (l : ℕ) (ts : List Lexeme) → read 256 (phrase.params l) ts ≡ run 256 (read 256) (rules (phrase.params l)) ts
+params_rules l ts = by_rule (phrase.params l) ts
 
 pub code_rules : (ts : List Lexeme) → read 256 phrase.code ts ≡ run 256 (read 256) (rules phrase.code) ts
 code_rules ts = by_rule phrase.code ts

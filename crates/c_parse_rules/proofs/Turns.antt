@@ -49,12 +49,6 @@ lengths_turn l m es ts mid next rest x y e d h k r s =
     let close = rw d at s in
     rw (by_rule (phrase.lengths l es) ts, h, there, r, close, d) (returned (read 256 (phrase.lengths (suc l) (es ++ e ∷ [])) rest))
 
-pub raising_stars_turn : (l n m : ℕ) (ts rest : List Lexeme) (x : Unit {0} × Position) → m ≡ suc (l + n) → passes (is_of (sign punct.Star)) ts ≡ true → token 256 (sign punct.Star) m ts ≡ Got x rest → read 256 (phrase.raising_stars l n) ts ≡ read 256 (phrase.raising_stars l (n + 1)) rest
-raising_stars_turn l n m ts rest x e h k =
-    let next : suc n ≡ n + 1 = omega arith in
-    let there = rw e at k in
-    rw (by_rule (phrase.raising_stars l n) ts, h, there) (returned (read 256 (phrase.raising_stars l (suc n)) rest) ∙ ap (λ z. read 256 (phrase.raising_stars l z) rest) next)
-
 -- what ends a part ends the whole
 pub stops_then : {A B : Type 0} (s : Stop) (o : Outcome A) (f : A → Parser B) → Stops s o → Stops s (and_then o f)
 stops_then stop.OutOfMemory o f h = tt

@@ -5,7 +5,9 @@ use Rattle.c_lexer.specs.declared.token.Token.{Token}
 use Rattle.c_tree.specs.declared.name.Name.{Name as TreeName}
 use Rattle.c_tree.specs.declared.declaration.Initial.{Initial}
 use Rattle.rr_base.specs.declared.position.Position.{Position}
-use Rattle.c_tree.specs.View.{init_of}
+use Rattle.c_tree.specs.declared.param.Params.{Params}
+use Rattle.c_tree.specs.Tree.{Formals}
+use Rattle.c_tree.specs.View.{init_of, formals_of}
 use Rattle.c_parse_rules.specs.declared.token.Stop.{Stop}
 use Rattle.c_parse_rules.specs.declared.token.Stop.TheVariants as stop
 use Rattle.c_grammar.specs.Marks.{Lexeme}
@@ -36,6 +38,10 @@ name_view n = (n.text, n.at)
 -- the crate's initials, and whether a comma stands after the last
 abbrev pub initials_of : List Initial × Bool → Initials
 initials_of x = initials (map init_of x.0) x.1
+
+-- a pointer to a function by its name and its parameters, as the rules have them
+abbrev pub pointed_of : TreeName × Params → TreeName × Formals
+pointed_of x = (x.0, formals_of x.1)
 
 -- the same fault with the same tokens left, unless memory runs out
 abbrev pub Stops : {B : Type 0} → Stop → Outcome B → Type 0

@@ -1,5 +1,5 @@
-//! What the reader of a C source goes by at each token: the next token as its rule takes it, the names of types, the heads
-//! of functions and objects, and trees made of smaller ones. It stands on `rr_base`, `c_lexer`, `c_tree` and `c_grammar`.
+//! What the reader of a C source goes by at each token: the next token as its rule takes it, the names of types, how
+//! declarators begin, and trees made of smaller ones. It stands on `rr_base`, `c_lexer`, `c_tree` and `c_grammar`.
 //! It promises that what is taken is what the rule takes, and its lemmas say of each phrase that it is read by its rule.
 #![tactic(auto)]
 

@@ -1,36 +1,22 @@
 //! Reads declarations (C99 6.7). Each reader is named after its phrase. It takes the level of nesting at which the phrase
 //! stands, and gives the tree and the tokens after it.
 
-ghost use Rattle.std.specs.Prelude.{◌≡◌, ◌+◌, ◌≤◌, IfOk, [], map};
+ghost use Rattle.std.specs.Prelude.{◌≡◌, ◌≤◌, [], map};
 ghost use Rattle.c_tree.specs.View.{exp_of, declared_of, init_of, object_of, declares_of};
 ghost use Rattle.c_parse_rules.specs.Gives.{limit, initials_of, Reads, Follows};
 ghost use Rattle.c_grammar.specs.Phrase as phrase;
 ghost use Rattle.c_grammar.specs.Rules.{braces_rule};
 
+use crate::param::pointer;
 use c_expressions::expression::{assignment, conditional};
 use c_lexer::{Punct, Token, Word};
+use c_parse_rules::head::{Front, declarator_front};
 use c_parse_rules::make;
-use c_parse_rules::token::{Stop, begins_with, name, next_punct, next_word, punct};
+use c_parse_rules::token::{Stop, begins_with, next_punct, next_word, punct};
 use c_parse_rules::types::{specifier, specifier_place};
 use c_tree::{Declaration, Declarator, Expr, Initial, Item};
 use rr_base::{List, Position};
 use std::alloc::Global;
-
-// The number of stars, each one level above the one before it.
-#[tactic(auto, using(c_parse_rules::proofs::Steps::raising_stars_rules))]
-fn raising_stars(level: u32, tokens: &[Token]) -> Result<(u32, &[Token]), Stop<'_>>
-    requires { level ≤ limit }
-    ensures stars { Reads (phrase.raising_stars level 0) (λ n. n) tokens.now result }
-    ensures within { IfOk result (λ x. level + x.0 ≤ limit) }
-{
-    let mut rest = tokens;
-    let mut count = 0;
-    while let Some((_, following)) = next_punct(rest, Punct::Star, level + count + 1)? {
-        count += 1;
-        rest = following;
-    }
-    Ok((count, rest))
-}
 
 #[tactic(auto, using(c_parse_rules::proofs::Steps::declarator_rules))]
 pub(crate) fn declarator(
@@ -41,18 +27,32 @@ pub(crate) fn declarator(
     requires { level ≤ limit }
     ensures { Reads (phrase.declarator level) (λ d. declared_of d) tokens.now result }
 {
-    let (stars, rest) = raising_stars(level, tokens)?;
-    let (name, rest) = name(alloc, rest, level + stars)?;
-    let (lengths, rest) = lengths(alloc, level + stars, rest)?;
-    let stars = stars as usize;
-    Ok((
-        Declarator {
-            stars,
-            name,
-            lengths,
-        },
-        rest,
-    ))
+    let (front, rest) = declarator_front(alloc, level, tokens)?;
+    match front {
+        Front::Object { stars, name } => {
+            let (lengths, rest) = lengths(alloc, level + stars, rest)?;
+            let stars = stars as usize;
+            Ok((
+                Declarator::Object {
+                    stars,
+                    name,
+                    lengths,
+                },
+                rest,
+            ))
+        }
+        Front::Pointer { stars } => {
+            let ((name, params), rest) = pointer(alloc, level, rest)?;
+            Ok((
+                Declarator::Pointer {
+                    stars,
+                    name,
+                    params,
+                },
+                rest,
+            ))
+        }
+    }
 }
 
 /// The lengths of arrays in brackets, each pair one level above the one before it.

@@ -3,118 +3,20 @@
 ghost use Rattle.std.specs.Prelude.{◌≡◌, ◌≤◌, [], map};
 ghost use Rattle.c_tree.specs.View.{code_of, declared_of, fields_of, outer_of};
 ghost use Rattle.c_parse_rules.specs.Gives.{limit, Reads, Follows};
-ghost use Rattle.c_grammar.specs.Grammar.{name_place, is_void_alone as spec_is_void_alone};
+ghost use Rattle.c_grammar.specs.Grammar.{name_place};
 ghost use Rattle.c_grammar.specs.Phrase as phrase;
 ghost use Rattle.c_grammar.specs.Rules as rules;
 
 use crate::declaration::{declarator, lengths, more_objects, object_past};
+use crate::param::{params, pointer};
 use crate::statement::parts;
 use c_lexer::{Punct, Token, Word};
 use c_parse_rules::head::{Head, outer_head};
-use c_parse_rules::token::{Stop, begins_with, name, next_name, next_punct, next_word, punct};
-use c_parse_rules::types::{specifier, specifier_place, stars};
-use c_tree::{Body, Declarator, External, Member, Name, Param, Params, Specifier};
+use c_parse_rules::token::{Stop, begins_with, name, next_punct, next_word, punct};
+use c_parse_rules::types::{specifier, specifier_place};
+use c_tree::{Body, Declarator, External, Member, Name, Specifier};
 use rr_base::{List, Position};
 use std::alloc::Global;
-
-// ---- parameters (C99 6.7.5.3)
-
-#[tactic(auto, using(c_parse_rules::proofs::Steps::param_rules))]
-fn param(alloc: Global, tokens: &[Token]) -> Result<(Param, &[Token]), Stop<'_>>
-    ensures { Reads phrase.param (λ x. x) tokens.now result }
-{
-    let (specifier, rest) = specifier(alloc, 0, tokens)?;
-    param_after(alloc, specifier, rest)
-}
-
-// After the specifier.
-#[tactic(auto, using(c_parse_rules::proofs::Steps::param_after_rules))]
-fn param_after(
-    alloc: Global,
-    specifier: Specifier,
-    tokens: &[Token],
-) -> Result<(Param, &[Token]), Stop<'_>>
-    ensures { Reads (phrase.param_after specifier) (λ x. x) tokens.now result }
-{
-    let at = specifier_place(&specifier);
-    let (stars, rest) = stars(0, tokens)?;
-    let Some((name, following)) = next_name(alloc, rest, 0)? else {
-        return Ok((
-            Param {
-                specifier,
-                stars,
-                name: None,
-                at,
-            },
-            rest,
-        ));
-    };
-    Ok((
-        Param {
-            specifier,
-            stars,
-            name: Some(name),
-            at,
-        },
-        following,
-    ))
-}
-
-// The parameters with a comma before each, after those that were found.
-fn more_params(
-    alloc: Global,
-    mut found: List<Param>,
-    tokens: &[Token],
-) -> Result<(List<Param>, &[Token]), Stop<'_>>
-    ensures { Reads (phrase.more_params found) (λ xs. xs) tokens.now result }
-{
-    let mut rest = tokens;
-    'params: while let Some((_, following)) = next_punct(rest, Punct::Comma, 0)? {
-        let (next, following) = param(alloc, following)?;
-        found.push(next)?;
-        rest = following;
-    }
-    Ok((found, rest))
-}
-
-// The word `void` alone is no parameter.
-fn is_void_alone(params: &[Param]) -> bool
-    ensures { result ≡ spec_is_void_alone params.now }
-{
-    let [only] = params else {
-        return false;
-    };
-    let stars = only.stars;
-    match (&only.specifier, &only.name) {
-        (Specifier::Void { .. }, None) => stars == 0,
-        _ => false,
-    }
-}
-
-fn params_from(found: List<Param>) -> Params
-    ensures { result ≡ rules.params_from found }
-{
-    if is_void_alone(found.as_slice()) {
-        Params::Void
-    } else {
-        Params::Listed(found)
-    }
-}
-
-// Up to the parenthesis that closes them.
-#[tactic(auto, using(c_parse_rules::proofs::Steps::params_rules))]
-fn params(alloc: Global, tokens: &[Token]) -> Result<(Params, &[Token]), Stop<'_>>
-    ensures { Reads phrase.params (λ x. x) tokens.now result }
-{
-    if begins_with(tokens, Punct::CloseParen) {
-        return Ok((Params::Nothing, tokens));
-    }
-    let (first, rest) = param(alloc, tokens)?;
-    let mut found = List::new(alloc);
-    found.push(first)?;
-    let (found, rest) = more_params(alloc, found, rest)?;
-    Ok((params_from(found), rest))
-}
 
 // ---- functions
 
@@ -216,7 +118,7 @@ fn function(
 ) -> Result<(External, &[Token]), Stop<'_>>
     ensures { Follows (rules.function_rule is_static specifier stars name.text (name_place name)) (λ o. outer_of o) tokens.now result }
 {
-    let (params, rest) = params(alloc, tokens)?;
+    let (params, rest) = params(alloc, 0, tokens)?;
     let (_, rest) = punct(rest, Punct::CloseParen, 0)?;
     let (body, rest) = code(alloc, rest)?;
     Ok((
@@ -227,6 +129,33 @@ fn function(
             name,
             params,
             body,
+        },
+        rest,
+    ))
+}
+
+// After the declarator of the first.
+fn objects_after(
+    alloc: Global,
+    is_static: bool,
+    specifier: Specifier,
+    at: Position,
+    declarator: Declarator,
+    tokens: &[Token],
+) -> Result<(External, &[Token]), Stop<'_>>
+    ensures { Follows (rules.objects_after_rule is_static specifier at (declared_of declarator)) (λ o. outer_of o) tokens.now result }
+{
+    let (first, rest) = object_past(alloc, 0, declarator, tokens)?;
+    let mut found = List::new(alloc);
+    found.push(first)?;
+    let (items, rest) = more_objects(alloc, 0, found, rest)?;
+    let (_, rest) = punct(rest, Punct::Semicolon, 0)?;
+    Ok((
+        External::Objects {
+            is_static,
+            specifier,
+            items,
+            at,
         },
         rest,
     ))
@@ -247,25 +176,32 @@ fn objects(
 {
     let (lengths, rest) = lengths(alloc, stars, tokens)?;
     let stars = stars as usize;
-    let declarator = Declarator {
+    let declarator = Declarator::Object {
         stars,
         name,
         lengths,
     };
-    let (first, rest) = object_past(alloc, 0, declarator, rest)?;
-    let mut found = List::new(alloc);
-    found.push(first)?;
-    let (items, rest) = more_objects(alloc, 0, found, rest)?;
-    let (_, rest) = punct(rest, Punct::Semicolon, 0)?;
-    Ok((
-        External::Objects {
-            is_static,
-            specifier,
-            items,
-            at,
-        },
-        rest,
-    ))
+    objects_after(alloc, is_static, specifier, at, declarator, rest)
+}
+
+// After the first parenthesis of the first, a pointer to a function.
+fn pointers(
+    alloc: Global,
+    is_static: bool,
+    specifier: Specifier,
+    at: Position,
+    stars: usize,
+    tokens: &[Token],
+) -> Result<(External, &[Token]), Stop<'_>>
+    ensures { Follows (rules.pointers_rule is_static specifier at stars) (λ o. outer_of o) tokens.now result }
+{
+    let ((name, params), rest) = pointer(alloc, 0, tokens)?;
+    let declarator = Declarator::Pointer {
+        stars,
+        name,
+        params,
+    };
+    objects_after(alloc, is_static, specifier, at, declarator, rest)
 }
 
 // After the specifier. The place is that of the first token.
@@ -285,6 +221,7 @@ fn outer_after(
         Head::Object { stars, name } => {
             objects(alloc, is_static, specifier, at, stars, name, rest)
         }
+        Head::Pointer { stars } => pointers(alloc, is_static, specifier, at, stars, rest),
     }
 }
 

@@ -7,6 +7,7 @@ mod compose;
 mod declaration;
 mod external;
 mod fault;
+mod param;
 mod short;
 mod source;
 mod statement;

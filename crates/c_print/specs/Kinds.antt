@@ -16,10 +16,7 @@ use Rattle.c_tree.specs.declared.expr.BinaryOp.{BinaryOp}
 use Rattle.c_tree.specs.declared.expr.BinaryOp.TheVariants as binary_op
 use Rattle.c_tree.specs.declared.expr.AssignOp.{AssignOp}
 use Rattle.c_tree.specs.declared.expr.AssignOp.TheVariants as assign_op
-use Rattle.c_tree.specs.declared.program.Params.{Params}
-use Rattle.c_tree.specs.declared.program.Params.TheVariants as params
-use Rattle.c_tree.specs.declared.program.Param.{Param}
-use Rattle.c_tree.specs.Tree.{Exp, comma, assign, conditional, binary, prefix, sizeof_exp, sizeof_type, cast, index, member, arrow, post_increment, post_decrement, named, call, number, letter, text, null, paren, Exps, no_exp, and_exp, Declared, declared, Init, value, braces, mutex_start, cond_start, rwlock_start, Inits, no_init, and_init, Object, plain, initialised, Declares, declares, Start, start_declares, start_computes, Statement, block, compute, break_at, continue_at, gives, branch, branch_else, while_loop, do_loop, for_loop, Parts, no_part, and_declares, and_does, Code, defined, prototype, Fields, fields, Outer, structure, function, objects}
+use Rattle.c_tree.specs.Tree.{Exp, comma, assign, conditional, binary, prefix, sizeof_exp, sizeof_type, cast, index, member, arrow, post_increment, post_decrement, named, call, number, letter, text, null, paren, Exps, no_exp, and_exp, Formal, formal, formal_pointer, Formals, no_formals, void_formals, listed_formals, FormalRow, no_formal, and_formal, Declared, declared, declared_pointer, Init, value, braces, mutex_start, cond_start, rwlock_start, Inits, no_init, and_init, Object, plain, initialised, Declares, declares, Start, start_declares, start_computes, Statement, block, compute, break_at, continue_at, gives, branch, branch_else, while_loop, do_loop, for_loop, Parts, no_part, and_declares, and_does, Code, defined, prototype, Fields, fields, Outer, structure, function, objects}
 
 -- the sign of an operator that stands before its operand (C99 6.5.3)
 abbrev pub prefix_punct : PrefixOp → Punct
@@ -143,6 +140,39 @@ abbrev pub maybe_kinds : Option Exp → List Kind
 maybe_kinds None = []
 maybe_kinds (Some e) = exp_kinds e
 
+-- ---- parameters
+
+-- the name of a parameter, which need have none
+abbrev pub named_kinds : Option Name → List Kind
+named_kinds None = []
+named_kinds (Some n) = name_kind n ∷ []
+
+-- a pointer to a function, as `** (*name)(parameters)`: the stars of its result, its name, the tokens of its parameters
+abbrev pub pointer_kinds : ℕ → Name → List Kind → List Kind
+pointer_kinds stars name xs = stars_kinds stars ++ p punct.OpenParen ∷ p punct.Star ∷ name_kind name ∷ p punct.CloseParen ∷ p punct.OpenParen ∷ (xs ++ p punct.CloseParen ∷ [])
+
+abbrev mutual
+  -- one parameter, without a comma (C99 6.7.5.3)
+  pub formal_kinds : Formal → List Kind
+  formal_kinds (formal s stars name place) = specifier_kinds s ++ (stars_kinds stars ++ named_kinds name)
+  formal_kinds (formal_pointer s stars name xs place) = specifier_kinds s ++ pointer_kinds stars name (formals_kinds xs)
+
+  -- what stands in a function's parentheses (C99 6.7.5.3)
+  pub formals_kinds : Formals → List Kind
+  formals_kinds no_formals = []
+  formals_kinds void_formals = w word.Void ∷ []
+  formals_kinds (listed_formals xs) = formal_row_kinds xs
+
+  -- the parameters with commas between them
+  pub formal_row_kinds : FormalRow → List Kind
+  formal_row_kinds no_formal = []
+  formal_row_kinds (and_formal x xs) = formal_kinds x ++ rest_formals_kinds xs
+
+  -- the parameters after the first, each with a comma before it
+  pub rest_formals_kinds : FormalRow → List Kind
+  rest_formals_kinds no_formal = []
+  rest_formals_kinds (and_formal x xs) = p punct.Comma ∷ (formal_kinds x ++ rest_formals_kinds xs)
+
 -- ---- declarations
 
 -- array lengths, each in brackets of its own (C99 6.7.5.2)
@@ -153,6 +183,7 @@ length_kinds (e ∷ es) = p punct.OpenBracket ∷ (exp_kinds e ++ p punct.CloseB
 -- a declarator (C99 6.7.5), without its specifier
 abbrev pub declared_kinds : Declared → List Kind
 declared_kinds (declared stars name lengths) = stars_kinds stars ++ name_kind name ∷ length_kinds lengths
+declared_kinds (declared_pointer stars name xs) = pointer_kinds stars name (formals_kinds xs)
 
 abbrev mutual
   pub init_kinds : Init → List Kind
@@ -217,31 +248,6 @@ abbrev mutual
 
 -- ---- the outermost level
 
--- the name of a parameter, which need have none
-abbrev pub named_kinds : Option Name → List Kind
-named_kinds None = []
-named_kinds (Some n) = name_kind n ∷ []
-
--- one parameter, without a comma (C99 6.7.5.3)
-abbrev pub param_kinds : Param → List Kind
-param_kinds x = specifier_kinds x.specifier ++ (stars_kinds x.stars ++ named_kinds x.name)
-
--- the parameters after the first, each with a comma before it
-abbrev pub rest_params_kinds : List Param → List Kind
-rest_params_kinds [] = []
-rest_params_kinds (x ∷ xs) = p punct.Comma ∷ (param_kinds x ++ rest_params_kinds xs)
-
--- the parameters with commas between them
-abbrev pub listed_params_kinds : List Param → List Kind
-listed_params_kinds [] = []
-listed_params_kinds (x ∷ xs) = param_kinds x ++ rest_params_kinds xs
-
--- what stands in a function's parentheses (C99 6.7.5.3)
-abbrev pub params_kinds : Params → List Kind
-params_kinds params.Nothing = []
-params_kinds params.Void = w word.Void ∷ []
-params_kinds (params.Listed xs) = listed_params_kinds xs
-
 -- a body in braces, or the semicolon of a prototype
 abbrev pub code_kinds : Code → List Kind
 code_kinds (defined ps place) = p punct.OpenBrace ∷ (parts_kinds ps ++ p punct.CloseBrace ∷ [])
@@ -270,7 +276,7 @@ all_fields_kinds (f ∷ fs) = fields_kinds f ++ all_fields_kinds fs
 abbrev pub outer_kinds : Outer → List Kind
 outer_kinds (structure name fs) = w word.Struct ∷ name_kind name ∷ p punct.OpenBrace ∷ (all_fields_kinds fs ++ p punct.CloseBrace ∷ p punct.Semicolon ∷ [])
 outer_kinds (function is_static s stars name xs code) =
-    if_there is_static (w word.Static) ++ (specifier_kinds s ++ (stars_kinds stars ++ name_kind name ∷ p punct.OpenParen ∷ (params_kinds xs ++ p punct.CloseParen ∷ code_kinds code)))
+    if_there is_static (w word.Static) ++ (specifier_kinds s ++ (stars_kinds stars ++ name_kind name ∷ p punct.OpenParen ∷ (formals_kinds xs ++ p punct.CloseParen ∷ code_kinds code)))
 outer_kinds (objects is_static s os place) = if_there is_static (w word.Static) ++ (specifier_kinds s ++ (objects_kinds os ++ p punct.Semicolon ∷ []))
 
 -- a whole source, in the order of the text

@@ -1,6 +1,6 @@
 ghost use Rattle.std.specs.Prelude.{◌≡◌, ◌++◌, [], ◌∷◌, IfOk, OnOk, map};
-ghost use Rattle.c_tree.specs.View.{exp_of, maybe_of, declared_of, init_of, object_of, declares_of, start_of, stmt_of, part_of, code_of, fields_of, outer_of, program_of};
-ghost use Rattle.c_tree.specs.Tree.{listed, listed_inits, listed_parts};
+ghost use Rattle.c_tree.specs.View.{exp_of, maybe_of, formal_of, formals_of, declared_of, init_of, object_of, declares_of, start_of, stmt_of, part_of, code_of, fields_of, outer_of, program_of};
+ghost use Rattle.c_tree.specs.Tree.{listed, listed_row, listed_inits, listed_parts};
 ghost use Rattle.c_print.specs.Kinds as spec;
 ghost use Rattle.c_lexer.specs.declared.token.Kind.TheVariants as kind;
 ghost use Rattle.c_lexer.specs.declared.token.Word.TheVariants as word;
@@ -89,6 +89,19 @@ fn put_name(alloc: Global, out: &mut List<Kind>, name: &Bytes) -> Result<(), All
 {
     let copy = List::from_slice(alloc, name.as_slice())?;
     out.push(Kind::Name(copy))
+}
+
+fn put_maybe_name(
+    alloc: Global,
+    out: &mut List<Kind>,
+    name: &Option<Name>,
+) -> Result<(), AllocError>
+    ensures { OnOk result (out.new ≡ out.old ++ spec.named_kinds name.now) }
+{
+    match name {
+        None => Ok(()),
+        Some(name) => put_name(alloc, out, &name.text),
+    }
 }
 
 fn put_text(alloc: Global, out: &mut List<Kind>, bytes: &Bytes) -> Result<(), AllocError>
@@ -329,6 +342,81 @@ fn print_maybe(alloc: Global, out: &mut List<Kind>, e: &Option<Expr>) -> Result<
     }
 }
 
+#[cycle(print_params)]
+fn print_param(alloc: Global, out: &mut List<Kind>, param: &Param) -> Result<(), AllocError>
+    ensures { OnOk result (out.new ≡ out.old ++ spec.formal_kinds (formal_of param.now)) }
+{
+    match param {
+        Param::Object {
+            specifier,
+            stars,
+            name,
+            ..
+        } => {
+            print_specifier(alloc, out, specifier)?;
+            put_stars(out, *stars)?;
+            put_maybe_name(alloc, out, name)
+        }
+        Param::Pointer {
+            specifier,
+            stars,
+            name,
+            params,
+            ..
+        } => {
+            print_specifier(alloc, out, specifier)?;
+            print_pointer(alloc, out, *stars, name, params)
+        }
+    }
+}
+
+// A pointer to a function, without the specifier of its result.
+#[cycle(print_params)]
+fn print_pointer(
+    alloc: Global,
+    out: &mut List<Kind>,
+    stars: usize,
+    name: &Name,
+    params: &Params,
+) -> Result<(), AllocError>
+    ensures { OnOk result (out.new ≡ out.old ++ spec.pointer_kinds stars name.now (spec.formals_kinds (formals_of params.now))) }
+{
+    put_stars(out, stars)?;
+    put_punct(out, Punct::OpenParen)?;
+    put_punct(out, Punct::Star)?;
+    put_name(alloc, out, &name.text)?;
+    put_punct(out, Punct::CloseParen)?;
+    put_punct(out, Punct::OpenParen)?;
+    print_params(alloc, out, params)?;
+    put_punct(out, Punct::CloseParen)
+}
+
+#[cycle(print_params)]
+fn print_params(alloc: Global, out: &mut List<Kind>, params: &Params) -> Result<(), AllocError>
+    ensures { OnOk result (out.new ≡ out.old ++ spec.formals_kinds (formals_of params.now)) }
+{
+    match params {
+        Params::Nothing => Ok(()),
+        Params::Void => put_word(out, Word::Void),
+        Params::Listed(params) => print_listed(alloc, out, params.as_slice()),
+    }
+}
+
+#[cycle(print_params)]
+fn print_listed(alloc: Global, out: &mut List<Kind>, params: &[Param]) -> Result<(), AllocError>
+    ensures { OnOk result (out.new ≡ out.old ++ spec.formal_row_kinds (listed_row (map formal_of params.now))) }
+{
+    let [first, rest @ ..] = params else {
+        return Ok(());
+    };
+    print_param(alloc, out, first)?;
+    for param in rest {
+        put_punct(out, Punct::Comma)?;
+        print_param(alloc, out, param)?;
+    }
+    Ok(())
+}
+
 fn print_declarator(
     alloc: Global,
     out: &mut List<Kind>,
@@ -336,9 +424,28 @@ fn print_declarator(
 ) -> Result<(), AllocError>
     ensures { OnOk result (out.new ≡ out.old ++ spec.declared_kinds (declared_of declarator.now)) }
 {
-    put_stars(out, declarator.stars)?;
-    put_name(alloc, out, &declarator.name.text)?;
-    for length in declarator.lengths.as_slice() {
+    match declarator {
+        Declarator::Object {
+            stars,
+            name,
+            lengths,
+        } => {
+            put_stars(out, *stars)?;
+            put_name(alloc, out, &name.text)?;
+            print_lengths(alloc, out, lengths.as_slice())
+        }
+        Declarator::Pointer {
+            stars,
+            name,
+            params,
+        } => print_pointer(alloc, out, *stars, name, params),
+    }
+}
+
+fn print_lengths(alloc: Global, out: &mut List<Kind>, lengths: &[Expr]) -> Result<(), AllocError>
+    ensures { OnOk result (out.new ≡ out.old ++ spec.length_kinds (map exp_of lengths.now)) }
+{
+    for length in lengths {
         put_punct(out, Punct::OpenBracket)?;
         print_expr(alloc, out, length)?;
         put_punct(out, Punct::CloseBracket)?;
@@ -551,41 +658,6 @@ fn print_parts(alloc: Global, out: &mut List<Kind>, parts: &[Part]) -> Result<()
             Part::Declares(declaration) => print_declaration(alloc, out, declaration)?,
             Part::Does(stmt) => print_stmt(alloc, out, stmt)?,
         }
-    }
-    Ok(())
-}
-
-fn print_param(alloc: Global, out: &mut List<Kind>, param: &Param) -> Result<(), AllocError>
-    ensures { OnOk result (out.new ≡ out.old ++ spec.param_kinds param.now) }
-{
-    print_specifier(alloc, out, &param.specifier)?;
-    put_stars(out, param.stars)?;
-    match &param.name {
-        None => Ok(()),
-        Some(name) => put_name(alloc, out, &name.text),
-    }
-}
-
-fn print_params(alloc: Global, out: &mut List<Kind>, params: &Params) -> Result<(), AllocError>
-    ensures { OnOk result (out.new ≡ out.old ++ spec.params_kinds params.now) }
-{
-    match params {
-        Params::Nothing => Ok(()),
-        Params::Void => put_word(out, Word::Void),
-        Params::Listed(params) => print_listed(alloc, out, params.as_slice()),
-    }
-}
-
-fn print_listed(alloc: Global, out: &mut List<Kind>, params: &[Param]) -> Result<(), AllocError>
-    ensures { OnOk result (out.new ≡ out.old ++ spec.listed_params_kinds params.now) }
-{
-    let [first, rest @ ..] = params else {
-        return Ok(());
-    };
-    print_param(alloc, out, first)?;
-    for param in rest {
-        put_punct(out, Punct::Comma)?;
-        print_param(alloc, out, param)?;
     }
     Ok(())
 }

@@ -2,5 +2,6 @@ pub mod ByName
 pub mod Counted
 mod LibraryNames
 pub mod Parts
+mod PointerRows
 pub mod Starts
 pub mod Within

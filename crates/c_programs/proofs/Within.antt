@@ -1,10 +1,12 @@
 -- What is declared in a scope is forgotten where it is closed.
-use Rattle.std.proofs.Common.{◌≡◌, List, [], ◌∷◌, false, Some, None, refl}
+use Rattle.std.proofs.Common.{◌≡◌, List, [], ◌∷◌, false, Option, Some, None, refl}
 use Rattle.c_tree.specs.declared.ctype.Specifier.{Specifier}
-use Rattle.c_tree.specs.declared.program.Param.{Param}
-use Rattle.c_tree.specs.Tree.{Object, plain, initialised, Declares, declares, Start, start_declares, start_computes, Parts, no_part, and_declares, and_does, Code, defined, prototype}
+use Rattle.c_tree.specs.declared.name.Name.{Name}
+use Rattle.c_tree.specs.Tree.{Formal, Object, plain, initialised, Declares, declares, Start, start_declares, start_computes, Parts, no_part, and_declares, and_does, Code, defined, prototype}
+use Rattle.c_types.specs.declared.types.ObjectType.{ObjectType}
 use Rattle.c_types.specs.Scopes.{Known, Scope, opened, closed}
-use Rattle.c_programs.specs.Declarators.{after_param, after_params}
+use Rattle.c_names.specs.Sources.{param_name}
+use Rattle.c_programs.specs.Declarators.{param_type, named_by, after_param, after_params}
 use Rattle.c_programs.specs.Programs.{after_body}
 use Rattle.c_programs.specs.Statements.{after_objects, after_declares, after_start, after_parts}
 
@@ -37,12 +39,15 @@ closed_start known (start_computes e) = refl
 
 -- the parameters of a function are declared in the innermost scope too
 through_param : (P : Known → Type 0) (known : Known) → ((s : Scope) → P (inside known s)) →
-    (p : Param) (s : Scope) → P (after_param (inside known s) p)
-through_param P known holds p s =
-    elim p.name as (λ o. P (after_param (inside known s) (record p { name = o }))) [ None ↦ holds s | Some name ↦ holds _ ]
+    (p : Formal) (s : Scope) → P (after_param (inside known s) p)
+through_param P known holds p s = named (param_name p) (param_type (inside known s) p)
+  where
+    named : (o : Option Name) (t : Option ObjectType) → P (named_by (inside known s) o t)
+    named None t = holds s
+    named (Some name) t = holds _
 
 through_params : (P : Known → Type 0) (known : Known) → ((s : Scope) → P (inside known s)) →
-    (ps : List Param) (s : Scope) → P (after_params (inside known s) ps)
+    (ps : List Formal) (s : Scope) → P (after_params (inside known s) ps)
 through_params P known holds [] s = holds s
 through_params P known holds (p ∷ ps) s = through_param (λ k. P (after_params k ps)) known (λ t. through_params P known holds ps t) p s
 
@@ -50,5 +55,5 @@ closed_code : (known : Known) (code : Code) (s : Scope) → closed (after_body (
 closed_code known (defined ps at) s = closed_inside known ps s
 closed_code known prototype s = refl
 
-pub closed_body : (known : Known) (ps : List Param) (code : Code) → closed (after_body (after_params (opened known) ps) code) ≡ known
+pub closed_body : (known : Known) (ps : List Formal) (code : Code) → closed (after_body (after_params (opened known) ps) code) ≡ known
 closed_body known ps code = through_params (λ k. closed (after_body k code) ≡ known) known (λ s. closed_code known code s) ps []

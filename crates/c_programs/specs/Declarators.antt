@@ -3,23 +3,22 @@ use Rattle.std.specs.Prelude.{ℕ, ◌+◌, ◌==◌, nat_lt, Bool, true, false,
 use Rattle.c_text.specs.Texts.{Text, entry_of}
 use Rattle.c_tree.specs.declared.name.Name.{Name}
 use Rattle.c_tree.specs.declared.ctype.Specifier.{Specifier}
-use Rattle.c_tree.specs.declared.ctype.Specifier.TheVariants as specifier
-use Rattle.c_tree.specs.declared.program.Param.{Param}
-use Rattle.c_tree.specs.Tree.{Exp, Declared, declared, Fields, fields}
+use Rattle.c_tree.specs.Tree.{Exp, Formal, formal, formal_pointer, Formals, Declared, declared, declared_pointer, Fields, fields}
 use Rattle.rr_base.specs.declared.position.Position.{Position}
 use Rattle.c_types.specs.declared.types.BaseType.{BaseType}
+use Rattle.c_types.specs.declared.types.BaseType.TheVariants as base
 use Rattle.c_types.specs.declared.types.Layer.{Layer}
 use Rattle.c_types.specs.declared.types.Layer.TheVariants as layer
 use Rattle.c_types.specs.declared.types.ObjectType.{ObjectType}
-use Rattle.c_types.specs.declared.library.Wanted.{Wanted}
-use Rattle.c_types.specs.declared.library.Wanted.TheVariants as wants
 use Rattle.c_types.specs.declared.fault.Found.{Found}
 use Rattle.c_types.specs.declared.fault.FaultKind.TheVariants as fault
 use Rattle.c_types.specs.Constants.{constant_named}
-use Rattle.c_types.specs.Library.{library_named, fitting_type}
+use Rattle.c_types.specs.Types.{bare}
+use Rattle.c_types.specs.Library.{library_named}
 use Rattle.c_types.specs.Found.{where_it_comes}
-use Rattle.c_types.specs.Scopes.{Known, Members, variable, innermost, base_of, starred, is_complete, struct_numbered, cells_of_some, counted_cells, most_cells, declare, with_name}
-use Rattle.c_names.specs.Sources.{declared_name}
+use Rattle.c_types.specs.Scopes.{Known, Members, variable, innermost, base_of, starred, is_complete, struct_numbered, cells_of_some, counted_cells, most_cells, declare, with_name, has_name, with_text}
+use Rattle.c_names.specs.Sources.{declared_name, param_name, listed_params}
+use Rattle.c_names.specs.Signatures.{is_void_specifier, cannot_pass, cannot_give, pointer_of}
 use Rattle.c_rules.specs.Faults.{name_place, mismatch, specifier_faults}
 use Rattle.c_rules.specs.Sizes.{length_of, length_faults}
 
@@ -45,33 +44,26 @@ abbrev pub complete_by : Known → Option ObjectType → Option ObjectType
 complete_by known None = None
 complete_by known (Some t) = if is_complete known t then Some t else None
 
+-- the type of an object, by its specifier, its stars and its lengths
+abbrev pub object_type : Known → Specifier → ℕ → List Exp → Option ObjectType
+object_type known s stars lengths = complete_by known (type_by (base_of known s) stars (arrays_of known lengths))
+
+-- a pointer to the functions whose type has this number
+abbrev pub pointer_type : Option ℕ → Option ObjectType
+pointer_type None = None
+pointer_type (Some k) = Some (bare (base.Function k))
+
 -- the type of what is declared, where its declaration has no fault
 abbrev pub declared_type : Known → Specifier → Declared → Option ObjectType
-declared_type known s (declared stars name lengths) = complete_by known (type_by (base_of known s) stars (arrays_of known lengths))
+declared_type known s (declared stars name lengths) = object_type known s stars lengths
+declared_type known s (declared_pointer stars name ps) = pointer_type (pointer_of known s stars ps)
 
 -- ---- faults
-
--- `void` before the stars: without one, no object can have it
-abbrev pub is_void_specifier : Specifier → Bool
-is_void_specifier (specifier.Void at) = true
-is_void_specifier _ = false
-
--- a struct before the stars: without one, no call can pass it
-abbrev pub is_struct_specifier : Specifier → Bool
-is_struct_specifier (specifier.Struct name at) = true
-is_struct_specifier _ = false
 
 -- of each `[n]` of one declarator, at the declared name
 abbrev pub lengths_faults : Known → Position → List Exp → List Found
 lengths_faults known at [] = []
 lengths_faults known at (e ∷ es) = length_faults known at e ++ lengths_faults known at es
-
--- a struct that isn't known, an object of type Void, and the lengths
-abbrev pub declarator_faults : Known → Specifier → Declared → List Found
-declarator_faults known s (declared stars name lengths) =
-    specifier_faults known (stars == 0) s
-    ++ mismatch (is_void_specifier s && (stars == 0)) (name_place name)
-    ++ lengths_faults known (name_place name) lengths
 
 -- more cells than one object may have, which are 65535
 abbrev pub is_too_large : ℕ → Bool
@@ -94,6 +86,63 @@ is_taken known name = is_library_name name || is_some (entry_of (innermost known
 -- a second declaration in one scope, or one of a library name
 abbrev pub taken_faults : Known → Name → List Found
 taken_faults known name = where_it_comes (is_taken known name.text) fault.DuplicateName (name_place name)
+
+-- ---- pointers to functions
+
+-- the name, or the first token where there is no name
+abbrev pub place_by : Option Name → Position → Position
+place_by None at = at
+place_by (Some name) at = name_place name
+
+-- a second parameter of one name in one list, or one with a library name
+abbrev pub again_inside : List Text → Name → List Found
+again_inside names name = where_it_comes (is_library_name name.text || has_name names name.text) fault.DuplicateName (name_place name)
+
+-- a parameter may have no name
+abbrev pub name_inside_faults : List Text → Option Name → List Found
+name_inside_faults names None = []
+name_inside_faults names (Some name) = again_inside names name
+
+-- of a parameter after those with these names. A pointer to functions is refused at its name, before its own parameters
+abbrev pub inside_faults : Known → List Text → Formal → List Found
+inside_faults known names (formal s stars name at) =
+    specifier_faults known (stars == 0) s
+    ++ mismatch (cannot_pass s stars) (place_by name at)
+    ++ name_inside_faults names name
+inside_faults known names (formal_pointer s stars name ps at) =
+    specifier_faults known (stars == 0) s
+    ++ mismatch true (name_place name)
+    ++ again_inside names name
+
+-- a name more, if there is one
+abbrev pub with_name_of : List Text → Option Name → List Text
+with_name_of names None = names
+with_name_of names (Some name) = with_text names name.text
+
+-- the names of a list with one parameter more
+abbrev pub with_inside : List Text → Formal → List Text
+with_inside names (formal s stars name at) = with_name_of names name
+with_inside names (formal_pointer s stars name ps at) = with_text names name.text
+
+-- of the parameters of a pointer to functions, one after another
+abbrev pub all_inside_faults : Known → List Text → List Formal → List Found
+all_inside_faults known names [] = []
+all_inside_faults known names (p ∷ ps) = inside_faults known names p ++ all_inside_faults known (with_inside names p) ps
+
+-- of its result, as functions have them, and of its parameters
+abbrev pub pointer_faults : Known → Specifier → ℕ → Name → Formals → List Found
+pointer_faults known s stars name ps =
+    specifier_faults known (stars == 0) s
+    ++ mismatch (cannot_give s stars) (name_place name)
+    ++ all_inside_faults known [] (listed_params ps)
+
+-- a struct that isn't known, an object of type Void, and the lengths; or what is wrong with a pointer to functions
+abbrev pub declarator_faults : Known → Specifier → Declared → List Found
+declarator_faults known s (declared stars name lengths) =
+    specifier_faults known (stars == 0) s
+    ++ mismatch (is_void_specifier s && (stars == 0)) (name_place name)
+    ++ lengths_faults known (name_place name) lengths
+declarator_faults known s (declared_pointer stars name ps) = pointer_faults known s stars name ps
 
 -- ---- structs
 
@@ -169,10 +218,6 @@ after_struct known name fs =
 
 -- ---- parameters
 
--- Void and structs can't be passed, nor given
-abbrev pub cannot_pass : Specifier → ℕ → Bool
-cannot_pass s stars = (stars == 0) && (is_void_specifier s || is_struct_specifier s)
-
 -- none where it can't be passed or its struct isn't known
 abbrev pub passed_by : Bool → Option BaseType → ℕ → Option ObjectType
 passed_by true b stars = None
@@ -180,26 +225,9 @@ passed_by false None stars = None
 passed_by false (Some b) stars = Some (starred stars b)
 
 -- the type of the formal inside the function, if known
-abbrev pub param_type : Known → Param → Option ObjectType
-param_type known p = passed_by (cannot_pass p.specifier p.stars) (base_of known p.specifier) p.stars
-
--- a parameter with a fault takes any argument
-abbrev pub wanted_for : Bool → Option BaseType → ℕ → Wanted
-wanted_for true b stars = wants.Anything
-wanted_for false None stars = wants.Anything
-wanted_for false (Some b) stars = fitting_type stars b
-
--- the argument that the parameter wants
-abbrev pub wanted_of : Known → Param → Wanted
-wanted_of known p = wanted_for (cannot_pass p.specifier p.stars) (base_of known p.specifier) p.stars
-
--- the name, or the first token where there is no name
-abbrev pub param_place : Param → Position
-param_place p = place_by p.name p.at
-  where
-    place_by : Option Name → Position → Position
-    place_by None at = at
-    place_by (Some name) at = name_place name
+abbrev pub param_type : Known → Formal → Option ObjectType
+param_type known (formal s stars name at) = passed_by (cannot_pass s stars) (base_of known s) stars
+param_type known (formal_pointer s stars name ps at) = pointer_type (pointer_of known s stars ps)
 
 -- a parameter of a prototype may have no name
 abbrev pub param_name_faults : Known → Option Name → List Found
@@ -207,27 +235,33 @@ param_name_faults known None = []
 param_name_faults known (Some name) = taken_faults known name
 
 -- in a definition each parameter has a name
-abbrev pub param_faults : Known → Bool → Param → List Found
-param_faults known is_definition p =
-    specifier_faults known (p.stars == 0) p.specifier
-    ++ mismatch (cannot_pass p.specifier p.stars) (param_place p)
-    ++ mismatch (is_definition && is_none p.name) (param_place p)
-    ++ param_name_faults known p.name
+abbrev pub object_param_faults : Known → Bool → Specifier → ℕ → Option Name → Position → List Found
+object_param_faults known is_definition s stars name at =
+    specifier_faults known (stars == 0) s
+    ++ mismatch (cannot_pass s stars) (place_by name at)
+    ++ mismatch (is_definition && is_none name) (place_by name at)
+    ++ param_name_faults known name
+
+-- of a parameter of a function
+abbrev pub param_faults : Known → Bool → Formal → List Found
+param_faults known is_definition (formal s stars name at) = object_param_faults known is_definition s stars name at
+param_faults known is_definition (formal_pointer s stars name ps at) = pointer_faults known s stars name ps ++ taken_faults known name
+
+-- a variable of this name, if there is one
+abbrev pub named_by : Known → Option Name → Option ObjectType → Known
+named_by known None t = known
+named_by known (Some name) t = declare known name.text (variable t)
 
 -- its name stands in the function's scope from here on
-abbrev pub after_param : Known → Param → Known
-after_param known p = declared_by known p.name (param_type known p)
-  where
-    declared_by : Known → Option Name → Option ObjectType → Known
-    declared_by known None t = known
-    declared_by known (Some name) t = declare known name.text (variable t)
+abbrev pub after_param : Known → Formal → Known
+after_param known p = named_by known (param_name p) (param_type known p)
 
 -- each sees the ones before it; the flag tells a definition from a prototype
-abbrev pub params_faults : Known → Bool → List Param → List Found
+abbrev pub params_faults : Known → Bool → List Formal → List Found
 params_faults known is_definition [] = []
 params_faults known is_definition (p ∷ ps) = param_faults known is_definition p ++ params_faults (after_param known p) is_definition ps
 
 -- known where the body begins
-abbrev pub after_params : Known → List Param → Known
+abbrev pub after_params : Known → List Formal → Known
 after_params known [] = known
 after_params known (p ∷ ps) = after_params (after_param known p) ps

@@ -1,5 +1,5 @@
 -- What objects start as (C99 6.7.8), and which rules that breaks. Every mismatch of types stands at the `=`.
-use Rattle.std.specs.Prelude.{ℕ, ◌+◌, nat_lt, Bool, true, false, not, ◌&&◌, if◌then◌else◌, List, [], ◌∷◌, ◌++◌, Option, Some, None, is_none}
+use Rattle.std.specs.Prelude.{ℕ, ◌+◌, nat_lt, Bool, true, false, not, ◌&&◌, ◌||◌, if◌then◌else◌, List, [], ◌∷◌, ◌++◌, Option, Some, None, is_none}
 use Rattle.c_tree.specs.Tree.{Exp, named, prefix, paren, number, null, Init, value, braces, mutex_start, cond_start, rwlock_start, Inits, no_init, and_init}
 use Rattle.rr_base.specs.declared.position.Position.{Position}
 use Rattle.c_types.specs.declared.types.BaseType.{BaseType}
@@ -11,9 +11,9 @@ use Rattle.c_types.specs.declared.fault.Found.{Found}
 use Rattle.c_types.specs.declared.fault.FaultKind.TheVariants as fault
 use Rattle.c_types.specs.Constants.{is_constant, is_address}
 use Rattle.c_types.specs.Types.{bare, layered_is_array}
-use Rattle.c_types.specs.Scopes.{Known, member_at, Meaning, variable, seen}
+use Rattle.c_types.specs.Scopes.{Known, member_at, Meaning, variable, function_of, seen}
 use Rattle.c_types.specs.Operands.{Operand, operand_of, same_base, is_scalar, accepts}
-use Rattle.c_types.specs.Standing.{Target, no_target, some_target, type_target, standing}
+use Rattle.c_types.specs.Standing.{Target, no_target, some_target, type_target, points_to_functions, standing}
 use Rattle.c_types.specs.Numbers.{is_zero}
 use Rattle.c_types.specs.Found.{where_it_comes}
 use Rattle.c_rules.specs.Faults.{first_place, mismatch, faults}
@@ -29,6 +29,7 @@ alike_part many t k = if nat_lt k many then Some (Some t) else None
 abbrev pub base_part : Known → BaseType → ℕ → Option (Option ObjectType)
 base_part known base.Int k = alike_part 1 (bare base.Int) k
 base_part known (base.Struct s) k = member_at known s k
+base_part known (base.Function f) k = alike_part 1 (bare (base.Function f)) k
 base_part known _ k = None
 
 -- a pointer may stand in braces as one part (C99 6.7.8)
@@ -75,17 +76,36 @@ is_constant_address known (prefix op e at) = is_address op && is_variable_name k
 is_constant_address known (paren e at) = is_constant_address known e
 is_constant_address known _ = false
 
+-- a name that means a function
+abbrev pub is_function_meaning : Option Meaning → Bool
+is_function_meaning (Some (function_of f)) = true
+is_function_meaning _ = false
+
+-- what a global pointer to functions may start as: a function's name, `NULL` or `0`
+abbrev pub is_constant_function : Known → Exp → Bool
+is_constant_function known (null at) = true
+is_constant_function known (number n at) = is_zero n
+is_constant_function known (named name at) = is_function_meaning (seen known name)
+is_constant_function known (paren e at) = is_constant_function known e
+is_constant_function known _ = false
+
+-- what a global of some type may start as
+abbrev pub is_some_constant : Known → Exp → Bool
+is_some_constant known e = is_constant e || is_constant_address known e || is_constant_function known e
+
 -- it starts as an address, not as a number
 abbrev pub layered_is_pointer : List Layer → Bool
 layered_is_pointer [] = false
 layered_is_pointer (layer.Pointer ∷ ls) = true
 layered_is_pointer (layer.Array n ∷ ls) = false
 
--- a pointer starts as an address, and all else as a constant; where the type isn't known, either would do
+-- a pointer starts as an address or a function, and all else as a constant; where the type isn't known, each would do
 abbrev pub global_value_faults : Known → Option ObjectType → Exp → List Found
-global_value_faults known None e = where_it_comes (not (is_constant e) && not (is_constant_address known e)) fault.NotConstant (first_place e)
+global_value_faults known None e = where_it_comes (not (is_some_constant known e)) fault.NotConstant (first_place e)
 global_value_faults known (Some t) e =
-    if layered_is_pointer t.layers then where_it_comes (not (is_constant_address known e)) fault.NotConstant (first_place e) else constant_faults known e
+    if layered_is_pointer t.layers then where_it_comes (not (is_constant_address known e)) fault.NotConstant (first_place e)
+    else (if points_to_functions t then where_it_comes (not (is_constant_function known e)) fault.NotConstant (first_place e)
+    else constant_faults known e)
 
 -- ---- one initial
 

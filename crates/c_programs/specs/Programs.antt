@@ -1,12 +1,10 @@
 -- Functions and whole sources (C99 6.9), and which rules they break.
-use Rattle.std.specs.Prelude.{ℕ, ◌==◌, Bool, true, false, not, ◌&&◌, List, [], ◌∷◌, ◌++◌, map, Option, Some, None}
+use Rattle.std.specs.Prelude.{ℕ, ◌==◌, Bool, true, false, not, ◌&&◌, List, [], ◌∷◌, ◌++◌, Option, Some, None}
 use Rattle.c_text.specs.Texts.{entry_of}
 use Rattle.c_tree.specs.declared.name.Name.{Name}
 use Rattle.c_tree.specs.declared.ctype.Specifier.{Specifier}
-use Rattle.c_tree.specs.declared.program.Params.{Params}
-use Rattle.c_tree.specs.Tree.{Code, defined, prototype, Outer, structure, function, objects}
+use Rattle.c_tree.specs.Tree.{Formals, Code, defined, prototype, Outer, structure, function, objects}
 use Rattle.rr_base.specs.declared.position.Position.{Position}
-use Rattle.c_types.specs.declared.types.BaseType.{BaseType}
 use Rattle.c_types.specs.declared.types.BaseType.TheVariants as base
 use Rattle.c_types.specs.declared.library.StarredType.{StarredType}
 use Rattle.c_types.specs.declared.library.Wanted.{Wanted}
@@ -15,37 +13,17 @@ use Rattle.c_types.specs.declared.names.Signature.{Signature}
 use Rattle.c_types.specs.declared.fault.Found.{Found}
 use Rattle.c_types.specs.declared.fault.FaultKind.TheVariants as fault
 use Rattle.c_types.specs.Found.{where_it_comes, found_at}
-use Rattle.c_types.specs.Scopes.{Known, Meaning, variable, function_of, innermost, base_of, declare, opened, with_text, has_name}
-use Rattle.c_types.specs.Operands.{same_base}
+use Rattle.c_types.specs.Scopes.{Known, Meaning, variable, function_of, innermost, declare, opened, with_text, has_name}
+use Rattle.c_types.specs.Signatures.{same_starred}
 use Rattle.c_types.specs.Standing.{is_main}
 use Rattle.c_rules.specs.Faults.{name_place, mismatch, specifier_faults}
-use Rattle.c_names.specs.Sources.{listed_params, known_at_start}
-use Rattle.c_programs.specs.Declarators.{is_struct_specifier, is_library_name, struct_faults, after_struct, wanted_of, params_faults, after_params}
+use Rattle.c_names.specs.Sources.{listed_params}
+use Rattle.c_names.specs.Signatures.{cannot_give, signature_of}
+use Rattle.c_names.specs.Known.{known_at_start}
+use Rattle.c_programs.specs.Declarators.{is_library_name, struct_faults, after_struct, params_faults, after_params}
 use Rattle.c_programs.specs.Statements.{objects_faults, after_objects, parts_faults, after_parts}
 
 -- ---- the types of functions
-
--- none where it can't be given or its struct isn't known
-abbrev pub result_by : Bool → Option BaseType → ℕ → Option StarredType
-result_by true b stars = None
-result_by false None stars = None
-result_by false (Some b) stars = Some (record { stars = stars; base = b })
-
--- no function gives a struct
-abbrev pub cannot_give : Specifier → ℕ → Bool
-cannot_give s stars = (stars == 0) && is_struct_specifier s
-
--- the type that a function gives; `void` without stars is allowed
-abbrev pub result_of : Known → Specifier → ℕ → Option StarredType
-result_of known s stars = result_by (cannot_give s stars) (base_of known s) stars
-
--- what calls of the function and its later declarations are judged by
-abbrev pub signature_of : Known → Specifier → ℕ → Params → Signature
-signature_of known s stars ps = record { result = result_of known s stars; params = map (wanted_of known) (listed_params ps) }
-
--- the same base with as many stars
-abbrev pub same_starred : StarredType → StarredType → Bool
-same_starred s t = (s.stars == t.stars) && same_base s.base t.base
 
 -- a type that isn't known may be the same
 abbrev pub agree_on_result : Option StarredType → Option StarredType → Bool
@@ -111,7 +89,7 @@ after_body known prototype = known
 after_body known (defined ps at) = after_parts known ps
 
 -- its scope opens after the name, before the parameters
-abbrev pub function_faults : Known → Specifier → ℕ → Name → Params → Code → List Found
+abbrev pub function_faults : Known → Specifier → ℕ → Name → Formals → Code → List Found
 function_faults known s stars name ps code =
     let f = signature_of known s stars ps in
     let inside = opened (after_function known name f code) in

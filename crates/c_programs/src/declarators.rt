@@ -8,12 +8,13 @@ ghost use Rattle.c_programs.specs.Declarators as spec;
 ghost use Rattle.c_types.specs.Found.{first_among};
 ghost use Rattle.c_names.specs.Table.{known_of};
 
+use crate::pointers::note_pointer;
 use c_constants::constant_named;
-use c_names::Table;
+use c_names::{Table, is_void_specifier, pointer_of};
 use c_rules::{length_of, name_place, note_length, note_mismatch, note_specifier};
 use c_tree::{Declarator, Expr, Name, Specifier};
 use c_types::{
-    FaultKind, Found, Layer, MAX_CELLS, Names, ObjectType, TypeRef, base_of, is_complete,
+    BaseType, FaultKind, Found, Layer, MAX_CELLS, Names, ObjectType, TypeRef, base_of, is_complete,
     library_named, note,
 };
 use rr_base::{List, Position};
@@ -49,6 +50,40 @@ pub fn put_pointers(layers: &mut List<Layer>, stars: usize) -> Result<(), AllocE
     Ok(())
 }
 
+/// The type of a pointer to the functions whose type has this number.
+pub fn pointer_type(alloc: Global, number: Option<usize>) -> Option<ObjectType>
+    ensures { result ≡ spec.pointer_type number }
+{
+    match number {
+        Some(number) => Some(ObjectType::plain(alloc, BaseType::Function(number))),
+        None => None,
+    }
+}
+
+fn object_type<N: Names>(
+    alloc: Global,
+    names: &N,
+    specifier: &Specifier,
+    stars: usize,
+    lengths: &[Expr],
+) -> Result<Option<ObjectType>, AllocError>
+    ensures { IfOk result (λ of. of ≡ spec.object_type (N.known names.now) specifier.now stars (map exp_of lengths.now)) }
+{
+    let Some(base) = base_of(names, specifier) else {
+        return Ok(None);
+    };
+    let Some(mut layers) = arrays_of(alloc, names, lengths)? else {
+        return Ok(None);
+    };
+    put_pointers(&mut layers, stars)?;
+    let of = ObjectType { layers, base };
+    if is_complete(names, TypeRef::of(&of)) {
+        Ok(Some(of))
+    } else {
+        Ok(None)
+    }
+}
+
 /// The type of what is declared, if its declaration has no fault.
 pub fn declared_type<N: Names>(
     alloc: Global,
@@ -58,33 +93,15 @@ pub fn declared_type<N: Names>(
 ) -> Result<Option<ObjectType>, AllocError>
     ensures { IfOk result (λ of. of ≡ spec.declared_type (N.known names.now) specifier.now (declared_of declarator.now)) }
 {
-    let Some(base) = base_of(names, specifier) else {
-        return Ok(None);
-    };
-    let Some(mut layers) = arrays_of(alloc, names, declarator.lengths.as_slice())? else {
-        return Ok(None);
-    };
-    put_pointers(&mut layers, declarator.stars)?;
-    let of = ObjectType { layers, base };
-    if is_complete(names, TypeRef::of(&of)) {
-        Ok(Some(of))
-    } else {
-        Ok(None)
+    match declarator {
+        Declarator::Object { stars, lengths, .. } => {
+            object_type(alloc, names, specifier, *stars, lengths.as_slice())
+        }
+        Declarator::Pointer { stars, params, .. } => {
+            let number = pointer_of(alloc, names, specifier, *stars, params)?;
+            Ok(pointer_type(alloc, number))
+        }
     }
-}
-
-/// Whether it is `void`.
-pub fn is_void_specifier(specifier: &Specifier) -> bool
-    ensures { result ≡ spec.is_void_specifier specifier.now }
-{
-    matches!(specifier, Specifier::Void { .. })
-}
-
-/// Whether it names a struct.
-pub fn is_struct_specifier(specifier: &Specifier) -> bool
-    ensures { result ≡ spec.is_struct_specifier specifier.now }
-{
-    matches!(specifier, Specifier::Struct { .. })
 }
 
 fn note_lengths<N: Names>(names: &N, at: Position, lengths: &[Expr], first: &mut Option<Found>)
@@ -96,20 +113,38 @@ fn note_lengths<N: Names>(names: &N, at: Position, lengths: &[Expr], first: &mut
 }
 
 /// Notes what is wrong with a declarator after its specifier: a struct that isn't known, an object of type Void, and
-/// the lengths.
+/// the lengths; or what is wrong with a pointer to functions.
 pub fn note_declarator<N: Names>(
+    alloc: Global,
     names: &N,
     specifier: &Specifier,
     declarator: &Declarator,
     first: &mut Option<Found>,
-)
-    ensures { first.new ≡ first_among first.old (spec.declarator_faults (N.known names.now) specifier.now (declared_of declarator.now)) }
+) -> Result<(), AllocError>
+    ensures { OnOk result (first.new ≡ first_among first.old (spec.declarator_faults (N.known names.now) specifier.now (declared_of declarator.now))) }
 {
-    let is_bare = declarator.stars == 0;
-    let at = name_place(&declarator.name);
-    note_specifier(names, is_bare, specifier, first);
-    note_mismatch(first, is_void_specifier(specifier) && is_bare, at);
-    note_lengths(names, at, declarator.lengths.as_slice(), first);
+    match declarator {
+        Declarator::Object {
+            stars,
+            name,
+            lengths,
+        } => {
+            let is_bare = *stars == 0;
+            note_specifier(names, is_bare, specifier, first);
+            note_mismatch(
+                first,
+                is_void_specifier(specifier) && is_bare,
+                name_place(name),
+            );
+            note_lengths(names, name_place(name), lengths.as_slice(), first);
+            Ok(())
+        }
+        Declarator::Pointer {
+            stars,
+            name,
+            params,
+        } => note_pointer(alloc, names, specifier, *stars, name, params, first),
+    }
 }
 
 /// Notes that what the name declares has more cells than an object may have.

@@ -1,73 +1,29 @@
 //! Functions (C99 6.9.1).
 #![tactic(auto, using(c_types::proofs::First::first_of_both))]
 
-ghost use Rattle.std.specs.Prelude.{◌≡◌, ◌++◌, IfOk, OnOk};
-ghost use Rattle.c_tree.specs.View.{code_of};
+ghost use Rattle.std.specs.Prelude.{◌≡◌, ◌++◌, OnOk};
+ghost use Rattle.c_tree.specs.View.{formals_of, code_of};
 ghost use Rattle.c_types.specs.Found.{first_among};
 ghost use Rattle.c_types.specs.Scopes.{opened};
 ghost use Rattle.c_names.specs.Sources.{listed_params};
+ghost use Rattle.c_names.specs.Signatures.{signature_of};
 ghost use Rattle.c_programs.specs.Declarators.{params_faults, after_params};
 ghost use Rattle.c_programs.specs.Programs as spec;
 ghost use Rattle.c_types.specs.Shown.{shown_meaning};
 ghost use Rattle.c_names.specs.Table.{known_of};
 
-use crate::declarators::{is_library_name, is_struct_specifier};
-use crate::params::{note_params, wanted_of};
+use crate::declarators::is_library_name;
+use crate::params::note_params;
 use crate::statements::note_parts;
-use c_names::{Declared, Table, listed};
-use c_rules::{is_main, name_place, note_mismatch, note_specifier};
+use c_names::{Declared, Table, cannot_give, signature_of};
+use c_rules::{name_place, note_mismatch, note_specifier};
 use c_tree::{Body, Name, Params, Specifier};
 use c_types::{
-    BaseType, FaultKind, Found, Meaning, Names, Signature, StarredType, Wanted, base_of,
-    have_same_base, note,
+    BaseType, FaultKind, Found, Meaning, Signature, StarredType, Wanted, is_main, is_same_starred,
+    note,
 };
-use rr_base::{List, Position};
+use rr_base::Position;
 use std::alloc::{AllocError, Global};
-
-/// Whether no function can give it.
-fn cannot_give(specifier: &Specifier, stars: usize) -> bool
-    ensures { result ≡ spec.cannot_give specifier.now stars }
-{
-    stars == 0 && is_struct_specifier(specifier)
-}
-
-fn result_of<N: Names>(names: &N, specifier: &Specifier, stars: usize) -> Option<StarredType>
-    ensures { result ≡ spec.result_of (N.known names.now) specifier.now stars }
-{
-    if cannot_give(specifier, stars) {
-        return None;
-    }
-    match base_of(names, specifier) {
-        None => None,
-        Some(base) => Some(StarredType { stars, base }),
-    }
-}
-
-/// The types of the function.
-pub fn signature_of<N: Names>(
-    alloc: Global,
-    names: &N,
-    specifier: &Specifier,
-    stars: usize,
-    params: &Params,
-) -> Result<Signature, AllocError>
-    ensures { IfOk result (λ f. f ≡ spec.signature_of (N.known names.now) specifier.now stars params.now) }
-{
-    let mut wanted = List::new(alloc);
-    for param in listed(params) {
-        wanted.push(wanted_of(names, param))?;
-    }
-    Ok(Signature {
-        result: result_of(names, specifier, stars),
-        params: wanted,
-    })
-}
-
-fn is_same_starred(s: StarredType, t: StarredType) -> bool
-    ensures { result ≡ spec.same_starred s t }
-{
-    s.stars == t.stars && have_same_base(s.base, t.base)
-}
 
 fn agree_on_result(s: Option<StarredType>, t: Option<StarredType>) -> bool
     ensures { result ≡ spec.agree_on_result s t }
@@ -225,7 +181,7 @@ fn note_inside<'a>(
     first: &mut Option<Found>,
 ) -> Result<(), AllocError>
     ensures known { OnOk result (known_of table.new ≡ known_of table.old) }
-    ensures first { OnOk result (let inside = opened (known_of table.old) in let ps = listed_params params.now in first.new ≡ first_among first.old (params_faults inside (spec.is_definition (code_of body.now)) ps ++ spec.body_faults (after_params inside ps) gives (code_of body.now))) }
+    ensures first { OnOk result (let inside = opened (known_of table.old) in let ps = listed_params (formals_of params.now) in first.new ≡ first_among first.old (params_faults inside (spec.is_definition (code_of body.now)) ps ++ spec.body_faults (after_params inside ps) gives (code_of body.now))) }
 {
     table.open(alloc)?;
     note_params(alloc, table, is_definition(body), params, first)?;
@@ -245,8 +201,8 @@ pub fn note_function<'a>(
     body: &'a Body,
     first: &mut Option<Found>,
 ) -> Result<(), AllocError>
-    ensures known { OnOk result (known_of table.new ≡ spec.after_function (known_of table.old) name.now (spec.signature_of (known_of table.old) specifier.now stars params.now) (code_of body.now)) }
-    ensures first { OnOk result (first.new ≡ first_among first.old (spec.function_faults (known_of table.old) specifier.now stars name.now params.now (code_of body.now))) }
+    ensures known { OnOk result (known_of table.new ≡ spec.after_function (known_of table.old) name.now (signature_of (known_of table.old) specifier.now stars (formals_of params.now)) (code_of body.now)) }
+    ensures first { OnOk result (first.new ≡ first_among first.old (spec.function_faults (known_of table.old) specifier.now stars name.now (formals_of params.now) (code_of body.now))) }
 {
     let f = signature_of(alloc, &*table, specifier, stars, params)?;
     let gives = f.result;

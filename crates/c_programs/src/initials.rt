@@ -14,7 +14,7 @@ use c_rules::{first_place, judge, note_constant, note_mismatch};
 use c_tree::{Expr, Initial, PrefixOp};
 use c_types::{
     BaseType, FaultKind, Found, Layer, Meaning, Names, Operand, Target, TypeRef, accepts,
-    have_same_base, is_array, note, type_target,
+    have_same_base, is_array, note, points_to_functions, type_target,
 };
 use rr_base::Position;
 
@@ -37,7 +37,7 @@ fn base_part<'a, N: Names>(
     ensures { shown_member result ≡ spec.base_part (N.known names.now) base index }
 {
     match base {
-        BaseType::Int => alike_part(1, TypeRef::starred(0, base), index),
+        BaseType::Int | BaseType::Function(_) => alike_part(1, TypeRef::starred(0, base), index),
         BaseType::Struct(number) => names.member_at(number, index),
         BaseType::Void => None,
         BaseType::Mutex => None,
@@ -129,13 +129,45 @@ fn is_constant_address<N: Names>(names: &N, e: &Expr) -> bool
     }
 }
 
-/// Notes that a global can't start as the expression: a pointer starts as an address, and all else as a constant.
+fn is_function_meaning(seen: Option<Meaning>) -> bool
+    ensures { result ≡ spec.is_function_meaning (shown_meaning seen.entry) }
+{
+    match seen {
+        Some(Meaning::Function(_)) => true,
+        Some(Meaning::Variable(_)) => false,
+        None => false,
+    }
+}
+
+/// Whether a global pointer to functions may start as the expression.
+fn is_constant_function<N: Names>(names: &N, e: &Expr) -> bool
+    ensures { result ≡ spec.is_constant_function (N.known names.now) (exp_of e.now) }
+{
+    match e {
+        Expr::Null { .. } => true,
+        Expr::Number { value, .. } => *value == 0,
+        Expr::Name { name, .. } => is_function_meaning(names.seen(name.as_slice())),
+        Expr::Paren { inner, .. } => is_constant_function(names, inner),
+        _ => false,
+    }
+}
+
+/// Whether a global of some type may start as the expression.
+fn is_some_constant<N: Names>(names: &N, e: &Expr) -> bool
+    ensures { result ≡ spec.is_some_constant (N.known names.now) (exp_of e.now) }
+{
+    is_constant(e) || is_constant_address(names, e) || is_constant_function(names, e)
+}
+
+/// Notes that a global can't start as the expression: a pointer starts as an address or a function, and all else as a
+/// constant.
 fn note_global_value<N: Names>(names: &N, of: Option<TypeRef>, e: &Expr, first: &mut Option<Found>)
     ensures { first.new ≡ first_among first.old (spec.global_value_faults (N.known names.now) (shown_maybe of.entry) (exp_of e.now)) }
 {
     let comes = match of {
-        None => !is_constant(e) && !is_constant_address(names, e),
+        None => !is_some_constant(names, e),
         Some(of) if is_pointer(of) => !is_constant_address(names, e),
+        Some(of) if points_to_functions(of) => !is_constant_function(names, e),
         Some(_) => {
             note_constant(names, e, first);
             return;

@@ -9,11 +9,12 @@ mod law;
 mod members;
 mod objects;
 mod params;
+mod pointers;
 mod statements;
 mod structs;
 
-pub use declarators::{declared_type, put_pointers};
-pub use functions::{declare_function, note_function, signature_of};
+pub use declarators::{declared_type, pointer_type, put_pointers};
+pub use functions::{declare_function, note_function};
 pub use initials::{part_at, value_target};
 pub use law::law_library_names;
 pub use objects::{copy_of, declare_object, note_objects, ref_of};

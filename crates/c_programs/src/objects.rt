@@ -15,10 +15,10 @@ ghost use Rattle.c_names.specs.Sources.{declared_by};
 use crate::declarators::{declared_type, note_declarator, note_size, note_taken};
 use crate::initials::note_start;
 use crate::structs::cells_of_some;
-use c_names::{Declared, Table};
-use c_rules::{is_main, name_place, note_mismatch};
+use c_names::{Declared, Table, declared_name};
+use c_rules::{name_place, note_mismatch};
 use c_tree::{Declaration, Declarator, Initial, Item, Name, Specifier};
-use c_types::{FaultKind, Found, ObjectType, TypeRef, note};
+use c_types::{FaultKind, Found, ObjectType, TypeRef, is_main, note};
 use rr_base::Position;
 use std::alloc::{AllocError, Global};
 
@@ -60,26 +60,24 @@ fn note_global_name(is_global: bool, cells: u32, name: &Name, first: &mut Option
 
 /// Notes what is wrong with the declaration of an object of the type.
 fn note_declared(
+    alloc: Global,
     table: &Table,
     is_global: bool,
     specifier: &Specifier,
     declarator: &Declarator,
     of: &Option<ObjectType>,
     first: &mut Option<Found>,
-)
+) -> Result<(), AllocError>
     requires { of.now ≡ declared_type (known_of table.now) specifier.now (declared_of declarator.now) }
-    ensures { first.new ≡ first_among first.old (spec.declared_faults (known_of table.now) is_global specifier.now (declared_of declarator.now)) }
+    ensures { OnOk result (first.new ≡ first_among first.old (spec.declared_faults (known_of table.now) is_global specifier.now (declared_of declarator.now))) }
 {
-    note_declarator(table, specifier, declarator, first);
-    note_taken(table, &declarator.name, first);
+    let name = declared_name(declarator);
+    note_declarator(alloc, table, specifier, declarator, first)?;
+    note_taken(table, name, first);
     let cells = cells_of_some(table, of);
-    note_size(cells, &declarator.name, first);
-    note_global_name(
-        is_global,
-        table.global_cells_with(cells),
-        &declarator.name,
-        first,
-    );
+    note_size(cells, name, first);
+    note_global_name(is_global, table.global_cells_with(cells), name, first);
+    Ok(())
 }
 
 /// Declares an object of the type.
@@ -111,8 +109,8 @@ fn note_plain<'a>(
     ensures first { OnOk result (first.new ≡ first_among first.old (spec.declared_faults (known_of table.old) is_global specifier.now (declared_of declarator.now))) }
 {
     let of = declared_type(alloc, &*table, specifier, declarator)?;
-    note_declared(&*table, is_global, specifier, declarator, &of, first);
-    declare_object(table, is_global, &declarator.name, of)
+    note_declared(alloc, &*table, is_global, specifier, declarator, &of, first)?;
+    declare_object(table, is_global, declared_name(declarator), of)
 }
 
 /// Declares an object that starts as something. The object is known in its initial value.
@@ -130,9 +128,9 @@ fn note_initialised<'a>(
     ensures first { OnOk result (first.new ≡ first_among first.old (spec.object_faults (known_of table.old) is_global specifier.now (initialised (declared_of declarator.now) (init_of initial.now) at))) }
 {
     let of = declared_type(alloc, &*table, specifier, declarator)?;
-    note_declared(&*table, is_global, specifier, declarator, &of, first);
+    note_declared(alloc, &*table, is_global, specifier, declarator, &of, first)?;
     let kept = copy_of(alloc, &of)?;
-    declare_object(table, is_global, &declarator.name, of)?;
+    declare_object(table, is_global, declared_name(declarator), of)?;
     note_start(&*table, is_global, ref_of(&kept), at, initial, first);
     Ok(())
 }

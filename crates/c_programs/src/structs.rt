@@ -11,7 +11,7 @@ ghost use Rattle.c_names.specs.Table.{known_of};
 
 use crate::declarators::{declared_type, note_declarator, note_size};
 use crate::members::add_member;
-use c_names::{Members, Table};
+use c_names::{Members, Table, declared_name};
 use c_rules::name_place;
 use c_tree::{Declarator, Member, Name, Specifier};
 use c_types::{FaultKind, Found, MAX_CELLS, Names, ObjectType, TypeRef, note};
@@ -50,8 +50,8 @@ fn note_member<'a, N: Names>(
     ensures cells { OnOk result (content.new.cells ≡ scopes.counted_cells (content.old.cells + scopes.cells_of_some (N.known names.now) (spec.declared_type (N.known names.now) specifier.now (declared_of declarator.now)))) }
     ensures first { OnOk result (first.new ≡ first_among first.old (spec.one_member_faults (N.known names.now) specifier.now (shown_members content.old.members.entries) (declared_of declarator.now))) }
 {
-    let name = &declarator.name;
-    note_declarator(names, specifier, declarator, first);
+    let name = declared_name(declarator);
+    note_declarator(alloc, names, specifier, declarator, first)?;
     let of = declared_type(alloc, names, specifier, declarator)?;
     content.cells = (content.cells + cells_of_some(names, &of)).min(MAX_CELLS + 1);
     let is_there = add_member(&mut content.members, name.text.as_slice(), of)?;

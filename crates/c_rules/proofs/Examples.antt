@@ -10,10 +10,13 @@ use Rattle.c_tree.specs.declared.expr.BinaryOp.TheVariants as op
 use Rattle.c_tree.specs.declared.expr.PrefixOp.TheVariants as prefix_op
 use Rattle.c_tree.specs.declared.expr.AssignOp.TheVariants as assign_op
 use Rattle.c_types.specs.declared.types.BaseType.TheVariants as base
+use Rattle.c_types.specs.declared.library.StarredType.{StarredType}
+use Rattle.c_types.specs.declared.library.Wanted.{Wanted}
+use Rattle.c_types.specs.declared.names.Signature.{Signature}
 use Rattle.c_types.specs.declared.fault.FaultKind.{FaultKind}
 use Rattle.c_types.specs.declared.fault.FaultKind.TheVariants as fault
 use Rattle.c_types.specs.declared.fault.Found.{Found}
-use Rattle.c_tree.specs.Tree.{Exp, comma, assign, conditional, binary, prefix, sizeof_exp, sizeof_type, cast, index, member, arrow, named, call, number, letter, text, null, paren, Exps, no_exp, and_exp}
+use Rattle.c_tree.specs.Tree.{Exp, comma, assign, conditional, binary, prefix, sizeof_exp, sizeof_type, cast, index, member, arrow, post_increment, named, call, number, letter, text, null, paren, Exps, no_exp, and_exp}
 use Rattle.rr_base.specs.declared.position.Position.{Position}
 use Rattle.rr_base.specs.Positions.{position_at}
 use Rattle.c_types.specs.Types.{int_type, pointer_to, array_of, bare, layout_of_type, struct_kinds}
@@ -78,15 +81,32 @@ constants_are = refl
 
 -- ---- types, after these declarations:
 -- int x; int *p; void *v; int a[3]; struct s { int m; } t; struct s *q; struct later *l; pthread_mutex_t mu;
--- int f(int i) { .. } void *root(void *u) { .. } int never(void);
+-- int f(int i) { .. } void *root(void *u) { .. } int never(void); int main(void) { .. } int (*g)(int); void (*h)();
+
+abbrev typed : StarredType → List Wanted → Signature
+typed t ws = record { result = Some t; params = ws }
+
+abbrev int_of : List Wanted → Signature
+int_of ws = typed (record { stars = 0; base = base.Int }) ws
+
+abbrev f_type : Signature
+f_type = int_of (an_int ∷ [])
+
+abbrev root_type : Signature
+root_type = typed (record { stars = 1; base = base.Void }) (to_one base.Void ∷ [])
+
+abbrev void_type : Signature
+void_type = typed (record { stars = 0; base = base.Void }) []
 
 abbrev known : Known
 known = record {
   struct_names = codes "s" ∷ codes "later" ∷ [];
   structs = ((codes "m", Some int_type) ∷ []) ∷ [];
   sizes = 1 ∷ [];
-  defined = codes "f" ∷ codes "root" ∷ [];
+  defined = codes "f" ∷ codes "root" ∷ codes "main" ∷ [];
   begun = codes "f" ∷ codes "root" ∷ [];
+  pointers = record { signature = f_type; at = at 90 } ∷ record { signature = void_type; at = at 105 } ∷ [];
+  function_types = f_type ∷ root_type ∷ int_of [] ∷ int_of [] ∷ [];
   global_cells = 0;
   scopes = (
       (codes "x", variable (Some int_type)) ∷
@@ -97,9 +117,12 @@ known = record {
       (codes "q", variable (Some (pointer_to (bare (base.Struct 0))))) ∷
       (codes "l", variable (Some (pointer_to (bare (base.Struct 1))))) ∷
       (codes "mu", variable (Some (bare base.Mutex))) ∷
-      (codes "f", function_of (record { result = Some (record { stars = 0; base = base.Int }); params = an_int ∷ [] })) ∷
-      (codes "root", function_of (record { result = Some (record { stars = 1; base = base.Void }); params = to_one base.Void ∷ [] })) ∷
-      (codes "never", function_of (record { result = Some (record { stars = 0; base = base.Int }); params = [] })) ∷
+      (codes "f", function_of f_type) ∷
+      (codes "root", function_of root_type) ∷
+      (codes "never", function_of (int_of [])) ∷
+      (codes "main", function_of (int_of [])) ∷
+      (codes "g", variable (Some (bare (base.Function 0)))) ∷
+      (codes "h", variable (Some (bare (base.Function 1)))) ∷
       []
       ) ∷ [];
 }
@@ -171,7 +194,7 @@ type_rows =
     (call (codes "f") (one (n (codes "x") 3)) (at 1), None) ∷
     (call (codes "f") (one (n (codes "p") 3)) (at 1), fault_at fault.TypeMismatch 1) ∷
     (call (codes "f") no_exp (at 1), fault_at fault.BadCall 1) ∷
-    (n (codes "f") 1, fault_at fault.TypeMismatch 1) ∷
+    (n (codes "f") 1, None) ∷
     (call (codes "x") no_exp (at 1), fault_at fault.TypeMismatch 1) ∷
     (call (codes "never") no_exp (at 1), fault_at fault.UnknownName 1) ∷
     (n (codes "puts") 1, fault_at fault.TypeMismatch 1) ∷
@@ -189,8 +212,65 @@ type_rows =
     (call (codes "pthread_create") (and_exp (n (codes "p") 16) (and_exp (null (at 19)) (and_exp (paren (n (codes "root") 26) (at 25)) (one (n (codes "v") 33))))) (at 1), fault_at fault.BadRoot 25) ∷
     (call (codes "pthread_create") (and_exp (n (codes "p") 16) (and_exp (n (codes "x") 19) (and_exp (n (codes "root") 22) (one (n (codes "v") 28))))) (at 1), fault_at fault.OutOfProfile 19) ∷
     (call (codes "pthread_mutex_lock") (one (prefix prefix_op.Address (n (codes "mu") 21) (at 20))) (at 1), None) ∷
+    -- pthread_create(p, NULL, g, v)
+    (call (codes "pthread_create") (and_exp (n (codes "p") 16) (and_exp (null (at 19)) (and_exp (n (codes "g") 25) (one (n (codes "v") 28))))) (at 1), fault_at fault.BadRoot 25) ∷
     []
 
 pub types_are : map (λ r. judged r.0) type_rows ≡ map (λ r. r.1) type_rows
 unfolding constant_named library_named type_rows
 types_are = refl
+
+-- pointers to functions, and functions' names as values
+pub function_rows : List (Exp × Option Found)
+function_rows =
+    -- never, main, g = f, g = root, g = never, g = 0, g = NULL, g = 1, p = g, g = g = f
+    (n (codes "never") 1, fault_at fault.UnknownName 1) ∷
+    (n (codes "main") 1, fault_at fault.BadCall 1) ∷
+    (assign (n (codes "g") 1) assign_op.Assign (n (codes "f") 5) (at 3), None) ∷
+    (assign (n (codes "g") 1) assign_op.Assign (n (codes "root") 5) (at 3), fault_at fault.TypeMismatch 3) ∷
+    (assign (n (codes "g") 1) assign_op.Assign (n (codes "never") 5) (at 3), fault_at fault.UnknownName 5) ∷
+    (assign (n (codes "g") 1) assign_op.Assign (k 0 5) (at 3), None) ∷
+    (assign (n (codes "g") 1) assign_op.Assign (null (at 5)) (at 3), None) ∷
+    (assign (n (codes "g") 1) assign_op.Assign (k 1 5) (at 3), fault_at fault.TypeMismatch 3) ∷
+    (assign (n (codes "p") 1) assign_op.Assign (n (codes "g") 5) (at 3), fault_at fault.TypeMismatch 3) ∷
+    (assign (n (codes "g") 1) assign_op.Assign (assign (n (codes "g") 5) assign_op.Assign (n (codes "f") 9) (at 7)) (at 3), None) ∷
+    -- g == f, g != NULL, g == h, f == root, root == root, g == p, g < f, g < NULL, g + 1, g += 1, g++
+    (b (n (codes "g") 1) op.Equal 3 (n (codes "f") 6), None) ∷
+    (b (n (codes "g") 1) op.NotEqual 3 (null (at 6)), None) ∷
+    (b (n (codes "g") 1) op.Equal 3 (n (codes "h") 6), fault_at fault.TypeMismatch 3) ∷
+    (b (n (codes "f") 1) op.Equal 3 (n (codes "root") 6), fault_at fault.TypeMismatch 3) ∷
+    (b (n (codes "root") 1) op.Equal 6 (n (codes "root") 9), None) ∷
+    (b (n (codes "g") 1) op.Equal 3 (n (codes "p") 6), fault_at fault.TypeMismatch 3) ∷
+    (b (n (codes "g") 1) op.Less 3 (n (codes "f") 5), fault_at fault.TypeMismatch 3) ∷
+    (b (n (codes "g") 1) op.Less 3 (null (at 5)), fault_at fault.TypeMismatch 3) ∷
+    (b (n (codes "g") 1) op.Add 3 (k 1 5), fault_at fault.TypeMismatch 3) ∷
+    (assign (n (codes "g") 1) assign_op.Add (k 1 6) (at 3), fault_at fault.TypeMismatch 3) ∷
+    (post_increment (n (codes "g") 1) (at 2), fault_at fault.TypeMismatch 2) ∷
+    -- *g, &g, &f, f = 0, (int)g, (int *)f, !g, g && f, sizeof(f)
+    (prefix prefix_op.Indirect (n (codes "g") 2) (at 1), fault_at fault.TypeMismatch 1) ∷
+    (prefix prefix_op.Address (n (codes "g") 2) (at 1), fault_at fault.TypeMismatch 1) ∷
+    (prefix prefix_op.Address (n (codes "f") 2) (at 1), fault_at fault.NotPlace 1) ∷
+    (assign (n (codes "f") 1) assign_op.Assign (k 0 5) (at 3), fault_at fault.NotPlace 3) ∷
+    (cast int (n (codes "g") 6) (at 1), fault_at fault.TypeMismatch 1) ∷
+    (cast to_int (n (codes "f") 8) (at 1), fault_at fault.TypeMismatch 1) ∷
+    (prefix prefix_op.Not (n (codes "g") 2) (at 1), None) ∷
+    (b (n (codes "g") 1) op.LogicalAnd 3 (n (codes "f") 6), None) ∷
+    (sizeof_exp (paren (n (codes "f") 8) (at 7)) (at 1), None) ∷
+    -- x ? f : NULL, x ? 0 : g, x ? g : f, x ? f : root, g ? x : x
+    (conditional (n (codes "x") 1) (n (codes "f") 5) (null (at 9)) (at 3), None) ∷
+    (conditional (n (codes "x") 1) (k 0 5) (n (codes "g") 9) (at 3), None) ∷
+    (conditional (n (codes "x") 1) (n (codes "g") 5) (n (codes "f") 9) (at 3), None) ∷
+    (conditional (n (codes "x") 1) (n (codes "f") 5) (n (codes "root") 9) (at 3), fault_at fault.TypeMismatch 3) ∷
+    (conditional (n (codes "g") 1) (n (codes "x") 5) (n (codes "x") 9) (at 3), None) ∷
+    -- g(x), g(x, x), g(p), h(), h() + 1, printf("%d", g)
+    (call (codes "g") (one (n (codes "x") 3)) (at 1), None) ∷
+    (call (codes "g") (and_exp (n (codes "x") 3) (one (n (codes "x") 6))) (at 1), fault_at fault.BadCall 1) ∷
+    (call (codes "g") (one (n (codes "p") 3)) (at 1), fault_at fault.TypeMismatch 1) ∷
+    (call (codes "h") no_exp (at 1), None) ∷
+    (b (call (codes "h") no_exp (at 1)) op.Add 5 (k 1 7), fault_at fault.TypeMismatch 5) ∷
+    (call (codes "printf") (and_exp (text (codes "%d") (at 8)) (one (n (codes "g") 14))) (at 1), fault_at fault.TypeMismatch 1) ∷
+    []
+
+pub functions_are : map (λ r. judged r.0) function_rows ≡ map (λ r. r.1) function_rows
+unfolding constant_named library_named function_rows
+functions_are = refl

@@ -93,22 +93,22 @@ unwanted_faulty known ws at es i e old mid new all within is is_end is_new is_mi
 
 -- ---- calls
 
-pub call_is : (known : Known) (w : Target) (name : Text) (es : List Expr) (format : Option ℕ) (ws : List Wanted) (fit : Bool) (gives whole : Standing) → format ≡ format_of (listed (map exp_of es)) → gives ≡ callee_gives (callee_of known w name format (seen known name)) → ws ≡ wants_of name format (seen known name) → fit ≡ fit_wanted known ws (listed (map exp_of es)) → whole ≡ (if fit then gives else no_type) → whole ≡ call_standing (callee_of known w name (format_of (listed (map exp_of es))) (seen known name)) (fit_wanted known (callee_wants (callee_of known w name (format_of (listed (map exp_of es))) (seen known name))) (listed (map exp_of es)))
+pub call_is : (known : Known) (w : Target) (name : Text) (es : List Expr) (format : Option ℕ) (ws : List Wanted) (fit : Bool) (gives whole : Standing) → format ≡ format_of (listed (map exp_of es)) → gives ≡ callee_gives (callee_of known w name format (seen known name)) → ws ≡ wants_of known name format (seen known name) → fit ≡ fit_wanted known ws (listed (map exp_of es)) → whole ≡ (if fit then gives else no_type) → whole ≡ call_standing (callee_of known w name (format_of (listed (map exp_of es))) (seen known name)) (fit_wanted known (callee_wants (callee_of known w name (format_of (listed (map exp_of es))) (seen known name))) (listed (map exp_of es)))
 call_is known w name es format ws fit gives whole is_format is_gives is_ws is_fit is_whole =
-    let known_fit : fit ≡ fit_wanted known (wants_of name (format_of (listed (map exp_of es))) (seen known name)) (listed (map exp_of es)) =
-    is_fit ∙ ap (λ z. fit_wanted known z (listed (map exp_of es))) (is_ws ∙ ap (λ z. wants_of name z (seen known name)) is_format) in
+    let known_fit : fit ≡ fit_wanted known (wants_of known name (format_of (listed (map exp_of es))) (seen known name)) (listed (map exp_of es)) =
+    is_fit ∙ ap (λ z. fit_wanted known z (listed (map exp_of es))) (is_ws ∙ ap (λ z. wants_of known name z (seen known name)) is_format) in
     let known_gives : gives ≡ callee_gives (callee_of known w name (format_of (listed (map exp_of es))) (seen known name)) =
     is_gives ∙ ap (λ z. callee_gives (callee_of known w name z (seen known name))) is_format in
     is_whole
     ∙ (ap (λ z. if z then gives else no_type) known_fit
-    ∙ (ap (λ z. if fit_wanted known (wants_of name (format_of (listed (map exp_of es))) (seen known name)) (listed (map exp_of es)) then z else no_type) known_gives
+    ∙ (ap (λ z. if fit_wanted known (wants_of known name (format_of (listed (map exp_of es))) (seen known name)) (listed (map exp_of es)) then z else no_type) known_gives
     ∙ sym (called_by_wants known w name (format_of (listed (map exp_of es))) (seen known name) (listed (map exp_of es)))))
 
-pub call_faulty : (known : Known) (w : Target) (name : Text) (es : List Expr) (at : Position) (format : Option ℕ) (ws : List Wanted) (old mid new : Option Found) → format ≡ format_of (listed (map exp_of es)) → ws ≡ wants_of name format (seen known name) → mid ≡ first_among old (call_faults known w name (listed (map exp_of es)) at) → new ≡ first_among mid (arguments_faults known ws at (listed (map exp_of es))) → new ≡ first_among old (call_faults known w name (listed (map exp_of es)) at ++ arguments_faults known (wants_of name (format_of (listed (map exp_of es))) (seen known name)) at (listed (map exp_of es)))
+pub call_faulty : (known : Known) (w : Target) (name : Text) (es : List Expr) (at : Position) (format : Option ℕ) (ws : List Wanted) (old mid new : Option Found) → format ≡ format_of (listed (map exp_of es)) → ws ≡ wants_of known name format (seen known name) → mid ≡ first_among old (call_faults known w name (listed (map exp_of es)) at) → new ≡ first_among mid (arguments_faults known ws at (listed (map exp_of es))) → new ≡ first_among old (call_faults known w name (listed (map exp_of es)) at ++ arguments_faults known (wants_of known name (format_of (listed (map exp_of es))) (seen known name)) at (listed (map exp_of es)))
 call_faulty known w name es at format ws old mid new is_format is_ws is_mid is_new =
     is_new
-    ∙ (ap (λ z. first_among mid (arguments_faults known z at (listed (map exp_of es)))) (is_ws ∙ ap (λ z. wants_of name z (seen known name)) is_format)
-    ∙ after_both old mid (call_faults known w name (listed (map exp_of es)) at) (arguments_faults known (wants_of name (format_of (listed (map exp_of es))) (seen known name)) at (listed (map exp_of es))) is_mid)
+    ∙ (ap (λ z. first_among mid (arguments_faults known z at (listed (map exp_of es)))) (is_ws ∙ ap (λ z. wants_of known name z (seen known name)) is_format)
+    ∙ after_both old mid (call_faults known w name (listed (map exp_of es)) at) (arguments_faults known (wants_of known name (format_of (listed (map exp_of es))) (seen known name)) at (listed (map exp_of es))) is_mid)
 
 -- the call of a node, by the list of its arguments
 pub call_shown : (known : Known) (w : Target) (name : Text) (es es' : List Expr) (at : Position) (whole : Standing) → es' ≡ es → whole ≡ standing known w (call name (listed (map exp_of es')) at) → whole ≡ standing known w (call name (listed (map exp_of es)) at)

@@ -10,6 +10,7 @@ use Rattle.c_tree.specs.declared.expr.PrefixOp.TheVariants as prefix_op
 use Rattle.c_tree.specs.declared.expr.AssignOp.{AssignOp}
 use Rattle.c_types.specs.declared.types.BaseType.TheVariants as base
 use Rattle.c_types.specs.declared.types.ObjectType.{ObjectType}
+use Rattle.c_types.specs.declared.names.Signature.{Signature}
 use Rattle.c_types.specs.declared.library.Wanted.{Wanted}
 use Rattle.c_types.specs.declared.library.Wanted.TheVariants as wants
 use Rattle.c_types.specs.declared.library.LibraryName.{LibraryName}
@@ -25,7 +26,7 @@ use Rattle.c_types.specs.Types.{bare, int_type, pointer_to}
 use Rattle.c_types.specs.Scopes.{Known, Meaning, variable, function_of, seen, has_name, struct_numbered, type_named, member_of}
 use Rattle.c_types.specs.Operands.{Standing, no_type, zero_literal, null_literal, a_value, a_place, Operand, any_operand, whole, pointing, operand_of, is_void, is_whole, is_scalar, accepts, moves, assigns, assigns_some, takes, can_choose}
 use Rattle.c_types.specs.Library.{starred_type, wanted_by, library_named}
-use Rattle.c_types.specs.Standing.{Target, no_target, assigned_target, cast_target, is_sized, casts_to, can_index, struct_of, pointed_struct, is_main, is_root, is_text, is_null, can_go, printf_callee, format_of, callee_wants, standing}
+use Rattle.c_types.specs.Standing.{Target, no_target, assigned_target, cast_target, points_to_functions, pointed_signature, is_sized, casts_to, can_cast, can_index, struct_of, pointed_struct, is_main, is_root, is_text, is_null, can_go, printf_callee, format_of, callee_wants, standing}
 
 -- ---- places
 
@@ -158,9 +159,14 @@ can_follow any_operand = true
 can_follow (pointing t) = not (is_void t)
 can_follow _ = false
 
+-- no pointer may point to a pointer to functions
+abbrev pub can_be_pointed_to : Standing → Bool
+can_be_pointed_to (a_place t) = not (points_to_functions t)
+can_be_pointed_to _ = true
+
 -- the constraints on types; that of a place is judged apart (C99 6.5.3)
 abbrev pub prefix_takes : PrefixOp → Standing → Bool
-prefix_takes prefix_op.Address s = true
+prefix_takes prefix_op.Address s = can_be_pointed_to s
 prefix_takes prefix_op.Indirect s = can_follow (operand_of s)
 prefix_takes prefix_op.Plus s = is_whole (operand_of s)
 prefix_takes prefix_op.Minus s = is_whole (operand_of s)
@@ -204,10 +210,11 @@ undeclared_faults name at =
     if is_some (constant_named name) then []
     else (if is_some (library_named name) then found_at fault.TypeMismatch at ∷ [] else found_at fault.UnknownName at ∷ [])
 
--- a function's name is no value, and undefined it is unknown too
+-- `main` is no value, and an undefined function is unknown
 abbrev pub named_faults : Known → Option Meaning → Text → Position → List Found
 named_faults known (Some (variable t)) name at = []
-named_faults known (Some (function_of f)) name at = where_it_comes (not (has_name known.defined name)) fault.UnknownName at ++ mismatch true at
+named_faults known (Some (function_of f)) name at =
+    where_it_comes (is_main name) fault.BadCall at ++ where_it_comes (not (has_name known.defined name)) fault.UnknownName at
 named_faults known None name at = undeclared_faults name at
 
 -- ---- calls
@@ -241,11 +248,16 @@ abbrev pub library_wants : Option LibraryName → Option ℕ → List Wanted
 library_wants None format = []
 library_wants (Some c) format = some_library_wants c format
 
+-- nothing is wanted where the variable doesn't point to functions
+abbrev pub pointer_wants : Option Signature → List Wanted
+pointer_wants None = []
+pointer_wants (Some f) = f.params
+
 -- what the arguments are judged by; surplus ones as expressions only
-abbrev pub wants_of : Text → Option ℕ → Option Meaning → List Wanted
-wants_of name format (Some (variable t)) = []
-wants_of name format (Some (function_of f)) = f.params
-wants_of name format None = library_wants (library_named name) format
+abbrev pub wants_of : Known → Text → Option ℕ → Option Meaning → List Wanted
+wants_of known name format (Some (variable t)) = pointer_wants (pointed_signature known t)
+wants_of known name format (Some (function_of f)) = f.params
+wants_of known name format None = library_wants (library_named name) format
 
 -- no pointer type tells what a `malloc` is to make
 abbrev pub has_no_target : Target → Bool
@@ -269,9 +281,14 @@ abbrev pub unseen_call_faults : Option LibraryName → Text → Target → Bool 
 unseen_call_faults (Some c) name w is_format format many at = library_call_faults c w is_format format many at
 unseen_call_faults None name w is_format format many at = if is_some (constant_named name) then found_at fault.TypeMismatch at ∷ [] else found_at fault.UnknownName at ∷ []
 
+-- a variable is called only where it points to functions
+abbrev pub pointer_call_faults : Option Signature → ℕ → Position → List Found
+pointer_call_faults None many at = mismatch true at
+pointer_call_faults (Some f) many at = count_faults many (length f.params) at
+
 -- the faults of a call that stand at the called name, but for those of its arguments' types
 abbrev pub callee_faults : Known → Text → Target → Bool → Option ℕ → ℕ → Position → Option Meaning → List Found
-callee_faults known name w is_format format many at (Some (variable t)) = mismatch true at
+callee_faults known name w is_format format many at (Some (variable t)) = pointer_call_faults (pointed_signature known t) many at
 callee_faults known name w is_format format many at (Some (function_of f)) =
     where_it_comes (is_main name) fault.BadCall at ++ where_it_comes (not (has_name known.defined name)) fault.UnknownName at ++ count_faults many (length f.params) at
 callee_faults known name w is_format format many at None = unseen_call_faults (library_named name) name w is_format format many at
@@ -345,9 +362,9 @@ place_of_first (and_exp e es) = own_place e
 abbrev pub sizeof_type_faults : Known → CType → Position → List Found
 sizeof_type_faults known t at = mismatch (is_some_void (type_named known t)) at ++ specifier_faults known (t.stars == 0) t.specifier
 
--- the operand must be scalar too; the size of a struct doesn't matter
+-- the operand must be a number or a pointer to objects too; the size of a struct doesn't matter
 abbrev pub cast_faults : Known → CType → Operand → Position → List Found
-cast_faults known t a at = mismatch (not (casts_to (type_named known t) t.stars && is_scalar a)) at ++ specifier_faults known false t.specifier
+cast_faults known t a at = mismatch (not (casts_to (type_named known t) t.stars && can_cast a)) at ++ specifier_faults known false t.specifier
 
 -- the left side is a place, and takes the right one (C99 6.5.16)
 abbrev pub assign_faults : Known → AssignOp → Exp → Standing → Operand → Position → List Found
@@ -394,7 +411,7 @@ abbrev mutual
   faults known w (post_increment a at) = faults known no_target a ++ step_faults known a (standing known no_target a) at
   faults known w (post_decrement a at) = faults known no_target a ++ step_faults known a (standing known no_target a) at
   faults known w (named name at) = named_faults known (seen known name) name at
-  faults known w (call name es at) = call_faults known w name es at ++ arguments_faults known (wants_of name (format_of es) (seen known name)) at es
+  faults known w (call name es at) = call_faults known w name es at ++ arguments_faults known (wants_of known name (format_of es) (seen known name)) at es
   faults known w (number n at) = []
   faults known w (letter n at) = []
   faults known w (text bytes at) = found_at fault.BadCall at ∷ []

@@ -13,7 +13,7 @@ use c_constants::constant_named;
 use c_tree::{AssignOp, CType, Expr, Name, PrefixOp, Specifier};
 use c_types::{
     BaseType, FaultKind, Found, Meaning, Names, Operand, Standing, TypeRef, are_compatible,
-    assigns, assigns_some, casts_to, library_named, moves, note, type_named,
+    assigns, assigns_some, casts_to, library_named, moves, note, points_to_functions, type_named,
 };
 use rr_base::Position;
 
@@ -234,7 +234,22 @@ fn can_follow(of: Operand) -> bool
     match of {
         Operand::Any => true,
         Operand::Pointing(to) => !to.is_void(),
-        Operand::Whole | Operand::Zero | Operand::Null | Operand::Unfit => false,
+        Operand::Whole | Operand::Zero | Operand::Null | Operand::Function(_) | Operand::Unfit =>
+            false,
+    }
+}
+
+fn can_be_pointed_to(of: Standing) -> bool
+    ensures { result ≡ spec.can_be_pointed_to (shown_standing of.entry) }
+{
+    match of {
+        Standing::Place(of) => !points_to_functions(of),
+        Standing::NoType
+        | Standing::Zero
+        | Standing::Null
+        | Standing::Whole
+        | Standing::Pointer(_)
+        | Standing::Bare(_) => true,
     }
 }
 
@@ -243,7 +258,7 @@ fn prefix_takes(op: PrefixOp, of: Standing) -> bool
 {
     let operand = Operand::of(of);
     match op {
-        PrefixOp::Address => true,
+        PrefixOp::Address => can_be_pointed_to(of),
         PrefixOp::Indirect => can_follow(operand),
         PrefixOp::Plus | PrefixOp::Minus | PrefixOp::Complement => operand.is_whole(),
         PrefixOp::Not => operand.is_scalar(),
@@ -332,7 +347,7 @@ pub fn note_cast<N: Names>(
 )
     ensures { first.new ≡ first_among first.old (spec.cast_faults (N.known names.now) to.now (shown_operand from.entry) at) }
 {
-    let allowed = casts_to(type_named(names, to), to.stars) && from.is_scalar();
+    let allowed = casts_to(type_named(names, to), to.stars) && from.can_cast();
     note_mismatch(first, !allowed, at);
     note_specifier(names, false, &to.specifier, first);
 }
@@ -342,8 +357,12 @@ fn lacks_struct(of: Operand, number: Option<usize>) -> bool
 {
     match of {
         Operand::Any => false,
-        Operand::Whole | Operand::Zero | Operand::Null | Operand::Pointing(_) | Operand::Unfit =>
-            number.is_none(),
+        Operand::Whole
+        | Operand::Zero
+        | Operand::Null
+        | Operand::Pointing(_)
+        | Operand::Function(_)
+        | Operand::Unfit => number.is_none(),
     }
 }
 

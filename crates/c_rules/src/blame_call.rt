@@ -2,6 +2,7 @@
 #![tactic(auto, using(c_types::proofs::First::first_of_both))]
 
 ghost use Rattle.std.specs.Prelude.{◌≡◌, map};
+ghost use Rattle.std.specs.Option.{option_map};
 ghost use Rattle.c_tree.specs.Tree.{listed};
 ghost use Rattle.c_types.specs.Scopes.{seen};
 ghost use Rattle.c_types.specs.Found.{first_among};
@@ -13,12 +14,12 @@ ghost use Rattle.c_types.specs.Standing.{format_of};
 ghost use Rattle.c_rules.specs.Seen.{IsSeenOf};
 
 use crate::blame::{first_place, note_mismatch, own_place};
-use crate::calls::{format_of, is_main, is_null, is_root, is_text, printf_wants};
+use crate::calls::{format_of, is_null, is_root, is_text, pointed_signature, printf_wants};
 use c_constants::constant_named;
 use c_tree::Expr;
 use c_types::{
-    FaultKind, Found, LibraryName, Meaning, Names, Operand, Standing, Target, TypeRef, Wanted,
-    Wants, accepts, library_named, note, wanted_by,
+    FaultKind, Found, LibraryName, Meaning, Names, Operand, Signature, Standing, Target, TypeRef,
+    Wanted, Wants, accepts, is_main, library_named, note, wanted_by,
 };
 use rr_base::Position;
 
@@ -42,9 +43,9 @@ pub fn note_named<N: Names>(names: &N, name: &[u8], at: Position, first: &mut Op
     match names.seen(name) {
         Some(Meaning::Variable(_)) => {}
         Some(Meaning::Function(_)) => {
+            note(first, is_main(name), FaultKind::BadCall, at);
             let undefined = !names.is_function_defined(name);
             note(first, undefined, FaultKind::UnknownName, at);
-            note_mismatch(first, true, at);
         }
         None => note_undeclared(name, at, first),
     }
@@ -152,26 +153,38 @@ fn note_unseen_call(
     }
 }
 
+/// Notes what is wrong with the number of arguments of a call through a variable, if it points to functions.
+fn note_pointer_call(of: Option<&Signature>, many: usize, at: Position, first: &mut Option<Found>)
+    ensures { first.new ≡ first_among first.old (spec.pointer_call_faults (option_map (λ f. f.now) of.entry) many at) }
+{
+    match of {
+        None => note_mismatch(first, true, at),
+        Some(of) => note_count(many, of.params.len(), at, first),
+    }
+}
+
 /// Notes what is wrong with the called name and the number of arguments.
 pub fn note_callee<N: Names>(
     names: &N,
     name: &[u8],
     target: Target,
-    of: Arguments,
+    arguments: Arguments,
     at: Position,
     first: &mut Option<Found>,
 )
-    ensures { first.new ≡ first_among first.old (spec.callee_faults (N.known names.now) name.now (shown_target target.entry) of.is_format of.format of.many at (seen (N.known names.now) name.now)) }
+    ensures { first.new ≡ first_among first.old (spec.callee_faults (N.known names.now) name.now (shown_target target.entry) arguments.is_format arguments.format arguments.many at (seen (N.known names.now) name.now)) }
 {
     match names.seen(name) {
-        Some(Meaning::Variable(_)) => note_mismatch(first, true, at),
+        Some(Meaning::Variable(of)) => {
+            note_pointer_call(pointed_signature(names, of), arguments.many, at, first);
+        }
         Some(Meaning::Function(signature)) => {
             note(first, is_main(name), FaultKind::BadCall, at);
             let undefined = !names.is_function_defined(name);
             note(first, undefined, FaultKind::UnknownName, at);
-            note_count(of.many, signature.params.len(), at, first);
+            note_count(arguments.many, signature.params.len(), at, first);
         }
-        None => note_unseen_call(name, target, of, at, first),
+        None => note_unseen_call(name, target, arguments, at, first),
     }
 }
 
@@ -217,12 +230,21 @@ fn library_wants<'a>(call: LibraryName, format: Option<usize>) -> Wants<'a>
     }
 }
 
+fn pointer_wants<'a>(of: Option<&'a Signature>) -> Wants<'a>
+    ensures { shown_wants result ≡ spec.pointer_wants (option_map (λ f. f.now) of.entry) }
+{
+    match of {
+        None => Wants::listed(&[]),
+        Some(of) => Wants::listed(of.params.as_slice()),
+    }
+}
+
 /// What the call of a name wants of its arguments.
 pub fn wants_of<'a, N: Names>(names: &'a N, name: &[u8], format: Option<usize>) -> Wants<'a>
-    ensures { shown_wants result ≡ spec.wants_of name.now format (seen (N.known names.now) name.now) }
+    ensures { shown_wants result ≡ spec.wants_of (N.known names.now) name.now format (seen (N.known names.now) name.now) }
 {
     match names.seen(name) {
-        Some(Meaning::Variable(_)) => Wants::listed(&[]),
+        Some(Meaning::Variable(of)) => pointer_wants(pointed_signature(names, of)),
         Some(Meaning::Function(of)) => Wants::listed(of.params.as_slice()),
         None => match library_named(name) {
             Some(call) => library_wants(call, format),

@@ -1,18 +1,19 @@
 //! What a call wants, and what it gives.
 ghost use Rattle.std.specs.Prelude.{◌≡◌, [], ◌∷◌, map, MatchOption, if◌then◌else◌};
+ghost use Rattle.std.specs.Option.{option_map};
 ghost use Rattle.c_types.specs.Scopes.{seen};
 ghost use Rattle.c_types.specs.Operands.{no_type};
 ghost use Rattle.c_types.specs.Standing as spec;
 ghost use Rattle.c_rules.specs.Faults as faults;
-ghost use Rattle.c_types.specs.Shown.{shown_standing, shown_target, shown_wants};
+ghost use Rattle.c_types.specs.Shown.{shown_standing, shown_maybe, shown_target, shown_wants};
 ghost use Rattle.c_tree.specs.View.{exp_of};
 ghost use Rattle.c_tree.specs.Tree.{listed};
 
 use c_tree::Expr;
 use c_types::{
     BaseType, LibraryName, Meaning, Names, Operand, Signature, Standing, StarredType, Target,
-    TypeRef, Wanted, Wants, accepts, conversions, given_by, library_named, malloc_standing,
-    wanted_by,
+    TypeRef, Wanted, Wants, accepts, can_be_used, conversions, given_by, library_named,
+    malloc_standing, type_function, wanted_by,
 };
 
 /// What a `printf` wants: a text, and a number for each conversion that is known.
@@ -59,11 +60,26 @@ fn given_type<'a>(gives: Option<StarredType>) -> Standing<'a>
     }
 }
 
-/// Whether the name is `main`.
-pub fn is_main(name: &[u8]) -> bool
-    ensures { result ≡ spec.is_main name.now }
+/// The type of the functions that are called through a variable of this type, if it points to functions.
+pub fn pointed_signature<'a, N: Names>(names: &'a N, of: Option<TypeRef>) -> Option<&'a Signature>
+    ensures { option_map (λ f. f.now) result ≡ spec.pointed_signature (N.known names.now) (shown_maybe of.entry) }
 {
-    name == b"main".as_slice()
+    match of {
+        Some(of) => match type_function(of) {
+            Some(number) => names.signature_numbered(number),
+            None => None,
+        },
+        None => None,
+    }
+}
+
+fn given_by_pointer<'a>(of: Option<&Signature>) -> Standing<'a>
+    ensures { shown_standing result ≡ spec.callee_gives (spec.pointer_callee (option_map (λ f. f.now) of.entry)) }
+{
+    match of {
+        Some(of) => given_type(of.result),
+        None => Standing::NoType,
+    }
 }
 
 /// What the call of a name gives where its arguments fit. It has no type where the name can't be called.
@@ -76,12 +92,13 @@ pub fn given_by_call<'a, N: Names>(
     ensures { shown_standing result ≡ spec.callee_gives (spec.callee_of (N.known names.now) (shown_target target.entry) name.now format (seen (N.known names.now) name.now)) }
 {
     match names.seen(name) {
-        Some(Meaning::Variable(_)) => Standing::NoType,
+        Some(Meaning::Variable(of)) => given_by_pointer(pointed_signature(names, of)),
         Some(Meaning::Function(of)) => {
-            if is_main(name) || !names.is_function_defined(name) {
-                return Standing::NoType;
+            if can_be_used(names, name) {
+                given_type(of.result)
+            } else {
+                Standing::NoType
             }
-            given_type(of.result)
         }
         None => match library_named(name) {
             Some(call) => given_by_library(call, target, format),
@@ -120,7 +137,7 @@ pub fn is_root<N: Names>(names: &N, e: &Expr) -> bool
     let Some(Meaning::Function(of)) = names.seen(name.as_slice()) else {
         return false;
     };
-    has_root_types(of) && !is_main(name.as_slice()) && names.is_function_defined(name.as_slice())
+    has_root_types(of) && can_be_used(names, name.as_slice())
 }
 
 /// Whether it is a text, through parentheses.
@@ -171,7 +188,7 @@ fn can_base_go(base: BaseType) -> bool
     ensures { result ≡ spec.is_kept_base base }
 {
     match base {
-        BaseType::Int | BaseType::Void => true,
+        BaseType::Int | BaseType::Void | BaseType::Function(_) => true,
         BaseType::Struct(_)
         | BaseType::Mutex
         | BaseType::Cond

@@ -49,11 +49,11 @@ fn judge_name<'a, N: Names>(
     at: Position,
     first: &mut Option<Found>,
 ) -> Standing<'a>
-    ensures standing { shown_standing result ≡ standings.named_standing (seen (N.known names.now) name.now) (constants.constant_named name.now) }
+    ensures standing { shown_standing result ≡ standings.named_standing (N.known names.now) name.now (seen (N.known names.now) name.now) (constants.constant_named name.now) }
     ensures first { first.new ≡ first_among first.old (spec.named_faults (N.known names.now) (seen (N.known names.now) name.now) name.now at) }
 {
     note_named(names, name, at, first);
-    named_standing(names.seen(name), constant_named(name))
+    named_standing(names, name, constant_named(name))
 }
 
 // `sizeof(of)` (C99 6.5.3.4).

@@ -12,7 +12,8 @@ mod sizes;
 pub use blame::{first_place, name_place, note_mismatch, note_specifier, own_place};
 pub use blame_call::wants_of;
 pub use calls::{
-    call_standing, can_go, fits_wanted, following, format_of, given_by_call, is_main, let_go,
+    call_standing, can_go, fits_wanted, following, format_of, given_by_call, let_go,
+    pointed_signature,
 };
 pub use constants::value_of;
 pub use judging::judge;

@@ -4,8 +4,7 @@ use Rattle.rr_base.specs.declared.layout.CellKind.TheVariants as cell
 use Rattle.c_tree.specs.declared.ctype.CType.{CType}
 use Rattle.c_tree.specs.declared.ctype.Specifier.{Specifier}
 use Rattle.c_tree.specs.declared.ctype.Specifier.TheVariants as specifier
-use Rattle.c_tree.specs.declared.program.Params.TheVariants as params
-use Rattle.c_tree.specs.Tree.{Exp, call, null, sizeof_exp, no_exp, and_exp, declares, compute, no_part, and_declares, and_does, prototype, Outer, function}
+use Rattle.c_tree.specs.Tree.{Exp, no_formals, call, null, sizeof_exp, no_exp, and_exp, declares, compute, no_part, and_declares, and_does, prototype, Outer, function}
 use Rattle.c_sites.specs.declared.function_info.FunctionInfo.{FunctionInfo}
 use Rattle.c_types.specs.Constants.{constant_named}
 use Rattle.c_types.specs.Library.{library_named}
@@ -34,7 +33,7 @@ create name column =
 -- void u(); void w() {} void u() {} int main() { int t; pthread_create(&t,NULL,w,NULL); sizeof pthread_create(&t,NULL,u,NULL); }
 abbrev third_source : List Outer
 third_source =
-    function false (specifier.Void (at 1)) 0 (name_at (codes "u") 6) params.Nothing prototype
+    function false (specifier.Void (at 1)) 0 (name_at (codes "u") 6) no_formals prototype
     ∷ function_at (codes "w") 16 [] no_part
     ∷ function_at (codes "u") 28 [] no_part
     ∷ function_at (codes "main") 39 [] (

@@ -1,10 +1,10 @@
 -- For each formal and local of a function there is one answer whether its type keeps it in cells.
 use Rattle.std.proofs.Common.{◌≡◌, ◌+◌, List, length, map, refl, arith, length-append}
 use Rattle.std.proofs.lemmas.List.{length-map}
-use Rattle.c_tree.specs.declared.program.Param.{Param}
-use Rattle.c_tree.specs.Tree.{Declares, declares, Start, start_declares, start_computes, Statement, block, compute, break_at, continue_at, gives, branch, branch_else, while_loop, do_loop, for_loop, Parts, no_part, and_declares, and_does}
+use Rattle.c_tree.specs.Tree.{Formal, Declares, declares, Start, start_declares, start_computes, Statement, block, compute, break_at, continue_at, gives, branch, branch_else, while_loop, do_loop, for_loop, Parts, no_part, and_declares, and_does}
 use Rattle.c_locals.specs.Addresses.{count_of_declares, count_of_start, count_of_locals, count_of_parts}
-use Rattle.c_sites.specs.Functions.{object_kept, declares_kept, start_kept, statement_kept, parts_kept, param_kept, definition_kept}
+use Rattle.c_locals.specs.Kept.{is_kept_formal}
+use Rattle.c_sites.specs.Functions.{object_kept, declares_kept, start_kept, statement_kept, parts_kept, definition_kept}
 
 declares_length : (d : Declares) → length (declares_kept d) ≡ count_of_declares d
 declares_length (declares s os at) = length-map os (object_kept s)
@@ -31,5 +31,5 @@ mutual
   parts_length (and_declares d ps) = omega (arith, length-append (declares_kept d) (parts_kept ps), declares_length d, parts_length ps)
   parts_length (and_does s ps) = omega (arith, length-append (statement_kept s) (parts_kept ps), statement_length s, parts_length ps)
 
-pub definition_length : (ps : List Param) (parts : Parts) → length (definition_kept ps parts) ≡ length ps + count_of_parts parts
-definition_length ps parts = omega (arith, length-append (map param_kept ps) (parts_kept parts), length-map ps param_kept, parts_length parts)
+pub definition_length : (ps : List Formal) (parts : Parts) → length (definition_kept ps parts) ≡ length ps + count_of_parts parts
+definition_length ps parts = omega (arith, length-append (map is_kept_formal ps) (parts_kept parts), length-map ps is_kept_formal, parts_length parts)

@@ -5,8 +5,7 @@ use Rattle.c_tree.specs.declared.ctype.Specifier.{Specifier}
 use Rattle.c_tree.specs.declared.ctype.Specifier.TheVariants as specifier
 use Rattle.c_tree.specs.declared.expr.PrefixOp.TheVariants as prefix_op
 use Rattle.c_tree.specs.declared.expr.AssignOp.TheVariants as assign_op
-use Rattle.c_tree.specs.declared.program.Params.TheVariants as params
-use Rattle.c_tree.specs.Tree.{Exp, assign, prefix, named, call, number, null, no_exp, and_exp, Declared, declared, value, plain, initialised, declares, compute, break_at, gives, Parts, no_part, and_declares, and_does, defined, fields, Outer, structure, function, objects}
+use Rattle.c_tree.specs.Tree.{Exp, void_formals, assign, prefix, named, call, number, null, no_exp, and_exp, Declared, declared, value, plain, initialised, declares, compute, break_at, gives, Parts, no_part, and_declares, and_does, defined, fields, Outer, structure, function, objects}
 use Rattle.rr_base.specs.declared.position.Position.{Position}
 use Rattle.rr_base.specs.Positions.{position_at}
 use Rattle.c_types.specs.declared.fault.FaultKind.{FaultKind}
@@ -46,7 +45,7 @@ int_array name column e = objects false (int 1) (plain (declared 0 (name_at name
 
 -- `int main(void) { .. }`
 abbrev main_with : Parts → Outer
-main_with ps = function false (int 1) 0 (name_at (codes "main") 5) params.Void (defined ps (at 15))
+main_with ps = function false (int 1) 0 (name_at (codes "main") 5) void_formals (defined ps (at 15))
 
 abbrev ends : Parts
 ends = and_does (gives (Some (k 0 30)) (at 23)) no_part

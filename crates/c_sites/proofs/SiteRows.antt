@@ -8,9 +8,7 @@ use Rattle.c_tree.specs.declared.ctype.Specifier.{Specifier}
 use Rattle.c_tree.specs.declared.ctype.Specifier.TheVariants as specifier
 use Rattle.c_tree.specs.declared.expr.PrefixOp.TheVariants as prefix_op
 use Rattle.c_tree.specs.declared.expr.AssignOp.TheVariants as assign_op
-use Rattle.c_tree.specs.declared.program.Param.{Param}
-use Rattle.c_tree.specs.declared.program.Params.TheVariants as params
-use Rattle.c_tree.specs.Tree.{Exp, assign, prefix, named, call, number, sizeof_exp, paren, no_exp, and_exp, declared, value, Object, plain, initialised, declares, block, compute, Parts, no_part, and_declares, and_does, defined, fields, Outer, structure, function, objects}
+use Rattle.c_tree.specs.Tree.{Exp, Formal, formal, listed_formals, listed_row, assign, prefix, named, call, number, sizeof_exp, paren, no_exp, and_exp, declared, value, Object, plain, initialised, declares, block, compute, Parts, no_part, and_declares, and_does, defined, fields, Outer, structure, function, objects}
 use Rattle.rr_base.specs.declared.position.Position.{Position}
 use Rattle.rr_base.specs.Positions.{position_at}
 use Rattle.c_types.specs.Constants.{constant_named}
@@ -35,8 +33,8 @@ int column = specifier.Int (at column)
 abbrev struct_s : ℕ → ℕ → Specifier
 struct_s column name_column = specifier.Struct (name_at (codes "s") name_column) (at column)
 
-abbrev pub param_at : List ℕ → ℕ → Param
-param_at name column = record { specifier = int column; stars = 0; name = Some (name_at name column); at = at column }
+abbrev pub param_at : List ℕ → ℕ → Formal
+param_at name column = formal (int column) 0 (Some (name_at name column)) (at column)
 
 abbrev pub address : Exp → ℕ → Exp
 address e column = prefix prefix_op.Address e (at column)
@@ -44,8 +42,8 @@ address e column = prefix prefix_op.Address e (at column)
 abbrev pub n : List ℕ → ℕ → Exp
 n name column = named name (at column)
 
-abbrev pub function_at : List ℕ → ℕ → List Param → Parts → Outer
-function_at name column ps parts = function false (specifier.Void (at 1)) 0 (name_at name column) (params.Listed ps) (defined parts (at column))
+abbrev pub function_at : List ℕ → ℕ → List Formal → Parts → Outer
+function_at name column ps parts = function false (specifier.Void (at 1)) 0 (name_at name column) (listed_formals (listed_row ps)) (defined parts (at column))
 
 -- int g; void f(int n) { int a; int b; int *p = &(b); { int b; int v[2]; } p = malloc(sizeof(int)); }
 abbrev pub first_source : List Outer

@@ -36,6 +36,7 @@ counted_base structs base.Mutex = refl
 counted_base structs base.Cond = refl
 counted_base structs base.Barrier = refl
 counted_base structs base.RwLock = refl
+counted_base structs (base.Function k) = refl
 
 -- a product of a counted number
 counted_product : (n s t : ℕ) → counted_cells s ≡ counted_cells t → counted_cells (n * s) ≡ counted_cells (n * t)

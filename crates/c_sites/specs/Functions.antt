@@ -4,11 +4,10 @@ use Rattle.std.specs.Prelude.{ℕ, ◌+◌, Bool, ◌||◌, if◌then◌else◌,
 use Rattle.c_text.specs.Texts.{Text}
 use Rattle.c_tree.specs.declared.name.Name.{Name}
 use Rattle.c_tree.specs.declared.ctype.Specifier.{Specifier}
-use Rattle.c_tree.specs.declared.program.Param.{Param}
-use Rattle.c_tree.specs.Tree.{Object, Declares, declares, Start, start_declares, start_computes, Statement, block, compute, break_at, continue_at, gives, branch, branch_else, while_loop, do_loop, for_loop, Parts, no_part, and_declares, and_does, Code, defined, prototype, Outer, structure, function, objects}
+use Rattle.c_tree.specs.Tree.{Formal, Object, Declares, declares, Start, start_declares, start_computes, Statement, block, compute, break_at, continue_at, gives, branch, branch_else, while_loop, do_loop, for_loop, Parts, no_part, and_declares, and_does, Code, defined, prototype, Outer, structure, function, objects}
 use Rattle.c_sites.specs.declared.function_info.FunctionInfo.{FunctionInfo}
 use Rattle.c_names.specs.Sources.{listed_params, declared_by}
-use Rattle.c_locals.specs.Kept.{is_kept, is_kept_declared}
+use Rattle.c_locals.specs.Kept.{is_kept_declared, is_kept_formal}
 use Rattle.c_locals.specs.Addresses.{program_addressed, is_among, count_of_outer}
 use Rattle.c_locals.specs.Roots.{program_starts, is_root_among}
 
@@ -45,13 +44,9 @@ abbrev mutual
   parts_kept (and_declares d ps) = declares_kept d ++ parts_kept ps
   parts_kept (and_does s ps) = statement_kept s ++ parts_kept ps
 
--- the same for a formal, which is never an array
-abbrev pub param_kept : Param → Bool
-param_kept p = is_kept p.specifier p.stars []
-
 -- the formals come first, and then the locals of the body
-abbrev pub definition_kept : List Param → Parts → List Bool
-definition_kept ps parts = map param_kept ps ++ parts_kept parts
+abbrev pub definition_kept : List Formal → Parts → List Bool
+definition_kept ps parts = map is_kept_formal ps ++ parts_kept parts
 
 -- ---- functions
 
@@ -65,7 +60,7 @@ registers_from ns n [] = 0
 registers_from ns n (kept ∷ more) = register_where (kept || is_among ns n) + registers_from ns (n + 1) more
 
 -- `ns` are the numbers to which `&` is applied, n the first formal's
-abbrev pub info_of : List ℕ → List Text → ℕ → Name → List Param → Parts → FunctionInfo
+abbrev pub info_of : List ℕ → List Text → ℕ → Name → List Formal → Parts → FunctionInfo
 info_of ns starts n name ps parts = record {
   name = name.text;
   formals = length ps;
@@ -74,7 +69,7 @@ info_of ns starts n name ps parts = record {
 }
 
 -- a prototype defines no function
-abbrev pub code_functions : List ℕ → List Text → ℕ → Name → List Param → Code → List FunctionInfo
+abbrev pub code_functions : List ℕ → List Text → ℕ → Name → List Formal → Code → List FunctionInfo
 code_functions ns starts n name ps prototype = []
 code_functions ns starts n name ps (defined parts at) = info_of ns starts n name ps parts ∷ []
 

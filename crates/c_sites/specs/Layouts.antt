@@ -7,7 +7,7 @@ use Rattle.c_tree.specs.Tree.{Outer}
 use Rattle.c_types.specs.declared.types.ObjectType.{ObjectType}
 use Rattle.c_types.specs.Types.{layout_of_type, struct_kinds}
 use Rattle.c_types.specs.Scopes.{Known, type_named, is_complete}
-use Rattle.c_names.specs.Sources.{known_at_start}
+use Rattle.c_names.specs.Known.{known_at_start}
 use Rattle.c_spots.specs.Spots.{known_after}
 use Rattle.c_sites.specs.Sites.{types_of_members, is_laid_out}
 

@@ -9,7 +9,7 @@ use Rattle.rr_base.specs.declared.position.Position.{Position}
 use Rattle.c_types.specs.declared.types.ObjectType.{ObjectType}
 use Rattle.c_types.specs.Types.{kinds_of_type, layered_element, layout_of_type, struct_kinds}
 use Rattle.c_types.specs.Scopes.{Members, members_of, most_cells}
-use Rattle.c_names.specs.Sources.{known_at_start}
+use Rattle.c_names.specs.Known.{known_at_start}
 use Rattle.c_spots.specs.Spots.{Holder, a_global, a_local, an_allocation, Spot, program_spots, known_after}
 
 -- a type with a fault counts for nothing

@@ -6,7 +6,7 @@ use Rattle.c_types.specs.declared.fault.Found.{Found}
 use Rattle.c_types.specs.declared.fault.FaultKind.TheVariants as fault
 use Rattle.c_types.specs.Found.{first_among, found_at}
 use Rattle.c_types.specs.Scopes.{has_name}
-use Rattle.c_names.specs.Sources.{known_at_start}
+use Rattle.c_names.specs.Known.{known_at_start}
 use Rattle.c_programs.specs.Programs.{program_faults}
 use Rattle.c_spots.specs.Spots.{Spot, program_spots}
 

@@ -1,13 +1,14 @@
 //! The functions that a source defines.
 ghost use Rattle.std.specs.Prelude.{◌≡◌, ◌+◌, ◌++◌, [], IfOk, OnOk, map, length};
 ghost use Rattle.c_tree.specs.Tree.{listed_parts};
-ghost use Rattle.c_tree.specs.View.{declared_of, object_of, declares_of, start_of, stmt_of, part_of, code_of, outer_of, program_of};
+ghost use Rattle.c_tree.specs.View.{declared_of, formal_of, object_of, declares_of, start_of, stmt_of, part_of, code_of, outer_of, program_of};
 ghost use Rattle.c_locals.specs.Addresses.{count_of_parts, count_of_outer, count_of_code};
+ghost use Rattle.c_locals.specs.Kept.{is_kept_formal};
 ghost use Rattle.c_names.specs.Sources.{listed_params, declared_by};
 ghost use Rattle.c_sites.specs.Functions as spec;
 ghost use Rattle.c_names.specs.Table.{texts_of};
 
-use c_locals::{Marks, Roots, addressed_in, is_kept, roots_of};
+use c_locals::{Marks, Roots, addressed_in, is_kept_declared, is_kept_formal, roots_of};
 use c_names::listed;
 use c_spots::advance;
 use c_tree::{
@@ -41,8 +42,7 @@ fn declarator_of(item: &Item) -> &Declarator
 fn object_kept(specifier: &Specifier, item: &Item) -> bool
     ensures { result ≡ spec.object_kept specifier.now (object_of item.now) }
 {
-    let declarator = declarator_of(item);
-    is_kept(specifier, declarator.stars, declarator.lengths.as_slice())
+    is_kept_declared(specifier, declarator_of(item))
 }
 
 fn push_declares_kept(declaration: &Declaration, out: &mut List<bool>) -> Result<(), AllocError>
@@ -103,10 +103,10 @@ fn push_parts_kept(parts: &[Part], out: &mut List<bool>) -> Result<(), AllocErro
 }
 
 fn push_params_kept(params: &[Param], out: &mut List<bool>) -> Result<(), AllocError>
-    ensures { OnOk result (out.new ≡ out.old ++ map spec.param_kept params.now) }
+    ensures { OnOk result (out.new ≡ out.old ++ map is_kept_formal (map formal_of params.now)) }
 {
     for param in params {
-        out.push(is_kept(&param.specifier, param.stars, &[]))?;
+        out.push(is_kept_formal(param))?;
     }
     Ok(())
 }
@@ -117,7 +117,7 @@ fn definition_kept(
     params: &[Param],
     parts: &[Part],
 ) -> Result<List<bool>, AllocError>
-    ensures { IfOk result (λ kept. kept ≡ spec.definition_kept params.now (listed_parts (map part_of parts.now))) }
+    ensures { IfOk result (λ kept. kept ≡ spec.definition_kept (map formal_of params.now) (listed_parts (map part_of parts.now))) }
 {
     let mut kept = List::new(alloc);
     push_params_kept(params, &mut kept)?;
@@ -161,8 +161,8 @@ fn info_of(
     params: &[Param],
     parts: &[Part],
 ) -> Result<FunctionInfo, AllocError>
-    ensures info { IfOk result (λ f. f ≡ spec.info_of marks.now.numbers (texts_of roots.now.names.keys) next.old name.now params.now (listed_parts (map part_of parts.now))) }
-    ensures next { OnOk result (next.new ≡ next.old + (length params.now + count_of_parts (listed_parts (map part_of parts.now)))) }
+    ensures info { IfOk result (λ f. f ≡ spec.info_of marks.now.numbers (texts_of roots.now.names.keys) next.old name.now (map formal_of params.now) (listed_parts (map part_of parts.now))) }
+    ensures next { OnOk result (next.new ≡ next.old + (length (map formal_of params.now) + count_of_parts (listed_parts (map part_of parts.now)))) }
 {
     let kept = definition_kept(alloc, params, parts)?;
     let registers = count_registers(marks, next, kept.as_slice())?;
@@ -184,8 +184,8 @@ fn push_code(
     body: &Body,
     out: &mut List<FunctionInfo>,
 ) -> Result<(), AllocError>
-    ensures next { OnOk result (next.new ≡ next.old + count_of_code params.now (code_of body.now)) }
-    ensures out { OnOk result (out.new ≡ out.old ++ spec.code_functions marks.now.numbers (texts_of roots.now.names.keys) next.old name.now params.now (code_of body.now)) }
+    ensures next { OnOk result (next.new ≡ next.old + count_of_code (map formal_of params.now) (code_of body.now)) }
+    ensures out { OnOk result (out.new ≡ out.old ++ spec.code_functions marks.now.numbers (texts_of roots.now.names.keys) next.old name.now (map formal_of params.now) (code_of body.now)) }
 {
     match body {
         Body::Prototype => Ok(()),

@@ -7,7 +7,7 @@ ghost use Rattle.c_types.specs.Shown.{shown_maybe};
 ghost use Rattle.c_spots.specs.Spots.{outers_spots, program_spots};
 ghost use Rattle.c_spots.specs.SpotViews.{shown_holder, shown_spot};
 ghost use Rattle.c_sites.specs.Sites as spec;
-ghost use Rattle.c_names.specs.Sources.{known_at_start};
+ghost use Rattle.c_names.specs.Known.{known_at_start};
 ghost use Rattle.c_names.specs.Table.{known_of};
 ghost use Rattle.c_types.specs.Types.{struct_kinds};
 ghost use Rattle.c_sites.specs.Whole as whole;

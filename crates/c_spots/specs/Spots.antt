@@ -4,8 +4,7 @@ use Rattle.std.specs.Prelude.{ℕ, ◌+◌, Bool, true, false, not, ◌&&◌, �
 use Rattle.c_text.specs.Texts.{Text}
 use Rattle.c_tree.specs.declared.name.Name.{Name}
 use Rattle.c_tree.specs.declared.ctype.Specifier.{Specifier}
-use Rattle.c_tree.specs.declared.program.Param.{Param}
-use Rattle.c_tree.specs.Tree.{Exp, comma, assign, conditional, binary, prefix, sizeof_exp, sizeof_type, cast, index, member, arrow, post_increment, post_decrement, named, call, number, letter, text, null, paren, Exps, no_exp, and_exp, Declared, declared, Init, value, braces, mutex_start, cond_start, rwlock_start, Inits, no_init, and_init, Object, plain, initialised, Declares, declares, Start, start_declares, start_computes, Statement, block, compute, break_at, continue_at, gives, branch, branch_else, while_loop, do_loop, for_loop, Parts, no_part, and_declares, and_does, Code, defined, prototype, Fields, fields, Outer, structure, function, objects}
+use Rattle.c_tree.specs.Tree.{Exp, comma, assign, conditional, binary, prefix, sizeof_exp, sizeof_type, cast, index, member, arrow, post_increment, post_decrement, named, call, number, letter, text, null, paren, Exps, no_exp, and_exp, Formal, Declared, declared, declared_pointer, Init, value, braces, mutex_start, cond_start, rwlock_start, Inits, no_init, and_init, Object, plain, initialised, Declares, declares, Start, start_declares, start_computes, Statement, block, compute, break_at, continue_at, gives, branch, branch_else, while_loop, do_loop, for_loop, Parts, no_part, and_declares, and_does, Code, defined, prototype, Fields, fields, Outer, structure, function, objects}
 use Rattle.rr_base.specs.declared.position.Position.{Position}
 use Rattle.c_rules.specs.Faults.{name_place}
 use Rattle.c_types.specs.declared.types.ObjectType.{ObjectType}
@@ -14,13 +13,15 @@ use Rattle.c_types.specs.declared.library.LibraryName.TheVariants as library
 use Rattle.c_types.specs.Library.{library_named}
 use Rattle.c_types.specs.Scopes.{Known, seen, type_named, opened}
 use Rattle.c_types.specs.Standing.{Target, no_target, target_of, assigned_target, cast_target, standing}
-use Rattle.c_names.specs.Sources.{declared_name, listed_params, declared_by, known_at_start}
+use Rattle.c_names.specs.Sources.{declared_name, listed_params, param_name, declared_by}
+use Rattle.c_names.specs.Signatures.{signature_of}
+use Rattle.c_names.specs.Known.{known_at_start}
 use Rattle.c_programs.specs.Declarators.{declared_type, param_type, after_param, after_params}
 use Rattle.c_programs.specs.Initials.{value_target}
 use Rattle.c_programs.specs.Statements.{after_declared, after_declares, after_start}
-use Rattle.c_programs.specs.Programs.{after_outer, after_function, signature_of}
+use Rattle.c_programs.specs.Programs.{after_outer, after_function}
 use Rattle.c_locals.specs.Addresses.{program_addressed, is_among, count_of_locals, count_of_start, count_of_declares, count_of_outer}
-use Rattle.c_locals.specs.Kept.{is_kept, is_kept_declared}
+use Rattle.c_locals.specs.Kept.{is_kept_declared, is_kept_formal}
 
 -- what holds cells
 pub data Holder : Type 0 where
@@ -144,6 +145,7 @@ is_global_level (in_function f ns) = false
 -- the lengths of its arrays, of which an object may have none
 abbrev pub declared_lengths : Declared → List Exp
 declared_lengths (declared stars name lengths) = lengths
+declared_lengths (declared_pointer stars name ps) = []
 
 -- the object with the number n, then the calls in its lengths
 abbrev pub declared_spots : Where → Known → ℕ → Specifier → Declared → List Spot
@@ -219,22 +221,22 @@ fields_allocations known [] = []
 fields_allocations known (fields s ds at ∷ fs) = members_allocations known ds ++ fields_allocations known fs
 
 -- a formal without a name has no cells
-abbrev pub formal_spot : Where → Known → ℕ → Param → Option Name → List Spot
+abbrev pub formal_spot : Where → Known → ℕ → Formal → Option Name → List Spot
 formal_spot here known n p None = []
 formal_spot here known n p (Some name) =
-    where_kept (is_cell_in here n (is_kept p.specifier p.stars [])) (spot_named (holder_in here name.text) name (param_type known p))
+    where_kept (is_cell_in here n (is_kept_formal p)) (spot_named (holder_in here name.text) name (param_type known p))
 
 -- the formals of a definition
-abbrev pub formals_spots : Where → Known → ℕ → List Param → List Spot
+abbrev pub formals_spots : Where → Known → ℕ → List Formal → List Spot
 formals_spots here known n [] = []
-formals_spots here known n (p ∷ ps) = formal_spot here known n p p.name ++ formals_spots here (after_param known p) (n + 1) ps
+formals_spots here known n (p ∷ ps) = formal_spot here known n p (param_name p) ++ formals_spots here (after_param known p) (n + 1) ps
 
 -- formals come before the body; the first has the number n
-abbrev pub definition_spots : Where → Known → ℕ → List Param → Parts → List Spot
+abbrev pub definition_spots : Where → Known → ℕ → List Formal → Parts → List Spot
 definition_spots here known n ps parts = formals_spots here known n ps ++ parts_spots here (after_params known ps) (n + length ps) parts
 
 -- a prototype has no cells
-abbrev pub code_spots : Where → Known → ℕ → List Param → Code → List Spot
+abbrev pub code_spots : Where → Known → ℕ → List Formal → Code → List Spot
 code_spots here known n ps prototype = []
 code_spots here known n ps (defined parts at) = definition_spots here (opened known) n ps parts
 

@@ -205,6 +205,16 @@ fn push_initials_allocations<N: Names>(
     Ok(())
 }
 
+/// The lengths of the arrays that are declared.
+pub fn declared_lengths(declarator: &Declarator) -> &[Expr]
+    ensures { map exp_of result.now ≡ spec.declared_lengths (declared_of declarator.now) }
+{
+    match declarator {
+        Declarator::Object { lengths, .. } => lengths.as_slice(),
+        Declarator::Pointer { .. } => &[],
+    }
+}
+
 fn push_members_allocations<N: Names>(
     alloc: Global,
     names: &N,
@@ -214,7 +224,7 @@ fn push_members_allocations<N: Names>(
     ensures { OnOk result (shown_spots out.new ≡ shown_spots out.old ++ spec.members_allocations (N.known names.now) (map declared_of declarators.now)) }
 {
     for declarator in declarators {
-        push_lengths_allocations(alloc, names, declarator.lengths.as_slice(), out)?;
+        push_lengths_allocations(alloc, names, declared_lengths(declarator), out)?;
     }
     Ok(())
 }

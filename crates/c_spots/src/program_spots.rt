@@ -1,9 +1,11 @@
 //! What has cells of its own in functions and in a whole source, in the order of the text.
 ghost use Rattle.std.specs.Prelude.{◌≡◌, ◌+◌, ◌++◌, IfOk, OnOk, map, length};
 ghost use Rattle.c_tree.specs.Tree.{listed_parts};
-ghost use Rattle.c_tree.specs.View.{code_of, fields_of, part_of, outer_of, program_of};
+ghost use Rattle.c_tree.specs.View.{code_of, fields_of, formal_of, formals_of, part_of, outer_of, program_of};
 ghost use Rattle.c_locals.specs.Addresses.{count_of_parts, count_of_code, count_of_outer};
-ghost use Rattle.c_names.specs.Sources.{listed_params, known_at_start};
+ghost use Rattle.c_names.specs.Sources.{listed_params, param_name};
+ghost use Rattle.c_names.specs.Signatures as signatures;
+ghost use Rattle.c_names.specs.Known.{known_at_start};
 ghost use Rattle.c_programs.specs.Declarators.{after_struct, after_params};
 ghost use Rattle.c_programs.specs.Programs as programs;
 ghost use Rattle.c_types.specs.Scopes.{opened};
@@ -14,9 +16,9 @@ ghost use Rattle.c_names.specs.Table.{known_of};
 use crate::allocations::push_fields_allocations;
 use crate::spot::{Owner, Spot, Where, push_kept};
 use crate::spots::{advance, push_objects, push_parts};
-use c_locals::{Marks, is_kept};
-use c_names::{Table, listed};
-use c_programs::{declare_function, declare_param, note_struct, param_type, signature_of};
+use c_locals::{Marks, is_kept_formal};
+use c_names::{Table, listed, param_name, signature_of};
+use c_programs::{declare_function, declare_param, note_struct, param_type};
 use c_tree::{Body, External, Member, Name, Param, Params, Part, Program, Specifier};
 use rr_base::List;
 use std::alloc::{AllocError, Global};
@@ -30,14 +32,14 @@ fn push_formal<'a>(
     param: &'a Param,
     out: &mut List<Spot<'a>>,
 ) -> Result<(), AllocError>
-    ensures { OnOk result (shown_spots out.new ≡ shown_spots out.old ++ spec.formal_spot (shown_owner owner.entry) (known_of table.now) number param.now param.now.name) }
+    ensures { OnOk result (shown_spots out.new ≡ shown_spots out.old ++ spec.formal_spot (shown_owner owner.entry) (known_of table.now) number (formal_of param.now) (param_name (formal_of param.now))) }
 {
-    match &param.name {
+    match param_name(param) {
         None => Ok(()),
         Some(name) => {
             let of = param_type(alloc, table, param)?;
             let here = Where::InFunction(owner);
-            let is_cell = here.keeps(number, is_kept(&param.specifier, param.stars, &[]));
+            let is_cell = here.keeps(number, is_kept_formal(param));
             push_kept(
                 alloc,
                 is_cell,
@@ -59,9 +61,9 @@ fn push_formals<'a>(
     params: &'a [Param],
     out: &mut List<Spot<'a>>,
 ) -> Result<(), AllocError>
-    ensures known { OnOk result (known_of table.new ≡ after_params (known_of table.old) params.now) }
-    ensures next { OnOk result (next.new ≡ next.old + length params.now) }
-    ensures out { OnOk result (shown_spots out.new ≡ shown_spots out.old ++ spec.formals_spots (shown_owner owner.entry) (known_of table.old) next.old params.now) }
+    ensures known { OnOk result (known_of table.new ≡ after_params (known_of table.old) (map formal_of params.now)) }
+    ensures next { OnOk result (next.new ≡ next.old + length (map formal_of params.now)) }
+    ensures out { OnOk result (shown_spots out.new ≡ shown_spots out.old ++ spec.formals_spots (shown_owner owner.entry) (known_of table.old) next.old (map formal_of params.now)) }
 {
     for param in params {
         push_formal(alloc, &*table, owner, *next, param, out)?;
@@ -82,8 +84,8 @@ fn push_definition<'a>(
     out: &mut List<Spot<'a>>,
 ) -> Result<(), AllocError>
     ensures known { OnOk result (known_of table.new ≡ known_of table.old) }
-    ensures next { OnOk result (next.new ≡ next.old + (length params.now + count_of_parts (listed_parts (map part_of parts.now)))) }
-    ensures out { OnOk result (shown_spots out.new ≡ shown_spots out.old ++ spec.definition_spots (shown_owner owner.entry) (opened (known_of table.old)) next.old params.now (listed_parts (map part_of parts.now))) }
+    ensures next { OnOk result (next.new ≡ next.old + (length (map formal_of params.now) + count_of_parts (listed_parts (map part_of parts.now)))) }
+    ensures out { OnOk result (shown_spots out.new ≡ shown_spots out.old ++ spec.definition_spots (shown_owner owner.entry) (opened (known_of table.old)) next.old (map formal_of params.now) (listed_parts (map part_of parts.now))) }
 {
     table.open(alloc)?;
     push_formals(alloc, table, owner, next, params, out)?;
@@ -102,8 +104,8 @@ fn push_code<'a>(
     out: &mut List<Spot<'a>>,
 ) -> Result<(), AllocError>
     ensures known { OnOk result (known_of table.new ≡ known_of table.old) }
-    ensures next { OnOk result (next.new ≡ next.old + count_of_code params.now (code_of body.now)) }
-    ensures out { OnOk result (shown_spots out.new ≡ shown_spots out.old ++ spec.code_spots (shown_owner owner.entry) (known_of table.old) next.old params.now (code_of body.now)) }
+    ensures next { OnOk result (next.new ≡ next.old + count_of_code (map formal_of params.now) (code_of body.now)) }
+    ensures out { OnOk result (shown_spots out.new ≡ shown_spots out.old ++ spec.code_spots (shown_owner owner.entry) (known_of table.old) next.old (map formal_of params.now) (code_of body.now)) }
 {
     match body {
         Body::Block { parts, .. } => {
@@ -137,7 +139,7 @@ fn declare_signed<'a>(
     params: &Params,
     body: &Body,
 ) -> Result<(), AllocError>
-    ensures { OnOk result (known_of table.new ≡ programs.after_function (known_of table.old) name.now (programs.signature_of (known_of table.old) specifier.now stars params.now) (code_of body.now)) }
+    ensures { OnOk result (known_of table.new ≡ programs.after_function (known_of table.old) name.now (signatures.signature_of (known_of table.old) specifier.now stars (formals_of params.now)) (code_of body.now)) }
 {
     let f = signature_of(alloc, &*table, specifier, stars, params)?;
     declare_function(table, name, f, body)
@@ -154,8 +156,8 @@ fn push_function<'a>(
     out: &mut List<Spot<'a>>,
 ) -> Result<(), AllocError>
     ensures known { OnOk result (known_of table.new ≡ known_of table.old) }
-    ensures next { OnOk result (next.new ≡ next.old + count_of_code (listed_params params.now) (code_of body.now)) }
-    ensures out { OnOk result (shown_spots out.new ≡ shown_spots out.old ++ spec.code_spots (spec.in_function name.now.text marks.now.numbers) (known_of table.old) next.old (listed_params params.now) (code_of body.now)) }
+    ensures next { OnOk result (next.new ≡ next.old + count_of_code (listed_params (formals_of params.now)) (code_of body.now)) }
+    ensures out { OnOk result (shown_spots out.new ≡ shown_spots out.old ++ spec.code_spots (spec.in_function name.now.text marks.now.numbers) (known_of table.old) next.old (listed_params (formals_of params.now)) (code_of body.now)) }
 {
     let owner = Owner {
         name: name.text.as_slice(),

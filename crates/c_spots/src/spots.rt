@@ -11,11 +11,12 @@ ghost use Rattle.c_names.specs.Table.{known_of};
 ghost use Rattle.c_names.specs.Sources.{declared_by};
 
 use crate::allocations::{
-    push_allocations, push_initial_allocations, push_lengths_allocations, push_maybe_allocations,
+    declared_lengths, push_allocations, push_initial_allocations, push_lengths_allocations,
+    push_maybe_allocations,
 };
 use crate::spot::{Owner, Spot, Where, push_kept};
-use c_locals::is_kept;
-use c_names::Table;
+use c_locals::is_kept_declared;
+use c_names::{Table, declared_name};
 use c_programs::{copy_of, declare_object, declared_type, ref_of, value_target};
 use c_tree::{Declaration, Declarator, Expr, ForStart, Initial, Item, Part, Specifier, Stmt};
 use c_types::{ObjectType, Target};
@@ -36,9 +37,8 @@ fn push_declared<'a>(
     requires { of.now ≡ declared_type (known_of table.now) specifier.now (declared_of declarator.now) }
     ensures { OnOk result (shown_spots out.new ≡ shown_spots out.old ++ spec.declared_spots (shown_where here.entry) (known_of table.now) number specifier.now (declared_of declarator.now)) }
 {
-    let name = &declarator.name;
-    let lengths = declarator.lengths.as_slice();
-    let is_cell = here.keeps(number, is_kept(specifier, declarator.stars, lengths));
+    let name = declared_name(declarator);
+    let is_cell = here.keeps(number, is_kept_declared(specifier, declarator));
     push_kept(
         alloc,
         is_cell,
@@ -47,7 +47,7 @@ fn push_declared<'a>(
         of,
         out,
     )?;
-    push_lengths_allocations(alloc, table, lengths, out)
+    push_lengths_allocations(alloc, table, declared_lengths(declarator), out)
 }
 
 fn push_plain<'a>(
@@ -66,7 +66,7 @@ fn push_plain<'a>(
     push_declared(
         alloc, &*table, here, number, specifier, declarator, &of, out,
     )?;
-    declare_object(table, here.is_global(), &declarator.name, of)
+    declare_object(table, here.is_global(), declared_name(declarator), of)
 }
 
 /// An object that starts as something.
@@ -88,7 +88,7 @@ fn push_initialised<'a>(
         alloc, &*table, here, number, specifier, declarator, &of, out,
     )?;
     let kept = copy_of(alloc, &of)?;
-    declare_object(table, here.is_global(), &declarator.name, of)?;
+    declare_object(table, here.is_global(), declared_name(declarator), of)?;
     push_initial_allocations(alloc, &*table, value_target(ref_of(&kept)), initial, out)
 }
 

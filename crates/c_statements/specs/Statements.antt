@@ -1,6 +1,6 @@
 -- The core tree of statements (C99 6.8). A declaration in a block is the statements that give its objects their first
 -- values.
-use Rattle.std.specs.Prelude.{false, List, [], ◌∷◌, ◌++◌, Option, Some, None}
+use Rattle.std.specs.Prelude.{Bool, true, false, List, [], ◌∷◌, ◌++◌, Option, Some, None}
 use Rattle.rr_base.specs.declared.position.Position.{Position}
 use Rattle.c_tree.specs.declared.ctype.Specifier.{Specifier}
 use Rattle.c_tree.specs.Tree.{Exp, Declared, Object, plain, initialised, Declares, declares, Start, start_declares, start_computes, Statement, block, compute, break_at, continue_at, gives, branch, branch_else, while_loop, do_loop, for_loop, Parts, no_part, and_declares, and_does}
@@ -12,6 +12,8 @@ use Rattle.c_programs.specs.Statements.{after_declared, after_declares, after_st
 use Rattle.c_numbers.specs.Numbered.{inside}
 use Rattle.c_locals.specs.Addresses.{after_name, after_declaration, after_for_start, past_statement}
 use Rattle.c_core.specs.Core as core
+use Rattle.c_operators.specs.declared.denoted.WordKind.{WordKind}
+use Rattle.c_operators.specs.declared.denoted.WordKind.TheVariants as kind
 use Rattle.c_operators.specs.Denoted.{position_of}
 use Rattle.c_operators.specs.Context.{Context, home_of}
 use Rattle.c_values.specs.Expressions.{value_of, wanted_of}
@@ -85,10 +87,15 @@ abbrev pub maybe_value : Context → Option Exp → Option core.Exp
 maybe_value h None = None
 maybe_value h (Some e) = Some (value_of h e)
 
+-- what a function gives, which is no pointer to functions
+abbrev pub kind_given : Bool → WordKind
+kind_given true = kind.Pointer
+kind_given false = kind.Number
+
 -- of a `return`: a pointer where the function's result is one
 abbrev pub given : Context → Option Exp → Option core.Exp
 given h None = None
-given h (Some e) = Some (wanted_of h h.frame.gives_pointer no_target e)
+given h (Some e) = Some (wanted_of h (kind_given h.frame.gives_pointer) no_target e)
 
 -- the first part of a `for`, a declaration or an expression
 abbrev pub start_elaborated : Context → Start → core.Statement

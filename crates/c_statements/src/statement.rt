@@ -21,9 +21,9 @@ ghost use Rattle.c_numbers.specs.Numbered.{following};
 use crate::make::{self, ForHead};
 use c_core::{Statement, Value};
 use c_initials::push_begun;
-use c_names::Table;
+use c_names::{Table, declared_name};
 use c_numbers::NumberTable;
-use c_operators::{Context, Frame, Source};
+use c_operators::{Context, Frame, Source, WordKind};
 use c_programs::{copy_of, declare_object, declared_type};
 use c_tree::{Declaration, Declarator, Expr, ForStart, Initial, Item, Part, Specifier, Stmt};
 use c_types::Target;
@@ -67,10 +67,10 @@ fn push_initialised<'a>(
 {
     let of = declared_type(alloc, &*table, specifier, declarator)?;
     let kept = copy_of(alloc, &of)?;
-    declare_object(table, false, &declarator.name, of)?;
-    numbers.number(&declarator.name)?;
+    declare_object(table, false, declared_name(declarator), of)?;
+    numbers.number(declared_name(declarator))?;
     let context = context(source, frame, &*table, &*numbers);
-    let home = context.home_of(declarator.name.text.as_slice());
+    let home = context.home_of(declared_name(declarator).text.as_slice());
     push_begun(alloc, context, home, &kept, initial, at, out)
 }
 
@@ -86,8 +86,8 @@ fn pass_plain<'a>(
     ensures numbers { OnOk result (numbered_of numbers.new ≡ numbering.after_name (numbered_of numbers.old) (tree.declared_of declarator.now)) }
 {
     let of = declared_type(alloc, &*table, specifier, declarator)?;
-    declare_object(table, false, &declarator.name, of)?;
-    numbers.number(&declarator.name)
+    declare_object(table, false, declared_name(declarator), of)?;
+    numbers.number(declared_name(declarator))
 }
 
 fn push_object<'a>(
@@ -196,6 +196,17 @@ fn maybe_value(
     }
 }
 
+/// What a function gives, which is no pointer to functions.
+fn kind_given(pointer: bool) -> WordKind
+    ensures { result ≡ spec.kind_given pointer }
+{
+    if pointer {
+        WordKind::Pointer
+    } else {
+        WordKind::Number
+    }
+}
+
 /// What a `return` gives.
 fn given<'a>(
     alloc: Global,
@@ -211,7 +222,8 @@ fn given<'a>(
         None => Ok(None),
         Some(e) => {
             let context = context(source, frame, table, numbers);
-            let value = wanted(alloc, context, frame.gives_pointer, Target::No, e)?;
+            let kind = kind_given(frame.gives_pointer);
+            let value = wanted(alloc, context, kind, Target::No, e)?;
             Ok(Some(value))
         }
     }

@@ -8,7 +8,6 @@ use Rattle.c_tree.specs.declared.ctype.CType.{CType}
 use Rattle.c_tree.specs.declared.expr.PrefixOp.{PrefixOp}
 use Rattle.c_tree.specs.declared.expr.BinaryOp.{BinaryOp}
 use Rattle.c_tree.specs.declared.expr.AssignOp.{AssignOp}
-use Rattle.c_tree.specs.declared.program.Params.{Params}
 
 mutual
   -- expressions, with the place of the own token last
@@ -38,9 +37,30 @@ mutual
     no_exp : Exps
     and_exp : Exp → Exps → Exps
 
--- stars, the name, the lengths of the arrays
+mutual
+  -- a parameter (C99 6.7.5.3), with the place of its first token last
+  pub data Formal : Type 0 where
+    -- the specifier, stars, the name if any
+    formal : Specifier → ℕ → Option Name → Position → Formal
+    -- a pointer to a function: its result's specifier and stars, the name, its parameters
+    formal_pointer : Specifier → ℕ → Name → Formals → Position → Formal
+
+  -- what stands in a function's parentheses: no token, the word `void` alone, or parameters
+  pub data Formals : Type 0 where
+    no_formals : Formals
+    void_formals : Formals
+    listed_formals : FormalRow → Formals
+
+  pub data FormalRow : Type 0 where
+    no_formal : FormalRow
+    and_formal : Formal → FormalRow → FormalRow
+
+-- what is declared of one name
 pub data Declared : Type 0 where
+  -- stars, the name, the lengths of the arrays
   declared : ℕ → Name → List Exp → Declared
+  -- a pointer to a function: the stars of its result, the name, its parameters
+  declared_pointer : ℕ → Name → Formals → Declared
 
 mutual
   pub data Init : Type 0 where
@@ -101,7 +121,7 @@ pub data Fields : Type 0 where
 pub data Outer : Type 0 where
   structure : Name → List Fields → Outer
   -- whether `static` stands before it, the specifier, stars, the name
-  function : Bool → Specifier → ℕ → Name → Params → Code → Outer
+  function : Bool → Specifier → ℕ → Name → Formals → Code → Outer
   objects : Bool → Specifier → List Object → Position → Outer
 
 -- ---- lists of trees
@@ -110,6 +130,11 @@ pub data Outer : Type 0 where
 abbrev pub listed : List Exp → Exps
 listed [] = no_exp
 listed (e ∷ es) = and_exp e (listed es)
+
+-- the same for parameters
+abbrev pub listed_row : List Formal → FormalRow
+listed_row [] = no_formal
+listed_row (x ∷ xs) = and_formal x (listed_row xs)
 
 -- the same for the initials in braces
 abbrev pub listed_inits : List Init → Inits

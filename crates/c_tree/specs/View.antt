@@ -1,7 +1,11 @@
 -- The plain tree as which a tree of the crate shows.
 use Rattle.std.specs.Prelude.{List, Option, Some, None, map}
 use Rattle.c_tree.specs.declared.expr.Expr.{Expr, Comma', Assign', Conditional', Binary', Prefix', SizeofExpr', SizeofType, Cast', Index', Member', Arrow', PostIncrement', PostDecrement', Name, Call', Number, Letter, Text, Null, Paren', Row_of-Expr, end_of-Expr, more_of-Expr}
+use Rattle.c_tree.specs.declared.param.Param.{Param}
+use Rattle.c_tree.specs.declared.param.Param.TheBlock.{Object as ObjectParam, Pointer as PointerParam, Nothing, Void, Listed', Row_of-Param, end_of-Param, more_of-Param}
+use Rattle.c_tree.specs.declared.param.Params.{Params}
 use Rattle.c_tree.specs.declared.declaration.Declarator.{Declarator}
+use Rattle.c_tree.specs.declared.declaration.Declarator.TheVariants as declarator
 use Rattle.c_tree.specs.declared.declaration.Initial.{Initial, Value, Braces', Mutex, Cond, RwLock, Row_of-Initial, end_of-Initial, more_of-Initial}
 use Rattle.c_tree.specs.declared.declaration.Item.{Item}
 use Rattle.c_tree.specs.declared.declaration.Item.TheVariants as item
@@ -17,7 +21,7 @@ use Rattle.c_tree.specs.declared.program.Member.{Member}
 use Rattle.c_tree.specs.declared.program.External.{External}
 use Rattle.c_tree.specs.declared.program.External.TheVariants as external
 use Rattle.c_tree.specs.declared.program.Program.{Program}
-use Rattle.c_tree.specs.Tree.{Exp, comma, assign, conditional, binary, prefix, sizeof_exp, sizeof_type, cast, index, member, arrow, post_increment, post_decrement, named, call, number, letter, text, null, paren, Exps, no_exp, and_exp, Declared, declared, Init, value, braces, mutex_start, cond_start, rwlock_start, Inits, no_init, and_init, Object, plain, initialised, Declares, declares, Start, start_declares, start_computes, Statement, block, compute, break_at, continue_at, gives, branch, branch_else, while_loop, do_loop, for_loop, Parts, no_part, Code, defined, prototype, Fields, fields, Outer, structure, function, objects, Part, part_declares, part_does, with_part, listed_parts}
+use Rattle.c_tree.specs.Tree.{Exp, comma, assign, conditional, binary, prefix, sizeof_exp, sizeof_type, cast, index, member, arrow, post_increment, post_decrement, named, call, number, letter, text, null, paren, Exps, no_exp, and_exp, Formal, formal, formal_pointer, Formals, no_formals, void_formals, listed_formals, FormalRow, no_formal, and_formal, Declared, declared, declared_pointer, Init, value, braces, mutex_start, cond_start, rwlock_start, Inits, no_init, and_init, Object, plain, initialised, Declares, declares, Start, start_declares, start_computes, Statement, block, compute, break_at, continue_at, gives, branch, branch_else, while_loop, do_loop, for_loop, Parts, no_part, Code, defined, prototype, Fields, fields, Outer, structure, function, objects, Part, part_declares, part_does, with_part, listed_parts}
 use Rattle.rr_base.specs.declared.position.Position.{Position}
 
 abbrev mutual
@@ -47,9 +51,26 @@ abbrev mutual
   exps_of_row end_of-Expr = no_exp
   exps_of_row (more_of-Expr e row) = and_exp (exp_of e) (exps_of_row row)
 
+abbrev mutual
+  -- a parameter (C99 6.7.5.3)
+  pub formal_of : Param → Formal
+  formal_of (ObjectParam s stars name at) = formal s stars name at
+  formal_of (PointerParam s stars name xs at) = formal_pointer s stars name (formals_of xs) at
+
+  -- what stands in a function's parentheses
+  pub formals_of : Params → Formals
+  formals_of Nothing = no_formals
+  formals_of Void = void_formals
+  formals_of (Listed' shape row) = listed_formals (formals_of_row row)
+
+  pub formals_of_row : {n : _} → Row_of-Param n → FormalRow
+  formals_of_row end_of-Param = no_formal
+  formals_of_row (more_of-Param x row) = and_formal (formal_of x) (formals_of_row row)
+
 -- a declarator without its specifier (C99 6.7.5)
 abbrev pub declared_of : Declarator → Declared
-declared_of d = declared d.stars d.name (map exp_of d.lengths)
+declared_of (declarator.Object stars name lengths) = declared stars name (map exp_of lengths)
+declared_of (declarator.Pointer stars name xs) = declared_pointer stars name (formals_of xs)
 
 abbrev mutual
   pub init_of : Initial → Init
@@ -123,7 +144,7 @@ fields_of m = fields m.specifier (map declared_of m.declarators) m.at
 -- an external declaration (C99 6.9)
 abbrev pub outer_of : External → Outer
 outer_of (external.Struct name members) = structure name (map fields_of members)
-outer_of (external.Function is_static specifier stars name params code) = function is_static specifier stars name params (code_of code)
+outer_of (external.Function is_static specifier stars name params code) = function is_static specifier stars name (formals_of params) (code_of code)
 outer_of (external.Objects is_static specifier items at) = objects is_static specifier (map object_of items) at
 
 -- a whole source, in the order of the text

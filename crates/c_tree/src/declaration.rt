@@ -1,14 +1,24 @@
 use crate::ctype::Specifier;
 use crate::expr::Expr;
 use crate::name::Name;
+use crate::param::Params;
 use rr_base::{List, Position};
 
-/// So many stars, a name, and the length of each array (C99 6.7.5). Its place is that of the name.
+/// What is declared of one name, which is its place (C99 6.7.5).
 #[derive(Drop)]
-pub struct Declarator {
-    pub stars: usize,
-    pub name: Name,
-    pub lengths: List<Expr>,
+pub enum Declarator {
+    /// So many stars, a name, and the length of each array.
+    Object {
+        stars: usize,
+        name: Name,
+        lengths: List<Expr>,
+    },
+    /// A pointer to a function, as `** (*name)(params)`: the stars of its result, the name, its parameters.
+    Pointer {
+        stars: usize,
+        name: Name,
+        params: Params,
+    },
 }
 
 /// What a declared object starts as (C99 6.7.8).

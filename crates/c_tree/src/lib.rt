@@ -6,6 +6,7 @@ mod ctype;
 mod declaration;
 mod expr;
 mod name;
+mod param;
 mod program;
 mod statement;
 
@@ -13,5 +14,6 @@ pub use ctype::{CType, Specifier};
 pub use declaration::{Declaration, Declarator, Initial, Item};
 pub use expr::{AssignOp, BinaryOp, Expr, PrefixOp};
 pub use name::Name;
-pub use program::{Body, External, Member, Param, Params, Program};
+pub use param::{Param, Params};
+pub use program::{Body, External, Member, Program};
 pub use statement::{ForStart, Part, Stmt};

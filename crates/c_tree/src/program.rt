@@ -1,25 +1,9 @@
 use crate::ctype::Specifier;
 use crate::declaration::{Declarator, Item};
 use crate::name::Name;
+use crate::param::Params;
 use crate::statement::Part;
 use rr_base::{List, Position};
-
-/// A parameter of a function, at its first token.
-#[derive(Debug, Drop)]
-pub struct Param {
-    pub specifier: Specifier,
-    pub stars: usize,
-    pub name: Option<Name>,
-    pub at: Position,
-}
-
-/// The parameters of a function: no token, the word `void` alone, or one or more.
-#[derive(Debug, Drop)]
-pub enum Params {
-    Nothing,
-    Void,
-    Listed(List<Param>),
-}
 
 /// What follows the parameters: a block, at its brace, or a semicolon.
 #[derive(Drop)]

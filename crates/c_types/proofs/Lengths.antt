@@ -22,6 +22,7 @@ base_sizes : (structs : List (List CellKind)) (b : BaseType) → base_size (map 
 base_sizes structs base.Int = refl
 base_sizes structs base.Void = refl
 base_sizes structs (base.Struct k) = ap (λ o. unwrap_or o 0) (slice_get-map length structs k) ∙ length_of_some (slice_get structs k)
+base_sizes structs (base.Function k) = refl
 base_sizes structs base.Mutex = refl
 base_sizes structs base.Cond = refl
 base_sizes structs base.Barrier = refl

@@ -6,5 +6,6 @@ pub mod Numbers
 pub mod Operands
 pub mod Scopes
 pub mod Shown
+pub mod Signatures
 pub mod Standing
 pub mod Types

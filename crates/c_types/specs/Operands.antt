@@ -1,6 +1,6 @@
 -- What an expression is, and which operands C's operators take (C99 6.5). An expression that has a fault in it has no
 -- type. An operator over it is judged by its other operands: it is allowed where some type would do.
-use Rattle.std.specs.Prelude.{◌==◌, Bool, true, false, not, ◌&&◌, ◌||◌, if◌then◌else◌, List, [], ◌∷◌}
+use Rattle.std.specs.Prelude.{ℕ, ◌==◌, Bool, true, false, not, ◌&&◌, ◌||◌, if◌then◌else◌, List, [], ◌∷◌}
 use Rattle.c_tree.specs.declared.expr.BinaryOp.{BinaryOp}
 use Rattle.c_tree.specs.declared.expr.BinaryOp.TheVariants as op
 use Rattle.c_tree.specs.declared.expr.AssignOp.{AssignOp}
@@ -31,14 +31,17 @@ pub data Operand : Type 0 where
   null_operand : Operand
   -- a pointer to the type; an array is the pointer to its first element
   pointing : ObjectType → Operand
+  -- a pointer to functions of the type with this number
+  function_operand : ℕ → Operand
   -- Void, a struct, a mutex, a condition variable, a barrier or a read-write lock
   no_operand : Operand
 
--- of the types without layers operators take only whole numbers
+-- of the types without layers operators take only whole numbers and pointers to functions
 abbrev pub base_operand : BaseType → Operand
 base_operand base.Int = whole
 base_operand base.Void = no_operand
 base_operand (base.Struct k) = no_operand
+base_operand (base.Function k) = function_operand k
 base_operand base.Mutex = no_operand
 base_operand base.Cond = no_operand
 base_operand base.Barrier = no_operand
@@ -87,6 +90,7 @@ abbrev pub same_base : BaseType → BaseType → Bool
 same_base base.Int base.Int = true
 same_base base.Void base.Void = true
 same_base (base.Struct j) (base.Struct k) = j == k
+same_base (base.Function j) (base.Function k) = j == k
 same_base base.Mutex base.Mutex = true
 same_base base.Cond base.Cond = true
 same_base base.Barrier base.Barrier = true
@@ -126,18 +130,19 @@ is_whole whole = true
 is_whole zero_operand = true
 is_whole _ = false
 
--- Int or a pointer
+-- Int or a pointer, also one to functions
 abbrev pub is_scalar : Operand → Bool
 is_scalar no_operand = false
 is_scalar _ = true
 
--- a pointer, or what fits every one
+-- a pointer to objects, or what fits every one
 abbrev pub is_some_pointer : Operand → Bool
 is_some_pointer any_operand = true
 is_some_pointer whole = false
 is_some_pointer zero_operand = true
 is_some_pointer null_operand = true
 is_some_pointer (pointing t) = true
+is_some_pointer (function_operand k) = false
 is_some_pointer no_operand = false
 
 -- a pointer that can be moved by elements: to no Void
@@ -160,6 +165,20 @@ are_alike a b = is_some_pointer a && is_some_pointer b
 abbrev pub are_compatible : Operand → Operand → Bool
 are_compatible (pointing s) (pointing t) = is_void s || is_void t || same_type s t
 are_compatible a b = is_some_pointer a && is_some_pointer b
+
+-- what fits each pointer to functions: `0`, `NULL`, or what has a fault
+abbrev pub fits_functions : Operand → Bool
+fits_functions any_operand = true
+fits_functions zero_operand = true
+fits_functions null_operand = true
+fits_functions _ = false
+
+-- two pointers to functions of one type, or one and what fits each
+abbrev pub are_functions : Operand → Operand → Bool
+are_functions (function_operand j) (function_operand k) = j == k
+are_functions (function_operand j) b = fits_functions b
+are_functions a (function_operand k) = fits_functions a
+are_functions _ _ = false
 
 -- operands for arithmetic and bitwise operators
 abbrev pub are_whole : Operand → Operand → Bool
@@ -184,8 +203,8 @@ takes op.LogicalAnd a b = is_scalar a && is_scalar b
 takes op.Or a b = are_whole a b
 takes op.Xor a b = are_whole a b
 takes op.And a b = are_whole a b
-takes op.Equal a b = are_whole a b || are_compatible a b
-takes op.NotEqual a b = are_whole a b || are_compatible a b
+takes op.Equal a b = are_whole a b || are_compatible a b || are_functions a b
+takes op.NotEqual a b = are_whole a b || are_compatible a b || are_functions a b
 takes op.Less a b = are_whole a b || are_alike a b
 takes op.Greater a b = are_whole a b || are_alike a b
 takes op.LessEqual a b = are_whole a b || are_alike a b
@@ -234,6 +253,7 @@ binary_standing o a b = settled (takes o a b) a b (result_of o a b)
 -- the operand may be stored into an object of the type
 abbrev pub layered_accepts : List Layer → BaseType → Operand → Bool
 layered_accepts [] base.Int a = is_whole a
+layered_accepts [] (base.Function k) a = are_functions (function_operand k) a
 layered_accepts [] _ a = false
 layered_accepts (layer.Pointer ∷ ls) b a = are_compatible (pointing (record { layers = ls; base = b })) a
 layered_accepts (layer.Array n ∷ ls) b a = false
@@ -279,7 +299,7 @@ assigns_some _ a = is_whole a
 
 -- the second and third operands have a type in common (C99 6.5.15)
 abbrev pub can_choose : Operand → Operand → Bool
-can_choose a b = are_whole a b || are_compatible a b
+can_choose a b = are_whole a b || are_compatible a b || are_functions a b
 
 -- the one that points to Void, if there is one
 abbrev pub voider : ObjectType → ObjectType → ObjectType
@@ -294,4 +314,6 @@ chosen_target a b = bare base.Void
 
 -- the type that the second and third operands have in common
 abbrev pub chosen : Operand → Operand → Standing
+chosen (function_operand k) b = a_value (bare (base.Function k))
+chosen a (function_operand k) = a_value (bare (base.Function k))
 chosen a b = if are_whole a b then int_value else a_value (pointer_to (chosen_target a b))

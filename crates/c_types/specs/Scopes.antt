@@ -12,6 +12,7 @@ use Rattle.c_types.specs.declared.types.Layer.{Layer}
 use Rattle.c_types.specs.declared.types.Layer.TheVariants as layer
 use Rattle.c_types.specs.declared.types.ObjectType.{ObjectType}
 use Rattle.c_types.specs.declared.names.Signature.{Signature}
+use Rattle.c_types.specs.declared.names.PointerType.{PointerType}
 use Rattle.c_types.specs.Types.{size_of_type}
 
 -- a member of a struct. It has no type where its declaration has a fault
@@ -37,6 +38,10 @@ pub record Known : Type 0 where
   -- the functions that the file defines anywhere, and those whose definition has begun
   pub defined : List Text
   pub begun : List Text
+  -- the types of the pointers to functions that the file declares, each once, in the order of their first declarations
+  pub pointers : List PointerType
+  -- the types of the file's functions, in the order of their declarations
+  pub function_types : List Signature
   -- how many cells the globals have that are declared before the place
   pub global_cells : ℕ
   -- what is declared before the place, the innermost scope first, and in each the oldest name first
@@ -125,6 +130,7 @@ abbrev pub is_complete_base : Known → BaseType → Bool
 is_complete_base known base.Int = true
 is_complete_base known base.Void = false
 is_complete_base known (base.Struct k) = nat_lt k (length known.structs)
+is_complete_base known (base.Function k) = true
 is_complete_base known base.Mutex = true
 is_complete_base known base.Cond = true
 is_complete_base known base.Barrier = true

@@ -19,7 +19,7 @@ use Rattle.c_types.specs.declared.wants.Wants.{Wants}
 use Rattle.c_types.specs.Library.{an_int}
 use Rattle.c_types.specs.Standing.{Target, no_target, some_target, target_of}
 use Rattle.c_types.specs.Types.{bare, int_type, pointer_to}
-use Rattle.c_types.specs.Operands.{Standing, no_type, zero_literal, null_literal, a_value, a_place, Operand, any_operand, whole, zero_operand, null_operand, pointing, no_operand}
+use Rattle.c_types.specs.Operands.{Standing, no_type, zero_literal, null_literal, a_value, a_place, Operand, any_operand, whole, zero_operand, null_operand, pointing, function_operand, no_operand}
 
 -- so many pointers round the layers
 abbrev pub shown_type : TypeRef → ObjectType
@@ -42,6 +42,7 @@ shown_operand operand.Whole = whole
 shown_operand operand.Zero = zero_operand
 shown_operand operand.Null = null_operand
 shown_operand (operand.Pointing t) = pointing (shown_type t)
+shown_operand (operand.Function k) = function_operand k
 shown_operand operand.Unfit = no_operand
 
 -- a type that isn't known shows as none too

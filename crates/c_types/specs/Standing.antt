@@ -1,5 +1,5 @@
 -- What each expression is (C99 6.5): a place, a value, or without a type where it has a fault in it.
-use Rattle.std.specs.Prelude.{ℕ, ◌==◌, Bool, true, false, not, ◌&&◌, ◌||◌, if◌then◌else◌, ℤ, List, [], ◌∷◌, replicate, Option, Some, None, codes}
+use Rattle.std.specs.Prelude.{ℕ, ◌==◌, Bool, true, false, not, ◌&&◌, ◌||◌, if◌then◌else◌, ℤ, List, [], ◌∷◌, replicate, Option, Some, None, is_some, codes}
 use Rattle.std.specs.Str.{bytes_eq}
 use Rattle.c_text.specs.Texts.{Text}
 use Rattle.c_tree.specs.declared.expr.PrefixOp.{PrefixOp}
@@ -22,7 +22,8 @@ use Rattle.c_types.specs.Numbers.{is_zero}
 use Rattle.c_types.specs.Constants.{constant_named}
 use Rattle.c_types.specs.Types.{bare, pointer_to}
 use Rattle.c_types.specs.Scopes.{Known, Meaning, variable, function_of, seen, has_name, type_named, member_of, is_complete}
-use Rattle.c_types.specs.Operands.{Standing, no_type, zero_literal, null_literal, a_value, a_place, Operand, whole, pointing, operand_of, type_operand, type_value, as_value, is_void, is_typed, is_whole, is_scalar, is_movable, settled, int_value, binary_standing, accepts, moves, assigns, can_choose, chosen}
+use Rattle.c_types.specs.Signatures.{type_numbered, signature_numbered}
+use Rattle.c_types.specs.Operands.{Standing, no_type, zero_literal, null_literal, a_value, a_place, Operand, whole, pointing, function_operand, no_operand, operand_of, type_operand, type_value, as_value, is_void, is_typed, is_whole, is_scalar, is_movable, settled, int_value, binary_standing, accepts, moves, assigns, can_choose, chosen}
 use Rattle.c_types.specs.Library.{starred_type, an_int, wanted_by, given_by, library_named}
 use Rattle.c_types.specs.Format.{conversions}
 
@@ -69,9 +70,23 @@ abbrev pub pointee : Operand → Standing
 pointee (pointing t) = if is_void t then no_type else a_place t
 pointee _ = no_type
 
--- only an object has one, a function and a value none (C99 6.5.3.2)
+-- the number of the functions' type, where the type is a pointer to functions
+abbrev pub layered_function : List Layer → BaseType → Option ℕ
+layered_function [] (base.Function k) = Some k
+layered_function [] _ = None
+layered_function (l ∷ ls) b = None
+
+-- no number of a pointer to objects or of an array
+abbrev pub type_function : ObjectType → Option ℕ
+type_function t = layered_function t.layers t.base
+
+-- no pointer points to these, and no array has them
+abbrev pub points_to_functions : ObjectType → Bool
+points_to_functions t = is_some (type_function t)
+
+-- only an object has one, a function and a value none (C99 6.5.3.2); nor has a pointer to functions here
 abbrev pub address : Standing → Standing
-address (a_place t) = a_value (pointer_to t)
+address (a_place t) = if points_to_functions t then no_type else a_value (pointer_to t)
 address _ = no_type
 
 -- `++` and `--`
@@ -120,15 +135,21 @@ abbrev pub sizeof_type_standing : Known → Option ObjectType → Standing
 sizeof_type_standing known None = no_type
 sizeof_type_standing known (Some t) = if is_complete known t then int_value else no_type
 
--- casts go between Int and pointers
+-- casts go between Int and pointers to objects
 abbrev pub casts_to : Option ObjectType → ℕ → Bool
 casts_to (Some t) stars = is_scalar (type_operand t)
 casts_to None stars = not (stars == 0)
 
+-- a number or a pointer to objects
+abbrev pub can_cast : Operand → Bool
+can_cast no_operand = false
+can_cast (function_operand k) = false
+can_cast _ = true
+
 -- the type of `(type) e`, between numbers and pointers (C99 6.5.4)
 abbrev pub cast_standing : Option ObjectType → ℕ → Operand → Standing
 cast_standing None stars a = no_type
-cast_standing (Some t) stars a = if casts_to (Some t) stars && is_scalar a && is_typed a then type_value t else no_type
+cast_standing (Some t) stars a = if casts_to (Some t) stars && can_cast a && is_typed a then type_value t else no_type
 
 -- a pointer and a number, in either order (C99 6.5.2.1)
 abbrev pub can_index : Operand → Operand → Bool
@@ -185,18 +206,28 @@ abbrev pub constant_standing : Option ℤ → Standing
 constant_standing None = no_type
 constant_standing (Some n) = int_value
 
--- a function's name alone has no type: pointers to functions aren't in the profile
-abbrev pub named_standing : Option Meaning → Option ℤ → Standing
-named_standing (Some (variable None)) constant = no_type
-named_standing (Some (variable (Some t))) constant = a_place t
-named_standing (Some (function_of f)) constant = no_type
-named_standing None constant = constant_standing constant
-
--- ---- calls
-
--- no call and no thread may begin `main` again
+-- no call, no thread and no pointer may begin `main` again
 abbrev pub is_main : Text → Bool
 is_main name = bytes_eq name (codes "main")
+
+-- calls and pointers may use the function: it isn't `main`, and is defined somewhere in the file
+abbrev pub can_be_used : Known → Text → Bool
+can_be_used known name = not (is_main name) && has_name known.defined name
+
+-- a pointer to the functions whose type has this number
+abbrev pub function_value : Bool → Option ℕ → Standing
+function_value true (Some k) = a_value (bare (base.Function k))
+function_value true None = no_type
+function_value false k = no_type
+
+-- a function's name alone is a pointer to the function (C99 6.3.2.1)
+abbrev pub named_standing : Known → Text → Option Meaning → Option ℤ → Standing
+named_standing known name (Some (variable None)) constant = no_type
+named_standing known name (Some (variable (Some t))) constant = a_place t
+named_standing known name (Some (function_of f)) constant = function_value (can_be_used known name) (type_numbered known f)
+named_standing known name None constant = constant_standing constant
+
+-- ---- calls
 
 -- the call wants these arguments, and gives this
 pub data Callee : Type 0 where
@@ -249,10 +280,25 @@ abbrev pub function_callee : Bool → Signature → Callee
 function_callee false f = no_callee
 function_callee true f = callee f.params (given_type f.result)
 
+-- what is called through a pointer of a type, if it points to functions
+abbrev pub signature_by : Known → Option ℕ → Option Signature
+signature_by known None = None
+signature_by known (Some k) = signature_numbered known k
+
+-- what is called through a variable of this type
+abbrev pub pointed_signature : Known → Option ObjectType → Option Signature
+pointed_signature known None = None
+pointed_signature known (Some t) = signature_by known (type_function t)
+
+-- a variable is called only where it points to functions
+abbrev pub pointer_callee : Option Signature → Callee
+pointer_callee None = no_callee
+pointer_callee (Some f) = callee f.params (given_type f.result)
+
 -- what a call wants and gives; a declared name goes before the library's
 abbrev pub callee_of : Known → Target → Text → Option ℕ → Option Meaning → Callee
-callee_of known w name format (Some (variable t)) = no_callee
-callee_of known w name format (Some (function_of f)) = function_callee (not (is_main name) && has_name known.defined name) f
+callee_of known w name format (Some (variable t)) = pointer_callee (pointed_signature known t)
+callee_of known w name format (Some (function_of f)) = function_callee (can_be_used known name) f
 callee_of known w name format None = library_callee (library_named name) w format
 
 -- `void *`, what a thread takes and gives
@@ -280,7 +326,7 @@ is_root_type _ = false
 
 -- the third argument of `pthread_create`: a defined function's name, not in parentheses
 abbrev pub is_root : Known → Exp → Bool
-is_root known (named name at) = is_root_type (seen known name) && not (is_main name) && has_name known.defined name
+is_root known (named name at) = is_root_type (seen known name) && can_be_used known name
 is_root known _ = false
 
 -- a string literal, which may stand only as an argument that wants one
@@ -304,10 +350,11 @@ fits_wanted known wants.Text e s = is_text e
 
 -- ---- a value that is let go, as a statement or before a comma
 
--- a number may be dropped, and so may what a `void` call gives
+-- a number or a pointer may be dropped, and so may what a `void` call gives
 abbrev pub is_kept_base : BaseType → Bool
 is_kept_base base.Int = true
 is_kept_base base.Void = true
+is_kept_base (base.Function k) = true
 is_kept_base _ = false
 
 -- a pointer or an array may always be dropped
@@ -351,7 +398,7 @@ abbrev mutual
   standing known w (arrow a name at) = member_standing known (pointed_struct (operand_of (standing known no_target a))) name.text
   standing known w (post_increment a at) = stepped (standing known no_target a)
   standing known w (post_decrement a at) = stepped (standing known no_target a)
-  standing known w (named name at) = named_standing (seen known name) (constant_named name)
+  standing known w (named name at) = named_standing known name (seen known name) (constant_named name)
   standing known w (call name es at) = call_standing (callee_of known w name (format_of es) (seen known name)) (fit_wanted known (callee_wants (callee_of known w name (format_of es) (seen known name))) es)
   standing known w (number n at) = number_standing n
   standing known w (letter n at) = int_value

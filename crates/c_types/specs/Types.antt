@@ -43,6 +43,7 @@ abbrev pub base_kinds : List (List CellKind) → BaseType → List CellKind
 base_kinds structs base.Int = cell.Whole ∷ []
 base_kinds structs base.Void = []
 base_kinds structs (base.Struct k) = unwrap_or (slice_get structs k) []
+base_kinds structs (base.Function k) = cell.Whole ∷ []
 base_kinds structs base.Mutex = cell.Mutex ∷ []
 base_kinds structs base.Cond = cell.Cond ∷ []
 base_kinds structs base.Barrier = cell.Barrier ∷ []
@@ -95,6 +96,7 @@ abbrev pub base_size : List ℕ → BaseType → ℕ
 base_size sizes base.Int = 1
 base_size sizes base.Void = 0
 base_size sizes (base.Struct k) = unwrap_or (slice_get sizes k) 0
+base_size sizes (base.Function k) = 1
 base_size sizes base.Mutex = 1
 base_size sizes base.Cond = 1
 base_size sizes base.Barrier = 1

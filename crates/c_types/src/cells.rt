@@ -23,6 +23,7 @@ fn put_base(
             Some(kinds) => out.extend_from_slice(kinds.as_slice()),
             None => Ok(()),
         },
+        BaseType::Function(_) => out.push(CellKind::Whole),
         BaseType::Mutex => out.push(CellKind::Mutex),
         BaseType::Cond => out.push(CellKind::Cond),
         BaseType::Barrier => out.push(CellKind::Barrier),
@@ -82,8 +83,12 @@ fn cells_of_base(base: BaseType, structs: &[List<CellKind>]) -> usize
             Some(kinds) => kinds.len(),
             None => 0,
         },
-        BaseType::Int | BaseType::Mutex | BaseType::Cond | BaseType::Barrier | BaseType::RwLock =>
-            1,
+        BaseType::Int
+        | BaseType::Function(_)
+        | BaseType::Mutex
+        | BaseType::Cond
+        | BaseType::Barrier
+        | BaseType::RwLock => 1,
     }
 }
 
@@ -142,8 +147,12 @@ fn size_of_base(base: BaseType, sizes: &[u32]) -> u32
     match base {
         BaseType::Void => 0,
         BaseType::Struct(number) => sizes.get(number).copied().unwrap_or(0),
-        BaseType::Int | BaseType::Mutex | BaseType::Cond | BaseType::Barrier | BaseType::RwLock =>
-            1,
+        BaseType::Int
+        | BaseType::Function(_)
+        | BaseType::Mutex
+        | BaseType::Cond
+        | BaseType::Barrier
+        | BaseType::RwLock => 1,
     }
 }
 

@@ -11,6 +11,7 @@ mod names;
 mod numbers;
 mod operand;
 mod rules;
+mod signatures;
 mod standing;
 mod type_ref;
 mod types;
@@ -24,18 +25,20 @@ pub use fault::{FaultKind, Found, note};
 pub use format::{Inside, conversions};
 pub use law::law_size;
 pub use library::{LibraryName, StarredType, Wanted, given_by, library_named, wanted_by};
-pub use names::{Meaning, Names, Signature};
+pub use names::{Meaning, Names, PointerType, Signature};
 pub use numbers::{binary_of, prefix_of};
 pub use operand::{Operand, Standing};
 pub use rules::{
-    accepts, are_compatible, are_whole, assigns, assigns_some, binary_standing, can_choose, moves,
-    takes,
+    accepts, are_compatible, are_functions, are_whole, assigns, assigns_some, binary_standing,
+    can_choose, moves, takes,
 };
+pub use signatures::{have_same_signature, is_same_starred};
 pub use standing::{
-    Target, assign_standing, assigned_target, base_of, can_index, cast_standing, cast_target,
-    casts_to, conditional_standing, index_standing, is_complete, is_sized, malloc_standing,
-    member_standing, named_standing, pointed_struct, prefix_standing, sizeof_standing,
-    sizeof_type_standing, stepped, struct_of, type_named, type_target,
+    Target, assign_standing, assigned_target, base_of, can_be_used, can_index, cast_standing,
+    cast_target, casts_to, conditional_standing, index_standing, is_complete, is_main, is_sized,
+    malloc_standing, member_standing, named_standing, pointed_struct, points_to_functions,
+    prefix_standing, sizeof_standing, sizeof_type_standing, stepped, struct_of, type_function,
+    type_named, type_target,
 };
 pub use type_ref::{TypeRef, have_same_base, is_array};
 pub use types::{BaseType, Layer, ObjectType};

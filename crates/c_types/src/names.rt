@@ -2,17 +2,25 @@
 ghost use Rattle.std.specs.Prelude.{◌≡◌, nat_lt, length};
 ghost use Rattle.std.specs.Option.{option_map};
 ghost use Rattle.c_types.specs.Scopes as spec;
+ghost use Rattle.c_types.specs.Signatures as signatures;
 ghost use Rattle.c_types.specs.Shown.{shown_meaning, shown_member, shown_type};
 
 use crate::library::{StarredType, Wanted};
 use crate::type_ref::TypeRef;
-use rr_base::List;
+use rr_base::{List, Position};
 
 /// The types of a function. There is no type where the declaration has a fault.
 #[derive(Debug, Drop)]
 pub struct Signature {
     pub result: Option<StarredType>,
     pub params: List<Wanted>,
+}
+
+/// The type of the pointers to functions that a file declares, and the name of the first that has it.
+#[derive(Debug, Drop)]
+pub struct PointerType {
+    pub signature: Signature,
+    pub at: Position,
 }
 
 /// What an ordinary name is declared as.
@@ -53,6 +61,18 @@ pub trait Names {
     /// How many cells an object of the type has; `MAX_CELLS + 1` where there are more.
     fn cells_of(&self, of: TypeRef) -> u32
         ensures { result ≡ spec.cells_of_type (known self.now) (shown_type of.entry) };
+
+    /// The number of the pointers to functions of this type. There is none where the type has a fault in it.
+    fn pointer_numbered(&self, of: &Signature) -> Option<usize>
+        ensures { result ≡ signatures.pointer_numbered (known self.now) of.now };
+
+    /// The number of a function's type: that of the pointers to it, if the file declares any.
+    fn type_numbered(&self, of: &Signature) -> Option<usize>
+        ensures { result ≡ signatures.type_numbered (known self.now) of.now };
+
+    /// The type of the functions to which pointers with this number point.
+    fn signature_numbered<'a>(&'a self, number: usize) -> Option<&'a Signature>
+        ensures { option_map (λ f. f.now) result ≡ signatures.signature_numbered (known self.now) number };
 
     /// Whether the file defines the function anywhere.
     fn is_function_defined(&self, name: &[u8]) -> bool

@@ -35,6 +35,8 @@ pub enum Operand<'a> {
     Null,
     /// A pointer to the type. An array is the pointer to its first element.
     Pointing(TypeRef<'a>),
+    /// A pointer to functions of the type with this number.
+    Function(usize),
     /// Void, a struct, a mutex, a condition variable, a barrier or a read-write lock.
     Unfit,
 }
@@ -56,6 +58,7 @@ impl<'a> Operand<'a> {
     {
         match base {
             BaseType::Int => Operand::Whole,
+            BaseType::Function(number) => Operand::Function(number),
             BaseType::Void
             | BaseType::Struct(_)
             | BaseType::Mutex

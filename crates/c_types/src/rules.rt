@@ -2,6 +2,7 @@
 //! some type would do.
 ghost use Rattle.std.specs.Prelude.{◌≡◌};
 ghost use Rattle.c_types.specs.Operands as spec;
+ghost use Rattle.c_types.specs.Standing as standings;
 ghost use Rattle.c_types.specs.Shown.{shown_type, shown_standing, shown_operand};
 
 use crate::operand::{Operand, Standing};
@@ -20,6 +21,7 @@ impl<'a> Operand<'a> {
             | Operand::Zero
             | Operand::Null
             | Operand::Pointing(_)
+            | Operand::Function(_)
             | Operand::Unfit => true,
         }
     }
@@ -30,28 +32,43 @@ impl<'a> Operand<'a> {
     {
         match self {
             Operand::Any | Operand::Whole | Operand::Zero => true,
-            Operand::Null | Operand::Pointing(_) | Operand::Unfit => false,
+            Operand::Null | Operand::Pointing(_) | Operand::Function(_) | Operand::Unfit => false,
         }
     }
 
-    /// Int or a pointer.
+    /// Int or a pointer, also one to functions.
     pub fn is_scalar(self) -> bool
         ensures { result ≡ spec.is_scalar (shown_operand self.entry) }
     {
         match self {
             Operand::Unfit => false,
+            Operand::Any
+            | Operand::Whole
+            | Operand::Zero
+            | Operand::Null
+            | Operand::Pointing(_)
+            | Operand::Function(_) => true,
+        }
+    }
+
+    /// A number or a pointer to objects, between which casts go.
+    pub fn can_cast(self) -> bool
+        ensures { result ≡ standings.can_cast (shown_operand self.entry) }
+    {
+        match self {
+            Operand::Function(_) | Operand::Unfit => false,
             Operand::Any | Operand::Whole | Operand::Zero | Operand::Null | Operand::Pointing(_) =>
                 true,
         }
     }
 
-    /// A pointer, or what fits every one.
+    /// A pointer to objects, or what fits every one.
     fn is_some_pointer(self) -> bool
         ensures { result ≡ spec.is_some_pointer (shown_operand self.entry) }
     {
         match self {
             Operand::Any | Operand::Zero | Operand::Null | Operand::Pointing(_) => true,
-            Operand::Whole | Operand::Unfit => false,
+            Operand::Whole | Operand::Function(_) | Operand::Unfit => false,
         }
     }
 
@@ -62,7 +79,21 @@ impl<'a> Operand<'a> {
         match self {
             Operand::Any => true,
             Operand::Pointing(to) => !to.is_void(),
-            Operand::Whole | Operand::Zero | Operand::Null | Operand::Unfit => false,
+            Operand::Whole
+            | Operand::Zero
+            | Operand::Null
+            | Operand::Function(_)
+            | Operand::Unfit => false,
+        }
+    }
+
+    /// What fits each pointer to functions.
+    fn fits_functions(self) -> bool
+        ensures { result ≡ spec.fits_functions (shown_operand self.entry) }
+    {
+        match self {
+            Operand::Any | Operand::Zero | Operand::Null => true,
+            Operand::Whole | Operand::Pointing(_) | Operand::Function(_) | Operand::Unfit => false,
         }
     }
 
@@ -71,7 +102,12 @@ impl<'a> Operand<'a> {
     {
         match self {
             Operand::Pointing(to) => to.is_void(),
-            Operand::Any | Operand::Whole | Operand::Zero | Operand::Null | Operand::Unfit => false,
+            Operand::Any
+            | Operand::Whole
+            | Operand::Zero
+            | Operand::Null
+            | Operand::Function(_)
+            | Operand::Unfit => false,
         }
     }
 }
@@ -103,6 +139,18 @@ pub fn are_compatible(a: Operand, b: Operand) -> bool
     }
 }
 
+/// Two pointers to functions of one type, or one and what fits each.
+pub fn are_functions(a: Operand, b: Operand) -> bool
+    ensures { result ≡ spec.are_functions (shown_operand a.entry) (shown_operand b.entry) }
+{
+    match (a, b) {
+        (Operand::Function(j), Operand::Function(k)) => j == k,
+        (Operand::Function(_), other) => other.fits_functions(),
+        (other, Operand::Function(_)) => other.fits_functions(),
+        _ => false,
+    }
+}
+
 fn can_add(a: Operand, b: Operand) -> bool
     ensures { result ≡ spec.can_add (shown_operand a.entry) (shown_operand b.entry) }
 {
@@ -130,7 +178,9 @@ pub fn takes(op: BinaryOp, a: Operand, b: Operand) -> bool
 {
     match op {
         BinaryOp::LogicalOr | BinaryOp::LogicalAnd => a.is_scalar() && b.is_scalar(),
-        BinaryOp::Equal | BinaryOp::NotEqual => are_whole(a, b) || are_compatible(a, b),
+        BinaryOp::Equal | BinaryOp::NotEqual => {
+            are_whole(a, b) || are_compatible(a, b) || are_functions(a, b)
+        }
         BinaryOp::Less | BinaryOp::Greater | BinaryOp::LessEqual | BinaryOp::GreaterEqual => {
             are_whole(a, b) || are_alike(a, b)
         }
@@ -167,6 +217,7 @@ fn difference_of<'a>(a: Operand<'a>, b: Operand<'a>) -> Standing<'a>
         | Operand::Whole
         | Operand::Zero
         | Operand::Null
+        | Operand::Function(_)
         | Operand::Unfit => Standing::Whole,
     }
 }
@@ -216,6 +267,7 @@ pub fn accepts(to: TypeRef, from: Operand) -> bool
         Some((Layer::Array(_), _)) => false,
         None => match to.base {
             BaseType::Int => from.is_whole(),
+            BaseType::Function(number) => are_functions(Operand::Function(number), from),
             BaseType::Void
             | BaseType::Struct(_)
             | BaseType::Mutex
@@ -237,6 +289,7 @@ pub fn moves(to: TypeRef, by: Operand) -> bool
             BaseType::Int => by.is_whole(),
             BaseType::Void
             | BaseType::Struct(_)
+            | BaseType::Function(_)
             | BaseType::Mutex
             | BaseType::Cond
             | BaseType::Barrier
@@ -254,6 +307,7 @@ fn is_int(of: TypeRef) -> bool
             BaseType::Int => true,
             BaseType::Void
             | BaseType::Struct(_)
+            | BaseType::Function(_)
             | BaseType::Mutex
             | BaseType::Cond
             | BaseType::Barrier
@@ -303,7 +357,7 @@ pub fn assigns_some(op: AssignOp, from: Operand) -> bool
 pub fn can_choose(a: Operand, b: Operand) -> bool
     ensures { result ≡ spec.can_choose (shown_operand a.entry) (shown_operand b.entry) }
 {
-    are_whole(a, b) || are_compatible(a, b)
+    are_whole(a, b) || are_compatible(a, b) || are_functions(a, b)
 }
 
 fn voider<'a>(s: TypeRef<'a>, t: TypeRef<'a>) -> TypeRef<'a>
@@ -331,9 +385,10 @@ fn chosen_target<'a>(a: Operand<'a>, b: Operand<'a>) -> TypeRef<'a>
 pub fn chosen<'a>(a: Operand<'a>, b: Operand<'a>) -> Standing<'a>
     ensures { shown_standing result ≡ spec.chosen (shown_operand a.entry) (shown_operand b.entry) }
 {
-    if are_whole(a, b) {
-        Standing::Whole
-    } else {
-        Standing::Pointer(chosen_target(a, b))
+    match (a, b) {
+        (Operand::Function(number), _) => Standing::Bare(BaseType::Function(number)),
+        (_, Operand::Function(number)) => Standing::Bare(BaseType::Function(number)),
+        _ if are_whole(a, b) => Standing::Whole,
+        _ => Standing::Pointer(chosen_target(a, b)),
     }
 }

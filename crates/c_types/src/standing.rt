@@ -89,15 +89,46 @@ fn pointee<'a>(of: Operand<'a>) -> Standing<'a>
     match of {
         Operand::Pointing(to) if !to.is_void() => Standing::Place(to),
         Operand::Pointing(_) => Standing::NoType,
-        Operand::Any | Operand::Whole | Operand::Zero | Operand::Null | Operand::Unfit =>
-            Standing::NoType,
+        Operand::Any
+        | Operand::Whole
+        | Operand::Zero
+        | Operand::Null
+        | Operand::Function(_)
+        | Operand::Unfit => Standing::NoType,
     }
+}
+
+/// The number of the functions' type, where the type is a pointer to functions.
+pub fn type_function(of: TypeRef) -> Option<usize>
+    ensures { result ≡ spec.type_function (shown_type of.entry) }
+{
+    match of.peeled() {
+        Some(_) => None,
+        None => match of.base {
+            BaseType::Function(number) => Some(number),
+            BaseType::Int
+            | BaseType::Void
+            | BaseType::Struct(_)
+            | BaseType::Mutex
+            | BaseType::Cond
+            | BaseType::Barrier
+            | BaseType::RwLock => None,
+        },
+    }
+}
+
+/// Whether the type is a pointer to functions.
+pub fn points_to_functions(of: TypeRef) -> bool
+    ensures { result ≡ spec.points_to_functions (shown_type of.entry) }
+{
+    type_function(of).is_some()
 }
 
 fn address<'a>(of: Standing<'a>) -> Standing<'a>
     ensures { shown_standing result ≡ spec.address (shown_standing of.entry) }
 {
     match of {
+        Standing::Place(to) if points_to_functions(to) => Standing::NoType,
         Standing::Place(to) => Standing::Pointer(to),
         Standing::NoType
         | Standing::Zero
@@ -233,6 +264,7 @@ fn is_complete_base<N: Names>(names: &N, base: BaseType) -> bool
         BaseType::Int => true,
         BaseType::Void => false,
         BaseType::Struct(number) => names.is_struct_defined(number),
+        BaseType::Function(_) => true,
         BaseType::Mutex => true,
         BaseType::Cond => true,
         BaseType::Barrier => true,
@@ -300,7 +332,7 @@ pub fn cast_standing<'a>(to: Option<TypeRef<'a>>, stars: usize, from: Operand<'a
 {
     match to {
         Some(of) => {
-            if casts_to(to, stars) && from.is_scalar() && from.is_typed() {
+            if casts_to(to, stars) && from.can_cast() && from.is_typed() {
                 Standing::value_of(of)
             } else {
                 Standing::NoType
@@ -341,6 +373,7 @@ fn struct_of_base(base: BaseType) -> Option<usize>
         BaseType::Struct(number) => Some(number),
         BaseType::Int => None,
         BaseType::Void => None,
+        BaseType::Function(_) => None,
         BaseType::Mutex => None,
         BaseType::Cond => None,
         BaseType::Barrier => None,
@@ -378,7 +411,12 @@ pub fn pointed_struct(of: Operand) -> Option<usize>
 {
     match of {
         Operand::Pointing(to) => struct_of_type(to),
-        Operand::Any | Operand::Whole | Operand::Zero | Operand::Null | Operand::Unfit => None,
+        Operand::Any
+        | Operand::Whole
+        | Operand::Zero
+        | Operand::Null
+        | Operand::Function(_)
+        | Operand::Unfit => None,
     }
 }
 
@@ -400,14 +438,44 @@ pub fn member_standing<'a, N: Names>(
     }
 }
 
-/// What a name that stands for itself is.
-pub fn named_standing<'a>(seen: Option<Meaning<'a>>, constant: Option<i64>) -> Standing<'a>
-    ensures { shown_standing result ≡ spec.named_standing (shown_meaning seen.entry) constant }
+/// Whether the name is `main`.
+pub fn is_main(name: &[u8]) -> bool
+    ensures { result ≡ spec.is_main name.now }
 {
-    match seen {
+    name == b"main".as_slice()
+}
+
+/// Whether calls and pointers may use the function of this name.
+pub fn can_be_used<N: Names>(names: &N, name: &[u8]) -> bool
+    ensures { result ≡ spec.can_be_used (N.known names.now) name.now }
+{
+    !is_main(name) && names.is_function_defined(name)
+}
+
+fn function_value<'a>(can_be_used: bool, number: Option<usize>) -> Standing<'a>
+    ensures { shown_standing result ≡ spec.function_value can_be_used number }
+{
+    match number {
+        Some(number) if can_be_used => Standing::Bare(BaseType::Function(number)),
+        Some(_) => Standing::NoType,
+        None => Standing::NoType,
+    }
+}
+
+/// What a name that stands for itself is, by what it means and its value as a constant of the library.
+pub fn named_standing<'a, N: Names>(
+    names: &'a N,
+    name: &[u8],
+    constant: Option<i64>,
+) -> Standing<'a>
+    ensures { shown_standing result ≡ spec.named_standing (N.known names.now) name.now (scopes.seen (N.known names.now) name.now) constant }
+{
+    match names.seen(name) {
         Some(Meaning::Variable(Some(of))) => Standing::Place(of),
         Some(Meaning::Variable(None)) => Standing::NoType,
-        Some(Meaning::Function(_)) => Standing::NoType,
+        Some(Meaning::Function(of)) => {
+            function_value(can_be_used(names, name), names.type_numbered(of))
+        }
         None => match constant {
             Some(_) => Standing::Whole,
             None => Standing::NoType,

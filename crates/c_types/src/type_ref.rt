@@ -73,6 +73,7 @@ impl<'a> TypeRef<'a> {
                 BaseType::Void => true,
                 BaseType::Int
                 | BaseType::Struct(_)
+                | BaseType::Function(_)
                 | BaseType::Mutex
                 | BaseType::Cond
                 | BaseType::Barrier
@@ -112,6 +113,7 @@ pub fn have_same_base(a: BaseType, b: BaseType) -> bool
         | (BaseType::Barrier, BaseType::Barrier)
         | (BaseType::RwLock, BaseType::RwLock) => true,
         (BaseType::Struct(j), BaseType::Struct(k)) => j == k,
+        (BaseType::Function(j), BaseType::Function(k)) => j == k,
         _ => false,
     }
 }

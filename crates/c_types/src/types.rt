@@ -11,6 +11,8 @@ pub enum BaseType {
     Int,
     Void,
     Struct(usize),
+    /// A pointer to functions, by the number of their type.
+    Function(usize),
     Mutex,
     Cond,
     Barrier,

@@ -7,7 +7,6 @@ use Rattle.c_tree.specs.declared.expr.Expr.{Expr}
 use Rattle.c_tree.specs.Tree.{Exp, Exps, no_exp, and_exp, comma, call, listed}
 use Rattle.c_tree.specs.View as tree
 use Rattle.c_types.specs.declared.library.Wanted.{Wanted}
-use Rattle.c_types.specs.Library.{library_named}
 use Rattle.c_types.specs.Scopes.{Known, seen}
 use Rattle.c_types.specs.Operands.{Standing, no_type, zero_literal, null_literal, a_value, a_place, as_value}
 use Rattle.c_types.specs.Standing.{Target, no_target, standing, let_go, following, last_standing, fits_wanted, fit_wanted, format_of, callee_of, callee_gives}
@@ -15,11 +14,11 @@ use Rattle.c_rules.specs.Faults.{own_place, wants_of}
 use Rattle.c_rules.proofs.Judged as judged
 use Rattle.c_core.specs.Core as core
 use Rattle.c_operators.specs.Denoted.{Denoted, denoted_value, Part, part_by, value_in, position_of}
-use Rattle.c_operators.specs.Context.{Context, site_at}
+use Rattle.c_operators.specs.Context.{Context}
 use Rattle.c_operators.specs.Commas.{with_last}
-use Rattle.c_values.specs.Calls.{called, operand_for}
+use Rattle.c_values.specs.Calls.{operand_for}
 use Rattle.c_values.specs.Tails.{one_more, all_past, past_first}
-use Rattle.c_values.specs.Expressions.{denoted, tail_of, arguments, with_tail, part}
+use Rattle.c_values.specs.Expressions.{called, denoted, tail_of, arguments, with_tail, part}
 
 -- the place of an expression, by what the expression is
 placed : (e e1 : Exp) (place : Position) → place ≡ position_of (own_place e) → e ≡ e1 → place ≡ position_of (own_place e1)
@@ -75,20 +74,20 @@ call_is h w e name name1 es es1 at place is there same_name same_es =
 -- a call, by what it wants and what its operands are
 pub call_made : (h : Context) (w : Target) (name : Text) (es : List Expr) (at : Position) (format : Option ℕ) (ws : List Wanted) (operands : List core.Exp) (fit : Bool) (gives whole : Standing) (x : Denoted) →
     format ≡ format_of (listed (map tree.exp_of es)) →
-    ws ≡ wants_of name format (seen h.known name) →
+    ws ≡ wants_of h.known name format (seen h.known name) →
     operands ≡ arguments h ws (listed (map tree.exp_of es)) →
     fit ≡ fit_wanted h.known ws (listed (map tree.exp_of es)) →
-    x ≡ denoted_value (called h.known (site_at h.source.sites at) name (library_named name) (seen h.known name) (listed (map tree.exp_of es)) operands (position_of at)) →
+    x ≡ denoted_value (called h name (seen h.known name) (listed (map tree.exp_of es)) operands (position_of at)) →
     gives ≡ callee_gives (callee_of h.known w name format (seen h.known name)) →
     whole ≡ (if fit then gives else no_type) →
     part_by whole x ≡ part h w (call name (listed (map tree.exp_of es)) at)
 call_made h w name es at format ws operands fit gives whole x is_format is_ws is_operands is_fit is_x is_gives is_whole =
-    let known_ws : ws ≡ wants_of name (format_of (listed (map tree.exp_of es))) (seen h.known name) =
-    is_ws ∙ ap (λ z. wants_of name z (seen h.known name)) is_format in
-    let known_operands : operands ≡ arguments h (wants_of name (format_of (listed (map tree.exp_of es))) (seen h.known name)) (listed (map tree.exp_of es)) =
+    let known_ws : ws ≡ wants_of h.known name (format_of (listed (map tree.exp_of es))) (seen h.known name) =
+    is_ws ∙ ap (λ z. wants_of h.known name z (seen h.known name)) is_format in
+    let known_operands : operands ≡ arguments h (wants_of h.known name (format_of (listed (map tree.exp_of es))) (seen h.known name)) (listed (map tree.exp_of es)) =
     is_operands ∙ ap (λ z. arguments h z (listed (map tree.exp_of es))) known_ws in
     let known_x : x ≡ denoted h w (call name (listed (map tree.exp_of es)) at) =
-    is_x ∙ ap (λ z. denoted_value (called h.known (site_at h.source.sites at) name (library_named name) (seen h.known name) (listed (map tree.exp_of es)) z (position_of at))) known_operands in
+    is_x ∙ ap (λ z. denoted_value (called h name (seen h.known name) (listed (map tree.exp_of es)) z (position_of at))) known_operands in
     ap (λ (z : Standing). part_by z x) (judged.call_is h.known w name es format ws fit gives whole is_format is_gives is_ws is_fit is_whole)
     ∙ ap (λ (z : Denoted). part_by (standing h.known w (call name (listed (map tree.exp_of es)) at)) z) known_x
 

@@ -1,4 +1,4 @@
--- Calls of the library and of functions of the source (C99 6.5.2.2, 7.19, 7.20.3; POSIX.1-2017 threads). Attributes, formats
+-- Calls of the library, of functions of the source, and through pointers to them (C99 6.5.2.2, 7.19, 7.20.3; POSIX.1-2017 threads). Attributes, formats
 -- and the function with which a thread starts are no operands of a call.
 use Rattle.std.specs.Prelude.{ℕ, ◌==◌, nat_lt, Bool, false, if◌then◌else◌, pos, List, [], ◌∷◌, ◌++◌, map, Option, Some, None}
 use Rattle.c_text.specs.Texts.{Text}
@@ -14,12 +14,17 @@ use Rattle.c_types.specs.declared.library.Wanted.{Wanted}
 use Rattle.c_types.specs.declared.library.Wanted.TheVariants as wants
 use Rattle.c_types.specs.declared.library.LibraryName.{LibraryName}
 use Rattle.c_types.specs.declared.library.LibraryName.TheVariants as library
-use Rattle.c_types.specs.Scopes.{Known, Meaning, variable, function_of, function_numbered}
+use Rattle.c_types.specs.declared.names.Signature.{Signature}
+use Rattle.c_types.specs.Scopes.{Known, function_numbered}
+use Rattle.c_types.specs.Signatures.{signature_numbered}
+use Rattle.c_types.specs.Operands.{type_operand}
+use Rattle.c_types.specs.Library.{starred_type}
 use Rattle.c_names.specs.Started.{third_name}
 use Rattle.rr_base.specs.declared.position.Position.{Position}
 use Rattle.c_core.specs.Core as core
-use Rattle.c_operators.specs.Denoted.{Part, value_in, wanted_in}
-use Rattle.c_operators.specs.Context.{function_counted}
+use Rattle.c_operators.specs.declared.denoted.WordKind.{WordKind}
+use Rattle.c_operators.specs.Denoted.{Part, kind_of, value_in, wanted_in}
+use Rattle.c_operators.specs.Context.{function_counted, pointer_counted}
 
 -- ---- formats
 
@@ -56,13 +61,17 @@ first_text _ = []
 
 -- ---- arguments
 
--- a pointer or a number, as it is wanted
+-- a pointer to an object is wanted
 abbrev pub is_pointer_wanted : StarredType → Bool
 is_pointer_wanted t = nat_lt 0 t.stars
 
+-- a number or a pointer, as it is wanted
+abbrev pub kind_wanted : StarredType → WordKind
+kind_wanted t = kind_of (type_operand (starred_type t))
+
 -- none for what the call holds itself: attributes, texts, a thread's function
 abbrev pub operand_for : Wanted → Part → List core.Exp
-operand_for (wants.Fits t) p = wanted_in (is_pointer_wanted t) p ∷ []
+operand_for (wants.Fits t) p = wanted_in (kind_wanted t) p ∷ []
 operand_for wants.Anything p = value_in p ∷ []
 operand_for wants.Attribute p = []
 operand_for wants.Root p = []
@@ -123,9 +132,18 @@ abbrev pub gives_pointer : Option StarredType → Bool
 gives_pointer None = false
 gives_pointer (Some t) = is_pointer_wanted t
 
--- a call, by what its name means there
-abbrev pub called : Known → ℕ → Text → Option LibraryName → Option Meaning → Exps → List core.Exp → Position → core.Exp
-called known site name c (Some (function_of f)) es arguments at =
+-- a call of a function of the source
+abbrev pub function_called : Known → Text → Signature → List core.Exp → Position → core.Exp
+function_called known name f arguments at =
     core.call (function_counted (function_numbered known name)) (core.listed arguments) (gives_pointer f.result) at
-called known site name c (Some (variable t)) es arguments at = core.number (pos 0) at
-called known site name c None es arguments at = library_called known site c es arguments at
+
+-- whether calls through pointers of the type give a pointer
+abbrev pub pointed_gives : Option Signature → Bool
+pointed_gives None = false
+pointed_gives (Some f) = gives_pointer f.result
+
+-- a call through a pointer to the functions whose type has this number: the pointer is evaluated before the arguments
+abbrev pub pointer_called : Known → Option ℕ → core.Exp → List core.Exp → Position → core.Exp
+pointer_called known None held arguments at = core.number (pos 0) at
+pointer_called known (Some k) held arguments at =
+    core.call (pointer_counted known k) (core.listed (held ∷ arguments)) (pointed_gives (signature_numbered known k)) at

@@ -1,9 +1,9 @@
-//! Calls of the library and of functions of the source (C99 6.5.2.2; POSIX.1-2017 threads).
+//! Calls of the library, of functions of the source, and through pointers to them (C99 6.5.2.2; POSIX.1-2017 threads).
 ghost use Rattle.std.specs.Prelude.{◌≡◌, ℕ, ◌++◌, ◌∷◌, [], List, IfOk, OnOk, map};
 ghost use Rattle.std.specs.Option.{option_map};
 ghost use Rattle.c_tree.specs.Tree.{listed};
 ghost use Rattle.c_tree.specs.View as tree;
-ghost use Rattle.c_types.specs.Shown.{shown_meaning};
+ghost use Rattle.c_types.specs.Signatures.{signature_numbered};
 ghost use Rattle.c_names.specs.Table.{known_of};
 ghost use Rattle.c_types.specs.declared.format.Inside.TheVariants as met;
 ghost use Rattle.c_core.specs.View.{exp_of};
@@ -13,9 +13,9 @@ ghost use Rattle.c_values.specs.Calls as spec;
 use abstract_machine::{LibraryCall, Piece};
 use c_core::Value;
 use c_names::{Table, third_name};
-use c_operators::{Part, function_counted, make};
+use c_operators::{Part, WordKind, function_counted, make, pointer_counted};
 use c_tree::Expr;
-use c_types::{Inside, LibraryName, Meaning, StarredType, Wanted};
+use c_types::{Inside, LibraryName, Names, Operand, Signature, StarredType, TypeRef, Wanted};
 use rr_base::{List, Position};
 use std::alloc::{AllocError, Global};
 
@@ -99,11 +99,18 @@ fn first_text(es: &[Expr]) -> &[u8]
     }
 }
 
-/// Whether a pointer is wanted.
+/// Whether a pointer to an object is wanted.
 pub fn is_pointer_wanted(of: StarredType) -> bool
     ensures { result ≡ spec.is_pointer_wanted of }
 {
     of.stars > 0
+}
+
+/// A number or a pointer, as it is wanted.
+fn kind_wanted(of: StarredType) -> WordKind
+    ensures { result ≡ spec.kind_wanted of }
+{
+    WordKind::of(Operand::of_type(TypeRef::starred(of.stars, of.base)))
 }
 
 /// Whether a function with this result gives a pointer.
@@ -127,7 +134,7 @@ pub fn push_argument(
 {
     match wanted {
         Wanted::Fits(of) => {
-            let value = part.into_wanted(alloc, is_pointer_wanted(of))?;
+            let value = part.into_wanted(alloc, kind_wanted(of))?;
             out.push(Box::into_inner(value))
         }
         Wanted::Anything => {
@@ -224,7 +231,7 @@ fn first_of(
 
 #[tactic(auto, using(crate::proofs::Pieces::library_other))]
 /// A call of the library. The site is that of a `malloc`.
-fn library_called(
+pub fn library_called(
     alloc: Global,
     table: &Table,
     site: u16,
@@ -248,32 +255,49 @@ fn library_called(
     }
 }
 
-/// A call, by what its name means.
-pub fn called(
+/// A call of a function of the source.
+pub fn function_called(
     alloc: Global,
     table: &Table,
-    site: u16,
     name: &[u8],
-    call: Option<LibraryName>,
-    seen: Option<Meaning>,
-    es: &[Expr],
+    signature: &Signature,
     arguments: List<Value>,
     at: Position,
 ) -> Result<Box<Value>, AllocError>
-    ensures { IfOk result (λ v. exp_of v.value ≡ spec.called (known_of table.now) site name.now call (shown_meaning seen.entry) (listed (map tree.exp_of es.now)) (map exp_of arguments) at) }
+    ensures { IfOk result (λ v. exp_of v.value ≡ spec.function_called (known_of table.now) name.now signature.now (map exp_of arguments) at) }
 {
-    match seen {
-        Some(Meaning::Function(signature)) => {
-            let function = function_counted(table.function_numbered(name))?;
-            make::call(
-                alloc,
-                function,
-                arguments,
-                gives_pointer(signature.result),
-                at,
-            )
-        }
-        Some(Meaning::Variable(_)) => make::number(alloc, 0, at),
-        None => library_called(alloc, table, site, call, es, arguments, at),
+    let function = function_counted(table.function_numbered(name))?;
+    let gives = gives_pointer(signature.result);
+    make::call(alloc, function, arguments, gives, at)
+}
+
+/// Whether calls through pointers of the type give a pointer.
+fn pointed_gives(table: &Table, number: usize) -> bool
+    ensures { result ≡ spec.pointed_gives (signature_numbered (known_of table.now) number) }
+{
+    match table.signature_numbered(number) {
+        None => false,
+        Some(signature) => gives_pointer(signature.result),
     }
+}
+
+/// A call through a pointer to functions, which is evaluated before the arguments.
+pub fn pointer_called(
+    alloc: Global,
+    table: &Table,
+    number: Option<usize>,
+    held: Box<Value>,
+    arguments: List<Value>,
+    at: Position,
+) -> Result<Box<Value>, AllocError>
+    ensures { IfOk result (λ v. exp_of v.value ≡ spec.pointer_called (known_of table.now) number (exp_of held.value) (map exp_of arguments) at) }
+{
+    let Some(number) = number else {
+        return make::number(alloc, 0, at);
+    };
+    let mut operands = List::new(alloc);
+    operands.push(Box::into_inner(held))?;
+    operands.append(arguments)?;
+    let called = pointer_counted(table, number)?;
+    make::call(alloc, called, operands, pointed_gives(table, number), at)
 }

@@ -27,7 +27,7 @@ use crate::parts::{
 };
 use abstract_machine::BinaryOp as FlowOp;
 use c_core::Value;
-use c_operators::{Context, Part, joined, push_last};
+use c_operators::{Context, Part, WordKind, joined, push_last};
 use c_rules::{call_standing, fits_wanted, format_of, given_by_call, let_go, own_place, wants_of};
 use c_tree::{AssignOp, BinaryOp, CType, Expr, Name, PrefixOp};
 use c_types::{Names, Standing, Target, Wants, assigned_target, cast_target, type_named};
@@ -114,7 +114,7 @@ fn part<'h>(
         Expr::Number { value, .. } => number_part(alloc, context, e, *value, at),
         Expr::Letter { value, .. } => letter_part(alloc, context, e, *value, at),
         Expr::Text { .. } => Ok(text_part(context, e, at)),
-        Expr::Null { .. } => null_part(alloc, context, e, at),
+        Expr::Null { .. } => Ok(null_part(context, e, at)),
     }
 }
 
@@ -378,16 +378,16 @@ pub fn value(alloc: Global, context: Context, e: &Expr) -> Result<Box<Value>, Al
     part.into_value(alloc)
 }
 
-/// The word of an expression where a pointer is wanted or not.
+/// The word of an expression where one of the kind is wanted.
 pub fn wanted<'h>(
     alloc: Global,
     context: Context<'h, '_>,
-    pointer: bool,
+    kind: WordKind,
     target: Target<'h>,
     e: &Expr,
 ) -> Result<Box<Value>, AllocError>
-    ensures { IfOk result (λ v. exp_of v.value ≡ spec.wanted_of (context_of context.entry) pointer (shown_target target.entry) (tree.exp_of e.now)) }
+    ensures { IfOk result (λ v. exp_of v.value ≡ spec.wanted_of (context_of context.entry) kind (shown_target target.entry) (tree.exp_of e.now)) }
 {
     let part = part(alloc, context, target, e)?;
-    part.into_wanted(alloc, pointer)
+    part.into_wanted(alloc, kind)
 }

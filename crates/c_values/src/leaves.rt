@@ -6,7 +6,7 @@ ghost use Rattle.c_types.specs.Shown.{shown_standing};
 ghost use Rattle.c_types.specs.Scopes as scopes;
 ghost use Rattle.c_types.specs.Standing.{no_target, standing};
 ghost use Rattle.c_core.specs.Core as core;
-ghost use Rattle.c_operators.specs.Denoted.{denoted_value, denoted_zero, part_by};
+ghost use Rattle.c_operators.specs.Denoted.{denoted_null, denoted_value, denoted_zero, part_by};
 ghost use Rattle.c_operators.specs.Constants as spec_constants;
 ghost use Rattle.c_operators.specs.Context.{home_of};
 ghost use Rattle.c_operators.specs.Views.{denoted_of, context_of, part_of};
@@ -14,7 +14,7 @@ ghost use Rattle.c_values.specs.Expressions as spec;
 
 use crate::parts::computed;
 use c_constants::is_constant;
-use c_operators::{Constant, Context, Denoted, Home, Part, make};
+use c_operators::{Constant, Context, Denoted, Home, Part, function_word, make};
 use c_rules::{judge, value_of};
 use c_tree::Expr;
 use c_types::{Meaning, Names, Standing, Target};
@@ -80,7 +80,7 @@ fn denoted_in(alloc: Global, home: Home, at: Position) -> Result<Denoted, AllocE
 }
 
 /// A variable: a formal or local, or a global.
-fn variable(
+pub fn variable(
     alloc: Global,
     context: Context,
     name: &[u8],
@@ -103,7 +103,12 @@ fn named(alloc: Global, context: Context, name: &[u8], at: Position) -> Result<D
 {
     match context.table.seen(name) {
         Some(Meaning::Variable(_)) => variable(alloc, context, name, at),
-        Some(Meaning::Function(_)) | None => Ok(Denoted::Zero { at }),
+        Some(Meaning::Function(_)) => {
+            let word = function_word(context.table.function_numbered(name))?;
+            let value = make::number(alloc, i64::from(word), at)?;
+            Ok(Denoted::Value(value))
+        }
+        None => Ok(Denoted::Zero { at }),
     }
 }
 
@@ -186,15 +191,9 @@ pub fn text_part<'h>(context: Context<'h, '_>, e: &Expr, at: Position) -> Part<'
 }
 
 /// `NULL`.
-pub fn null_part<'h>(
-    alloc: Global,
-    context: Context<'h, '_>,
-    e: &Expr,
-    at: Position,
-) -> Result<Part<'h>, AllocError>
-    ensures part { let e = tree.exp_of e.now in let h = context_of context.entry in IfOk result (λ p. part_of p ≡ part_by (standing h.known no_target e) (denoted_value (core.null at))) }
-    ensures constant { IfOk result (λ p. p.constant ≡ spec_constants.constant_of (context_of context.entry).known (tree.exp_of e.now)) }
+pub fn null_part<'h>(context: Context<'h, '_>, e: &Expr, at: Position) -> Part<'h>
+    ensures part { part_of result ≡ part_by (standing (context_of context.entry).known no_target (tree.exp_of e.now)) (denoted_null at) }
+    ensures constant { result.constant ≡ spec_constants.constant_of (context_of context.entry).known (tree.exp_of e.now) }
 {
-    let null = make::null(alloc, at)?;
-    Ok(leaf(context, e, Denoted::Value(null)))
+    leaf(context, e, Denoted::Null { at })
 }

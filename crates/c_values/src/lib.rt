@@ -7,7 +7,7 @@ mod laws;
 mod leaves;
 mod parts;
 
-pub use calls::gives_pointer;
+pub use calls::{gives_pointer, is_pointer_wanted};
 pub use expression::{value, wanted};
 pub use laws::law_commas;
-pub use parts::is_pointer_type;
+pub use parts::kind_of_type;

@@ -20,19 +20,20 @@ ghost use Rattle.c_values.specs.Calls as calls;
 ghost use Rattle.c_values.specs.Expressions as spec;
 ghost use Rattle.c_values.specs.Tails as tails;
 
-use crate::calls::called;
+use crate::calls::{function_called, library_called, pointer_called};
+use crate::leaves::variable;
 use abstract_machine::BinaryOp as FlowOp;
 use c_core::Value;
 use c_operators::{
-    Constant, Context, Denoted, Part, arrow, assigned, binary, cast, conditional, index,
+    Constant, Context, Denoted, Part, WordKind, arrow, assigned, binary, cast, conditional, index,
     is_pointing, make, member, prefix, site_at, stepped,
 };
 use c_rules::{following, let_go};
 use c_tree::{AssignOp, BinaryOp, CType, Expr, Name, PrefixOp};
 use c_types::{
-    Names, Operand, Standing, TypeRef, assign_standing, binary_standing, cast_standing,
+    Meaning, Names, Operand, Standing, TypeRef, assign_standing, binary_standing, cast_standing,
     conditional_standing, index_standing, library_named, member_standing, pointed_struct,
-    prefix_standing, struct_of, type_named,
+    prefix_standing, struct_of, type_function, type_named,
 };
 use rr_base::{List, Position};
 use std::alloc::{AllocError, Global};
@@ -90,12 +91,22 @@ pub fn changing<'h>(standing: Standing<'h>, denoted: Denoted) -> Part<'h>
 }
 
 /// Whether a type is a pointer.
-pub fn is_pointer_type(of: Option<TypeRef>) -> bool
+fn is_pointer_type(of: Option<TypeRef>) -> bool
     ensures { result ≡ spec.is_pointer_type (shown_maybe of.entry) }
 {
     match of {
         None => false,
         Some(of) => is_pointing(Operand::of_type(of)),
+    }
+}
+
+/// What the word of an object of the type is.
+pub fn kind_of_type(of: Option<TypeRef>) -> WordKind
+    ensures { result ≡ spec.kind_of_type (shown_maybe of.entry) }
+{
+    match of {
+        None => WordKind::Number,
+        Some(of) => WordKind::of(Operand::of_type(of)),
     }
 }
 
@@ -298,7 +309,84 @@ pub fn stepping<'h>(
     Ok(changing(standing, Denoted::Value(value)))
 }
 
+/// The word that a variable holds.
+fn held_word(
+    alloc: Global,
+    context: Context,
+    name: &[u8],
+    of: Option<TypeRef>,
+    at: Position,
+) -> Result<Box<Value>, AllocError>
+    ensures { IfOk result (λ v. exp_of v.value ≡ spec.held_word (context_of context.entry) name.now (shown_maybe of.entry) at) }
+{
+    match of {
+        None => make::number(alloc, 0, at),
+        Some(of) => {
+            let denoted = variable(alloc, context, name, at)?;
+            denoted.into_value(alloc, Standing::Place(of))
+        }
+    }
+}
+
+/// The number of the functions' type, where a variable points to functions.
+fn function_held(of: Option<TypeRef>) -> Option<usize>
+    ensures { result ≡ spec.function_held (shown_maybe of.entry) }
+{
+    type_function(of?)
+}
+
+/// A call through a variable, of which the operands are made.
+fn variable_called(
+    alloc: Global,
+    context: Context,
+    name: &[u8],
+    of: Option<TypeRef>,
+    operands: List<Value>,
+    at: Position,
+) -> Result<Box<Value>, AllocError>
+    ensures { let h = context_of context.entry in let t = shown_maybe of.entry in IfOk result (λ v. exp_of v.value ≡ calls.pointer_called h.known (spec.function_held t) (spec.held_word h name.now t at) (map exp_of operands) at) }
+{
+    let held = held_word(alloc, context, name, of, at)?;
+    pointer_called(alloc, context.table, function_held(of), held, operands, at)
+}
+
+/// A call of the library, of which the operands are made.
+fn library_call(
+    alloc: Global,
+    context: Context,
+    name: &[u8],
+    es: &[Expr],
+    operands: List<Value>,
+    at: Position,
+) -> Result<Box<Value>, AllocError>
+    ensures { let h = context_of context.entry in IfOk result (λ v. exp_of v.value ≡ calls.library_called h.known (heres.site_at h.source.sites at) (names.library_named name.now) (listed (map tree.exp_of es.now)) (map exp_of operands) at) }
+{
+    let site = site_at(context.source.sites, at)?;
+    let call = library_named(name);
+    library_called(alloc, context.table, site, call, es, operands, at)
+}
+
 /// A call of which the operands are made.
+fn called(
+    alloc: Global,
+    context: Context,
+    name: &[u8],
+    es: &[Expr],
+    operands: List<Value>,
+    at: Position,
+) -> Result<Box<Value>, AllocError>
+    ensures { let h = context_of context.entry in IfOk result (λ v. exp_of v.value ≡ spec.called h name.now (scopes.seen h.known name.now) (listed (map tree.exp_of es.now)) (map exp_of operands) at) }
+{
+    match context.table.seen(name) {
+        Some(Meaning::Function(signature)) => {
+            function_called(alloc, context.table, name, signature, operands, at)
+        }
+        Some(Meaning::Variable(of)) => variable_called(alloc, context, name, of, operands, at),
+        None => library_call(alloc, context, name, es, operands, at),
+    }
+}
+
+/// What stands for a call of which the operands are made.
 pub fn call_denoted(
     alloc: Global,
     context: Context,
@@ -307,19 +395,8 @@ pub fn call_denoted(
     operands: List<Value>,
     at: Position,
 ) -> Result<Denoted, AllocError>
-    ensures { let h = context_of context.entry in IfOk result (λ r. denoted_of r ≡ denoted_value (calls.called h.known (heres.site_at h.source.sites at) name.now (names.library_named name.now) (scopes.seen h.known name.now) (listed (map tree.exp_of es.now)) (map exp_of operands) (position_of at))) }
+    ensures { let h = context_of context.entry in IfOk result (λ r. denoted_of r ≡ denoted_value (spec.called h name.now (scopes.seen h.known name.now) (listed (map tree.exp_of es.now)) (map exp_of operands) (position_of at))) }
 {
-    let site = site_at(context.source.sites, at)?;
-    let value = called(
-        alloc,
-        context.table,
-        site,
-        name,
-        library_named(name),
-        context.table.seen(name),
-        es,
-        operands,
-        at,
-    )?;
+    let value = called(alloc, context, name, es, operands, at)?;
     Ok(Denoted::Value(value))
 }

@@ -28,7 +28,7 @@ use Rattle.c_operators.specs.Operators.{flow_operator, binary_in, sum_in, differ
 use Rattle.c_values.specs.Expressions.{constant_by}
 use Rattle.constant_sound.specs.Running.{worded, is_logical, Computes}
 use Rattle.constant_sound.proofs.Arithmetic.{Fits, number_fits, operator_same, minus_same, complement_same, not_same, truth_same, word_is_zero}
-use Rattle.constant_sound.proofs.Operands.{not_pointing, no_address}
+use Rattle.constant_sound.proofs.Operands.{not_pointing, no_address, kind_of_numbers}
 
 module _ (p : Program) (s : SetupView) (t : ℕ) (calls : Calls) where
   -- the tree gives a whole number that fits, and computes it
@@ -122,13 +122,13 @@ module _ (p : Program) (s : SetupView) (t : ℕ) (calls : Calls) where
       rw (not_pointing (operand_in a) ha, and_from (is_whole (operand_in a)) (is_whole (operand_in b)) ha hb)
 
   operated_is : (o : FlowOp) (a b : Part) (at : Position) → is_whole (operand_in a) ≡ true → is_whole (operand_in b) ≡ true → operated_in o a b at ≡ core.binary o (value_in a) (value_in b) at
-  operated_is o a b at ha hb = ap (λ q. core.binary o (wanted_in (not q) a) (wanted_in (not q) b) at) (and_from (is_whole (operand_in a)) (is_whole (operand_in b)) ha hb)
+  operated_is o a b at ha hb = ap (λ k. core.binary o (wanted_in k a) (wanted_in k b) at) (kind_of_numbers (operand_in a) (operand_in b) ha hb)
 
   pub conditional_gives : (a b c : Part) (x y z : Computed) (at : Position) → is_whole (operand_in b) ≡ true → is_whole (operand_in c) ≡ true → Gives (value_in a) x → Gives (value_in b) y → Gives (value_in c) z →
       Fits (and_then x (λ n. if is_zero n then z else y)) → Gives (conditional_in a b c at) (and_then x (λ n. if is_zero n then z else y))
   conditional_gives a b c x y z at hb hc g h i fit =
       same_tree (conditional_in a b c at) (core.conditional (value_in a) (value_in b) (value_in c) at) (and_then x (λ n. if is_zero n then z else y))
-      (ap (λ q. core.conditional (value_in a) (wanted_in (not q) b) (wanted_in (not q) c) at) (and_from (is_whole (operand_in b)) (is_whole (operand_in c)) hb hc))
+      (ap (λ k. core.conditional (value_in a) (wanted_in k b) (wanted_in k c) at) (kind_of_numbers (operand_in b) (operand_in c) hb hc))
       (record { runs = conditional_runs (value_in a) (value_in b) (value_in c) x y z at g h i; whole = h.whole; fits = fit })
 
   -- an operator on two words

@@ -16,10 +16,11 @@ use Rattle.weak_code.specs.Weakened.{weakened}
 use Rattle.weak_code.proofs.Stripping.{strip-weakened}
 use Rattle.c_core.specs.Core.{Program}
 use Rattle.c_core.specs.Meaning as meaning
+use Rattle.call_targets.specs.Resolved.{resolved}
+use Rattle.call_targets.proofs.Sounds.{resolved_sound}
 use Rattle.flow_lower.specs.Lowered.{lowered}
 use Rattle.c_core.specs.Sound.{IsSound}
 use Rattle.lower_sound.specs.Follows.{Follows}
-use Rattle.lower_sound.proofs.SoundWithin.{sound_within}
 use Rattle.lower_sound.proofs.Valid.{valid}
 use Rattle.core_run.specs.Histories.{run_of}
 use Rattle.core_run.specs.Machine.{Told, start_state}
@@ -29,7 +30,7 @@ use Rattle.runs.specs.Labels.{Label}
 use Rattle.runs.specs.Steps.{State}
 use Rattle.source_runs.specs.SourceRuns.{IsSourceRun, bytes_of}
 use Rattle.source_runs.proofs.Proper.{HasEvents, run_proper}
-use Rattle.source_runs.proofs.Starts.{starts_run}
+use Rattle.source_runs.proofs.Starts.{follows_source}
 use Rattle.erasure.specs.Erased.{erased_events, erased_walk, IsAnywhere}
 use Rattle.erasure.proofs.Bare.{HasObjects}
 use Rattle.erasure.proofs.Fronts.{weakened_objects}
@@ -40,8 +41,8 @@ use Rattle.erasure.proofs.ValidFronts.{valid_objects}
 use Rattle.erasure.proofs.WeakRuns.{weakened_runnable}
 
 -- the threads of the source's code
-lowered_starts : (p : Program) (s : SetupView) → IsSound p → IsWithinLimits s → (t : ℕ) → HasEvents (meaning.run_of p s t) × Follows (lowered p) s t (meaning.run_of p s t) (start_thread (lowered p) s t)
-lowered_starts p s sound limits t = starts_run p s (sound_within p sound) (valid_runnable (lowered p) (valid p sound)) limits t
+lowered_starts : (p : Program) (s : SetupView) → IsSound p → IsWithinLimits s → (t : ℕ) → HasEvents (meaning.run_of p s t) × Follows (lowered (resolved p)) s t (meaning.run_of p s t) (start_thread (lowered (resolved p)) s t)
+lowered_starts p s sound limits t = (run_proper p s t, follows_source p s sound limits t)
 
 -- ---- a valid code that is another without its weak locks
 
@@ -52,27 +53,27 @@ module _ (p : Program) (w plain : Code) (s : SetupView) (limits : IsWithinLimits
   pub followed_walk : (es : List Entry) (end : State Told) → walk_of w s es (start_state w s) ≡ Some end → IsSourceRun p s IsAnywhere (erased_walk w s es) × (out_of w s es (start_state w s) ≡ bytes_of (erased_walk w s es))
   followed_walk es end h = (erased_walk_run p w plain s strips globals_are kinds_are each_kind (valid_objects w fine) (valid_runnable w fine) limits (λ t. (run_proper p s t, follows t)) es end h, erased_prints w s (valid_runnable w fine) es end h)
 
-pub stripped_run : (p : Program) (w : Code) (s : SetupView) (labels : List Label) (end : State Told) → IsSound p → IsWithinLimits s → is_valid w ≡ true → strip w ≡ lowered p → run_of w s labels ≡ Some end → IsSourceRun p s IsAnywhere (erased_events w s labels)
-stripped_run p w s labels end sound limits fine strips h = followed_run p w (lowered p) s limits fine strips refl refl sound.cell_kinds (λ t. (lowered_starts p s sound limits t).1) labels end h
+pub stripped_run : (p : Program) (w : Code) (s : SetupView) (labels : List Label) (end : State Told) → IsSound p → IsWithinLimits s → is_valid w ≡ true → strip w ≡ lowered (resolved p) → run_of w s labels ≡ Some end → IsSourceRun p s IsAnywhere (erased_events w s labels)
+stripped_run p w s labels end sound limits fine strips h = followed_run p w (lowered (resolved p)) s limits fine strips refl refl sound.cell_kinds (λ t. (lowered_starts p s sound limits t).1) labels end h
 
-pub stripped_walk : (p : Program) (w : Code) (s : SetupView) (es : List Entry) (end : State Told) → IsSound p → IsWithinLimits s → is_valid w ≡ true → strip w ≡ lowered p → walk_of w s es (start_state w s) ≡ Some end → IsSourceRun p s IsAnywhere (erased_walk w s es) × (out_of w s es (start_state w s) ≡ bytes_of (erased_walk w s es))
-stripped_walk p w s es end sound limits fine strips h = followed_walk p w (lowered p) s limits fine strips refl refl sound.cell_kinds (λ t. (lowered_starts p s sound limits t).1) es end h
+pub stripped_walk : (p : Program) (w : Code) (s : SetupView) (es : List Entry) (end : State Told) → IsSound p → IsWithinLimits s → is_valid w ≡ true → strip w ≡ lowered (resolved p) → walk_of w s es (start_state w s) ≡ Some end → IsSourceRun p s IsAnywhere (erased_walk w s es) × (out_of w s es (start_state w s) ≡ bytes_of (erased_walk w s es))
+stripped_walk p w s es end sound limits fine strips h = followed_walk p w (lowered (resolved p)) s limits fine strips refl refl sound.cell_kinds (λ t. (lowered_starts p s sound limits t).1) es end h
 
 -- ---- weakened code
 
 module _ (p : Program) (t : Tables) (vs : List Pair) (rs : List Range) (rows : List Grained) (sound : IsSound p) where
-  strips : strip (weakened (lowered p) t vs rs rows) ≡ lowered p
-  strips = strip-weakened (lowered p) t vs rs rows (valid p sound) (lowered_plain p)
+  strips : strip (weakened (lowered (resolved p)) t vs rs rows) ≡ lowered (resolved p)
+  strips = strip-weakened (lowered (resolved p)) t vs rs rows (valid (resolved p) (resolved_sound p sound) refl) (lowered_plain (resolved p))
 
-  objects : HasObjects (weakened (lowered p) t vs rs rows)
-  objects f = ap (λ c. objects_in c f) strips ∙ sym (weakened_objects (lowered p) t vs rs rows (loops_are_after p) f)
+  objects : HasObjects (weakened (lowered (resolved p)) t vs rs rows)
+  objects f = ap (λ c. objects_in c f) strips ∙ sym (weakened_objects (lowered (resolved p)) t vs rs rows (loops_are_after (resolved p)) f)
 
-  runnable : IsRunnable (weakened (lowered p) t vs rs rows)
-  runnable = weakened_runnable (lowered p) t vs rs rows (valid_runnable (lowered p) (valid p sound))
+  runnable : IsRunnable (weakened (lowered (resolved p)) t vs rs rows)
+  runnable = weakened_runnable (lowered (resolved p)) t vs rs rows (valid_runnable (lowered (resolved p)) (valid (resolved p) (resolved_sound p sound) refl))
 
-  pub weakened_run : (s : SetupView) (labels : List Label) (end : State Told) → IsWithinLimits s → run_of (weakened (lowered p) t vs rs rows) s labels ≡ Some end → IsSourceRun p s IsAnywhere (erased_events (weakened (lowered p) t vs rs rows) s labels)
-  weakened_run s labels end limits h = erased_run p (weakened (lowered p) t vs rs rows) (lowered p) s strips refl refl sound.cell_kinds objects runnable limits (lowered_starts p s sound limits) labels end h
+  pub weakened_run : (s : SetupView) (labels : List Label) (end : State Told) → IsWithinLimits s → run_of (weakened (lowered (resolved p)) t vs rs rows) s labels ≡ Some end → IsSourceRun p s IsAnywhere (erased_events (weakened (lowered (resolved p)) t vs rs rows) s labels)
+  weakened_run s labels end limits h = erased_run p (weakened (lowered (resolved p)) t vs rs rows) (lowered (resolved p)) s strips refl refl sound.cell_kinds objects runnable limits (lowered_starts p s sound limits) labels end h
 
-  pub weakened_walk : (s : SetupView) (es : List Entry) (end : State Told) → IsWithinLimits s → walk_of (weakened (lowered p) t vs rs rows) s es (start_state (weakened (lowered p) t vs rs rows) s) ≡ Some end →
-      IsSourceRun p s IsAnywhere (erased_walk (weakened (lowered p) t vs rs rows) s es) × (out_of (weakened (lowered p) t vs rs rows) s es (start_state (weakened (lowered p) t vs rs rows) s) ≡ bytes_of (erased_walk (weakened (lowered p) t vs rs rows) s es))
-  weakened_walk s es end limits h = (erased_walk_run p (weakened (lowered p) t vs rs rows) (lowered p) s strips refl refl sound.cell_kinds objects runnable limits (lowered_starts p s sound limits) es end h, erased_prints (weakened (lowered p) t vs rs rows) s runnable es end h)
+  pub weakened_walk : (s : SetupView) (es : List Entry) (end : State Told) → IsWithinLimits s → walk_of (weakened (lowered (resolved p)) t vs rs rows) s es (start_state (weakened (lowered (resolved p)) t vs rs rows) s) ≡ Some end →
+      IsSourceRun p s IsAnywhere (erased_walk (weakened (lowered (resolved p)) t vs rs rows) s es) × (out_of (weakened (lowered (resolved p)) t vs rs rows) s es (start_state (weakened (lowered (resolved p)) t vs rs rows) s) ≡ bytes_of (erased_walk (weakened (lowered (resolved p)) t vs rs rows) s es))
+  weakened_walk s es end limits h = (erased_walk_run p (weakened (lowered (resolved p)) t vs rs rows) (lowered (resolved p)) s strips refl refl sound.cell_kinds objects runnable limits (lowered_starts p s sound limits) es end h, erased_prints (weakened (lowered (resolved p)) t vs rs rows) s runnable es end h)

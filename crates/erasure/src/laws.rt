@@ -13,6 +13,7 @@ ghost use Rattle.weak_code.specs.Weakened.{weakened};
 ghost use Rattle.c_core.specs.Core.{Program};
 ghost use Rattle.c_core.specs.Meaning.{run_of as thread_run};
 ghost use Rattle.lower_sound.specs.Follows.{Follows};
+ghost use Rattle.call_targets.specs.Resolved.{resolved};
 ghost use Rattle.flow_lower.specs.Lowered.{lowered};
 ghost use Rattle.c_core.specs.Sound.{IsSound};
 ghost use Rattle.core_run.specs.Histories.{run_of};
@@ -32,8 +33,8 @@ pub fn law_erased_run()
     ensures { (p : Program) (t : Tables) (vs : List Pair) (rs : List Range) (rows : List Grained) (setup : SetupView) (labels : List Label) (end : State Told) →
         IsSound p →
         IsWithinLimits setup →
-        run_of (weakened (lowered p) t vs rs rows) setup labels ≡ Some end →
-        IsSourceRun p setup IsAnywhere (erased_events (weakened (lowered p) t vs rs rows) setup labels) }
+        run_of (weakened (lowered (resolved p)) t vs rs rows) setup labels ≡ Some end →
+        IsSourceRun p setup IsAnywhere (erased_events (weakened (lowered (resolved p)) t vs rs rows) setup labels) }
 {}
 
 /// So is each walk of it, by whatever list of entries, and the bytes that the walk tells are those that this run of the source
@@ -42,9 +43,9 @@ pub fn law_erased_walk()
     ensures { (p : Program) (t : Tables) (vs : List Pair) (rs : List Range) (rows : List Grained) (setup : SetupView) (entries : List Entry) (end : State Told) →
         IsSound p →
         IsWithinLimits setup →
-        walk_of (weakened (lowered p) t vs rs rows) setup entries (start_state (weakened (lowered p) t vs rs rows) setup) ≡ Some end →
-        IsSourceRun p setup IsAnywhere (erased_walk (weakened (lowered p) t vs rs rows) setup entries)
-        × (out_of (weakened (lowered p) t vs rs rows) setup entries (start_state (weakened (lowered p) t vs rs rows) setup) ≡ bytes_of (erased_walk (weakened (lowered p) t vs rs rows) setup entries)) }
+        walk_of (weakened (lowered (resolved p)) t vs rs rows) setup entries (start_state (weakened (lowered (resolved p)) t vs rs rows) setup) ≡ Some end →
+        IsSourceRun p setup IsAnywhere (erased_walk (weakened (lowered (resolved p)) t vs rs rows) setup entries)
+        × (out_of (weakened (lowered (resolved p)) t vs rs rows) setup entries (start_state (weakened (lowered (resolved p)) t vs rs rows) setup) ≡ bytes_of (erased_walk (weakened (lowered (resolved p)) t vs rs rows) setup entries)) }
 {}
 
 /// In such a run of the source each thread's own events are the first ones of its run, on the answers that they got; after
@@ -77,7 +78,7 @@ pub fn law_stripped_run()
         IsSound p →
         IsWithinLimits setup →
         is_valid code ≡ true →
-        strip code ≡ lowered p →
+        strip code ≡ lowered (resolved p) →
         run_of code setup labels ≡ Some end →
         IsSourceRun p setup IsAnywhere (erased_events code setup labels) }
 {}
@@ -88,7 +89,7 @@ pub fn law_stripped_walk()
         IsSound p →
         IsWithinLimits setup →
         is_valid code ≡ true →
-        strip code ≡ lowered p →
+        strip code ≡ lowered (resolved p) →
         walk_of code setup entries (start_state code setup) ≡ Some end →
         IsSourceRun p setup IsAnywhere (erased_walk code setup entries)
         × (out_of code setup entries (start_state code setup) ≡ bytes_of (erased_walk code setup entries)) }

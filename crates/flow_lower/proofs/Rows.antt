@@ -175,7 +175,7 @@ abbrev main_body : Statement
 main_body = block (and_statement (compute (store g (binary binary_op.Add (register 0 false (at 3)) (number (pos 2) (at 3)) (at 3)) (at 3))) (and_statement (gives (Some (load g false (at 4))) (at 4)) no_statement))
 
 abbrev sound_program : Program
-sound_program = record { functions = main_of main_body ∷ []; sites = site_g ∷ []; globals = 0 ∷ []; global_kinds = kind.Whole ∷ []; global_bases = Some 0 ∷ [] }
+sound_program = record { functions = main_of main_body ∷ []; pointers = []; sites = site_g ∷ []; globals = 0 ∷ []; global_kinds = kind.Whole ∷ []; global_bases = Some 0 ∷ [] }
 
 -- `g` has cell 0
 abbrev home : ℕ → Option ℕ
@@ -223,6 +223,7 @@ program_is_sound = record {
   functions = main_sound;
   one_main = refl;
   main_alone = no_formals;
+  targets = λ k q e. absurd cc;
   cell_kinds = refl;
   bases = refl;
   layouts = refl;

@@ -1,5 +1,5 @@
 //! The code of functions.
-ghost use Rattle.std.specs.Prelude.{◌≡◌, ◌+◌, ◌++◌, ◌∷◌, true, map, length, replicate, None, IfOk, OnOk};
+ghost use Rattle.std.specs.Prelude.{◌≡◌, ◌+◌, ◌++◌, [], ◌∷◌, true, map, length, replicate, None, IfOk, OnOk};
 ghost use Rattle.flow_code.specs.declared.act.Act.TheVariants as act;
 ghost use Rattle.c_core.specs.View.{stmt_of, arrival_of, function_of, core_of};
 ghost use Rattle.lower_parts.specs.Kept.{statement_kept};
@@ -148,16 +148,18 @@ fn lower_functions(alloc: Global, functions: &[CoreFunction]) -> Result<List<Fun
     Ok(lowered)
 }
 
-/// The code of a core tree, without weak locks.
+/// The code of a core tree that has no pointers to functions, without weak locks.
 ///
 /// # Errors
 ///
 /// Only when memory runs out.
 pub fn lower(alloc: Global, core: Core) -> Result<Code, AllocError>
+    requires { core.pointers ≡ [] }
     ensures { IfOk result (λ code. code ≡ spec.lowered (core_of core)) }
 {
     let Core {
         functions,
+        pointers: _,
         sites,
         globals,
         global_kinds,

@@ -1,4 +1,5 @@
 pub mod Few
+pub mod FewPointers
 pub mod Members
 pub mod One
 pub mod OneWeakened

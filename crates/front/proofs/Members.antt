@@ -1,6 +1,5 @@
 -- A source that the grammar has gives each of its structs a member.
 use Rattle.std.proofs.Common.{List, [], ◌∷◌}
-use Rattle.c_lexer.specs.declared.token.Kind.TheVariants as kind
 use Rattle.c_lexer.specs.declared.token.Punct.TheVariants as punct
 use Rattle.c_lexer.specs.declared.token.Word.TheVariants as word
 use Rattle.c_tree.specs.declared.name.Name.{Name}

@@ -1,5 +1,5 @@
 -- A text that is read as a source without a fault has a sound core tree, so its code is valid and makes the tree's events.
-use Rattle.std.proofs.Common.{◌≡◌, ℕ, ◌^◌, ◌≤◌, true, List, [], map, length, Option, Some, None, Result, Ok, Err, refl, sym, ap, ◌∙◌, subst}
+use Rattle.std.proofs.Common.{◌≡◌, ℕ, zero, suc, ◌+◌, ◌^◌, ◌≤◌, true, List, [], length, Option, Some, None, Result, Ok, Err, refl, sym, ap, ◌∙◌, subst}
 use Rattle.std.specs.Prelude.{IfOk}
 use Rattle.std.specs.Option.{option_map}
 use Rattle.c_text.specs.Texts.{Text}
@@ -13,16 +13,22 @@ use Rattle.c_grammar.specs.Parse.{Outcome, Got, Stuck, Spent}
 use Rattle.c_grammar.proofs.Exactly.{parsed_exactly}
 use Rattle.c_types.specs.declared.fault.Found.{Found}
 use Rattle.c_sites.specs.Whole.{first_fault}
+use Rattle.c_core.specs.Core.{Program}
 use Rattle.c_core.specs.Meaning.{run_of}
+use Rattle.call_targets.specs.Resolved.{resolved}
+use Rattle.call_targets.proofs.Places.{main_stays}
+use Rattle.call_targets.proofs.Runs.{same_runs}
+use Rattle.call_targets.proofs.Sounds.{resolved_sound}
 use Rattle.c_elaborate.specs.Whole.{core_of_source}
 use Rattle.flow_code.specs.declared.code.Code.{Code}
 use Rattle.flow_code.specs.Settle.{IsRunnable}
 use Rattle.flow_code.specs.Threads.{Thread}
+use Rattle.flow_code.specs.declared.thread.Phase.TheVariants as phase
 use Rattle.flow_code.specs.Valid.{is_valid}
 use Rattle.flow_code.proofs.Runnable.{valid_runnable}
 use Rattle.flow_lower.specs.Lowered.{lowered}
 use Rattle.c_core.specs.Sound.{IsSound}
-use Rattle.lower_sound.specs.Follows.{Follows, IsAtStart}
+use Rattle.lower_sound.specs.Follows.{Follows, IsAtStart, starts_as}
 use Rattle.lower_sound.proofs.Valid.{valid}
 use Rattle.lower_sound.proofs.SoundWithin.{sound_within}
 use Rattle.lower_sound.proofs.Threads.{follows}
@@ -31,7 +37,7 @@ use Rattle.source_sound.specs.Members.{StructsHaveMembers}
 use Rattle.source_sound.proofs.Law.{law_sound}
 use Rattle.front.specs.declared.reading.SourceFault.{SourceFault}
 use Rattle.front.specs.Plain.{plain_code}
-use Rattle.front.specs.Readings.{Reading, sound, refused, by_first_fault, refusal_of, IsByTree, IsByTokens, IsReading}
+use Rattle.front.specs.Readings.{sound, refused, by_first_fault, refusal_of, IsByTree, IsByTokens, IsReading}
 use Rattle.front.proofs.Members.{program_members}
 
 -- a source without a fault, as the grammar has it
@@ -58,21 +64,36 @@ by_tokens : (os : List Outer) (ts : Result (List Token) LexFault) → IsByTokens
 by_tokens os (Ok tokens) h = by_tree tokens os (parsed limit (lexemes tokens)) (parsed_exactly limit (lexemes tokens)) h
 by_tokens os (Err fault) h = absurd (by_refusal os (refusal_of fault) h)
 
-pub source_sound : (text : Text) (os : List Outer) → IsReading text (sound os) → length (core_of_source os).functions ≤ 2 ^ 20 → IsSound (core_of_source os)
+-- the code has a function for each function and each type of pointers to functions
+abbrev pub IsFew : Program → Type 0
+IsFew p = length p.functions + length p.pointers ≤ 2 ^ 20
+
+pub source_sound : (text : Text) (os : List Outer) → IsReading text (sound os) → IsFew (core_of_source os) → IsSound (core_of_source os)
 source_sound text os h few = let good = by_tokens os (tokens_of text) h in law_sound os good.0 good.1 few
 
-pub as_lowered : (os : List Outer) → plain_code os ≡ lowered (core_of_source os)
+pub as_lowered : (os : List Outer) → plain_code os ≡ lowered (resolved (core_of_source os))
 unfolding plain_code
 as_lowered os = refl
 
-pub valid_code : (text : Text) (os : List Outer) (code : Code) → IsReading text (sound os) → code ≡ plain_code os → length (core_of_source os).functions ≤ 2 ^ 20 → is_valid code ≡ true
-valid_code text os code h e few = subst (λ c. is_valid c ≡ true) (sym (e ∙ as_lowered os)) (valid (core_of_source os) (source_sound text os h few))
+pub valid_code : (text : Text) (os : List Outer) (code : Code) → IsReading text (sound os) → code ≡ plain_code os → IsFew (core_of_source os) → is_valid code ≡ true
+valid_code text os code h e few = subst (λ c. is_valid c ≡ true) (sym (e ∙ as_lowered os)) (valid (resolved (core_of_source os)) (resolved_sound (core_of_source os) (source_sound text os h few)) refl)
 
-pub source_events : (text : Text) (os : List Outer) (s : SetupView) (t : ℕ) (m : Thread) → IsReading text (sound os) → length (core_of_source os).functions ≤ 2 ^ 20 → 1 ≤ s.limit → IsAtStart (core_of_source os) s t m → Follows (plain_code os) s t (run_of (core_of_source os) s t) m
+-- a resolved tree begins where the tree with its pointers does
+resolved_start : (p : Program) (s : SetupView) (t : ℕ) (m : Thread) → IsAtStart p s t m → IsAtStart (resolved p) s t m
+resolved_start p s t m h = record { phase = h.phase ∙ by t; count = h.count; arena = h.arena; printed = h.printed; below = h.below; stripes = h.stripes }
+  where
+    by : (n : ℕ) → starts_as p n ≡ starts_as (resolved p) n
+    by zero = ap phase.Begun (sym (main_stays p))
+    by (suc n) = refl
+
+pub source_events : (text : Text) (os : List Outer) (s : SetupView) (t : ℕ) (m : Thread) → IsReading text (sound os) → IsFew (core_of_source os) → 1 ≤ s.limit → IsAtStart (core_of_source os) s t m → Follows (plain_code os) s t (run_of (core_of_source os) s t) m
 source_events text os s t m h few limit start =
-    subst (λ c. Follows c s t (run_of (core_of_source os) s t) m) (sym (as_lowered os)) (follows (core_of_source os) s t m (sound_within (core_of_source os) (source_sound text os h few)) limit start)
+    let p = core_of_source os in
+    subst (λ c. Follows c s t (run_of p s t) m) (sym (as_lowered os))
+    (subst (λ r. Follows (lowered (resolved p)) s t r m) (same_runs p s t)
+    (follows (resolved p) s t m (sound_within (resolved p) (resolved_sound p (source_sound text os h few))) refl limit (resolved_start p s t m start)))
 
-pub runnable_code : (text : Text) (os : List Outer) (code : Code) → IsReading text (sound os) → code ≡ plain_code os → length (core_of_source os).functions ≤ 2 ^ 20 → IsRunnable code
+pub runnable_code : (text : Text) (os : List Outer) (code : Code) → IsReading text (sound os) → code ≡ plain_code os → IsFew (core_of_source os) → IsRunnable code
 runnable_code text os code h e few = valid_runnable code (valid_code text os code h e few)
 
 pub ok_as : {A E : Type 0} (r : Result A E) (P Q : A → Type 0) → ((a : A) → P a → Q a) → IfOk r P → IfOk r Q

@@ -3,6 +3,7 @@ use Rattle.std.proofs.Common.{◌≡◌, Bool, true, List, [], ◌∷◌, length
 use Rattle.std.specs.Prelude.{◌==◌}
 use Rattle.std.specs.List.{list_all}
 use Rattle.c_core.specs.Core as core
+use Rattle.call_targets.specs.Resolved.{resolved}
 use Rattle.c_elaborate.specs.Whole.{core_of_source}
 use Rattle.c_text.specs.Texts.{Text}
 use Rattle.flow_code.specs.declared.code.Code.{Code}
@@ -24,7 +25,7 @@ lowered_plain p = no_regions p.functions
 
 -- what each lowered code meets, the code of a source meets
 of_lowered : (test : Code → Bool) → ((p : core.Program) → test (lowered p) ≡ true) → (text : Text) (code : Code) → IsCodeOf text code → test code ≡ true
-of_lowered test all text code h = subst (λ (c : Code). test c ≡ true) (sym h.is) (subst (λ (c : Code). test c ≡ true) (sym (as_lowered h.tree)) (all (core_of_source h.tree)))
+of_lowered test all text code h = subst (λ (c : Code). test c ≡ true) (sym h.is) (subst (λ (c : Code). test c ≡ true) (sym (as_lowered h.tree)) (all (resolved (core_of_source h.tree))))
 
 pub without_locks : (text : Text) (code : Code) → IsCodeOf text code → is_plain code ≡ true
 without_locks = of_lowered is_plain lowered_plain

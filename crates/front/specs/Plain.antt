@@ -4,12 +4,13 @@ use Rattle.c_text.specs.Texts.{Text}
 use Rattle.c_tree.specs.Tree.{Outer}
 use Rattle.c_elaborate.specs.Whole.{core_of_source}
 use Rattle.flow_code.specs.declared.code.Code.{Code}
+use Rattle.call_targets.specs.Resolved.{resolved}
 use Rattle.flow_lower.specs.Lowered.{lowered}
 use Rattle.front.specs.Readings.{sound, IsReading}
 
--- without weak locks
+-- where each call through a pointer is one of a function that chooses, and without weak locks
 unfoldable pub plain_code : List Outer → Code
-plain_code os = lowered (core_of_source os)
+plain_code os = lowered (resolved (core_of_source os))
 
 -- the text is a source without a fault, and this is its code
 pub record IsCodeOf (text : Text) (code : Code) : Type 0 where

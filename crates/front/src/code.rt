@@ -11,6 +11,7 @@ ghost use Rattle.front.specs.Readings.{IsRefusedFor};
 use crate::reading::{CompileFault, typed};
 use c_elaborate::elaborate;
 use c_sites::Typed;
+use call_targets::resolve;
 use flow_code::Code;
 use flow_lower::lower;
 use std::alloc::Global;
@@ -20,7 +21,10 @@ fn code_of(alloc: Global, typed: Typed) -> Result<Code, CompileFault>
     ensures code { IfOk result (λ c. c ≡ plain_code (program_of (program_in typed))) }
     ensures memory { IfErr result (λ f. f ≡ faults.OutOfMemory) }
 {
-    match elaborate(alloc, typed) {
+    let Ok(core) = elaborate(alloc, typed) else {
+        return Err(CompileFault::OutOfMemory);
+    };
+    match resolve(alloc, core) {
         Ok(core) => lower(alloc, core).map_err(|_| CompileFault::OutOfMemory),
         Err(_) => Err(CompileFault::OutOfMemory),
     }

@@ -1,10 +1,10 @@
 -- Functions: their entry, their body and their end.
-use Rattle.std.proofs.Common.{◌≡◌, ℕ, zero, suc, ◌+◌, ◌-◌, ◌≤◌, ◌<◌, inr, Bool, true, false, cond, nat_le, nat_eq, ℤ, pos, List, [], ◌∷◌, ◌++◌, length, replicate, take, Option, Some, None, option_map, slice_get, slice_index_or, refl, sym, ◌∙◌, ap, subst, arith, length-append}
+use Rattle.std.proofs.Common.{◌≡◌, ℕ, zero, suc, ◌+◌, ◌-◌, ◌≤◌, ◌<◌, inr, Bool, true, false, cond, nat_le, nat_eq, ℤ, pos, List, [], ◌∷◌, ◌++◌, length, map, replicate, take, Option, Some, None, option_map, slice_get, slice_index_or, refl, sym, ◌∙◌, ap, subst, arith, length-append}
 use Rattle.std.proofs.Math.Seq.{take-append_seam}
 use Rattle.std.proofs.lemmas.List.{length-replicate, get_or_append_left}
 use Rattle.std.proofs.lemmas.Option.{slice_get-map}
 use Rattle.std.proofs.lemmas.Bool.Decides.{nat_tests}
-use Rattle.rr_base.proofs.Lists.{slice_get-append_at, slice_get_inside}
+use Rattle.rr_base.proofs.Lists.{slice_get-append_at, slice_get-append_found, slice_get_inside}
 use Rattle.sync_objects.specs.Setup.{SetupView}
 use Rattle.rr_base.specs.declared.trap.Trap.{Trap}
 use Rattle.rr_base.specs.declared.trap.Trap.TheVariants as trap
@@ -23,7 +23,7 @@ use Rattle.flow_code.specs.Next as next
 use Rattle.c_core.specs.Core.{Arrival, arrives, Function, Program}
 use Rattle.c_core.specs.Runs.{Run, State, M, counted}
 use Rattle.c_core.specs.Meaning as meaning
-use Rattle.c_core.specs.Meaning.{Calls, Completion, goes, breaks, continues, returns, word_given, line_given, made_objects, listed_word, left}
+use Rattle.c_core.specs.Meaning.{Calls, Completion, goes, breaks, continues, returns, word_given, line_given, made_objects, listed_word, left, defined, pointed, callees}
 use Rattle.flow_lower.specs.Lowered.{body_kept, one, lowered, function_code, function_kinds, body_code, statement_kinds, arrivals_code}
 use Rattle.c_core.specs.Within.{IsWithin, IsWithinFunction, AreWithinArrivals}
 use Rattle.lower_sound.specs.Follows.{Follows, here}
@@ -69,7 +69,7 @@ module _ (p : Program) (s : SetupView) (t : ℕ) (i : ℕ) (f : Function) (is : 
 
   pub body_follows : (k : Completion → State → Run) (m : Thread) (σ : State) → m.top.instr ≡ start_of f → Shows p s t i f is callers budget m σ
       → ((o : Thread) (fl : Completion) (σ' : State) → ReturnsHere p s t i f is callers budget o (word_given fl) (line_given f.place.line fl) → Shows p s t i f is callers budget o σ' → m.count ≤ o.count → Follows (lowered p) s t (k fl σ') o)
-      → Follows (lowered p) s t (meaning.body_of p s t calls f σ k) m
+      → Follows (lowered p) s t (meaning.body_of p s t calls (defined f) σ k) m
   body_follows k m σ e h go =
       arrivals_follow f.arrivals (start_of f) (has_front (body_code f) (start_of f) (arrivals_code (length f.pointers) f.arrivals) _ (has_arrivals f)) within.0 _ m σ e h (λ n σ' place shows later.
       subst (λ (body : M Completion). Follows (lowered p) s t (body σ' k) n) (meaning_kept p s t calls f.body)
@@ -127,10 +127,10 @@ module _ (p : Program) (s : SetupView) (t : ℕ) where
       → due_of (lowered p) s t m ≡ listed (nat_le most_entries m.entries) (owing None (limited (nat_le s.limit m.count) (enter_due (lowered p) s t m frames i))) → line_of (lowered p) m.phase m.top ≡ line
       → m.count ≡ σ.count → m.arena ≡ σ.arena → σ.depth ≡ frames
       → ((made : List ℕ × ℕ) → made_objects p.sites (meaning.arena_end p s t) f.objects σ.arena ≡ Some made → m.count < s.limit → due_of (lowered p) s t m ≡ due.Mark → (answer : ℤ) → Follows (lowered p) s t (K tt (meaning.entered σ ws made.0 made.1)) (stepped (lowered p) s t m answer))
-      → Follows (lowered p) s t (meaning.enter p s t f ws line σ K) m
+      → Follows (lowered p) s t (meaning.enter p s t (defined f) ws line σ K) m
   enter_follows i f is frames m σ ws line K is_due is_line count arena depth go =
-      subst (λ c. Follows (lowered p) s t (cond (nat_le s.limit c) (Run.traps trap.Limit line) (cond (nat_le most_frames σ.depth) (Run.traps trap.Depth line) (meaning.enter_made p s t f ws line (made_objects p.sites (meaning.arena_end p s t) f.objects σ.arena) σ K))) m) count
-      (subst (λ d. Follows (lowered p) s t (cond (nat_le s.limit m.count) (Run.traps trap.Limit line) (cond (nat_le most_frames d) (Run.traps trap.Depth line) (meaning.enter_made p s t f ws line (made_objects p.sites (meaning.arena_end p s t) f.objects σ.arena) σ K))) m) (sym depth)
+      subst (λ c. Follows (lowered p) s t (cond (nat_le s.limit c) (Run.traps trap.Limit line) (cond (nat_le most_frames σ.depth) (Run.traps trap.Depth line) (meaning.enter_made p s t ws line (made_objects p.sites (meaning.arena_end p s t) f.objects σ.arena) σ K))) m) count
+      (subst (λ d. Follows (lowered p) s t (cond (nat_le s.limit m.count) (Run.traps trap.Limit line) (cond (nat_le most_frames d) (Run.traps trap.Depth line) (meaning.enter_made p s t ws line (made_objects p.sites (meaning.arena_end p s t) f.objects σ.arena) σ K))) m) (sym depth)
       (by (nat_le s.limit m.count) (nat_le most_frames frames) (made_objects p.sites (meaning.arena_end p s t) f.objects σ.arena) refl refl refl))
     where
       passes : (l b : Bool) (kind : Trap) → listed l (owing None (limited b (due.Trap kind))) ≡ due.Trap kind
@@ -147,7 +147,7 @@ module _ (p : Program) (s : SetupView) (t : ℕ) where
       fits = fits_here i f m.arena is ∙ ap (λ a. option_map (λ (m : List ℕ × ℕ). m.1) (made_objects p.sites (meaning.arena_end p s t) f.objects a)) arena
 
       by : (b d : Bool) (o : Option (List ℕ × ℕ)) → nat_le s.limit m.count ≡ b → nat_le most_frames frames ≡ d → made_objects p.sites (meaning.arena_end p s t) f.objects σ.arena ≡ o
-          → Follows (lowered p) s t (cond b (Run.traps trap.Limit line) (cond d (Run.traps trap.Depth line) (meaning.enter_made p s t f ws line o σ K))) m
+          → Follows (lowered p) s t (cond b (Run.traps trap.Limit line) (cond d (Run.traps trap.Depth line) (meaning.enter_made p s t ws line o σ K))) m
       by true d o is_b is_d is_o = (
         m,
         here,
@@ -261,22 +261,29 @@ module _ (p : Program) (s : SetupView) (t : ℕ) where
           ∙ ap (λ a. record o { top = past (given (one_made m.top (pos 0)) (result_of a) v); below = m.below }) stands
           ∙ ap (λ x. record o { top = past (given m.top (Some into) x); below = m.below }) ret.gives
 
-  module _ (fine : IsWithin p) where
+  -- in a program without pointers to functions each call is one of a function
+  pub function_within : IsWithin p → p.pointers ≡ [] → (i : ℕ) (f : Function) → slice_get p.functions i ≡ Some f → IsWithinFunction (length p.functions) f
+  function_within fine none i f is = subst (λ n. IsWithinFunction n f) (omega (arith, ap length none)) (fine.functions i f is)
+
+  pub callee_found : (i : ℕ) (f : Function) → slice_get p.functions i ≡ Some f → slice_get (callees p) i ≡ Some (defined f)
+  callee_found i f is = slice_get-append_found (map defined p.functions) (map pointed p.pointers) i (defined f) (slice_get-map defined p.functions i ∙ ap (option_map defined) is)
+
+  module _ (fine : IsWithin p) (pointerless : p.pointers ≡ []) where
     -- one call more, with what so many calls do
     serves_at : (n : ℕ) → Serves p s t (meaning.calls_of p s t n) n → (g : ℕ) (f : Function) (is : slice_get p.functions g ≡ Some f) (into : ℕ) (arguments : List ℕ) (line : ℕ) (m : Thread) (σ : State) (k : ℕ → State → Run)
         → act_at (lowered p) m.top ≡ Some (act.Call g arguments (Some into)) → line_of (lowered p) m.phase m.top ≡ line
         → m.phase ≡ phase.Running → m.stripes ≡ [] → m.count ≡ σ.count → m.arena ≡ σ.arena → m.printed ≡ σ.printed → σ.depth ≡ length m.below + 1 → m.count ≤ s.limit → s.limit ≤ m.count + suc n
         → ((v : ℕ) (o : Thread) (σ' : State) → Returns s.limit (suc n) m o σ σ' into v → Follows (lowered p) s t (k v σ') o)
-        → Follows (lowered p) s t (meaning.called p s t (meaning.calls_of p s t n) (Some f) (words_of m.top.registers arguments) line σ k) m
+        → Follows (lowered p) s t (meaning.called p s t (meaning.calls_of p s t n) (Some (defined f)) (words_of m.top.registers arguments) line σ k) m
     serves_at n serves g f is into arguments line m σ k stands is_line running nothing count arena printed depth small enough go =
-        enter_follows g f is (length m.below + 1) m σ ws line (λ u σ1. meaning.body_of p s t (meaning.calls_of p s t n) f σ1 (λ flow inner. k (word_given flow) (left σ inner)))
+        enter_follows g f is (length m.below + 1) m σ ws line (λ u σ1. meaning.body_of p s t (meaning.calls_of p s t n) (defined f) σ1 (λ flow inner. k (word_given flow) (left σ inner)))
         (due_running m (act.Call g arguments (Some into)) running nothing stands) is_line count arena depth (λ made fits low marks answer.
         let inside = next.entered (lowered p) s t m callers g ws in
         let n1 = one_more inside in
         let is_arena = ap (λ o. or_else o m.arena) (fits_here g f m.arena is ∙ ap (λ a. option_map (λ (x : List ℕ × ℕ). x.1) (made_objects p.sites (meaning.arena_end p s t) f.objects a)) arena ∙ ap (option_map (λ (x : List ℕ × ℕ). x.1)) fits) in
         let shows = shows_entered g f is callers n m σ ws made n1 fits refl refl refl nothing refl is_arena refl count arena printed (depth ∙ sym (length-append m.below (one_made m.top (pos 0) ∷ []))) low (omega (arith, enough)) in
-        subst (λ x. Follows (lowered p) s t (meaning.body_of p s t (meaning.calls_of p s t n) f (meaning.entered σ ws made.0 made.1) (λ flow inner. k (word_given flow) (left σ inner))) x) (sym (after_call m g arguments (Some into) answer running stands marks))
-        (body_follows p s t g f is callers n (meaning.calls_of p s t n) serves (fine.functions g f is) (λ flow inner. k (word_given flow) (left σ inner)) n1 (meaning.entered σ ws made.0 made.1)
+        subst (λ x. Follows (lowered p) s t (meaning.body_of p s t (meaning.calls_of p s t n) (defined f) (meaning.entered σ ws made.0 made.1) (λ flow inner. k (word_given flow) (left σ inner))) x) (sym (after_call m g arguments (Some into) answer running stands marks))
+        (body_follows p s t g f is callers n (meaning.calls_of p s t n) serves (function_within fine pointerless g f is) (λ flow inner. k (word_given flow) (left σ inner)) n1 (meaning.entered σ ws made.0 made.1)
         (ap length (objects_here g f is) ∙ count_of_objects (length f.pointers) f.objects) shows (λ o fl σ' ret shown later.
         resumes g f is n m o σ' into (word_given fl) (line_given f.place.line fl) arguments _ stands shown ret
         (go (word_given fl) (record o { top = past (given m.top (Some into) (word_given fl)); below = m.below }) (left σ σ') (record {
@@ -303,7 +310,7 @@ module _ (p : Program) (s : SetupView) (t : ℕ) where
     serves_more : (n : ℕ) → Serves p s t (meaning.calls_of p s t n) n → Serves p s t (meaning.calls_of p s t (suc n)) (suc n)
     serves_more n serves g into arguments line m σ k there stands is_line running nothing count arena printed depth small enough go =
         let found = slice_get_inside p.functions g there in
-        subst (λ o. Follows (lowered p) s t (meaning.called p s t (meaning.calls_of p s t n) o (words_of m.top.registers arguments) line σ k) m) (sym found.1)
+        subst (λ o. Follows (lowered p) s t (meaning.called p s t (meaning.calls_of p s t n) o (words_of m.top.registers arguments) line σ k) m) (sym (callee_found g found.0 found.1))
         (serves_at n serves g found.0 found.1 into arguments line m σ k stands is_line running nothing count arena printed depth small enough go)
 
     pub served : (n : ℕ) → Serves p s t (meaning.calls_of p s t n) n

@@ -17,7 +17,7 @@ use Rattle.rr_base.specs.declared.position.Position.{Position}
 use Rattle.c_core.specs.Core.{Arrival, arrives, Function, Program}
 use Rattle.flow_lower.specs.Lowered.{body_kept, instr, one, lowered, function_code, function_kinds, body_code, statement_kinds, statement_size, objects_code, arrivals_code}
 use Rattle.lower_parts.specs.Loops.{statement_loops}
-use Rattle.c_core.specs.Sound.{HasSite, IsCallable, IsAddress, IsSoundArrival, IsSoundFunction}
+use Rattle.c_core.specs.Sound.{HasSite, IsFunction, IsAddress, IsSoundArrival, IsSoundFunction}
 use Rattle.lower_sound.proofs.Lengths.{statement_length, arrivals_length}
 use Rattle.lower_sound.proofs.Places.{HasAt, has_front, start_of, body_at, end_at, statement_part, from_arrivals, has_body, has_end, has_kinds}
 use Rattle.lower_sound.proofs.Fitting.{pointer}
@@ -125,8 +125,8 @@ replicated (suc m) (suc n) lt = replicated m n (omega (arith, lt))
 formals_within : (f : Function) → f.formals ≤ length f.pointers → f.formals ≤ length (function_kinds f)
 formals_within f le = omega (arith, le, length-append f.pointers (replicate (length f.objects) true ++ statement_kinds (body_kept f)))
 
-module _ (p : Program) (home : ℕ → Option ℕ) (sound : (k : ℕ) (f : Function) → slice_get p.functions k ≡ Some f → IsSoundFunction p home f) (addresses : (w : ℕ) → IsAddress p home w → is_address (lowered p) w ≡ true) where
-  callee : (n : ℕ) (kinds : List Bool) (pointer : Bool) → IsCallable p n kinds pointer → (m : FlowFunction) × (slice_get (lowered p).functions n ≡ Some m) × IsCallee m kinds pointer
+module _ (p : Program) (home : ℕ → Option ℕ) (none : p.pointers ≡ []) (sound : (k : ℕ) (f : Function) → slice_get p.functions k ≡ Some f → IsSoundFunction p home f) (addresses : (w : ℕ) → IsAddress p home w → is_address (lowered p) w ≡ true) where
+  callee : (n : ℕ) (kinds : List Bool) (pointer : Bool) → IsFunction p n kinds pointer → (m : FlowFunction) × (slice_get (lowered p).functions n ≡ Some m) × IsCallee m kinds pointer
   callee n kinds pointer c =
       let h = c.0 in
       let le = (sound n h c.1).formals in (
@@ -155,6 +155,7 @@ module _ (p : Program) (home : ℕ → Option ℕ) (sound : (k : ℕ) (f : Funct
     objects = object_kinds f;
     gives = refl;
     calls = callee;
+    no_pointers = none;
     sites = has_site;
     addresses = addresses;
   }
@@ -174,7 +175,7 @@ module _ (p : Program) (home : ℕ → Option ℕ) (sound : (k : ℕ) (f : Funct
       let g = function_code f in
       let few : length f.pointers ≤ g.registers = omega (arith, length-append f.pointers (replicate (length f.objects) true ++ statement_kinds (body_kept f))) in
       let within : end_at f < length g.instrs = in_code p home f (lowered p) g (image_of f) s refl refl in
-      statement_fits g f.pointers (length f.objects) (length p.functions) few f.body (body_at f) (statement_within p home f f.body s.body) (omega arith)
+      statement_fits g f.pointers (length f.objects) (length p.functions + length p.pointers) few f.body (body_at f) (statement_within p home f f.body s.body) (omega arith)
 
   pub function_is : (f : Function) → IsSoundFunction p home f → function_fits (lowered p) (function_code f) ≡ true
   function_is f s =

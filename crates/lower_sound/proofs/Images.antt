@@ -1,5 +1,5 @@
 -- A function's code, as what a sound core tree says of it: its registers, and what the code has that the tree names.
-use Rattle.std.proofs.Common.{◌≡◌, ℕ, zero, suc, ◌+◌, ◌<◌, ◌≤◌, Bool, true, false, not, ◌&&◌, ◌==◌, List, [], ◌∷◌, length, take, Option, Some, slice_get, refl, ◌∙◌, ap, arith}
+use Rattle.std.proofs.Common.{◌≡◌, ℕ, zero, suc, ◌+◌, ◌<◌, ◌≤◌, inl, inr, Bool, true, false, not, ◌&&◌, ◌==◌, List, [], ◌∷◌, length, take, Option, Some, None, slice_get, refl, ◌∙◌, ap, arith}
 use Rattle.std.proofs.lemmas.Bool.{and_from, eq-eqb}
 use Rattle.flow_code.specs.declared.act.Act.TheVariants as act
 use Rattle.abstract_machine.specs.declared.library_call.LibraryCall.{LibraryCall}
@@ -11,7 +11,7 @@ use Rattle.flow_code.specs.Threads.{is_main_in}
 use Rattle.flow_code.specs.Kinds.{formal_kinds, have_kinds, value_fits, call_fits, may_start, starts_fit, act_fits, is_site}
 use Rattle.flow_code.specs.Addresses.{is_address}
 use Rattle.c_core.specs.Core.{Function, Program}
-use Rattle.c_core.specs.Sound.{IsCallable, Starts, HasSite, IsAddress}
+use Rattle.c_core.specs.Sound.{IsFunction, IsPointerType, IsCallable, Starts, HasSite, IsAddress}
 use Rattle.lower_sound.proofs.Fitting.{kinded}
 
 -- a function other than `main` that takes values of these kinds and gives a pointer or not
@@ -26,7 +26,8 @@ pub record IsImage (p : Program) (home : ℕ → Option ℕ) (f : Function) (cod
   pub registers : (n : ℕ) (k : Bool) → slice_get f.pointers n ≡ Some k → slice_get g.pointers n ≡ Some k
   pub objects : (n : ℕ) → n < length f.objects → slice_get g.pointers (first + n) ≡ Some true
   pub gives : g.gives_pointer ≡ f.gives_pointer
-  pub calls : (n : ℕ) (kinds : List Bool) (pointer : Bool) → IsCallable p n kinds pointer → (m : FlowFunction) × (slice_get code.functions n ≡ Some m) × IsCallee m kinds pointer
+  pub calls : (n : ℕ) (kinds : List Bool) (pointer : Bool) → IsFunction p n kinds pointer → (m : FlowFunction) × (slice_get code.functions n ≡ Some m) × IsCallee m kinds pointer
+  pub no_pointers : p.pointers ≡ []
   pub sites : (s : ℕ) → HasSite p s → is_site code s ≡ true
   pub addresses : (w : ℕ) → IsAddress p home w → is_address code w ≡ true
 
@@ -53,8 +54,14 @@ module _ (p : Program) (home : ℕ → Option ℕ) (f : Function) (code : Code) 
 
   pub call_is : (n : ℕ) (kinds : List Bool) (pointer : Bool) (arguments : List ℕ) (into : ℕ) → IsCallable p n kinds pointer → have_kinds g arguments kinds ≡ true → slice_get g.pointers into ≡ Some pointer → act_fits code g (act.Call n arguments (Some into)) ≡ true
   call_is n kinds pointer arguments into called have h =
-      let found = image.calls n kinds pointer called in
+      let found = image.calls n kinds pointer (by called) in
       ap (call_fits g arguments (Some into)) found.1 ∙ callee_fits found.0 kinds pointer arguments into found.2 have h
+    where
+      by : IsCallable p n kinds pointer → IsFunction p n kinds pointer
+      by (inl c) = c
+      by (inr c) =
+          let found : slice_get p.pointers c.0 ≡ Some c.1 = c.3 in
+          let none : slice_get p.pointers c.0 ≡ None = ap (λ qs. slice_get qs c.0) image.no_pointers in absurd cc
 
   callee_starts : (m : FlowFunction) → IsCallee m (true ∷ []) true → may_start (Some m) ≡ true
   callee_starts m c =

@@ -1,5 +1,5 @@
 -- What a sound core tree names is there.
-use Rattle.std.proofs.Common.{◌≡◌, ℕ, suc, ◌<◌, Bool, true, false, nat_lt, cond, List, [], ◌∷◌, length, count_by, position, unwrap_or, Option, Some, None, slice_get, refl, arith}
+use Rattle.std.proofs.Common.{◌≡◌, ℕ, suc, ◌+◌, ◌<◌, inl, inr, Bool, true, false, nat_lt, cond, List, [], ◌∷◌, length, count_by, position, unwrap_or, Option, Some, None, slice_get, refl, arith}
 use Rattle.std.specs.List.{position_or_len}
 use Rattle.std.proofs.lemmas.Bool.{ltb-true}
 use Rattle.std.proofs.lemmas.Option.{slice_get_within}
@@ -8,7 +8,7 @@ use Rattle.c_core.specs.Core as core
 use Rattle.c_core.specs.Core.{Exp, null, load, unary, binary, move, advance, member, between, to_pointer, to_number, copy, both, either, conditional, comma, set_register, store, change_register, change_cell, call, library, allocate, Exps, no_exp, and_exp, Statement, block, compute, branch, branch_else, while_loop, do_loop, for_loop, break_at, continue_at, gives, Statements, no_statement, and_statement, Arrival, arrives, Function, Program}
 use Rattle.c_core.specs.Meaning.{is_main}
 use Rattle.c_core.specs.Within.{IsWithinExp, AreWithin, IsWithinMaybe, IsWithinStatement, AreWithinStatements, AreWithinArrivals, IsWithinFunction, IsWithin}
-use Rattle.c_core.specs.Sound.{IsSoundExp, AreSound, IsSoundMaybe, IsSoundResult, IsSoundStatement, AreSoundStatements, IsSoundArrival, IsSoundFunction, IsSound}
+use Rattle.c_core.specs.Sound.{IsCallable, value_kinds, IsSoundExp, AreSound, IsSoundMaybe, IsSoundResult, IsSoundStatement, AreSoundStatements, IsSoundArrival, IsSoundFunction, IsSound}
 
 module _ (p : Program) (home : ℕ → Option ℕ) (f : Function) where
   abbrev rs : List Bool
@@ -18,7 +18,11 @@ module _ (p : Program) (home : ℕ → Option ℕ) (f : Function) where
   os = length f.objects
 
   abbrev fs : ℕ
-  fs = length p.functions
+  fs = length p.functions + length p.pointers
+
+  callable_within : (n : ℕ) (kinds : List Bool) (pointer : Bool) → IsCallable p n kinds pointer → n < fs
+  callable_within n kinds pointer (inl c) = omega (arith, slice_get_within p.functions n c.0 c.1)
+  callable_within n kinds pointer (inr c) = omega (arith, c.2, slice_get_within p.pointers c.0 c.1 c.3)
 
   mutual
     exp_within : (e : Exp) → IsSoundExp p home f e → IsWithinExp rs os fs e
@@ -45,7 +49,7 @@ module _ (p : Program) (home : ℕ → Option ℕ) (f : Function) where
     exp_within (store a b at) s = (exp_within a s.1, exp_within b s.2)
     exp_within (change_register n c b old at) s = (slice_get_within f.pointers n _ s.0, exp_within b s.2)
     exp_within (change_cell a loaded c b old at) s = (exp_within a s.2, exp_within b s.3)
-    exp_within (call n es k at) s = (slice_get_within p.functions n s.0.0 s.0.1, exps_within es s.1)
+    exp_within (call n es k at) s = (callable_within n (value_kinds es) k s.0, exps_within es s.1)
     exp_within (library c es at) s = exps_within es s.2
     exp_within (allocate site a at) s = exp_within a s.2
 

@@ -1,5 +1,7 @@
 -- Whole threads: the code of a core tree makes the events of each of its threads.
-use Rattle.std.proofs.Common.{◌≡◌, ℕ, zero, suc, ◌+◌, ◌≤◌, ◌<◌, inl, inr, Bool, true, false, cond, nat_le, ◌&&◌, ℤ, List, [], ◌∷◌, length, Option, Some, None, option_map, slice_get, refl, sym, ◌∙◌, ap, subst, arith}
+use Rattle.std.proofs.Common.{◌≡◌, ℕ, zero, suc, ◌+◌, ◌≤◌, ◌<◌, inl, inr, Bool, true, false, cond, nat_le, ◌&&◌, ℤ, List, [], ◌∷◌, ◌++◌, length, map, Option, Some, None, option_map, slice_get, refl, sym, ◌∙◌, ap, subst, arith}
+use mathlib.Core.Path.{fun_ext}
+use Rattle.std.proofs.lemmas.List.{append-nil}
 use Rattle.std.proofs.lemmas.Option.{slice_get-map}
 use Rattle.std.proofs.lemmas.Bool.Decides.{nat_tests}
 use Rattle.rr_base.proofs.Lists.{slice_get_inside}
@@ -24,15 +26,28 @@ use Rattle.c_core.specs.Core.{Function, Program}
 use Rattle.c_core.specs.Runs as runs
 use Rattle.c_core.specs.Runs.{Run, does, traps, ends, State}
 use Rattle.c_core.specs.Meaning as meaning
-use Rattle.c_core.specs.Meaning.{word_given, line_given, made_objects, main_of}
+use Rattle.c_core.specs.Meaning.{Callee, defined, pointed, callees, word_given, line_given, made_objects, main_of}
 use Rattle.flow_lower.specs.Lowered.{lowered, function_code}
 use Rattle.c_core.specs.Within.{IsWithin}
 use Rattle.lower_sound.specs.Follows.{Prints, Follows, here, IsAtStart}
-use Rattle.lower_sound.proofs.Functions.{in_code, objects_here, fits_here, shows_entered, enter_follows, body_follows, served}
+use Rattle.lower_sound.proofs.Functions.{in_code, objects_here, fits_here, shows_entered, enter_follows, body_follows, function_within, callee_found, served}
 use Rattle.lower_sound.proofs.Objects.{count_of_objects}
 use Rattle.lower_sound.proofs.Ends.{finishes}
 
-module _ (p : Program) (s : SetupView) (t : ℕ) (fine : IsWithin p) where
+module _ (p : Program) (s : SetupView) (t : ℕ) (fine : IsWithin p) (pointerless : p.pointers ≡ []) where
+  -- each number is that of a function, or of nothing
+  abbrev callee_at : ℕ → Option Callee
+  callee_at i = option_map defined (slice_get p.functions i)
+
+  abbrev any_callee : ℕ → Option Callee
+  any_callee i = slice_get (callees p) i
+
+  all_callees : any_callee ≡ callee_at
+  all_callees =
+      fun_ext (λ i.
+      ap (λ qs. slice_get (map defined p.functions ++ map pointed qs) i) pointerless
+      ∙ ap (λ cs. slice_get cs i) (append-nil (map defined p.functions)) ∙ slice_get-map defined p.functions i)
+
   due_in : (m : Thread) (ph : Phase) → m.phase ≡ ph → m.stripes ≡ [] → due_of (lowered p) s t m ≡ listed (nat_le most_entries m.entries) (owing None (limited (nat_le s.limit m.count) (phase_due (lowered p) s t m ph)))
   due_in m ph is nothing =
       ap (λ x. listed (nat_le most_entries m.entries) (owing (first_owed x) (limited (nat_le s.limit m.count) (phase_due (lowered p) s t m m.phase)))) nothing
@@ -46,16 +61,16 @@ module _ (p : Program) (s : SetupView) (t : ℕ) (fine : IsWithin p) where
   enters : (i : ℕ) (f : Function) (is : slice_get p.functions i ≡ Some f) (ws : List ℕ) (m : Thread) (σ : State) (ph : Phase) → m.phase ≡ ph → m.stripes ≡ []
       → phase_due (lowered p) s t m ph ≡ enter_due (lowered p) s t m 0 i → ((answer : ℤ) → phase_after (lowered p) s t m ph answer ≡ next.entered (lowered p) s t m [] i ws) → line_of (lowered p) m.phase m.top ≡ f.place.line
       → m.count ≡ σ.count → m.arena ≡ σ.arena → m.printed ≡ σ.printed → σ.depth ≡ 0
-      → Follows (lowered p) s t (meaning.first_function p s t (Some f) ws σ (λ u σ'. ends)) m
+      → Follows (lowered p) s t (meaning.first_function p s t (Some (defined f)) ws σ (λ u σ'. ends)) m
   enters i f is ws m σ ph in_phase nothing is_due is_after is_line count arena printed depth =
-      enter_follows p s t i f is 0 m σ ws f.place.line (λ u σ1. meaning.body_of p s t (meaning.calls_of p s t s.limit) f σ1 (λ flow σ2. meaning.finish p s t (meaning.is_main f) (line_given f.place.line flow) (word_given flow) σ2 (λ u' σ3. ends)))
+      enter_follows p s t i f is 0 m σ ws f.place.line (λ u σ1. meaning.body_of p s t (meaning.calls_of p s t s.limit) (defined f) σ1 (λ flow σ2. meaning.finish p s t (meaning.is_main f) (line_given f.place.line flow) (word_given flow) σ2 (λ u' σ3. ends)))
       (due_in m ph in_phase nothing ∙ ap (λ d. listed (nat_le most_entries m.entries) (owing None (limited (nat_le s.limit m.count) d))) is_due) is_line count arena depth (λ made fits low marks answer.
       let n1 = one_more (next.entered (lowered p) s t m [] i ws) in
       let is_arena = ap (λ o. or_else o m.arena) (fits_here p s t i f m.arena is ∙ ap (λ a. option_map (λ (x : List ℕ × ℕ). x.1) (made_objects p.sites (meaning.arena_end p s t) f.objects a)) arena ∙ ap (option_map (λ (x : List ℕ × ℕ). x.1)) fits) in
       let shows = shows_entered p s t i f is [] s.limit m σ ws made n1 fits refl refl refl nothing refl is_arena refl count arena printed depth low (omega arith) in
-      subst (λ x. Follows (lowered p) s t (meaning.body_of p s t (meaning.calls_of p s t s.limit) f (meaning.entered σ ws made.0 made.1) (λ flow σ2. meaning.finish p s t (meaning.is_main f) (line_given f.place.line flow) (word_given flow) σ2 (λ u' σ3. ends))) x)
+      subst (λ x. Follows (lowered p) s t (meaning.body_of p s t (meaning.calls_of p s t s.limit) (defined f) (meaning.entered σ ws made.0 made.1) (λ flow σ2. meaning.finish p s t (meaning.is_main f) (line_given f.place.line flow) (word_given flow) σ2 (λ u' σ3. ends))) x)
       (sym (after_mark m ph answer in_phase marks ∙ ap one_more (is_after answer)))
-      (body_follows p s t i f is [] s.limit (meaning.calls_of p s t s.limit) (served p s t fine s.limit) (fine.functions i f is) (λ flow σ2. meaning.finish p s t (meaning.is_main f) (line_given f.place.line flow) (word_given flow) σ2 (λ u' σ3. ends)) n1 (meaning.entered σ ws made.0 made.1)
+      (body_follows p s t i f is [] s.limit (meaning.calls_of p s t s.limit) (served p s t fine pointerless s.limit) (function_within p s t fine pointerless i f is) (λ flow σ2. meaning.finish p s t (meaning.is_main f) (line_given f.place.line flow) (word_given flow) σ2 (λ u' σ3. ends)) n1 (meaning.entered σ ws made.0 made.1)
       (ap length (objects_here p s t i f is) ∙ count_of_objects (length f.pointers) f.objects) shows (λ o fl σ' ret shown later.
       finishes p s t i f is s.limit o σ' (word_given fl) (line_given f.place.line fl) shown ret)))
 
@@ -116,10 +131,10 @@ module _ (p : Program) (s : SetupView) (t : ℕ) (fine : IsWithin p) where
   load_passes c false false = refl
 
   -- the line of a function that a thread is about to enter
-  same_line : (i : ℕ) → line_of_function (slice_get (lowered p).functions i) ≡ meaning.line_of_function (slice_get p.functions i)
+  same_line : (i : ℕ) → line_of_function (slice_get (lowered p).functions i) ≡ meaning.line_of_callee (callee_at i)
   same_line i = ap line_of_function (slice_get-map function_code p.functions i) ∙ by (slice_get p.functions i)
     where
-      by : (o : Option Function) → line_of_function (option_map function_code o) ≡ meaning.line_of_function o
+      by : (o : Option Function) → line_of_function (option_map function_code o) ≡ meaning.line_of_callee (option_map defined o)
       by None = refl
       by (Some f) = refl
 
@@ -168,22 +183,22 @@ module _ (p : Program) (s : SetupView) (t : ℕ) (fine : IsWithin p) where
 
   -- a thread with its argument enters its function
   loaded : (i w : ℕ) (m : Thread) (σ : State) → m.phase ≡ phase.Loaded i w → m.stripes ≡ [] → m.count ≡ σ.count → m.arena ≡ σ.arena → m.printed ≡ σ.printed → σ.depth ≡ 0
-      → Follows (lowered p) s t (meaning.first_function p s t (slice_get p.functions i) (w ∷ []) σ (λ u σ'. ends)) m
+      → Follows (lowered p) s t (meaning.first_function p s t (callee_at i) (w ∷ []) σ (λ u σ'. ends)) m
   loaded i w m σ in_phase nothing count arena printed depth = by (slice_get p.functions i) refl
     where
-      by : (o : Option Function) → slice_get p.functions i ≡ o → Follows (lowered p) s t (meaning.first_function p s t o (w ∷ []) σ (λ u σ'. ends)) m
+      by : (o : Option Function) → slice_get p.functions i ≡ o → Follows (lowered p) s t (meaning.first_function p s t (option_map defined o) (w ∷ []) σ (λ u σ'. ends)) m
       by None e = nowhere i w m σ e in_phase nothing count
       by (Some f) e =
           enters i f e (w ∷ []) m σ (phase.Loaded i w) in_phase nothing refl (λ answer. refl) (ap (λ x. line_of (lowered p) x m.top) in_phase ∙ line_begun i f e) count arena printed depth
 
   -- a thread that has begun loads its argument
   begun : (k i : ℕ) (m : Thread) (σ : State) → t ≡ suc k → m.phase ≡ phase.Begun i → m.stripes ≡ [] → m.count ≡ σ.count → m.arena ≡ σ.arena → m.printed ≡ σ.printed → σ.depth ≡ 0
-      → Follows (lowered p) s t (runs.event s.limit (meaning.line_of_function (slice_get p.functions i)) (action.Load (argument_cell t)) σ (λ w σ'. meaning.first_function p s t (slice_get p.functions i) (word w ∷ []) σ' (λ u σ''. ends))) m
+      → Follows (lowered p) s t (runs.event s.limit (meaning.line_of_callee (callee_at i)) (action.Load (argument_cell t)) σ (λ w σ'. meaning.first_function p s t (callee_at i) (word w ∷ []) σ' (λ u σ''. ends))) m
   begun k i m σ other in_phase nothing count arena printed depth =
-      plain m σ.count (meaning.line_of_function (slice_get p.functions i)) (due.Load (argument_cell t)) (λ w. meaning.first_function p s t (slice_get p.functions i) (word w ∷ []) (runs.counted σ) (λ u σ''. ends)) count
+      plain m σ.count (meaning.line_of_callee (callee_at i)) (due.Load (argument_cell t)) (λ w. meaning.first_function p s t (callee_at i) (word w ∷ []) (runs.counted σ) (λ u σ''. ends)) count
       (ap (λ x. line_of (lowered p) x m.top) in_phase ∙ same_line i)
       (due_in m (phase.Begun i) in_phase nothing ∙ ap (λ d. listed (nat_le most_entries m.entries) (owing None (limited (nat_le s.limit m.count) d))) (loads t other)) (load_passes (argument_cell t)) refl (λ low e answer.
-      subst (λ x. Follows (lowered p) s t (meaning.first_function p s t (slice_get p.functions i) (word answer ∷ []) (runs.counted σ) (λ u σ''. ends)) x) (sym (after_load m (phase.Begun i) (argument_cell t) answer in_phase e ∙ ap one_more (goes_on t other answer)))
+      subst (λ x. Follows (lowered p) s t (meaning.first_function p s t (callee_at i) (word answer ∷ []) (runs.counted σ) (λ u σ''. ends)) x) (sym (after_load m (phase.Begun i) (argument_cell t) answer in_phase e ∙ ap one_more (goes_on t other answer)))
       (loaded i (word answer) (one_more (record m { phase = phase.Loaded i (word answer) })) (runs.counted σ) refl nothing (ap (λ c. c + 1) count) arena printed depth))
     where
       loads : (t' : ℕ) → t' ≡ suc k → next.begun_due (lowered p) s t' m i ≡ due.Load (argument_cell t')
@@ -195,23 +210,28 @@ module _ (p : Program) (s : SetupView) (t : ℕ) (fine : IsWithin p) where
       goes_on (suc n) e answer = refl
 
 -- thread 0 enters `main`
-main_follows : (p : Program) (s : SetupView) (fine : IsWithin p) (m : Thread) → IsAtStart p s 0 m → Follows (lowered p) s 0 (meaning.run_of p s 0) m
-main_follows p s fine m h =
+main_follows : (p : Program) (s : SetupView) (fine : IsWithin p) (none : p.pointers ≡ []) (m : Thread) → IsAtStart p s 0 m → Follows (lowered p) s 0 (meaning.run_of p s 0) m
+main_follows p s fine none m h =
     let found = slice_get_inside p.functions (main_of p) fine.main in
-    let line = ap (λ x. line_of (lowered p) x m.top) h.phase ∙ line_begun p s 0 fine (main_of p) found.0 found.1 in
-    subst (λ o. Follows (lowered p) s 0 (meaning.first_function p s 0 o [] (meaning.start p s 0) (λ u σ'. ends)) m) (sym found.1)
-    (enters p s 0 fine (main_of p) found.0 found.1 [] m (meaning.start p s 0) (phase.Begun (main_of p)) h.phase h.stripes refl (λ answer. refl) line h.count h.arena h.printed refl)
+    let line = ap (λ x. line_of (lowered p) x m.top) h.phase ∙ line_begun p s 0 fine none (main_of p) found.0 found.1 in
+    subst (λ o. Follows (lowered p) s 0 (meaning.first_function p s 0 o [] (meaning.start p s 0) (λ u σ'. ends)) m) (sym (callee_found p s 0 (main_of p) found.0 found.1))
+    (enters p s 0 fine none (main_of p) found.0 found.1 [] m (meaning.start p s 0) (phase.Begun (main_of p)) h.phase h.stripes refl (λ answer. refl) line h.count h.arena h.printed refl)
+
+-- what a thread does that is started with a function, as a number tells what it calls
+abbrev thread_run : (p : Program) (s : SetupView) (t : ℕ) → (ℕ → Option Callee) → ℤ → State → Run
+thread_run p s t at f σ = runs.event s.limit (meaning.line_of_callee (at (count_in f))) (action.Load (argument_cell t)) σ (λ w σ'. meaning.first_function p s t (at (count_in f)) (word w ∷ []) σ' (λ u σ''. ends))
 
 -- any other thread begins when it is started
-other_follows : (p : Program) (s : SetupView) (k : ℕ) (fine : IsWithin p) (m : Thread) → 1 ≤ s.limit → IsAtStart p s (suc k) m → Follows (lowered p) s (suc k) (meaning.run_of p s (suc k)) m
-other_follows p s k fine m some h =
-    begin_event p s (suc k) fine m 0 (λ f. runs.event s.limit (meaning.line_of_function (slice_get p.functions (count_in f))) (action.Load (argument_cell (suc k))) (runs.counted (meaning.start p s (suc k))) (λ w σ'. meaning.first_function p s (suc k) (slice_get p.functions (count_in f)) (word w ∷ []) σ' (λ u σ''. ends)))
-    h.count (omega (arith, some)) (due_in p s (suc k) fine m phase.Fresh h.phase h.stripes) (λ e answer.
-    subst (λ x. Follows (lowered p) s (suc k) (runs.event s.limit (meaning.line_of_function (slice_get p.functions (count_in answer))) (action.Load (argument_cell (suc k))) (runs.counted (meaning.start p s (suc k))) (λ w σ'. meaning.first_function p s (suc k) (slice_get p.functions (count_in answer)) (word w ∷ []) σ' (λ u σ''. ends))) x)
-    (sym (after_begin p s (suc k) fine m answer h.phase e))
-    (begun p s (suc k) fine k (count_in answer) (counted op.Begin (record m { phase = phase.Begun (count_in answer) })) (runs.counted (meaning.start p s (suc k))) refl refl h.stripes (ap (λ c. c + 1) h.count) h.arena h.printed refl))
+other_follows : (p : Program) (s : SetupView) (k : ℕ) (fine : IsWithin p) (none : p.pointers ≡ []) (m : Thread) → 1 ≤ s.limit → IsAtStart p s (suc k) m → Follows (lowered p) s (suc k) (meaning.run_of p s (suc k)) m
+other_follows p s k fine none m some h =
+    subst (λ at. Follows (lowered p) s (suc k) (runs.event s.limit 0 (action.Operate op.Begin (object_id.Slot (suc k))) (meaning.start p s (suc k)) (thread_run p s (suc k) at)) m) (sym (all_callees p s (suc k) fine none))
+    (begin_event p s (suc k) fine none m 0 (λ f. thread_run p s (suc k) (callee_at p s (suc k) fine none) f (runs.counted (meaning.start p s (suc k))))
+    h.count (omega (arith, some)) (due_in p s (suc k) fine none m phase.Fresh h.phase h.stripes) (λ e answer.
+    subst (λ x. Follows (lowered p) s (suc k) (thread_run p s (suc k) (callee_at p s (suc k) fine none) answer (runs.counted (meaning.start p s (suc k)))) x)
+    (sym (after_begin p s (suc k) fine none m answer h.phase e))
+    (begun p s (suc k) fine none k (count_in answer) (counted op.Begin (record m { phase = phase.Begun (count_in answer) })) (runs.counted (meaning.start p s (suc k))) refl refl h.stripes (ap (λ c. c + 1) h.count) h.arena h.printed refl)))
 
 -- each thread of the code makes the events of the tree's thread
-pub follows : (p : Program) (s : SetupView) (t : ℕ) (m : Thread) → IsWithin p → 1 ≤ s.limit → IsAtStart p s t m → Follows (lowered p) s t (meaning.run_of p s t) m
-follows p s zero m fine some h = main_follows p s fine m h
-follows p s (suc k) m fine some h = other_follows p s k fine m some h
+pub follows : (p : Program) (s : SetupView) (t : ℕ) (m : Thread) → IsWithin p → p.pointers ≡ [] → 1 ≤ s.limit → IsAtStart p s t m → Follows (lowered p) s t (meaning.run_of p s t) m
+follows p s zero m fine none some h = main_follows p s fine none m h
+follows p s (suc k) m fine none some h = other_follows p s k fine none m some h

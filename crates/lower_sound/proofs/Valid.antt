@@ -1,5 +1,5 @@
 -- The code of a sound core tree is valid.
-use Rattle.std.proofs.Common.{◌≡◌, ℕ, suc, ◌+◌, ◌^◌, Bool, true, false, not, ◌&&◌, ◌||◌, ◌==◌, nat_le, cond, List, [], ◌∷◌, length, map, fold, count_by, Some, slice_get, refl, ◌∙◌, ap}
+use Rattle.std.proofs.Common.{◌≡◌, ℕ, suc, ◌+◌, ◌^◌, Bool, true, false, not, ◌&&◌, ◌||◌, ◌==◌, nat_le, cond, List, [], ◌∷◌, length, map, fold, count_by, Some, slice_get, refl, ◌∙◌, ap, arith}
 use Rattle.std.proofs.lemmas.Bool.{and_from, le-leb, eq-eqb}
 use Rattle.std.proofs.lemmas.List.{length-map}
 use Rattle.flow_code.specs.declared.code.Code.{Code}
@@ -37,7 +37,7 @@ no_formals (f ∷ fs) h = and_from (not (is_main f) || (f.formals == 0)) (mains_
 
 -- ---- the code
 
-module _ (p : Program) (sound : IsSound p) where
+module _ (p : Program) (sound : IsSound p) (none : p.pointers ≡ []) where
   few : length (map function_code p.functions) ≡ length p.functions
   few = length-map p.functions function_code
 
@@ -46,7 +46,7 @@ module _ (p : Program) (sound : IsSound p) where
       and_from (nat_le (length (map function_code p.functions)) (2 ^ 20) && nat_le (length p.sites) 1023 && nat_le (length p.globals) (2 ^ 20)) true
       (and_from (nat_le (length (map function_code p.functions)) (2 ^ 20) && nat_le (length p.sites) 1023) (nat_le (length p.globals) (2 ^ 20))
       (and_from (nat_le (length (map function_code p.functions)) (2 ^ 20)) (nat_le (length p.sites) 1023)
-      (ap (λ n. nat_le n (2 ^ 20)) few ∙ le-leb (length p.functions) (2 ^ 20) sound.few_functions)
+      (ap (λ n. nat_le n (2 ^ 20)) few ∙ le-leb (length p.functions) (2 ^ 20) (omega (arith, sound.few_functions)))
       (le-leb (length p.sites) 1023 sound.few_sites))
       (le-leb (length p.globals) (2 ^ 20) sound.few_cells))
       refl
@@ -55,7 +55,7 @@ module _ (p : Program) (sound : IsSound p) where
   one_main = and_from (mains_in (map function_code p.functions) == 1) (mains_have_no_formals (map function_code p.functions)) (eq-eqb (mains_in (map function_code p.functions)) 1 (same_count p.functions ∙ sound.one_main)) (no_formals p.functions sound.main_alone)
 
   functions : functions_fit (lowered p) (lowered p).functions ≡ true
-  functions = all_fit (lowered p) p.functions (λ k f is. function_is p (base_at p.global_bases) sound.functions (address_is p sound.homes sound.layouts sound.few_cells) f (sound.functions k f is))
+  functions = all_fit (lowered p) p.functions (λ k f is. function_is p (base_at p.global_bases) none sound.functions (address_is p sound.homes sound.layouts sound.few_cells) f (sound.functions k f is))
 
   globals : globals_fit (lowered p) ≡ true
   globals = globals_are p sound.homes sound.layouts sound.few_cells sound.cell_kinds sound.bases

@@ -13,7 +13,7 @@ fn prints_an_object(rt: HostRuntime) -> Result<(), AllocError> {
         at: Position { line: 1, column: 5 },
     };
     let mut items = List::new(alloc);
-    items.push(Item::Plain(Declarator {
+    items.push(Item::Plain(Declarator::Object {
         stars: 1,
         name,
         lengths: List::new(alloc),

@@ -84,6 +84,32 @@ static OBJECTS: [(&[u8], &str); 16] = [
     (b"int a = PTHREAD_MUTEX_INITIALIZER + 1;", "Syntax 1:35"),
 ];
 
+static POINTERS: [(&[u8], &str); 22] = [
+    // Pointers to functions.
+    (b"int (*f)(int) = g, *x, (*h)();", "tree"),
+    (b"static void **(*f)(void *, int *a) = 0;", "tree"),
+    (b"struct s { int (*f)(int), x; };", "tree"),
+    (b"int f(int (*g)(int (*)(void)), long);", "Syntax 1:22"),
+    (b"int f(int (*g)(int (*h)(void)), long);", "tree"),
+    (b"int f(void (*g)(void));", "tree"),
+    (b"int f(void, void (*g)());", "tree"),
+    (b"void f(){int *(*g)(int) = {h}, (*i)(void);}", "tree"),
+    (b"void f(){for(int (*g)(int) = 0;;);}", "tree"),
+    (b"int (*f)(int) = g", "Syntax 1:18"),
+    (b"int (*f)(int) {}", "Syntax 1:15"),
+    (b"int (*f)(int)[2];", "Syntax 1:14"),
+    (b"int (*f)(int)(int);", "Syntax 1:14"),
+    (b"int (*f)[3];", "Syntax 1:9"),
+    (b"int (*f[3])(int);", "Syntax 1:8"),
+    (b"int (**f)(int);", "Syntax 1:7"),
+    (b"int (f)(int);", "Syntax 1:6"),
+    (b"int (*f);", "Syntax 1:9"),
+    (b"int (*f(int a))(int) {}", "Syntax 1:8"),
+    (b"int f(int (*)(int));", "Syntax 1:13"),
+    (b"void f(){int x = (int (*)(int))0;}", "Syntax 1:23"),
+    (b"void f(){(*g)(1);}", "Syntax 1:14"),
+];
+
 static STATEMENTS: [(&[u8], &str); 30] = [
     // Statements.
     (b"void f(){;}", "tree"),
@@ -163,7 +189,7 @@ fn write_fault(out: &mut String, fault: ParseFault) -> Result<(), Fail> {
 }
 
 fn shown(alloc: Global, text: &[u8]) -> Result<String, Fail>
-    requires { length text.now < 2000 }
+    requires { length text.now < 3000 }
 {
     let mut out = String::new(alloc);
     match tokens(alloc, text) {
@@ -178,7 +204,7 @@ fn shown(alloc: Global, text: &[u8]) -> Result<String, Fail>
 
 fn check_rows(rt: &impl Abort, alloc: Global, mut rows: &[(&[u8], &str)]) -> Result<(), Fail> {
     while let [row, rest @ ..] = rows {
-        assert!(rt; row.0.len() < 2000);
+        assert!(rt; row.0.len() < 3000);
         let found = shown(alloc, row.0)?;
         assert_eq!(rt; found.as_str(), row.1, "at {:?}", row.0);
         rows = rest;
@@ -194,6 +220,11 @@ fn reads_the_outermost_level(rt: HostRuntime) -> Result<(), Fail> {
 #[test]
 fn reads_objects(rt: HostRuntime) -> Result<(), Fail> {
     check_rows(&rt, rt.alloc(), &OBJECTS)
+}
+
+#[test]
+fn reads_pointers_to_functions(rt: HostRuntime) -> Result<(), Fail> {
+    check_rows(&rt, rt.alloc(), &POINTERS)
 }
 
 #[test]
@@ -218,7 +249,7 @@ fn check_depth(rt: &impl Abort, alloc: Global, depth: usize, answer: &str) -> Re
         text.push(b')')?;
     }
     text.extend_from_slice(b";}")?;
-    assert!(rt; text.len() < 2000);
+    assert!(rt; text.len() < 3000);
     let found = shown(alloc, text.as_slice())?;
     assert_eq!(rt; found.as_str(), answer);
     Ok(())
@@ -228,4 +259,27 @@ fn check_depth(rt: &impl Abort, alloc: Global, depth: usize, answer: &str) -> Re
 fn goes_to_the_limit(rt: HostRuntime) -> Result<(), Fail> {
     check_depth(&rt, rt.alloc(), 254, "tree")?;
     check_depth(&rt, rt.alloc(), 255, "Nesting 1:278")
+}
+
+// A function with so many pointers to functions in one another's parameters.
+fn check_pointers(rt: &impl Abort, alloc: Global, depth: usize, answer: &str) -> Result<(), Fail> {
+    let mut text = Vec::new(alloc);
+    text.extend_from_slice(b"int f(")?;
+    for _ in 0..depth {
+        text.extend_from_slice(b"int(*a)(")?;
+    }
+    for _ in 0..depth {
+        text.push(b')')?;
+    }
+    text.extend_from_slice(b");")?;
+    assert!(rt; text.len() < 3000);
+    let found = shown(alloc, text.as_slice())?;
+    assert_eq!(rt; found.as_str(), answer);
+    Ok(())
+}
+
+#[test]
+fn nests_parameters_to_the_limit(rt: HostRuntime) -> Result<(), Fail> {
+    check_pointers(&rt, rt.alloc(), 256, "tree")?;
+    check_pointers(&rt, rt.alloc(), 257, "Nesting 1:2062")
 }

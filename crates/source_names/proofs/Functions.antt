@@ -7,21 +7,22 @@ use Rattle.c_lexer.specs.declared.fault.LexFault.{LexFault}
 use Rattle.c_lexer.specs.declared.token.Punct.TheVariants as punct
 use Rattle.c_lexer.specs.declared.token.Token.{Token}
 use Rattle.c_lexer.specs.declared.token.Word.TheVariants as word
-use Rattle.c_print.specs.Kinds.{p, w, if_there, specifier_kinds, stars_kinds, name_kind, params_kinds, code_kinds, outer_kinds, kinds_of}
-use Rattle.c_tree.specs.Tree.{Code as Body, defined, prototype, Outer, structure, function, objects}
+use Rattle.c_print.specs.Kinds.{p, w, if_there, specifier_kinds, stars_kinds, name_kind, formals_kinds, code_kinds, outer_kinds, kinds_of}
+use Rattle.c_tree.specs.Tree.{Formals, Code as Body, defined, prototype, Outer, structure, function, objects}
 use Rattle.c_tree.specs.declared.ctype.Specifier.{Specifier}
 use Rattle.c_tree.specs.declared.name.Name.{Name}
-use Rattle.c_tree.specs.declared.program.Params.{Params}
 use Rattle.c_types.specs.Scopes.{Known}
 use Rattle.c_types.specs.declared.fault.Found.{Found}
 use Rattle.c_types.specs.declared.names.Signature.{Signature}
-use Rattle.c_names.specs.Sources.{known_at_start}
-use Rattle.c_programs.specs.Programs.{signature_of, after_outer}
+use Rattle.c_names.specs.Known.{known_at_start}
+use Rattle.c_names.specs.Signatures.{signature_of}
+use Rattle.c_programs.specs.Programs.{after_outer}
 use Rattle.c_locals.specs.Addresses.{count_of_outer, program_addressed}
 use Rattle.c_sites.specs.Whole.{first_fault}
 use Rattle.c_core.specs.Core as core
 use Rattle.c_operators.specs.Context.{Source}
 use Rattle.c_elaborate.specs.Whole.{code_functions, outer_functions, outers_functions, source_of, core_of_source}
+use Rattle.call_targets.specs.Resolved.{choosers, resolved}
 use Rattle.c_grammar.proofs.Exactly.{parsed_exactly}
 use Rattle.c_grammar.proofs.Prints.{prints}
 use Rattle.c_grammar.specs.Exact.{parsed, IsExact}
@@ -43,6 +44,7 @@ use Rattle.weak_facts.specs.declared.grain.Grained.{Grained}
 use Rattle.weak_facts.specs.declared.range.Range.{Range}
 use Rattle.facts.specs.declared.pair.Pair.{Pair}
 use Rattle.source_names.specs.Spelled.{HaveTexts, IsSpelled, AreSpelled, NamesAreTexts}
+use Rattle.source_names.proofs.Numbered.{chooser_named}
 use Rattle.source_names.proofs.Tokens.{tokens_are_spelled}
 
 -- ---- lists
@@ -97,15 +99,15 @@ by_tokens os (Err fault) h is = absurd (by_refusal os (refusal_of fault) is)
 abbrev HasText : core.Function → Type 0
 HasText f = IsUtf8 f.name
 
-function_text : (is_static : Bool) (s : Specifier) (stars : ℕ) (name : Name) (xs : Params) (code : Body) → AllByRecursion IsSpelled (outer_kinds (function is_static s stars name xs code)) → IsUtf8 name.text
+function_text : (is_static : Bool) (s : Specifier) (stars : ℕ) (name : Name) (xs : Formals) (code : Body) → AllByRecursion IsSpelled (outer_kinds (function is_static s stars name xs code)) → IsUtf8 name.text
 function_text is_static s stars name xs code h =
-    let named = name_kind name ∷ p punct.OpenParen ∷ (params_kinds xs ++ p punct.CloseParen ∷ code_kinds code) in
+    let named = name_kind name ∷ p punct.OpenParen ∷ (formals_kinds xs ++ p punct.CloseParen ∷ code_kinds code) in
     let starred = stars_kinds stars ++ named in
     let typed = following IsSpelled (if_there is_static (w word.Static)) (specifier_kinds s ++ starred) h in
     (following IsSpelled (stars_kinds stars) named (following IsSpelled (specifier_kinds s) starred typed)).0
 
 module _ (s : Source) (ns : List ℕ) where
-  code_texts : (known : Known) (n : ℕ) (name : Name) (f : Signature) (xs : Params) (code : Body) → IsUtf8 name.text → AllByRecursion HasText (code_functions s ns known n name f xs code)
+  code_texts : (known : Known) (n : ℕ) (name : Name) (f : Signature) (xs : Formals) (code : Body) → IsUtf8 name.text → AllByRecursion HasText (code_functions s ns known n name f xs code)
   code_texts known n name f xs prototype h = tt
   code_texts known n name f xs (defined parts at) h = (h, tt)
 
@@ -127,13 +129,18 @@ core_texts os h = outers_texts (source_of os) (program_addressed os) (known_at_s
 
 -- ---- the code
 
+choosers_texts : (n : ℕ) (qs : List core.Pointer) → AllByRecursion HasText (choosers n qs)
+choosers_texts n [] = tt
+choosers_texts n (q ∷ qs) = (chooser_named n, choosers_texts (n + 1) qs)
+
 lowered_texts : (fs : List core.Function) → AllByRecursion HasText fs → AllByRecursion (λ (f : Function). IsUtf8 f.name) (map function_code fs)
 lowered_texts [] h = tt
 lowered_texts (f ∷ fs) h = (h.0, lowered_texts fs h.1)
 
 plain_texts : (os : List Outer) → AllByRecursion IsSpelled (kinds_of os) → HaveTexts (plain_code os)
 unfolding plain_code
-plain_texts os h = lowered_texts (core_of_source os).functions (core_texts os h)
+plain_texts os h =
+    lowered_texts (resolved (core_of_source os)).functions (both HasText (core_of_source os).functions (choosers 1 (core_of_source os).pointers) (core_texts os h) (choosers_texts 1 (core_of_source os).pointers))
 
 module _ (code : Code) (t : Tables) (locked : List Place) (rs : List Range) (rows : List Grained) where
   functions_texts : (f : ℕ) (fns : List Function) → AllByRecursion (λ (fn : Function). IsUtf8 fn.name) fns → AllByRecursion (λ (fn : Function). IsUtf8 fn.name) (weakened_functions code t locked rs rows f fns)

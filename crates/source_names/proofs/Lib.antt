@@ -1,2 +1,3 @@
 mod Functions
+mod Numbered
 mod Tokens

@@ -1,5 +1,5 @@
 -- The events of a source's thread are loads, stores, marks, and operations other than a trap and those on stripes.
-use Rattle.std.proofs.Common.{◌≡◌, ℕ, zero, suc, ◌+◌, Bool, true, false, if◌then◌else◌, nat_le, nat_eq, ◌&&◌, ◌||◌, not, ℤ, pos, List, [], ◌∷◌, Option, Some, None, Result, Ok, Err, refl, ap}
+use Rattle.std.proofs.Common.{◌≡◌, ℕ, zero, suc, ◌+◌, Bool, true, false, if◌then◌else◌, nat_le, nat_eq, ◌&&◌, ◌||◌, not, ℤ, pos, List, [], ◌∷◌, Option, Some, None, Result, Ok, Err, refl, ap, length}
 use Rattle.std.specs.Prelude.{slice_get}
 use Rattle.std.proofs.lemmas.Bool.{true≢false}
 use Rattle.sync_objects.specs.Setup.{SetupView}
@@ -30,7 +30,7 @@ use Rattle.c_core.specs.Core as core
 use Rattle.c_core.specs.Core.{Exp, null, register, object, global, load, unary, binary, move, advance, member, between, to_pointer, to_number, copy, both, either, conditional, comma, set_register, store, change_register, change_cell, call, library, allocate, Exps, no_exp, and_exp, Statement, block, compute, branch, branch_else, while_loop, do_loop, for_loop, break_at, continue_at, gives, Statements, no_statement, and_statement, Arrival, arrives, Function, Program}
 use Rattle.c_core.specs.Runs.{Run, does, traps, ends, State, M, counted, is_free, printing, event, choose, result_at}
 use Rattle.c_core.specs.Meaning as meaning
-use Rattle.c_core.specs.Meaning.{Completion, goes, breaks, continues, returns, if_goes, if_turns, Calls, made_objects, arena_end, is_main, line_given, word_given, line_of_function, entered}
+use Rattle.c_core.specs.Meaning.{Completion, goes, breaks, continues, returns, if_goes, if_turns, Calls, made_objects, arena_end, Callee, defined, pointed, callees, is_start, place_of, objects_of, target_of, line_of_callee, line_given, word_given, entered}
 
 abbrev pub is_trap : Op → Bool
 is_trap op.TrapHere = true
@@ -279,27 +279,36 @@ module _ (p : Program) (s : SetupView) (t : ℕ) where
   stored_proper pointers [] σ k h = h tt σ
   stored_proper pointers (arrives n o at ∷ more) σ k h = store_proper at.line _ _ _ σ _ (λ u σ1. stored_proper pointers more σ1 k h)
 
-  enter_made_proper : (f : Function) (ws : List ℕ) (line : ℕ) (made : Option (List ℕ × ℕ)) → Keeps (meaning.enter_made p s t f ws line made)
-  enter_made_proper f ws line None σ k h = trap_proper trap.ArenaFull line
-  enter_made_proper f ws line (Some made) σ k h = does_proper action.Mark [] (λ z. k tt (entered σ ws made.0 made.1)) tt (λ z. h tt (entered σ ws made.0 made.1))
+  enter_made_proper : (ws : List ℕ) (line : ℕ) (made : Option (List ℕ × ℕ)) → Keeps (meaning.enter_made p s t ws line made)
+  enter_made_proper ws line None σ k h = trap_proper trap.ArenaFull line
+  enter_made_proper ws line (Some made) σ k h = does_proper action.Mark [] (λ z. k tt (entered σ ws made.0 made.1)) tt (λ z. h tt (entered σ ws made.0 made.1))
 
-  enter_proper : (f : Function) (ws : List ℕ) (line : ℕ) → Keeps (meaning.enter p s t f ws line)
-  enter_proper f ws line σ k h =
-      let made = meaning.enter_made p s t f ws line (made_objects p.sites (arena_end p s t) f.objects σ.arena) σ k in
+  enter_proper : (c : Callee) (ws : List ℕ) (line : ℕ) → Keeps (meaning.enter p s t c ws line)
+  enter_proper c ws line σ k h =
+      let made = meaning.enter_made p s t ws line (made_objects p.sites (arena_end p s t) (objects_of c) σ.arena) σ k in
       either_proper (nat_le s.limit σ.count) (traps trap.Limit line) (if nat_le most_frames σ.depth then traps trap.Depth line else made)
       (trap_proper trap.Limit line)
-      (either_proper (nat_le most_frames σ.depth) (traps trap.Depth line) made (trap_proper trap.Depth line) (enter_made_proper f ws line (made_objects p.sites (arena_end p s t) f.objects σ.arena) σ k h))
+      (either_proper (nat_le most_frames σ.depth) (traps trap.Depth line) made (trap_proper trap.Depth line) (enter_made_proper ws line (made_objects p.sites (arena_end p s t) (objects_of c) σ.arena) σ k h))
 
-  body_proper : (calls : Calls) → CallsKeep calls → (f : Function) → Keeps (meaning.body_of p s t calls f)
-  body_proper calls keep f σ k h = stored_proper f.pointers f.arrivals σ _ (λ u σ1. meaning_proper calls keep f.body σ1 k h)
+  read_proper : (n r : ℕ) → Keeps (meaning.read_registers p s t n r)
+  read_proper zero r σ k h = h [] σ
+  read_proper (suc n) r σ k h = read_proper n (r + 1) σ _ (λ ws σ1. h _ σ1)
 
-  called_proper : (calls : Calls) → CallsKeep calls → (o : Option Function) (ws : List ℕ) (line : ℕ) → Keeps (meaning.called p s t calls o ws line)
+  target_proper : (calls : Calls) → CallsKeep calls → (line : ℕ) (ws : List ℕ) (o : Option ℕ) → Keeps (meaning.target_called p s t calls line ws o)
+  target_proper calls keep line ws None σ k h = trap_proper trap.BadDereference line
+  target_proper calls keep line ws (Some n) σ k h = keep n ws line σ _ (λ w σ1. h _ σ1)
+
+  body_proper : (calls : Calls) → CallsKeep calls → (c : Callee) → Keeps (meaning.body_of p s t calls c)
+  body_proper calls keep (pointed q) σ k h = read_proper (length q.kinds) 1 σ _ (λ ws σ1. target_proper calls keep q.place.line ws (target_of q.targets (σ.registers 0)) σ1 k h)
+  body_proper calls keep (defined f) σ k h = stored_proper f.pointers f.arrivals σ _ (λ u σ1. meaning_proper calls keep f.body σ1 k h)
+
+  called_proper : (calls : Calls) → CallsKeep calls → (o : Option Callee) (ws : List ℕ) (line : ℕ) → Keeps (meaning.called p s t calls o ws line)
   called_proper calls keep None ws line σ k h = h 0 σ
-  called_proper calls keep (Some f) ws line σ k h = enter_proper f ws line σ _ (λ u σ1. body_proper calls keep f σ1 _ (λ flow σ2. h _ _))
+  called_proper calls keep (Some c) ws line σ k h = enter_proper c ws line σ _ (λ u σ1. body_proper calls keep c σ1 _ (λ flow σ2. h _ _))
 
   calls_proper : (n : ℕ) → CallsKeep (meaning.calls_of p s t n)
-  calls_proper zero f ws line σ k h = trap_proper trap.Limit line
-  calls_proper (suc n) f ws line σ k h = called_proper (meaning.calls_of p s t n) (calls_proper n) (slice_get p.functions f) ws line σ k h
+  calls_proper zero c ws line σ k h = trap_proper trap.Limit line
+  calls_proper (suc n) c ws line σ k h = called_proper (meaning.calls_of p s t n) (calls_proper n) (slice_get (callees p) c) ws line σ k h
 
   -- ---- threads
 
@@ -310,21 +319,21 @@ module _ (p : Program) (s : SetupView) (t : ℕ) where
       event_proper s.limit line (action.Operate op.End (object_id.Slot t)) σ1 _ (refl, refl) (λ y σ2.
       event_proper s.limit line (action.Operate op.Leave object_id.Threads) σ2 _ (refl, refl) (λ x σ3. h tt σ3)))
 
-  first_proper : (o : Option Function) (ws : List ℕ) → Keeps (meaning.first_function p s t o ws)
+  first_proper : (o : Option Callee) (ws : List ℕ) → Keeps (meaning.first_function p s t o ws)
   first_proper None ws σ k h = event_proper s.limit 0 action.Mark σ _ tt (λ z σ1. h tt σ1)
-  first_proper (Some f) ws σ k h =
-      enter_proper f ws f.place.line σ _ (λ u σ1.
-      body_proper (meaning.calls_of p s t s.limit) (calls_proper s.limit) f σ1 _ (λ flow σ2.
-      finish_proper (is_main f) (line_given f.place.line flow) (word_given flow) σ2 k h))
+  first_proper (Some c) ws σ k h =
+      enter_proper c ws (place_of c).line σ _ (λ u σ1.
+      body_proper (meaning.calls_of p s t s.limit) (calls_proper s.limit) c σ1 _ (λ flow σ2.
+      finish_proper (is_start c) (line_given (place_of c).line flow) (word_given flow) σ2 k h))
 
   begun_proper : Keeps (meaning.begun p s t)
   begun_proper σ k h =
       event_proper s.limit 0 (action.Operate op.Begin (object_id.Slot t)) σ _ (refl, refl) (λ f σ1.
-      event_proper s.limit (line_of_function (slice_get p.functions (count_in f))) (action.Load (argument_cell t)) σ1 _ tt (λ w σ2.
-      first_proper (slice_get p.functions (count_in f)) (word w ∷ []) σ2 k h))
+      event_proper s.limit (line_of_callee (slice_get (callees p) (count_in f))) (action.Load (argument_cell t)) σ1 _ tt (λ w σ2.
+      first_proper (slice_get (callees p) (count_in f)) (word w ∷ []) σ2 k h))
 
   thread_proper : (n : ℕ) → Keeps (meaning.thread_of p s t n)
-  thread_proper zero = first_proper (slice_get p.functions (meaning.main_of p)) []
+  thread_proper zero = first_proper (slice_get (callees p) (meaning.main_of p)) []
   thread_proper (suc n) = begun_proper
 
   pub run_proper : HasEvents (meaning.run_of p s t)

@@ -3,10 +3,11 @@ use Rattle.std.proofs.Common.{◌≡◌, List, Some, refl, subst}
 use Rattle.sync_objects.specs.Setup.{SetupView, IsWithinLimits}
 use Rattle.flow_code.proofs.Runnable.{valid_runnable}
 use Rattle.c_core.specs.Core.{Program}
+use Rattle.call_targets.specs.Resolved.{resolved}
+use Rattle.call_targets.proofs.Sounds.{resolved_sound}
 use Rattle.flow_lower.specs.Lowered.{lowered}
 use Rattle.c_core.specs.Sound.{IsSound}
 use Rattle.lower_sound.proofs.Valid.{valid}
-use Rattle.lower_sound.proofs.SoundWithin.{sound_within}
 use Rattle.core_run.specs.Histories.{run_of}
 use Rattle.core_run.specs.Machine.{Told, start_state}
 use Rattle.runs.specs.Labels.{Label}
@@ -23,11 +24,15 @@ use Rattle.source_runs.proofs.NoStripes.{all_kept}
 use Rattle.source_runs.proofs.Starts.{making, starts_run}
 use Rattle.source_runs.proofs.StartWorlds.{made_run}
 
-pub source_run : (p : Program) (s : SetupView) (labels : List Label) (end : State Told) → IsSound p → IsWithinLimits s → run_of (lowered p) s labels ≡ Some end → IsSourceRun p s IsBeforeEntry (events_of_run (lowered p) s labels)
+pub source_run : (p : Program) (s : SetupView) (labels : List Label) (end : State Told) → IsSound p → IsWithinLimits s → run_of (lowered (resolved p)) s labels ≡ Some end → IsSourceRun p s IsBeforeEntry (events_of_run (lowered (resolved p)) s labels)
 source_run p s labels end sound limits h =
-    let runnable = valid_runnable (lowered p) (valid p sound) in
-    subst (IsSourceRun p s IsBeforeEntry) (all_kept (lowered p) s refl labels (start_state (lowered p) s) end h)
-    (made_run p s (lowered p) refl refl sound.cell_kinds limits runnable IsBeforeEntry (MakesRun (lowered p) s runnable) (making p s runnable) (starts_run p s (sound_within p sound) runnable limits) labels end h)
+    let code = lowered (resolved p) in
+    let runnable = valid_runnable code (valid (resolved p) (resolved_sound p sound) refl) in
+    subst (IsSourceRun p s IsBeforeEntry) (all_kept code s refl labels (start_state code s) end h)
+    (made_run p s code refl refl sound.cell_kinds limits runnable IsBeforeEntry (MakesRun code s runnable) (making (resolved p) s runnable) (starts_run p s sound runnable limits) labels end h)
 
-pub walk_events : (p : Program) (s : SetupView) (es : List Entry) (end : State Told) → IsSound p → IsWithinLimits s → walk_of (lowered p) s es (start_state (lowered p) s) ≡ Some end → IsSourceRun p s IsBeforeEntry (events_of_walk (lowered p) s es) × (out_of (lowered p) s es (start_state (lowered p) s) ≡ bytes_of (events_of_walk (lowered p) s es))
-walk_events p s es end sound limits h = (source_run p s (labels_of_walk (lowered p) s es) end sound limits (walk_is_run (lowered p) s es end h), walk_prints (lowered p) s es end h)
+pub walk_events : (p : Program) (s : SetupView) (es : List Entry) (end : State Told) → IsSound p → IsWithinLimits s → walk_of (lowered (resolved p)) s es (start_state (lowered (resolved p)) s) ≡ Some end
+    → IsSourceRun p s IsBeforeEntry (events_of_walk (lowered (resolved p)) s es) × (out_of (lowered (resolved p)) s es (start_state (lowered (resolved p)) s) ≡ bytes_of (events_of_walk (lowered (resolved p)) s es))
+walk_events p s es end sound limits h =
+    let code = lowered (resolved p) in
+    (source_run p s (labels_of_walk code s es) end sound limits (walk_is_run code s es end h), walk_prints code s es end h)

@@ -5,6 +5,7 @@ ghost use Rattle.sync_objects.specs.declared.entry.Entry.{Entry};
 ghost use Rattle.flow_code.specs.declared.code.Code.{Code};
 ghost use Rattle.c_core.specs.Core.{Program};
 ghost use Rattle.c_core.specs.Meaning.{run_of as thread_run};
+ghost use Rattle.call_targets.specs.Resolved.{resolved};
 ghost use Rattle.flow_lower.specs.Lowered.{lowered};
 ghost use Rattle.lower_sound.specs.Follows.{IsAtStart};
 ghost use Rattle.c_core.specs.Sound.{IsSound};
@@ -21,7 +22,7 @@ ghost use Rattle.source_runs.specs.WalkEvents.{labels_of_walk, events_of_walk};
 /// At the start of its machine each thread of a core tree's code is where the tree's thread begins.
 pub fn law_start()
     ensures { (p : Program) (setup : SetupView) (t : ℕ) (told : Told) →
-        slice_get (start_state (lowered p) setup).threads t ≡ Some told →
+        slice_get (start_state (lowered (resolved p)) setup).threads t ≡ Some told →
         IsAtStart p setup t told.thread }
 {}
 
@@ -33,8 +34,8 @@ pub fn law_source_run()
     ensures { (p : Program) (setup : SetupView) (labels : List Label) (end : State Told) →
         IsSound p →
         IsWithinLimits setup →
-        run_of (lowered p) setup labels ≡ Some end →
-        IsSourceRun p setup IsBeforeEntry (events_of_run (lowered p) setup labels) }
+        run_of (lowered (resolved p)) setup labels ≡ Some end →
+        IsSourceRun p setup IsBeforeEntry (events_of_run (lowered (resolved p)) setup labels) }
 {}
 
 /// In a run of the source each thread's own events are the first ones of its run, on the answers that they got; after
@@ -58,7 +59,7 @@ pub fn law_walk_events()
     ensures { (p : Program) (setup : SetupView) (entries : List Entry) (end : State Told) →
         IsSound p →
         IsWithinLimits setup →
-        walk_of (lowered p) setup entries (start_state (lowered p) setup) ≡ Some end →
-        IsSourceRun p setup IsBeforeEntry (events_of_walk (lowered p) setup entries)
-        × (out_of (lowered p) setup entries (start_state (lowered p) setup) ≡ bytes_of (events_of_walk (lowered p) setup entries)) }
+        walk_of (lowered (resolved p)) setup entries (start_state (lowered (resolved p)) setup) ≡ Some end →
+        IsSourceRun p setup IsBeforeEntry (events_of_walk (lowered (resolved p)) setup entries)
+        × (out_of (lowered (resolved p)) setup entries (start_state (lowered (resolved p)) setup) ≡ bytes_of (events_of_walk (lowered (resolved p)) setup entries)) }
 {}

@@ -12,11 +12,13 @@ use Rattle.c_types.specs.Scopes.{Known, Members, member_among, has_name, with_te
 use Rattle.c_programs.specs.Declarators.{is_numbered_below, is_struct_defined, struct_faults, after_struct, with_fields}
 use Rattle.c_names.specs.Sources.{declared_by, structs_with}
 use Rattle.c_programs.specs.Statements.{after_declared, after_objects}
-use Rattle.c_programs.specs.Programs.{signature_of, after_function, outer_faults, after_outer, outers_faults}
+use Rattle.c_programs.specs.Programs.{after_function, outer_faults, after_outer, outers_faults}
+use Rattle.c_names.specs.Signatures.{signature_of}
 use Rattle.c_spots.specs.Spots.{known_after}
 use Rattle.source_sound.proofs.Environment.{IsFormed}
 use Rattle.source_sound.proofs.FileLists.{append_nil}
 use Rattle.source_sound.proofs.FileStructs.{IsMember, AreMembers, AllMembers, AreStructs, struct_known, struct_defined}
+use Rattle.source_sound.proofs.Listed.{lists_of, OuterListed, OutersListed, outer_lists}
 use Rattle.source_sound.proofs.FileScope.{AllOf, found_entry}
 use Rattle.source_sound.specs.Members.{StructsHaveMembers}
 use Rattle.source_sound.proofs.FileOuters.{HasMembers, members_first}
@@ -46,17 +48,17 @@ function_structs : (known : Known) (name : Name) (f : Signature) (code : Code) �
 function_structs known name f (defined ps at) h = record { sized = record { sizes = h.sized.sizes; small = h.sized.small; many = h.sized.many }; members = h.members }
 function_structs known name f prototype h = record { sized = record { sizes = h.sized.sizes; small = h.sized.small; many = h.sized.many }; members = h.members }
 
-outer_structs : (known : Known) (o : Outer) → HasMembers o → outer_faults known o ≡ [] → AreStructs known → AreStructs (after_outer known o)
-outer_structs known (structure name fs) some e h = struct_known known name fs some e h
-outer_structs known (function is_static sp stars name ps code) some e h = function_structs known name (signature_of known sp stars ps) code h
-outer_structs known (objects is_static sp xs at) some e h = objects_structs known sp xs h
+outer_structs : (known : Known) (o : Outer) → HasMembers o → OuterListed (lists_of known) o → outer_faults known o ≡ [] → AreStructs known → AreStructs (after_outer known o)
+outer_structs known (structure name fs) some listed e h = struct_known known name fs some listed e h
+outer_structs known (function is_static sp stars name ps code) some listed e h = function_structs known name (signature_of known sp stars ps) code h
+outer_structs known (objects is_static sp xs at) some listed e h = objects_structs known sp xs h
 
-pub all_structs : (known : Known) (os : List Outer) → StructsHaveMembers os → outers_faults known os ≡ [] → AreStructs known → AreStructs (known_after known os)
-all_structs known [] some e h = h
-all_structs known (o ∷ os) some e h =
+pub all_structs : (known : Known) (os : List Outer) → StructsHaveMembers os → OutersListed (lists_of known) os → outers_faults known os ≡ [] → AreStructs known → AreStructs (known_after known os)
+all_structs known [] some listed e h = h
+all_structs known (o ∷ os) some listed e h =
     let a = append_nil (outer_faults known o) (outers_faults (after_outer known o) os) e in
     let b = members_first o os some in
-    all_structs (after_outer known o) os b.1 a.1 (outer_structs known o b.0 a.0 h)
+    all_structs (after_outer known o) os b.1 (subst (λ lists. OutersListed lists os) (sym (outer_lists known o)) listed.1) a.1 (outer_structs known o b.0 listed.0 a.0 h)
 
 -- ---- as many as there are names
 

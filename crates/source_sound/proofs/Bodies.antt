@@ -3,8 +3,7 @@
 use Rattle.std.proofs.Common.{◌≡◌, ℕ, ◌≤◌, true, false, List, [], ◌∷◌, length, position, Option, Some, None, bytes_eq}
 use Rattle.c_text.specs.Texts.{Text, entry_of}
 use Rattle.c_tree.specs.declared.name.Name.{Name}
-use Rattle.c_tree.specs.declared.program.Param.{Param}
-use Rattle.c_tree.specs.Tree.{Parts}
+use Rattle.c_tree.specs.Tree.{Formal, Parts}
 use Rattle.c_types.specs.declared.library.StarredType.{StarredType}
 use Rattle.c_types.specs.declared.names.Signature.{Signature}
 use Rattle.c_types.specs.declared.types.ObjectType.{ObjectType}
@@ -20,10 +19,14 @@ use Rattle.c_core.specs.Core.{Program}
 use Rattle.c_operators.specs.Context.{Source, global_named, function_counted}
 use Rattle.c_values.specs.Calls.{gives_pointer}
 use Rattle.c_elaborate.specs.Functions.{definition}
-use Rattle.c_core.specs.Sound.{IsCallable, IsAddress, IsSoundFunction}
+use Rattle.c_core.specs.Sound.{IsFunction, IsAddress, IsSoundFunction}
 use Rattle.source_sound.proofs.Among.{AreAmong}
 use Rattle.source_sound.proofs.Environment.{IsFormed, IsFormedValue}
 use Rattle.source_sound.proofs.Premises.{HaveSpots}
+use Rattle.c_types.specs.Signatures.{type_numbered}
+use Rattle.source_sound.proofs.Listed.{lists_of, FormalsListed, PartsListed}
+use Rattle.source_sound.proofs.PointerNumbers.{PointsKnown, HavePointerTypes}
+use Rattle.source_sound.proofs.Results.{IsPlainResult}
 use Rattle.source_sound.proofs.Signatures.{kinds_wanted, AreFits}
 
 module _ (p : Program) (home : ℕ → Option ℕ) (n : ℕ) where
@@ -31,7 +34,7 @@ module _ (p : Program) (home : ℕ → Option ℕ) (n : ℕ) where
   abbrev pub IsCalled : List Text → Text → Signature → Type 0
   IsCalled names name g =
       has_name names name ≡ true → is_main name ≡ false
-      → AreFits g.params × IsCallable p (function_counted (position (λ x. bytes_eq name x) names)) (kinds_wanted g.params) (gives_pointer g.result)
+      → AreFits g.params × IsFunction p (function_counted (position (λ x. bytes_eq name x) names)) (kinds_wanted g.params) (gives_pointer g.result)
 
   abbrev pub IsGiven : Option StarredType → Type 0
   IsGiven result = (t : StarredType) × (result ≡ Some t) × IsFormedValue n (starred_type t)
@@ -39,13 +42,15 @@ module _ (p : Program) (home : ℕ → Option ℕ) (n : ℕ) where
   -- what a name of the file means
   abbrev pub IsFileName : Source → List Text → Text → Meaning → Type 0
   IsFileName s names name (variable None) = ⊥
-  IsFileName s names name (variable (Some t)) = (constant_named name ≡ None) × IsFormed n t × IsAddress p home (global_named s name)
-  IsFileName s names name (function_of g) = (constant_named name ≡ None) × IsGiven g.result × IsCalled names name g
+  IsFileName s names name (variable (Some t)) = (constant_named name ≡ None) × IsFormed n t × IsAddress p home (global_named s name) × PointsKnown (lists_of s.whole) n t
+  IsFileName s names name (function_of g) = (constant_named name ≡ None) × IsGiven g.result × IsCalled names name g × ((k : ℕ) × (type_numbered (lists_of s.whole) g ≡ Some k))
 
   -- what is known of the file after the name of a function
   pub record Begins (s : Source) (known : Known) (scope : Scope) : Type 0 where
     pub scopes : known.scopes ≡ scope ∷ []
     pub struct_names : length known.struct_names ≡ n
+    pub lists : lists_of known ≡ lists_of s.whole
+    pub pointer_types : HavePointerTypes p n (lists_of s.whole)
     pub sizes : (t : ObjectType) → IsFormed n t → 1 ≤ cells_of_type s.whole t
     pub members : (k : ℕ) (name : Text) (m : Option ObjectType) → member_of known k name ≡ Some m → (t : ObjectType) × (m ≡ Some t) × IsFormed n t
     pub names : (name : Text) (m : Meaning) → entry_of scope name ≡ Some m → IsFileName s known.defined name m
@@ -53,8 +58,8 @@ module _ (p : Program) (home : ℕ → Option ℕ) (n : ℕ) where
 
   -- definitions are sound
   abbrev pub DefinitionsAreSound : Source → Type 0
-  DefinitionsAreSound s = (ns : List ℕ) (known : Known) (scope : Scope) (m : ℕ) (name : Name) (result : Option StarredType) (ps : List Param) (parts : Parts)
-      → Begins s known scope → IsGiven result → params_faults (opened known) true ps ≡ [] → parts_faults (after_params (opened known) ps) result false parts ≡ []
+  DefinitionsAreSound s = (ns : List ℕ) (known : Known) (scope : Scope) (m : ℕ) (name : Name) (result : Option StarredType) (ps : List Formal) (parts : Parts)
+      → Begins s known scope → IsGiven result → IsPlainResult result → FormalsListed (lists_of s.whole) ps → PartsListed (lists_of s.whole) parts → params_faults (opened known) true ps ≡ [] → parts_faults (after_params (opened known) ps) result false parts ≡ []
       → AreAmong ns (parts_addressed (numbered_from m ps) parts)
       → HaveSpots p s.sites (definition_spots (in_function name.text ns) (opened known) m ps parts)
       → IsSoundFunction p home (definition s ns (opened known) m name result ps parts)

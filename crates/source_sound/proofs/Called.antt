@@ -1,5 +1,5 @@
 -- What stands for a call, and for its arguments.
-use Rattle.std.proofs.Common.{◌≡◌, ℕ, zero, suc, ◌+◌, ◌==◌, Bool, true, false, not, ◌&&◌, if◌then◌else◌, List, [], ◌∷◌, ◌++◌, length, replicate, Option, Some, None, is_some, refl, sym, ap, ◌∙◌, subst, arith}
+use Rattle.std.proofs.Common.{◌≡◌, ℕ, zero, suc, ◌+◌, ◌==◌, Bool, true, false, not, if◌then◌else◌, List, [], ◌∷◌, ◌++◌, length, replicate, Option, Some, None, is_some, inl, inr, refl, sym, ap, ◌∙◌, subst, arith}
 use Rattle.std.proofs.lemmas.Bool.{and_from, eqb-true}
 use Rattle.c_text.specs.Texts.{Text}
 use Rattle.c_tree.specs.Tree.{Exp, text, Exps, no_exp, and_exp}
@@ -16,30 +16,31 @@ use Rattle.c_types.specs.declared.library.LibraryName.TheVariants as library
 use Rattle.c_types.specs.declared.names.Signature.{Signature}
 use Rattle.c_types.specs.declared.fault.FaultKind.TheVariants as fault
 use Rattle.c_types.specs.declared.fault.Found.{Found}
+use Rattle.c_types.specs.declared.types.ObjectType.{ObjectType}
 use Rattle.c_types.specs.Constants.{constant_named}
 use Rattle.c_types.specs.Types.{bare}
 use Rattle.c_types.specs.Format.{conversions}
 use Rattle.c_types.specs.Library.{starred_type, an_int, wanted_by, given_by, library_named}
 use Rattle.c_types.specs.Scopes.{Meaning, variable, function_of, seen, has_name, function_numbered}
-use Rattle.c_types.specs.Operands.{Standing, no_type, a_value, operand_of, layered_operand, layered_value, type_value, accepts}
-use Rattle.c_types.specs.Standing.{Target, no_target, some_target, target_of, malloc_standing, standing, is_main, Callee, callee, callee_wants, call_standing, given_type, format_of, some_library_callee, library_callee, function_callee, callee_of, is_root, is_text, fit_wanted}
+use Rattle.c_types.specs.Operands.{Standing, no_type, a_value, a_place, operand_of, layered_operand, layered_value, type_value, accepts}
+use Rattle.c_types.specs.Standing.{Target, no_target, some_target, target_of, malloc_standing, standing, is_main, can_be_used, Callee, callee, callee_wants, call_standing, given_type, format_of, some_library_callee, library_callee, function_callee, layered_function, type_function, signature_by, pointed_signature, pointer_callee, callee_of, is_root, is_text, fit_wanted}
 use Rattle.c_types.specs.Found.{where_it_comes}
-use Rattle.c_rules.specs.Faults.{first_place, count_of, count_faults, begins_with_text, some_library_wants, library_wants, wants_of, has_no_target, library_call_faults, unseen_call_faults, callee_faults, format_faults, root_faults, argument_faults, is_judged, where_judged, one_argument_faults, faults, arguments_faults}
-use Rattle.rr_base.specs.declared.position.Position.{Position}
+use Rattle.c_rules.specs.Faults.{first_place, count_of, count_faults, begins_with_text, some_library_wants, library_wants, pointer_wants, pointer_call_faults, wants_of, has_no_target, library_call_faults, unseen_call_faults, callee_faults, format_faults, root_faults, argument_faults, is_judged, where_judged, one_argument_faults, faults, arguments_faults}
 use Rattle.c_core.specs.Core as core
 use Rattle.c_core.specs.Core.{Function, Program}
 use Rattle.c_core.specs.Meaning.{is_pointer}
-use Rattle.c_operators.specs.Denoted.{Denoted, denoted_value, value_by, pointer_by}
-use Rattle.c_operators.specs.Context.{Context, function_counted}
+use Rattle.c_operators.specs.declared.denoted.WordKind.{WordKind}
+use Rattle.c_operators.specs.Denoted.{Denoted, denoted_value, part_by, value_by, wanted_in}
+use Rattle.c_operators.specs.Context.{Context, site_at, home_of, function_counted, pointer_counted}
 use Rattle.c_operators.specs.Operators.{is_some_address}
-use Rattle.c_values.specs.Calls.{is_pointer_wanted, library_of, first_of, library_called, gives_pointer, called}
-use Rattle.c_values.specs.Expressions.{denoted, arguments}
+use Rattle.c_values.specs.Calls.{pointed_gives, pointer_called, is_pointer_wanted, kind_wanted, library_of, first_of, library_called, gives_pointer}
+use Rattle.c_values.specs.Expressions.{variable_denoted, held_word, called, denoted, arguments}
 use Rattle.c_core.specs.Sound.{HasSite, IsCallable, IsSoundExp, AreSound, value_kinds}
-use Rattle.source_sound.proofs.Environment.{IsFormedGiven, IsFormedResult, IsFormedTarget, AreFitting, wanted_kinds, Suits}
+use Rattle.source_sound.proofs.Environment.{DenotedFits, IsFormedGiven, IsFormedResult, IsFormedTarget, AreFitting, wanted_kinds, Suits}
 use Rattle.source_sound.proofs.Apart.{not_nothing, append_nil, append_nil₃, comes_not, keeps, never}
-use Rattle.source_sound.proofs.Standings.{formed_or_void, address_layers, Stands, stands_gives}
+use Rattle.source_sound.proofs.Standings.{formed_or_void, address_layers, Stands}
 use Rattle.source_sound.proofs.Choices.{where_true}
-use Rattle.source_sound.proofs.Changes.{either_sound}
+use Rattle.source_sound.proofs.FunctionWords.{any_sound, stands_all, value_fits}
 use Rattle.source_sound.proofs.Calls.{wanted_pointer, AreWanted, printf_wanted, library_wanted, printf_kinds, IsPlain, plain_kinds, library_starts, first_whole, first_sound, fitting_word}
 
 fitting_wanted : (p : Program) (home : ℕ → Option ℕ) (f : Function) (ws : List Wanted) → AreFitting p home f ws → AreWanted ws
@@ -62,6 +63,21 @@ found_either : {A : Type 0} (b : Bool) (x y : Found) → (if b then x ∷ [] els
 found_either true x y h = not_nothing x [] h
 found_either false x y h = not_nothing y [] h
 
+-- a pointer to functions is no pointer to objects
+function_address : (ls : List Layer) (b : BaseType) (k : ℕ) → layered_function ls b ≡ Some k → is_some_address (layered_operand ls b) ≡ false
+function_address [] base.Int k e = refl
+function_address [] base.Void k e = refl
+function_address [] (base.Struct j) k e = refl
+function_address [] (base.Function j) k e = refl
+function_address [] base.Mutex k e = refl
+function_address [] base.Cond k e = refl
+function_address [] base.Barrier k e = refl
+function_address [] base.RwLock k e = refl
+function_address (l ∷ ls) b k e = cc
+
+none_not_some : {A : Type 0} (g : Signature) → None ≡ Some g → A
+none_not_some g e = let no : ⊥ = cc in absurd no
+
 module _ (p : Program) (home : ℕ → Option ℕ) (f : Function) (h : Context) (suits : Suits p home f h) where
   abbrev stands : Standing → Denoted → Type 0
   stands = Stands p home f suits.structs
@@ -81,12 +97,13 @@ module _ (p : Program) (home : ℕ → Option ℕ) (f : Function) (h : Context) 
   fitting_argument t e ws es s a all =
       let s' = standing h.known no_target e in
       let x = denoted h no_target e in
-      let g = stands_gives p home f suits.structs s' x s in
-      let word = fitting_word p home f suits.structs t (operand_of s') (value_by s' x) (pointer_by s' x) g a in
+      let words : WordKind → core.Exp = λ k. wanted_in k (part_by s' x) in
+      let g = stands_all p home f suits.structs (part_by s' x) s in
+      let word = fitting_word p home f suits.structs t (operand_of s') words g a in
       record {
-        sound = (either_sound p home f suits.structs (is_pointer_wanted t) (operand_of s') (value_by s' x) (pointer_by s' x) g, all.sound);
+        sound = (any_sound p home f suits.structs (kind_wanted t) (operand_of s') words g, all.sound);
         kinds = ap (λ k. k ∷ value_kinds (core.listed (arguments h ws es))) word ∙ ap (λ ks. is_pointer_wanted t ∷ ks) all.kinds;
-        fit = and_from _ _ (and_from _ _ a g.typed) all.fit;
+        fit = and_from _ _ (and_from _ _ a g.objects.typed) all.fit;
       }
 
   pub argument_fits : (x : Wanted) (e : Exp) (ws : List Wanted) (es : Exps) (at : Position) → AreWanted (x ∷ ws) → one_argument_faults h.known x at e (faults h.known no_target e) ≡ [] →
@@ -139,10 +156,41 @@ module _ (p : Program) (home : ℕ → Option ℕ) (f : Function) (h : Context) 
       let has = keeps (has_name h.known.defined name) fault.UnknownName at apart.1 in
       let there = suits.functions name g e has no_main in
       let fits = all g.params none' (counted (count_of es) (length g.params) at apart.2) (fitting_wanted p home f g.params there.params) in
-      fit_stands (function_callee (not (is_main name) && has_name h.known.defined name) g) g.params (given_type g.result) es _
+      fit_stands (function_callee (can_be_used h.known name) g) g.params (given_type g.result) es _
       (ap (λ z. function_callee z g) (and_from _ _ (ap not no_main) has)) fits.fit
       (given_stands g.result (function_counted (function_numbered h.known name)) (core.listed (arguments h g.params es)) o (suits.results name g e)
-      (subst (λ ks. IsCallable p (function_counted (function_numbered h.known name)) ks (gives_pointer g.result)) (sym fits.kinds) there.callable, fits.sound))
+      (subst (λ ks. IsCallable p (function_counted (function_numbered h.known name)) ks (gives_pointer g.result)) (sym fits.kinds) (inl there.callable), fits.sound))
+
+  -- ---- through a pointer
+
+  -- the word that the variable holds, which is a whole number
+  held_is : (t : ObjectType) (k : ℕ) (x : Denoted) → type_function t ≡ Some k → DenotedFits p home f (a_place t) x → (is_pointer (value_by (a_place t) x) ≡ false) × IsSoundExp p home f (value_by (a_place t) x)
+  held_is t k x e fits = let w = value_fits p home f suits.structs (a_place t) x fits in (w.0 ∙ function_address t.layers t.base k e, w.1)
+
+  pointer_by_number : (t : ObjectType) (name : Text) (k : Option ℕ) (es : Exps) (at : Position) (o : Position) → type_function t ≡ k → seen h.known name ≡ Some (variable (Some t)) →
+      (g : Option Signature) → signature_by h.known k ≡ g → pointer_call_faults g (count_of es) at ≡ [] → arguments_faults h.known (pointer_wants g) at es ≡ [] → All at es →
+      stands (call_standing (pointer_callee g) (fit_wanted h.known (callee_wants (pointer_callee g)) es))
+      (denoted_value (pointer_called h.known k (held_word h name (Some t) o) (arguments h (pointer_wants g) es) o))
+  pointer_by_number t name None es at o e seen' g is none none' all = no_signature g is none
+    where
+      no_signature : {A : Type 0} (g : Option Signature) → None ≡ g → pointer_call_faults g (count_of es) at ≡ [] → A
+      no_signature None is none = not_nothing _ [] none
+      no_signature (Some g) is none = none_not_some _ is
+  pointer_by_number t name (Some k) es at o e seen' None is none none' all = not_nothing _ [] none
+  pointer_by_number t name (Some k) es at o e seen' (Some g) is none none' all =
+      let there = suits.pointers name t k g seen' e is in
+      let fits = all g.params none' (counted (count_of es) (length g.params) at none) (fitting_wanted p home f g.params there.params) in
+      let held = held_is t k (variable_denoted h name (home_of h name) o) e (suits.variables name t o seen') in
+      fit_stands (callee g.params (given_type g.result)) g.params (given_type g.result) es _ refl fits.fit
+      (subst (λ b. stands (given_type g.result) (denoted_value (core.call (pointer_counted h.known k) (core.listed (held_word h name (Some t) o ∷ arguments h g.params es)) b o))) (sym (ap pointed_gives is))
+      (given_stands g.result (pointer_counted h.known k) (core.listed (held_word h name (Some t) o ∷ arguments h g.params es)) o there.result
+      (subst (λ ks. IsCallable p (pointer_counted h.known k) ks (gives_pointer g.result)) (sym (ap (λ q. q ∷ value_kinds (core.listed (arguments h g.params es))) held.0 ∙ ap (λ ks. false ∷ ks) fits.kinds)) (inr there.callable), (held.1, fits.sound))))
+
+  pointer_stands : (t : ObjectType) (name : Text) (es : Exps) (at : Position) (o : Position) → seen h.known name ≡ Some (variable (Some t)) → pointer_call_faults (pointed_signature h.known (Some t)) (count_of es) at ≡ [] →
+      arguments_faults h.known (pointer_wants (pointed_signature h.known (Some t))) at es ≡ [] → All at es →
+      stands (call_standing (pointer_callee (pointed_signature h.known (Some t))) (fit_wanted h.known (callee_wants (pointer_callee (pointed_signature h.known (Some t)))) es))
+      (denoted_value (pointer_called h.known (type_function t) (held_word h name (Some t) o) (arguments h (pointer_wants (pointed_signature h.known (Some t))) es) o))
+  pointer_stands t name es at o seen' none none' all = pointer_by_number t name (type_function t) es at o refl seen' (pointed_signature h.known (Some t)) refl none none' all
 
   -- ---- the library
 
@@ -251,12 +299,13 @@ module _ (p : Program) (home : ℕ → Option ℕ) (f : Function) (h : Context) 
 
   -- ---- any call
 
-  pub called_stands : (w : Target) (name : Text) (m : Option Meaning) (es : Exps) (at here' : Position) (o : Position) (site : ℕ) → seen h.known name ≡ m → IsFormedTarget suits.structs w →
-      (m ≡ None → library_named name ≡ Some library.Malloc → HasSite p site) →
+  pub called_stands : (w : Target) (name : Text) (m : Option Meaning) (es : Exps) (at here' : Position) (o : Position) → seen h.known name ≡ m → IsFormedTarget suits.structs w →
+      (m ≡ None → library_named name ≡ Some library.Malloc → HasSite p (site_at h.source.sites o)) →
       callee_faults h.known name w (begins_with_text es) (format_of es) (count_of es) at m ≡ [] → format_faults (begins_with_text es) (library_named name) m (format_of es) here' ≡ [] →
-      arguments_faults h.known (wants_of name (format_of es) m) at es ≡ [] → All at es →
+      arguments_faults h.known (wants_of h.known name (format_of es) m) at es ≡ [] → All at es →
       stands (call_standing (callee_of h.known w name (format_of es) m) (fit_wanted h.known (callee_wants (callee_of h.known w name (format_of es) m)) es))
-      (denoted_value (called h.known site name (library_named name) m es (arguments h (wants_of name (format_of es) m) es) o))
-  called_stands w name None es at here' o site e formed has none none' none'' all = library_stands w name (library_named name) es at here' o site formed (has refl) none none' none'' all
-  called_stands w name (Some (variable t)) es at here' o site e formed has none none' none'' all = not_nothing _ [] none
-  called_stands w name (Some (function_of g)) es at here' o site e formed has none none' none'' all = function_stands w name g es at o e none none'' all
+      (denoted_value (called h name m es (arguments h (wants_of h.known name (format_of es) m) es) o))
+  called_stands w name None es at here' o e formed has none none' none'' all = library_stands w name (library_named name) es at here' o (site_at h.source.sites o) formed (has refl) none none' none'' all
+  called_stands w name (Some (variable None)) es at here' o e formed has none none' none'' all = not_nothing _ [] none
+  called_stands w name (Some (variable (Some t))) es at here' o e formed has none none' none'' all = pointer_stands t name es at o e none none'' all
+  called_stands w name (Some (function_of g)) es at here' o e formed has none none' none'' all = function_stands w name g es at o e none none'' all

@@ -1,5 +1,5 @@
 -- The calls of the library take arguments of the kinds that they want, and what a call gives is of the kind that is known.
-use Rattle.std.proofs.Common.{◌≡◌, ℕ, zero, suc, ◌==◌, nat_lt, Bool, true, false, not, ◌&&◌, if◌then◌else◌, List, [], ◌∷◌, replicate, Option, Some, None, refl, sym, ap, ◌∙◌, subst, arith}
+use Rattle.std.proofs.Common.{◌≡◌, ℕ, zero, suc, ◌==◌, nat_lt, Bool, true, false, not, ◌&&◌, List, [], ◌∷◌, replicate, Option, Some, None, refl, sym, ap, ◌∙◌, subst, arith}
 use Rattle.std.proofs.lemmas.Bool.{eqb-true, lt-ltb}
 use Rattle.c_text.specs.Texts.{Text}
 use Rattle.abstract_machine.specs.declared.library_call.LibraryCall.TheVariants as library_call
@@ -20,19 +20,19 @@ use Rattle.c_types.specs.Operands.{Operand, type_operand, accepts, is_void}
 use Rattle.c_types.specs.Library.{starred_type, an_int, wanted_by}
 use Rattle.c_types.specs.Format.{conversions}
 use Rattle.c_names.specs.Started.{third_name}
-use Rattle.c_types.specs.Standing.{is_main, is_pointer_to_void, wants_pointer_to_void, gives_pointer_to_void, has_root_types, is_root_type, is_root, fit_wanted}
-use Rattle.rr_base.specs.declared.position.Position.{Position}
+use Rattle.c_types.specs.Standing.{is_main, can_be_used, is_pointer_to_void, wants_pointer_to_void, gives_pointer_to_void, has_root_types, is_root_type, is_root, fit_wanted}
 use Rattle.c_core.specs.Core as core
 use Rattle.c_core.specs.Core.{Function, Program}
 use Rattle.c_core.specs.Meaning.{is_pointer}
 use Rattle.c_operators.specs.Context.{Context, function_counted}
+use Rattle.c_operators.specs.declared.denoted.WordKind.{WordKind}
 use Rattle.c_operators.specs.Denoted.{is_pointing}
-use Rattle.c_values.specs.Calls.{is_pointer_wanted, gives_pointer, started_function, library_of, first_of}
-use Rattle.c_core.specs.Sound.{IsWhole, IsCallable, Starts, IsSoundExp, AreSound, value_kinds}
+use Rattle.c_values.specs.Calls.{is_pointer_wanted, kind_wanted, gives_pointer, started_function, library_of, first_of}
+use Rattle.c_core.specs.Sound.{IsWhole, IsFunction, Starts, IsSoundExp, AreSound, value_kinds}
 use Rattle.source_sound.proofs.Environment.{wanted_kinds, CallSuits, Suits}
 use Rattle.source_sound.proofs.Apart.{never, both}
 use Rattle.source_sound.proofs.Formats.{format_numbers, plain_numbers}
-use Rattle.source_sound.proofs.Standings.{Gives}
+use Rattle.source_sound.proofs.FunctionWords.{GivesAll}
 use Rattle.source_sound.proofs.Changes.{accepted}
 
 -- ---- kinds that are wanted
@@ -40,6 +40,7 @@ use Rattle.source_sound.proofs.Changes.{accepted}
 -- so many stars are a pointer
 pointing_stars : (n : ℕ) (b : BaseType) → is_pointing (type_operand (starred n b)) ≡ nat_lt 0 n
 pointing_stars zero base.Int = refl
+pointing_stars zero (base.Function fn) = refl
 pointing_stars zero base.Void = refl
 pointing_stars zero (base.Struct k) = refl
 pointing_stars zero base.Mutex = refl
@@ -166,20 +167,20 @@ module _ (p : Program) (home : ℕ → Option ℕ) (f : Function) where
   root_gives None h = never h
   root_gives (Some t) h = pointer_to_void t h
 
-  root_callable : (h : Context) (name : Text) (g : Signature) → CallSuits p home f h name g → has_root_types g ≡ true → IsCallable p (function_counted (function_numbered h.known name)) (true ∷ []) true
+  root_callable : (h : Context) (name : Text) (g : Signature) → CallSuits p home f h name g → has_root_types g ≡ true → IsFunction p (function_counted (function_numbered h.known name)) (true ∷ []) true
   root_callable h name g suits e =
       let are = both (gives_pointer_to_void g.result) (wants_pointer_to_void g.params) e in
-      subst (λ b. IsCallable p (function_counted (function_numbered h.known name)) (true ∷ []) b) (root_gives g.result are.0)
-      (subst (λ ks. IsCallable p (function_counted (function_numbered h.known name)) ks (gives_pointer g.result)) (root_wants g.params are.1) suits.callable)
+      subst (λ b. IsFunction p (function_counted (function_numbered h.known name)) (true ∷ []) b) (root_gives g.result are.0)
+      (subst (λ ks. IsFunction p (function_counted (function_numbered h.known name)) ks (gives_pointer g.result)) (root_wants g.params are.1) suits.callable)
 
   module _ (h : Context) (suits : Suits p home f h) where
-    root_by : (name : Text) (m : Option Meaning) → seen h.known name ≡ m → (is_root_type m && not (is_main name) && has_name h.known.defined name) ≡ true → IsCallable p (function_counted (function_numbered h.known name)) (true ∷ []) true
+    root_by : (name : Text) (m : Option Meaning) → seen h.known name ≡ m → (is_root_type m && can_be_used h.known name) ≡ true → IsFunction p (function_counted (function_numbered h.known name)) (true ∷ []) true
     root_by name None e r = never r
     root_by name (Some (variable t)) e r = never r
     root_by name (Some (function_of g)) e r =
-        let one = both (has_root_types g && not (is_main name)) (has_name h.known.defined name) r in
-        let two = both (has_root_types g) (not (is_main name)) one.0 in
-        root_callable h name g (suits.functions name g e one.1 (not_main (is_main name) two.1)) two.0
+        let one = both (has_root_types g) (can_be_used h.known name) r in
+        let two = both (not (is_main name)) (has_name h.known.defined name) one.1 in
+        root_callable h name g (suits.functions name g e two.1 (not_main (is_main name) two.0)) one.0
       where
         not_main : (b : Bool) → not b ≡ true → b ≡ false
         not_main true x = never x
@@ -240,5 +241,5 @@ module _ (p : Program) (home : ℕ → Option ℕ) (f : Function) where
   first_sound (e ∷ es) at h = h.0
 
   -- what fits a wanted type is a word of its kind
-  pub fitting_word : (structs : ℕ) (t : StarredType) (a : Operand) (v q : core.Exp) → Gives p home f structs a v q → accepts (starred_type t) a ≡ true → is_pointer (if is_pointer_wanted t then q else v) ≡ is_pointer_wanted t
-  fitting_word structs t a v q g e = subst (λ b. is_pointer (if b then q else v) ≡ b) (wanted_pointer t) (accepted p home f structs (starred_type t) a v q g e)
+  pub fitting_word : (structs : ℕ) (t : StarredType) (a : Operand) (words : WordKind → core.Exp) → GivesAll p home f structs a words → accepts (starred_type t) a ≡ true → is_pointer (words (kind_wanted t)) ≡ is_pointer_wanted t
+  fitting_word structs t a words g e = accepted p home f structs (starred_type t) a words g e ∙ wanted_pointer t

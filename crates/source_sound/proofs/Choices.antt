@@ -5,12 +5,12 @@ use Rattle.c_types.specs.declared.types.BaseType.{BaseType}
 use Rattle.c_types.specs.declared.types.BaseType.TheVariants as base
 use Rattle.c_types.specs.declared.types.Layer.{Layer}
 use Rattle.c_types.specs.declared.types.Layer.TheVariants as layer
-use Rattle.c_types.specs.Operands.{Standing, no_type, zero_literal, null_literal, a_value, a_place, Operand, any_operand, whole, zero_operand, null_operand, pointing, no_operand, operand_of, layered_operand, layered_value, as_value, is_typed, is_whole, settled, int_value}
+use Rattle.c_types.specs.Operands.{Standing, no_type, zero_literal, null_literal, a_value, a_place, Operand, any_operand, whole, zero_operand, null_operand, pointing, function_operand, no_operand, operand_of, layered_operand, layered_value, as_value, is_typed, is_whole, settled, int_value}
 use Rattle.c_types.specs.Standing.{layered_struct, made_int, can_go}
 use Rattle.c_core.specs.Core as core
 use Rattle.c_core.specs.Core.{Function, Program}
 use Rattle.c_core.specs.Meaning.{is_pointer}
-use Rattle.c_operators.specs.Denoted.{Denoted, denoted_register, denoted_cells, denoted_zero, denoted_value}
+use Rattle.c_operators.specs.Denoted.{Denoted, denoted_register, denoted_cells, denoted_zero, denoted_null, denoted_value}
 use Rattle.c_operators.specs.Operators.{is_some_address}
 use Rattle.c_core.specs.Sound.{IsWhole, IsSoundExp}
 use Rattle.source_sound.proofs.Environment.{IsFormedLayered}
@@ -24,6 +24,7 @@ whole_address whole t w = refl
 whole_address zero_operand t w = refl
 whole_address null_operand t w = never w
 whole_address (pointing s) t w = never w
+whole_address (function_operand k) t w = never w
 whole_address no_operand t w = never w
 
 module _ (p : Program) (home : ℕ → Option ℕ) (f : Function) (structs : ℕ) where
@@ -48,6 +49,7 @@ module _ (p : Program) (home : ℕ → Option ℕ) (f : Function) (structs : ℕ
   pub type_value_stands : (ls : List Layer) (b : BaseType) (e : core.Exp) → IsFormedLayered structs (layer.Pointer ∷ ls) b → layered_struct ls b ≡ None →
       is_pointer e ≡ is_some_address (layered_operand ls b) → IsSoundExp p home f e → Stands p home f structs (layered_value ls b) (denoted_value e)
   type_value_stands [] base.Int e h n k s = (tt, k, s)
+  type_value_stands [] (base.Function fn) e h n k s = (tt, k, s)
   type_value_stands [] base.Void e h n k s = (tt, k, s)
   type_value_stands [] (base.Struct j) e h n k s = some_not_none _ _ refl n
   type_value_stands [] base.Mutex e h n k s = (tt, k, s)
@@ -61,6 +63,7 @@ module _ (p : Program) (home : ℕ → Option ℕ) (f : Function) (structs : ℕ
   place_value : (ls : List Layer) (b : BaseType) (e : core.Exp) → IsFormedLayered structs ls b → can_go (a_place (record { layers = ls; base = b })) ≡ true →
       is_pointer e ≡ is_some_address (layered_operand ls b) → IsSoundExp p home f e → Stands p home f structs (layered_value ls b) (denoted_value e)
   place_value [] base.Int e h c k s = (tt, k, s)
+  place_value [] (base.Function fn) e h c k s = (tt, k, s)
   place_value [] base.Void e h c k s = (tt, k, s)
   place_value [] (base.Struct j) e h c k s = never c
   place_value [] base.Mutex e h c k s = never c
@@ -76,9 +79,11 @@ module _ (p : Program) (home : ℕ → Option ℕ) (f : Function) (structs : ℕ
   as_value_stands null_literal x e h c k s = (tt, k, s)
   as_value_stands (a_value t) (denoted_value v) e h c k s = (h.0, k, s)
   as_value_stands (a_value t) (denoted_zero at) e h c k s = absurd h
+  as_value_stands (a_value t) (denoted_null at) e h c k s = absurd h
   as_value_stands (a_value t) (denoted_register n at) e h c k s = absurd h
   as_value_stands (a_value t) (denoted_cells v at) e h c k s = absurd h
   as_value_stands (a_place t) (denoted_register n at) e h c k s = place_value t.layers t.base e h.0 c k s
   as_value_stands (a_place t) (denoted_cells v at) e h c k s = place_value t.layers t.base e h.0 c k s
   as_value_stands (a_place t) (denoted_zero at) e h c k s = absurd h
+  as_value_stands (a_place t) (denoted_null at) e h c k s = absurd h
   as_value_stands (a_place t) (denoted_value v) e h c k s = absurd h

@@ -4,9 +4,10 @@ use Rattle.std.specs.Option.{option_map}
 use Rattle.std.proofs.lemmas.Bool.Decides.{nat_tests}
 use Rattle.std.proofs.lemmas.Option.{same_Some}
 use Rattle.std.proofs.lemmas.List.Quantifiers.{position-Some}
+use Rattle.c_types.specs.Types.{bare}
 use Rattle.c_tree.specs.declared.ctype.Specifier.{Specifier}
 use Rattle.c_tree.specs.declared.ctype.Specifier.TheVariants as specifier
-use Rattle.c_tree.specs.Tree.{Exp, Declared, declared}
+use Rattle.c_tree.specs.Tree.{Exp, Declared, declared, declared_pointer}
 use Rattle.rr_base.specs.declared.position.Position.{Position}
 use Rattle.c_types.specs.declared.types.BaseType.{BaseType}
 use Rattle.c_types.specs.declared.types.BaseType.TheVariants as base
@@ -20,7 +21,8 @@ use Rattle.c_types.specs.Scopes.{Known, base_of, struct_numbered, is_complete, i
 use Rattle.c_rules.specs.Faults.{name_place, mismatch, specifier_faults, lacks_struct_by, expression_faults}
 use Rattle.c_constants.specs.Values.{value_here}
 use Rattle.c_rules.specs.Sizes.{is_sound, is_short, is_trap, constant_faults, length_faults, is_short_length, positive_value, length_of}
-use Rattle.c_programs.specs.Declarators.{with_arrays, type_by, arrays_of, complete_by, declared_type, is_void_specifier, lengths_faults, declarator_faults}
+use Rattle.c_programs.specs.Declarators.{pointer_type, with_arrays, type_by, arrays_of, complete_by, declared_type, lengths_faults, declarator_faults}
+use Rattle.c_names.specs.Signatures.{is_void_specifier, pointer_of}
 use Rattle.source_sound.proofs.Environment.{IsFormedBase, IsFormedPointee, IsFormedLayered, IsFormed}
 use Rattle.source_sound.proofs.FileLists.{append_nil, nil3, where_nil}
 use Rattle.source_sound.proofs.Structs.{IsWithin}
@@ -184,8 +186,13 @@ no_void false z h e = refl
 specifier_sized : (known : Known) (s : Specifier) (z : Bool) → z ≡ true → specifier_faults known z s ≡ [] → specifier_faults known true s ≡ []
 specifier_sized known s z e h = ap (λ b. specifier_faults known b s) (sym e) ∙ h
 
-pub declared_known : (known : Known) (s : Specifier) (d : Declared) → declarator_faults known s d ≡ [] → (t : ObjectType) × (declared_type known s d ≡ Some t) × IsDeclared known t
-declared_known known s (declared stars name lengths) h =
+-- a pointer to functions has a number
+abbrev pub IsNumberedDeclared : Known → Specifier → Declared → Type 0
+IsNumberedDeclared known s (declared stars name lengths) = Unit {0}
+IsNumberedDeclared known s (declared_pointer stars name ps) = (k : ℕ) × (pointer_of known s stars ps ≡ Some k)
+
+pub declared_known : (known : Known) (s : Specifier) (d : Declared) → IsNumberedDeclared known s d → declarator_faults known s d ≡ [] → (t : ObjectType) × (declared_type known s d ≡ Some t) × IsDeclared known t
+declared_known known s (declared stars name lengths) numbered h =
     let a = nil3 (specifier_faults known (stars == 0) s) (mismatch (is_void_specifier s && (stars == 0)) (name_place name)) (lengths_faults known (name_place name) lengths) h in
     let bk = base_known known (stars == 0) s a.0 in
     let ak = arrays_known [] (map (length_of known) lengths) tt (lengths_known known (name_place name) lengths a.2) in
@@ -194,6 +201,7 @@ declared_known known s (declared stars name lengths) h =
     let whole : is_complete known t ≡ true = complete_with known ak.0 stars bk.0 ak.2 sized in
     let is : declared_type known s (declared stars name lengths) ≡ Some t = ap (λ o. complete_by known (type_by o stars (arrays_of known lengths))) bk.1 ∙ ap (λ o. complete_by known (type_by (Some bk.0) stars o)) ak.1 ∙ ap (λ c. if c then Some t else None) whole in
     (t, is, record { layers = declarable ak.0 stars ak.2; base = bk.2; complete = whole })
+declared_known known s (declared_pointer stars name ps) numbered h = (bare (base.Function numbered.0), ap pointer_type numbered.1, record { layers = tt; base = tt; complete = refl })
 
 -- ---- what they are
 
@@ -201,6 +209,7 @@ base_formed : (known : Known) (n : ℕ) (b : BaseType) → IsFileBase n b → is
 base_formed known n base.Void h c = absurd (true≢false (sym c))
 base_formed known n (base.Struct k) h c = h
 base_formed known n base.Int h c = tt
+base_formed known n (base.Function fn) h c = tt
 base_formed known n base.Mutex h c = tt
 base_formed known n base.Cond h c = tt
 base_formed known n base.Barrier h c = tt
@@ -210,6 +219,7 @@ pub pointee_formed : (n : ℕ) (b : BaseType) → IsFileBase n b → IsFormedPoi
 pointee_formed n base.Void h = tt
 pointee_formed n (base.Struct k) h = h
 pointee_formed n base.Int h = tt
+pointee_formed n (base.Function fn) h = tt
 pointee_formed n base.Mutex h = tt
 pointee_formed n base.Cond h = tt
 pointee_formed n base.Barrier h = tt
@@ -232,6 +242,7 @@ base_within : (known : Known) (b : BaseType) → is_complete_base known b ≡ tr
 base_within known base.Void c = absurd (true≢false (sym c))
 base_within known (base.Struct k) c = grind (arith, nat_tests)
 base_within known base.Int c = tt
+base_within known (base.Function fn) c = tt
 base_within known base.Mutex c = tt
 base_within known base.Cond c = tt
 base_within known base.Barrier c = tt

@@ -4,17 +4,16 @@ use Rattle.rr_base.specs.declared.layout.CellKind.{CellKind}
 use Rattle.c_text.specs.Texts.{Text}
 use Rattle.c_tree.specs.declared.name.Name.{Name}
 use Rattle.c_tree.specs.declared.ctype.Specifier.{Specifier}
-use Rattle.c_tree.specs.declared.program.Param.{Param}
-use Rattle.c_tree.specs.Tree.{Exp, comma, assign, conditional, binary, prefix, sizeof_exp, sizeof_type, cast, index, member, arrow, post_increment, post_decrement, named, call, number, letter, text, null, paren, Exps, no_exp, and_exp, Declared, Init, value, braces, mutex_start, cond_start, rwlock_start, Inits, no_init, and_init, Object, plain, initialised, Declares, declares, Start, start_declares, start_computes, Statement, block, compute, break_at, continue_at, gives, branch, branch_else, while_loop, do_loop, for_loop, Parts, no_part, and_declares, and_does, Code, defined, prototype, Fields, fields}
+use Rattle.c_tree.specs.Tree.{Formal, Exp, comma, assign, conditional, binary, prefix, sizeof_exp, sizeof_type, cast, index, member, arrow, post_increment, post_decrement, named, call, number, letter, text, null, paren, Exps, no_exp, and_exp, Declared, Init, value, braces, mutex_start, cond_start, rwlock_start, Inits, no_init, and_init, Object, plain, initialised, Declares, declares, Start, start_declares, start_computes, Statement, block, compute, break_at, continue_at, gives, branch, branch_else, while_loop, do_loop, for_loop, Parts, no_part, and_declares, and_does, Code, defined, prototype, Fields, fields}
 use Rattle.rr_base.specs.declared.position.Position.{Position}
 use Rattle.c_types.specs.Scopes.{Known, type_named, opened}
 use Rattle.c_types.specs.Standing.{Target, no_target, assigned_target, cast_target, standing}
-use Rattle.c_names.specs.Sources.{declared_name, declared_by}
+use Rattle.c_names.specs.Sources.{declared_name, declared_by, param_name}
 use Rattle.c_programs.specs.Declarators.{declared_type, param_type, after_param, after_params}
 use Rattle.c_programs.specs.Initials.{value_target}
 use Rattle.c_programs.specs.Statements.{after_declared, after_declares, after_start}
 use Rattle.c_locals.specs.Addresses.{count_of_locals, count_of_start, count_of_declares}
-use Rattle.c_locals.specs.Kept.{is_kept, is_kept_declared}
+use Rattle.c_locals.specs.Kept.{is_kept_formal, is_kept_declared}
 use Rattle.c_spots.specs.Spots.{Holder, a_global, a_local, an_allocation, Spot, spot_named, where_malloc, is_malloc, allocations, all_allocations, maybe_allocations, lengths_allocations, initial_allocations, initials_allocations, where_kept, Where, in_function, is_cell_in, declared_lengths, declared_spots, object_spots, objects_spots, declares_spots, start_spots, for_spots, statement_spots, parts_spots, members_allocations, fields_allocations, formal_spot, formals_spots, code_spots}
 use Rattle.c_sites.specs.Sites.{site_of}
 use Rattle.c_globals.specs.Globals.{holder_kinds}
@@ -163,14 +162,14 @@ module _ (f : Text) (ns : List ℕ) where
     parts_others known n (and_declares d ps) = others (declares_spots within known n d) (parts_spots within (after_declares known d) (n + count_of_declares d) ps) (declares_others known n d) (parts_others (after_declares known d) (n + count_of_declares d) ps)
     parts_others known n (and_does s ps) = others (statement_spots within known n s) (parts_spots within known (n + count_of_locals s) ps) (statement_others known n s) (parts_others known (n + count_of_locals s) ps)
 
-  formal_others : (known : Known) (n : ℕ) (p : Param) (o : Option Name) → AreOthers (formal_spot within known n p o)
+  formal_others : (known : Known) (n : ℕ) (p : Formal) (o : Option Name) → AreOthers (formal_spot within known n p o)
   formal_others known n p None = tt
-  formal_others known n p (Some name) = kept_other (is_cell_in within n (is_kept p.specifier p.stars [])) name.text name (param_type known p)
+  formal_others known n p (Some name) = kept_other (is_cell_in within n (is_kept_formal p)) name.text name (param_type known p)
 
-  formals_others : (known : Known) (n : ℕ) (ps : List Param) → AreOthers (formals_spots within known n ps)
+  formals_others : (known : Known) (n : ℕ) (ps : List Formal) → AreOthers (formals_spots within known n ps)
   formals_others known n [] = tt
-  formals_others known n (p ∷ ps) = others (formal_spot within known n p p.name) (formals_spots within (after_param known p) (n + 1) ps) (formal_others known n p p.name) (formals_others (after_param known p) (n + 1) ps)
+  formals_others known n (p ∷ ps) = others (formal_spot within known n p (param_name p)) (formals_spots within (after_param known p) (n + 1) ps) (formal_others known n p (param_name p)) (formals_others (after_param known p) (n + 1) ps)
 
-  pub code_others : (known : Known) (n : ℕ) (ps : List Param) (code : Code) → AreOthers (code_spots within known n ps code)
+  pub code_others : (known : Known) (n : ℕ) (ps : List Formal) (code : Code) → AreOthers (code_spots within known n ps code)
   code_others known n ps prototype = tt
   code_others known n ps (defined parts at) = others (formals_spots within (opened known) n ps) (parts_spots within (after_params (opened known) ps) (n + length ps) parts) (formals_others (opened known) n ps) (parts_others (after_params (opened known) ps) (n + length ps) parts)

@@ -15,20 +15,20 @@ use Rattle.c_types.specs.declared.library.StarredType.{StarredType}
 use Rattle.c_types.specs.Constants.{constant_named}
 use Rattle.c_types.specs.Library.{starred_type}
 use Rattle.c_types.specs.Scopes.{Meaning, variable, function_of, seen, has_name, member_of, struct_numbered, function_numbered, cells_of_type}
-use Rattle.c_types.specs.Operands.{Standing, zero_literal, a_place, operand_of}
-use Rattle.c_types.specs.Standing.{Target, no_target, some_target, target_of, type_struct, is_main}
+use Rattle.c_types.specs.Operands.{Standing, zero_literal, null_literal, a_place, operand_of}
+use Rattle.c_types.specs.Standing.{Target, no_target, some_target, target_of, type_struct, type_function, is_main}
+use Rattle.c_types.specs.Signatures.{type_numbered, signature_numbered}
 use Rattle.c_spots.specs.Spots.{Spot}
-use Rattle.rr_base.specs.declared.position.Position.{Position}
 use Rattle.c_core.specs.Core.{Function, Program}
 use Rattle.c_core.specs.Meaning.{is_pointer}
-use Rattle.c_operators.specs.Denoted.{Denoted, denoted_register, denoted_cells, denoted_zero, denoted_value, is_pointing}
+use Rattle.c_operators.specs.Denoted.{Denoted, denoted_register, denoted_cells, denoted_zero, denoted_null, denoted_value, is_pointing}
 use Rattle.c_operators.specs.declared.home.Home.{Home}
 use Rattle.c_operators.specs.declared.home.Home.TheVariants as kept
-use Rattle.c_operators.specs.Context.{Context, home_of, home_numbered, site_at, function_counted}
+use Rattle.c_operators.specs.Context.{Context, home_of, home_numbered, site_at, function_counted, pointer_counted}
 use Rattle.c_operators.specs.Operators.{is_some_address}
 use Rattle.c_values.specs.Calls.{is_pointer_wanted, gives_pointer}
 use Rattle.c_values.specs.Expressions.{variable_denoted}
-use Rattle.c_core.specs.Sound.{IsPointer, IsCallable, HasSite, HasRegister, IsSoundExp}
+use Rattle.c_core.specs.Sound.{IsPointer, IsFunction, IsPointerType, HasSite, HasRegister, IsSoundExp}
 
 -- ---- types
 
@@ -107,6 +107,7 @@ module _ (p : Program) (home : ℕ → Option ℕ) (f : Function) where
   DenotedFits s (denoted_register n at) = IsObject s × HasRegister p home f n (is_pointing (operand_of s))
   DenotedFits s (denoted_cells e at) = IsObject s × IsPointer e × IsSoundExp p home f e
   DenotedFits s (denoted_zero at) = s ≡ zero_literal
+  DenotedFits s (denoted_null at) = s ≡ null_literal
   DenotedFits s (denoted_value e) = (is_pointer e ≡ is_some_address (operand_of s)) × IsSoundExp p home f e
 
   -- whether an argument of the kind that is wanted is a pointer; an attribute is none
@@ -124,7 +125,13 @@ module _ (p : Program) (home : ℕ → Option ℕ) (f : Function) where
   -- a function that is called or started by its name
   pub record CallSuits (h : Context) (name : Text) (g : Signature) : Type 0 where
     pub params : AreFitting g.params
-    pub callable : IsCallable p (function_counted (function_numbered h.known name)) (wanted_kinds g.params) (gives_pointer g.result)
+    pub callable : IsFunction p (function_counted (function_numbered h.known name)) (wanted_kinds g.params) (gives_pointer g.result)
+
+  -- what is called through a pointer of the type with the number
+  pub record PointerSuits (structs : ℕ) (h : Context) (k : ℕ) (g : Signature) : Type 0 where
+    pub params : AreFitting g.params
+    pub result : IsFormedResult structs g.result
+    pub callable : IsPointerType p (pointer_counted h.known k) (false ∷ wanted_kinds g.params) (gives_pointer g.result)
 
   -- the names in reach, and the sizes and members of structs
   pub record Suits (h : Context) : Type 0 where
@@ -144,6 +151,10 @@ module _ (p : Program) (home : ℕ → Option ℕ) (f : Function) where
     pub registers : (name : Text) (t : ObjectType) (n : ℕ) → seen h.known name ≡ Some (variable (Some t)) → home_of h name ≡ Some (kept.Register n) → type_struct t ≡ None
     pub results : (name : Text) (g : Signature) → seen h.known name ≡ Some (function_of g) → IsFormedResult structs g.result
     pub functions : (name : Text) (g : Signature) → seen h.known name ≡ Some (function_of g) → has_name h.known.defined name ≡ true → is_main name ≡ false → CallSuits h name g
+    -- what is called through a variable is a type of pointers of the program
+    pub pointers : (name : Text) (t : ObjectType) (k : ℕ) (g : Signature) → seen h.known name ≡ Some (variable (Some t)) → type_function t ≡ Some k → signature_numbered h.known k ≡ Some g → PointerSuits structs h k g
+    -- a function's type has a number
+    pub numbered : (name : Text) (g : Signature) → seen h.known name ≡ Some (function_of g) → (k : ℕ) × (type_numbered h.known g ≡ Some k)
 
   -- each of these places is that of a site
   abbrev pub HaveSites : Context → List Position → Type 0

@@ -9,17 +9,16 @@ use Rattle.c_types.specs.declared.library.Wanted.TheVariants as wants
 use Rattle.c_types.specs.declared.fault.FaultKind.TheVariants as fault
 use Rattle.c_types.specs.Library.{library_named}
 use Rattle.c_types.specs.Scopes.{seen, type_named}
-use Rattle.c_types.specs.Operands.{Standing, Operand, operand_of, as_value, takes, is_scalar}
-use Rattle.c_types.specs.Standing.{Target, no_target, assigned_target, cast_target, casts_to, can_index, struct_of, pointed_struct, let_go, following, is_sized, format_of, standing, last_standing}
+use Rattle.c_types.specs.Operands.{Standing, Operand, operand_of, as_value, takes}
+use Rattle.c_types.specs.Standing.{Target, no_target, assigned_target, cast_target, casts_to, can_cast, can_index, struct_of, pointed_struct, let_go, following, is_sized, format_of, standing, last_standing}
 use Rattle.c_rules.specs.Faults.{mismatch, condition_takes, go_faults, step_faults, cast_faults, specifier_faults, assign_faults, prefix_faults, member_faults, callee_faults, format_faults, begins_with_text, count_of, place_of_first, call_faults, wants_of, one_argument_faults, faults, rest_faults, arguments_faults}
 use Rattle.c_types.specs.Constants.{is_address}
 use Rattle.c_locals.specs.Addresses.{where_address, number_of_operand, addressed, all_addressed}
 use Rattle.c_spots.specs.Spots.{is_malloc, where_malloc, allocations, all_allocations}
-use Rattle.rr_base.specs.declared.position.Position.{Position}
 use Rattle.c_core.specs.Core as core
 use Rattle.c_core.specs.Core.{Function, Program}
 use Rattle.c_operators.specs.Denoted.{Denoted, denoted_value, denoted_zero, value_by, position_of}
-use Rattle.c_operators.specs.Context.{Context, site_at, offset_in}
+use Rattle.c_operators.specs.Context.{Context, offset_in}
 use Rattle.c_operators.specs.Operators.{conditional_in, binary_in, prefix_in, cast_in}
 use Rattle.c_operators.specs.Commas.{with_last}
 use Rattle.c_values.specs.Expressions.{with_tail, is_pointer_type, denoted, tail_of, part}
@@ -27,6 +26,7 @@ use Rattle.c_core.specs.Sound.{IsSoundExp}
 use Rattle.source_sound.proofs.Environment.{IsFormedTarget, AreKept, places_of, Suits, HaveSites}
 use Rattle.source_sound.proofs.Apart.{not_nothing, append_nil, append_nil₃, append_nil₄, keeps}
 use Rattle.source_sound.proofs.Standings.{Stands, PartGives, stands_gives}
+use Rattle.source_sound.proofs.FunctionWords.{PartGivesAll, stands_all}
 use Rattle.source_sound.proofs.Operators.{conditional_stands, index_stands, binary_stands}
 use Rattle.source_sound.proofs.Places.{member_stands, arrow_stands}
 use Rattle.source_sound.proofs.Folding.{value_stands}
@@ -54,6 +54,9 @@ module _ (p : Program) (home : ℕ → Option ℕ) (f : Function) (h : Context) 
   gives_here : (w : Target) (e : Exp) → StandsHere w e → PartGives p home f structs (part h w e)
   gives_here w e s = stands_gives p home f structs (standing h.known w e) (denoted h w e) s
 
+  all_here : (w : Target) (e : Exp) → StandsHere w e → PartGivesAll p home f structs (part h w e)
+  all_here w e s = stands_all p home f structs (part h w e) s
+
   -- ---- casts
 
   known_type : (t : CType) → specifier_faults h.known false t.specifier ≡ [] → IsKnownType structs (type_named h.known t)
@@ -61,11 +64,11 @@ module _ (p : Program) (home : ℕ → Option ℕ) (f : Function) (h : Context) 
       let u = type_known h.known structs suits.names t false none in
       subst (IsKnownType structs) (sym u.1) u.2
 
-  cast_apart : (t : CType) (a : Operand) (at : Position) → cast_faults h.known t a at ≡ [] → (casts_to (type_named h.known t) t.stars && is_scalar a) ≡ true
-  cast_apart t a at none = keeps (casts_to (type_named h.known t) t.stars && is_scalar a) fault.TypeMismatch at (append_nil (mismatch (not (casts_to (type_named h.known t) t.stars && is_scalar a)) at) (specifier_faults h.known false t.specifier) none).0
+  cast_apart : (t : CType) (a : Operand) (at : Position) → cast_faults h.known t a at ≡ [] → (casts_to (type_named h.known t) t.stars && can_cast a) ≡ true
+  cast_apart t a at none = keeps (casts_to (type_named h.known t) t.stars && can_cast a) fault.TypeMismatch at (append_nil (mismatch (not (casts_to (type_named h.known t) t.stars && can_cast a)) at) (specifier_faults h.known false t.specifier) none).0
 
   cast_specifier : (t : CType) (a : Operand) (at : Position) → cast_faults h.known t a at ≡ [] → specifier_faults h.known false t.specifier ≡ []
-  cast_specifier t a at none = (append_nil (mismatch (not (casts_to (type_named h.known t) t.stars && is_scalar a)) at) (specifier_faults h.known false t.specifier) none).1
+  cast_specifier t a at none = (append_nil (mismatch (not (casts_to (type_named h.known t) t.stars && can_cast a)) at) (specifier_faults h.known false t.specifier) none).1
 
   -- ---- commas
 
@@ -123,7 +126,7 @@ module _ (p : Program) (home : ℕ → Option ℕ) (f : Function) (h : Context) 
         let kept' = kept_apart h (addressed h.numbers a) (addressed h.numbers b) kept in
         let s = exp_stands a no_target none'.0 sites'.0 kept'.0 tt in
         let s' = exp_stands b w' none'.1 sites'.1 kept'.1 (formed_assigned_target p home f structs o sa (denoted h no_target a) s) in
-        assigns_stands p home f h suits a o (part h w' b) at (position_of at) s (gives_here w' b s') none'.2
+        assigns_stands p home f h suits a o (part h w' b) at (position_of at) s (all_here w' b s') none'.2
     exp_stands (conditional a b c at) w none sites kept formed =
         let none' = append_nil₄ (faults h.known no_target a) (faults h.known no_target b) (faults h.known no_target c) (mismatch (not (condition_takes (operand_of (standing h.known no_target a)) (operand_of (standing h.known no_target b)) (operand_of (standing h.known no_target c)))) at) none in
         let sites' = sites_apart₃ p home f h (allocations h.known no_target a) (allocations h.known no_target b) (allocations h.known no_target c) sites in
@@ -132,7 +135,7 @@ module _ (p : Program) (home : ℕ → Option ℕ) (f : Function) (h : Context) 
         let s' = exp_stands b no_target none'.1 sites'.1 kept'.1 tt in
         let s'' = exp_stands c no_target none'.2 sites'.2 kept'.2 tt in
         folded_here p home f h suits w (conditional a b c at) (denoted_value (conditional_in (part h no_target a) (part h no_target b) (part h no_target c) (position_of at))) (position_of at) tt
-        (conditional_stands p home f structs (part h no_target a) (part h no_target b) (part h no_target c) (position_of at) (gives_here no_target a s) (gives_here no_target b s') (gives_here no_target c s'')
+        (conditional_stands p home f structs (part h no_target a) (part h no_target b) (part h no_target c) (position_of at) (gives_here no_target a s) (all_here no_target b s') (all_here no_target c s'')
         (keeps (condition_takes (operand_of (standing h.known no_target a)) (operand_of (standing h.known no_target b)) (operand_of (standing h.known no_target c))) fault.TypeMismatch at none'.3))
     exp_stands (binary a o b at) w none sites kept formed =
         let none' = append_nil₃ (faults h.known no_target a) (faults h.known no_target b) (mismatch (not (takes o (operand_of (standing h.known no_target a)) (operand_of (standing h.known no_target b)))) at) none in
@@ -141,7 +144,7 @@ module _ (p : Program) (home : ℕ → Option ℕ) (f : Function) (h : Context) 
         let s = exp_stands a no_target none'.0 sites'.0 kept'.0 tt in
         let s' = exp_stands b no_target none'.1 sites'.1 kept'.1 tt in
         folded_here p home f h suits w (binary a o b at) (denoted_value (binary_in h.source o (part h no_target a) (part h no_target b) (position_of at))) (position_of at) tt
-        (binary_stands p home f structs h.source suits.sizes o (part h no_target a) (part h no_target b) (position_of at) (gives_here no_target a s) (gives_here no_target b s')
+        (binary_stands p home f structs h.source suits.sizes o (part h no_target a) (part h no_target b) (position_of at) (all_here no_target a s) (all_here no_target b s')
         (keeps (takes o (operand_of (standing h.known no_target a)) (operand_of (standing h.known no_target b))) fault.TypeMismatch at none'.2))
     exp_stands (prefix o a at) w none sites kept formed =
         let none' = append_nil (faults h.known no_target a) (prefix_faults h.known o a (standing h.known no_target a) at) none in
@@ -188,16 +191,16 @@ module _ (p : Program) (home : ℕ → Option ℕ) (f : Function) (h : Context) 
         steps_stands p home f h suits a flow.Subtract true at (position_of at) (exp_stands a no_target none'.0 sites kept tt) none'.1
     exp_stands (named name at) w none sites kept formed = named_stands p home f h suits name at w none
     exp_stands (call name es at) w none sites kept formed =
-        let ws = wants_of name (format_of es) (seen h.known name) in
+        let ws = wants_of h.known name (format_of es) (seen h.known name) in
         let none' = append_nil (call_faults h.known w name es at) (arguments_faults h.known ws at es) none in
         let own = append_nil (callee_faults h.known name w (begins_with_text es) (format_of es) (count_of es) at (seen h.known name)) (format_faults (begins_with_text es) (library_named name) (seen h.known name) (format_of es) (place_of_first es)) none'.0 in
         let sites' = sites_apart p home f h (where_malloc (is_malloc h.known name) w at) (all_allocations h.known es) sites in
-        called_stands p home f h suits w name (seen h.known name) es at (place_of_first es) (position_of at) (site_at h.source.sites at) refl formed
+        called_stands p home f h suits w name (seen h.known name) es at (place_of_first es) (position_of at) refl formed
         (λ e e'. malloc_site p home f h name w at sites'.0 e e') own.0 own.1 none'.1 (λ ws' n c v. arguments_fit es ws' at n sites'.1 kept c v)
     exp_stands (number n at) w none sites kept formed = number_stands p home f h suits n at w
     exp_stands (letter n at) w none sites kept formed = (tt, refl, tt)
     exp_stands (text bytes at) w none sites kept formed = not_nothing _ [] none
-    exp_stands (null at) w none sites kept formed = (refl, tt)
+    exp_stands (null at) w none sites kept formed = tt
     exp_stands (paren a at) w none sites kept formed = exp_stands a w none sites kept formed
 
     -- the expressions after a comma

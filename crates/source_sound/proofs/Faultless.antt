@@ -4,7 +4,8 @@ use Rattle.c_tree.specs.Tree.{Outer}
 use Rattle.c_types.specs.declared.fault.Found.{Found}
 use Rattle.c_types.specs.Found.{first_among}
 use Rattle.c_types.specs.Scopes.{has_name}
-use Rattle.c_names.specs.Sources.{known_at_start, functions_with}
+use Rattle.c_names.specs.Sources.{functions_with}
+use Rattle.c_names.specs.Known.{known_at_start}
 use Rattle.c_programs.specs.Programs.{program_faults}
 use Rattle.c_spots.specs.Spots.{Spot, program_spots}
 use Rattle.c_sites.specs.Whole.{first_fault, first_fault_by, spot_faults, sites_faults}

@@ -8,9 +8,7 @@ use Rattle.std.proofs.lemmas.Option.{same_Some, none-some}
 use Rattle.c_text.specs.Texts.{Text, entry_of}
 use Rattle.c_tree.specs.declared.name.Name.{Name}
 use Rattle.c_tree.specs.declared.ctype.Specifier.{Specifier}
-use Rattle.c_tree.specs.declared.program.Param.{Param}
-use Rattle.c_tree.specs.declared.program.Params.{Params}
-use Rattle.c_tree.specs.Tree.{Parts, Object, Fields, Code, defined, prototype, Outer, structure, function, objects}
+use Rattle.c_tree.specs.Tree.{Formal, formal, formal_pointer, Formals, Parts, Object, Fields, Code, defined, prototype, Outer, structure, function, objects}
 use Rattle.rr_base.specs.declared.position.Position.{Position}
 use Rattle.c_types.specs.declared.fault.FaultKind.TheVariants as fault
 use Rattle.c_types.specs.declared.library.StarredType.{StarredType}
@@ -20,9 +18,10 @@ use Rattle.c_rules.specs.Faults.{name_place, mismatch}
 use Rattle.c_types.specs.Scopes.{Known, Scope, Meaning, variable, function_of, innermost, with_text, has_name, opened}
 use Rattle.c_types.specs.Standing.{is_main as is_main_name}
 use Rattle.c_names.specs.Sources.{listed_params, declared_by, functions_with}
-use Rattle.c_programs.specs.Declarators.{is_struct_defined, with_fields, struct_cells, after_struct, wanted_of}
+use Rattle.c_programs.specs.Declarators.{is_struct_defined, with_fields, struct_cells, after_struct}
+use Rattle.c_names.specs.Signatures.{wanted_of, signature_of, result_of}
 use Rattle.c_programs.specs.Statements.{after_declared, after_objects}
-use Rattle.c_programs.specs.Programs.{signature_of, result_of, after_function, after_outer, again_faults, is_main_signature, int_result, agree, agree_on_result, agree_on_params}
+use Rattle.c_programs.specs.Programs.{after_function, after_outer, again_faults, is_main_signature, int_result, agree, agree_on_result, agree_on_params}
 use Rattle.c_locals.specs.Addresses.{count_of_outer}
 use Rattle.c_spots.specs.Spots.{known_after}
 use Rattle.c_core.specs.Core.{Function}
@@ -30,13 +29,13 @@ use Rattle.c_core.specs.Meaning.{is_main}
 use Rattle.c_frames.specs.declared.local.Local.{Local}
 use Rattle.c_operators.specs.Context.{Source, global_named}
 use Rattle.c_values.specs.Calls.{gives_pointer}
-use Rattle.c_frames.specs.Frames.{formal_at, formal_of, marked, local_pointers}
+use Rattle.c_frames.specs.Frames.{formal_of, marked, local_pointers}
 use Rattle.c_elaborate.specs.Functions.{definition}
 use Rattle.c_frames.specs.Locals.{parts_locals}
 use Rattle.c_elaborate.specs.Whole.{code_functions, outer_functions, outers_functions}
 use Rattle.c_core.specs.Sound.{formal_kinds}
 use Rattle.source_sound.proofs.FileLists.{append_nil, where_nil, same_text, text_same}
-use Rattle.source_sound.proofs.Signatures.{kinds_wanted, IsKnown}
+use Rattle.source_sound.proofs.Signatures.{kinds_wanted, IsKnown, is_pointer_formal}
 use Rattle.source_sound.proofs.FileScope.{IsFunction}
 use Rattle.source_sound.proofs.FileObjects.{IsWhole}
 use Rattle.source_sound.proofs.Grown.{found, Grows, function_grows, outer_grows, outers_grow}
@@ -64,6 +63,19 @@ names_parts : (fs gs : List Function) → names_of (fs ++ gs) ≡ names_of fs ++
 names_parts [] gs = refl
 names_parts (f ∷ fs) gs = ap (λ ns. f.name ∷ ns) (names_parts fs gs)
 
+-- ---- what a name means
+
+-- names that mean one function have one type
+pub same_function : (f g : Signature) → ◌≡◌ {A = Option Meaning} (Some (function_of f)) (Some (function_of g)) → f ≡ g
+same_function f g e = inside (same_Some (function_of f) (function_of g) e)
+  where
+    signature_in : Meaning → Signature
+    signature_in (variable t) = f
+    signature_in (function_of h) = h
+
+    inside : ◌≡◌ {A = Meaning} (function_of f) (function_of g) → f ≡ g
+    inside e = ap signature_in e
+
 -- ---- the kinds of formals
 
 marked_pointers : (ns : List ℕ) (n : ℕ) (ls : List Local) → map (λ l. l.is_pointer) (marked ns n ls) ≡ map (λ l. l.is_pointer) ls
@@ -74,32 +86,33 @@ marked_length : (ns : List ℕ) (n : ℕ) (ls : List Local) → length (marked n
 marked_length ns n [] = refl
 marked_length ns n (l ∷ ls) = let more = marked_length ns (n + 1) ls in omega (arith, more)
 
-formal_pointer : (p : Param) (o : Option Name) → (formal_at p o).is_pointer ≡ nat_lt 0 p.stars
-formal_pointer p None = refl
-formal_pointer p (Some name) = refl
+formal_kind : (p : Formal) → (formal_of p).is_pointer ≡ is_pointer_formal p
+formal_kind (formal s stars None at) = refl
+formal_kind (formal s stars (Some name) at) = refl
+formal_kind (formal_pointer s stars name ps at) = refl
 
-formals_pointers : (ps : List Param) → map (λ l. l.is_pointer) (map formal_of ps) ≡ map (λ p. nat_lt 0 p.stars) ps
+formals_pointers : (ps : List Formal) → map (λ l. l.is_pointer) (map formal_of ps) ≡ map is_pointer_formal ps
 formals_pointers [] = refl
-formals_pointers (p ∷ ps) = ap₂ (λ b bs. b ∷ bs) (formal_pointer p p.name) (formals_pointers ps)
+formals_pointers (p ∷ ps) = ap₂ (λ b bs. b ∷ bs) (formal_kind p) (formals_pointers ps)
 
 first_ones : (ls : List Local) (more : List Bool) → take (length ls) (map (λ l. l.is_pointer) ls ++ more) ≡ map (λ l. l.is_pointer) ls
 first_ones [] more = refl
 first_ones (l ∷ ls) more = ap (λ bs. l.is_pointer ∷ bs) (first_ones ls more)
 
-pub definition_kinds : (s : Source) (ns : List ℕ) (inside : Known) (m : ℕ) (name : Name) (result : Option StarredType) (ps : List Param) (parts : Parts) → formal_kinds (definition s ns inside m name result ps parts) ≡ map (λ p. nat_lt 0 p.stars) ps
+pub definition_kinds : (s : Source) (ns : List ℕ) (inside : Known) (m : ℕ) (name : Name) (result : Option StarredType) (ps : List Formal) (parts : Parts) → formal_kinds (definition s ns inside m name result ps parts) ≡ map is_pointer_formal ps
 definition_kinds s ns inside m name result ps parts =
     first_ones (marked ns m (map formal_of ps)) (local_pointers (marked ns (m + length ps) (parts_locals parts))) ∙ marked_pointers ns m (map formal_of ps) ∙ formals_pointers ps
 
-pub definition_formals : (s : Source) (ns : List ℕ) (inside : Known) (m : ℕ) (name : Name) (result : Option StarredType) (ps : List Param) (parts : Parts) → (definition s ns inside m name result ps parts).formals ≡ length ps
+pub definition_formals : (s : Source) (ns : List ℕ) (inside : Known) (m : ℕ) (name : Name) (result : Option StarredType) (ps : List Formal) (parts : Parts) → (definition s ns inside m name result ps parts).formals ≡ length ps
 definition_formals s ns inside m name result ps parts = marked_length ns m (map formal_of ps) ∙ length-map ps formal_of
 
 -- ---- `main` has no formals
 
-no_params : (known : Known) (ps : List Param) → agree_on_params (map (wanted_of known) ps) [] ≡ true → length ps ≡ 0
+no_params : (known : Known) (ps : List Formal) → agree_on_params (map (wanted_of known) ps) [] ≡ true → length ps ≡ 0
 no_params known [] e = refl
 no_params known (p ∷ ps) e = absurd (true≢false (sym e))
 
-main_alone : (known : Known) (sp : Specifier) (stars : ℕ) (ps : Params) (is : Bool) → is ≡ true → (is && not (is_main_signature (signature_of known sp stars ps))) ≡ false → length (listed_params ps) ≡ 0
+main_alone : (known : Known) (sp : Specifier) (stars : ℕ) (ps : Formals) (is : Bool) → is ≡ true → (is && not (is_main_signature (signature_of known sp stars ps))) ≡ false → length (listed_params ps) ≡ 0
 main_alone known sp stars ps true e h = no_params known (listed_params ps) (and_parts (agree_on_result (result_of known sp stars) int_result) (agree_on_params (map (wanted_of known) (listed_params ps)) []) (yes_from (is_main_signature (signature_of known sp stars ps)) h)).1
   where
     yes_from : (b : Bool) → not b ≡ false → b ≡ true
@@ -122,8 +135,8 @@ module _ (s : Source) (n : ℕ) (whole : IsWhole s n) (Good : ℕ → Type 0) (g
   abbrev pub From : Known → Scope → ℕ → List Outer → Type 0
   From known scope m os = AreSoundFrom s n whole Good good ns known scope m os
 
-  code_of_file : (known : Known) (scope : Scope) (m : ℕ) (sp : Specifier) (stars : ℕ) (name : Name) (ps : Params) (code : Code) (final : Known) → Grows (after_function known name (signature_of known sp stars ps) code) final →
-      IsFunction n (λ x. is_some (entry_of s.globals x) ≡ true) known scope sp stars name ps code → AllAre (λ f. IsOfFile n final f) (code_functions s ns known m name (signature_of known sp stars ps) ps code)
+  code_of_file : (known : Known) (scope : Scope) (m : ℕ) (sp : Specifier) (stars : ℕ) (name : Name) (ps : Formals) (code : Code) (final : Known) → Grows (after_function known name (signature_of known sp stars ps) code) final →
+      IsFunction s.whole n (λ x. is_some (entry_of s.globals x) ≡ true) known scope sp stars name ps code → AllAre (λ f. IsOfFile n final f) (code_functions s ns known m name (signature_of known sp stars ps) ps code)
   code_of_file known scope m sp stars name ps prototype final grown is = tt
   code_of_file known scope m sp stars name ps (defined parts at) final grown is =
       let f = signature_of known sp stars ps in
@@ -145,7 +158,7 @@ module _ (s : Source) (n : ℕ) (whole : IsWhole s n) (Good : ℕ → Type 0) (g
   outer_of_file : (known : Known) (scope : Scope) (m : ℕ) (o : Outer) (os : List Outer) → From known scope m (o ∷ os) → OneOn s n whole Good good ns known scope m o os → AllAre (λ f. IsOfFile n (known_after (after_outer known o) os) f) (outer_functions s ns known m o)
   outer_of_file known scope m (structure name fs) os h one = tt
   outer_of_file known scope m (function is_static sp stars name ps code) os h one =
-      code_of_file known scope m sp stars name ps code (known_after (after_outer known (function is_static sp stars name ps code)) os) (outers_grow (after_outer known (function is_static sp stars name ps code)) os) (function_is s n whole Good good ns known scope sp stars name ps code h.place one.own)
+      code_of_file known scope m sp stars name ps code (known_after (after_outer known (function is_static sp stars name ps code)) os) (outers_grow (after_outer known (function is_static sp stars name ps code)) os) (function_is s n whole Good good ns known scope is_static sp stars name ps code h.place one.listed one.own)
   outer_of_file known scope m (objects is_static sp xs at) os h one = tt
 
   pub all_of_file : (known : Known) (scope : Scope) (m : ℕ) (os : List Outer) → From known scope m os → AllAre (λ f. IsOfFile n (known_after known os) f) (outers_functions s ns known m os)
@@ -226,8 +239,8 @@ module _ (s : Source) (n : ℕ) (whole : IsWhole s n) (Good : ℕ → Type 0) (g
   objects_begun known sp [] = refl
   objects_begun known sp (x ∷ xs) = objects_begun (after_declared known true sp (declared_by x)) sp xs
 
-  function_begun : (known : Known) (scope : Scope) (m : ℕ) (is_static : Bool) (sp : Specifier) (stars : ℕ) (name : Name) (ps : Params) (code : Code) (os : List Outer) → known.scopes ≡ scope ∷ [] →
-      IsFunction n (λ x. is_some (entry_of s.globals x) ≡ true) known scope sp stars name ps code → AreFound known known.begun → BegunOn known (function is_static sp stars name ps code) os (names_of (code_functions s ns known m name (signature_of known sp stars ps) ps code))
+  function_begun : (known : Known) (scope : Scope) (m : ℕ) (is_static : Bool) (sp : Specifier) (stars : ℕ) (name : Name) (ps : Formals) (code : Code) (os : List Outer) → known.scopes ≡ scope ∷ [] →
+      IsFunction s.whole n (λ x. is_some (entry_of s.globals x) ≡ true) known scope sp stars name ps code → AreFound known known.begun → BegunOn known (function is_static sp stars name ps code) os (names_of (code_functions s ns known m name (signature_of known sp stars ps) ps code))
   function_begun known scope m is_static sp stars name ps prototype os scopes is b = none_new known (function is_static sp stars name ps prototype) os b refl refl
   function_begun known scope m is_static sp stars name ps (defined parts at) os scopes is b =
       let f = signature_of known sp stars ps in
@@ -243,7 +256,7 @@ module _ (s : Source) (n : ℕ) (whole : IsWhole s n) (Good : ℕ → Type 0) (g
 
   begun_on : (known : Known) (scope : Scope) (m : ℕ) (o : Outer) (os : List Outer) → From known scope m (o ∷ os) → OneOn s n whole Good good ns known scope m o os → AreFound known known.begun → BegunOn known o os (names_of (outer_functions s ns known m o))
   begun_on known scope m (structure name fs) os h one b = none_new known (structure name fs) os b (struct_begun known name fs) refl
-  begun_on known scope m (function is_static sp stars name ps code) os h one b = function_begun known scope m is_static sp stars name ps code os h.place.file.scopes (function_is s n whole Good good ns known scope sp stars name ps code h.place one.own) b
+  begun_on known scope m (function is_static sp stars name ps code) os h one b = function_begun known scope m is_static sp stars name ps code os h.place.file.scopes (function_is s n whole Good good ns known scope is_static sp stars name ps code h.place one.listed one.own) b
   begun_on known scope m (objects is_static sp xs at) os h one b = none_new known (objects is_static sp xs at) os b (objects_begun known sp xs) refl
 
   pub names_on : (known : Known) (scope : Scope) (m : ℕ) (os : List Outer) → From known scope m os → AreFound known known.begun → functions_with known.begun os ≡ known.begun ++ names_of (outers_functions s ns known m os)

@@ -26,6 +26,8 @@ use Rattle.c_globals.specs.Globals.{object_words, objects_words, start_words}
 use Rattle.source_sound.proofs.FileLists.{append_nil, nil4, where_nil}
 use Rattle.source_sound.proofs.Structs.{IsWithin, within_more, AreSmall, kinds_before, after_parts, after_more, cells_exact, layout_is}
 use Rattle.source_sound.proofs.DeclaredTypes.{IsDeclared, declared_known, declared_within}
+use Rattle.source_sound.proofs.Listed.{lists_of, DeclaredListed, ObjectsListed}
+use Rattle.source_sound.proofs.PointerNumbers.{declared_number}
 use Rattle.source_sound.proofs.FileStructs.{kinds_known, small_enough, AreMembers, AreStructs, IsStruct, struct_is}
 use Rattle.source_sound.proofs.FileScope.{IsFile, file_variable, file_typed, file_declared}
 use Rattle.source_sound.proofs.Homes.{kinds_in, AreNamed, named_parts}
@@ -46,16 +48,17 @@ pub record HasStructs (s : Source) (known : Known) : Type 0 where
   -- the other structs
   pub more : List Members
   pub later : s.whole.structs ≡ known.structs ++ more
+  pub lists : lists_of known ≡ lists_of s.whole
 
 -- a place between definitions
 pub record IsPlace (s : Source) (n : ℕ) (known : Known) (scope : Scope) : Type 0 where
-  pub file : IsFile n (λ name. is_some (entry_of s.globals name) ≡ true) known scope
+  pub file : IsFile s.whole n (λ name. is_some (entry_of s.globals name) ≡ true) known scope
   pub structs : AreStructs known
   pub more : List Members
   pub later : s.whole.structs ≡ known.structs ++ more
 
 pub has_structs : (s : Source) (n : ℕ) (known : Known) (scope : Scope) → IsPlace s n known scope → HasStructs s known
-has_structs s n known scope h = record { structs = h.structs; more = h.more; later = h.later }
+has_structs s n known scope h = record { structs = h.structs; more = h.more; later = h.later; lists = h.file.lists }
 
 module _ (s : Source) (n : ℕ) (whole : IsWhole s n) where
   -- a type that has a size has the cells that it has after the whole file
@@ -101,10 +104,10 @@ module _ (s : Source) (n : ℕ) (whole : IsWhole s n) where
     pub small : AreSmall s.kinds
     pub whole_within : IsWithin (length s.kinds) t.layers t.base
 
-  pub object_type : (known : Known) → HasStructs s known → (is_global : Bool) (sp : Specifier) (d : Declared) → declared_faults known is_global sp d ≡ [] → IsObjectType known sp d
-  object_type known h is_global sp d e =
+  pub object_type : (known : Known) → HasStructs s known → (is_global : Bool) (sp : Specifier) (d : Declared) → DeclaredListed (lists_of s.whole) sp d → declared_faults known is_global sp d ≡ [] → IsObjectType known sp d
+  object_type known h is_global sp d listed e =
       let a = nil4 (declarator_faults known sp d) (taken_faults known (declared_name d)) (size_faults (cells_of_declared known sp d) (declared_name d)) (global_name_faults is_global (global_cells_with true known.global_cells (cells_of_declared known sp d)) (declared_name d)) e in
-      let t = declared_known known sp d a.0 in
+      let t = declared_known known sp d (declared_number known s.whole h.lists sp d listed a.0) a.0 in
       let within = declared_within known t.0 t.2 in
       let enough = small_enough (cells_of_declared known sp d) (where_nil _ _ _ a.2) in
       let own : cells_of_declared known sp d ≡ cells_of_type known t.0 = ap (λ o. cells_of_some known o) t.1 in
@@ -130,10 +133,10 @@ module _ (s : Source) (n : ℕ) (whole : IsWhole s n) where
 
   -- ---- known after it
 
-  declared_place : (known : Known) (scope : Scope) (sp : Specifier) (d : Declared) → IsPlace s n known scope → declared_faults known true sp d ≡ [] → is_some (entry_of s.globals (declared_name d).text) ≡ true →
+  declared_place : (known : Known) (scope : Scope) (sp : Specifier) (d : Declared) → IsPlace s n known scope → DeclaredListed (lists_of s.whole) sp d → declared_faults known true sp d ≡ [] → is_some (entry_of s.globals (declared_name d).text) ≡ true →
       IsPlace s n (after_declared known true sp d) (with_name scope (declared_name d).text (variable (declared_type known sp d)))
-  declared_place known scope sp d h e global = record {
-    file = file_declared n (λ name. is_some (entry_of s.globals name) ≡ true) known scope sp d h.file e global;
+  declared_place known scope sp d h listed e global = record {
+    file = file_declared s.whole n (λ name. is_some (entry_of s.globals name) ≡ true) known scope sp d h.file listed e global;
     structs = record { sized = record { sizes = h.structs.sized.sizes; small = h.structs.sized.small; many = h.structs.sized.many }; members = h.structs.members };
     more = h.more;
     later = h.later;
@@ -155,9 +158,9 @@ module _ (s : Source) (n : ℕ) (whole : IsWhole s n) where
 
   module _ (Good : ℕ → Type 0) (good : (name : Text) → is_some (entry_of s.globals name) ≡ true → Good (global_named s name)) where
     -- names that are seen lead to globals
-    variables : (known : Known) (scope : Scope) → IsPlace s n known scope → (name : Text) (t : Option ObjectType) → seen known name ≡ Some (variable t) → (constant_named name ≡ None) × Good (global_named s name)
-    variables known scope h name None e = absurd (file_typed n (λ x. is_some (entry_of s.globals x) ≡ true) known scope h.file name e)
-    variables known scope h name (Some t) e = let is = file_variable n (λ x. is_some (entry_of s.globals x) ≡ true) known scope h.file name t e in (is.2, good name is.3)
+    variables : (known : Known) (scope : Scope) → IsPlace s n known scope → (name : Text) (t : Option ObjectType) → seen known name ≡ Some (variable t) → (constant_named name ≡ None) × Good (global_named s name) × (is_some (entry_of s.globals name) ≡ true)
+    variables known scope h name None e = absurd (file_typed s.whole n (λ x. is_some (entry_of s.globals x) ≡ true) known scope h.file name e)
+    variables known scope h name (Some t) e = let is = file_variable s.whole n (λ x. is_some (entry_of s.globals x) ≡ true) known scope h.file name t e in (is.2, good name is.3, is.3)
 
     -- what holds after a part of the file: the words fit the cells, and are counted
     pub record GoesOn (known after : Known) (kinds : List CellKind) (words : List ℕ) : Type 0 where
@@ -170,38 +173,38 @@ module _ (s : Source) (n : ℕ) (whole : IsWhole s n) where
     first_kinds : (known : Known) (sp : Specifier) (d : Declared) (o : IsObjectType known sp d) (m : ℕ) → kinds_in s.kinds (declared_spots file_level known m sp d) ≡ kinds_of_type s.kinds o.t
     first_kinds known sp d o m = ap₂ (λ a b. a ++ b) (object_kinds known sp d o) (others_kinds s.kinds (lengths_allocations known (declared_lengths d)) (lengths_others known (declared_lengths d))) ∙ append-nil (kinds_of_type s.kinds o.t)
 
-    finish : (known : Known) (scope : Scope) (sp : Specifier) (d : Declared) (kinds : List CellKind) (words : List ℕ) → IsPlace s n known scope → declared_faults known true sp d ≡ [] → is_some (entry_of s.globals (declared_name d).text) ≡ true →
+    finish : (known : Known) (scope : Scope) (sp : Specifier) (d : Declared) (kinds : List CellKind) (words : List ℕ) → IsPlace s n known scope → DeclaredListed (lists_of s.whole) sp d → declared_faults known true sp d ≡ [] → is_some (entry_of s.globals (declared_name d).text) ≡ true →
         (o : IsObjectType known sp d) → kinds ≡ kinds_of_type s.kinds o.t → AreWords Good (kinds_of_type s.kinds o.t) words → GoesOn known (after_declared known true sp d) kinds words
-    finish known scope sp d kinds words h e global o is fit =
+    finish known scope sp d kinds words h listed e global o is fit =
         let count = declared_count known sp d e in
         let long = words_length Good (kinds_of_type s.kinds o.t) words fit in
         record {
           scope = with_name scope (declared_name d).text (variable (declared_type known sp d));
-          place = declared_place known scope sp d h e global;
+          place = declared_place known scope sp d h listed e global;
           words_are = subst (λ ks. AreWords Good ks words) (sym is) fit;
           count = count.0 ∙ ap (λ z. known.global_cells + z) (o.cells ∙ long);
           few = λ le. count.1;
         }
 
-    object_on : (known : Known) (scope : Scope) (m : ℕ) (sp : Specifier) (x : Object) → IsPlace s n known scope → object_faults known true sp x ≡ [] → AreNamed s.kinds s.globals (object_spots file_level known m sp x) →
+    object_on : (known : Known) (scope : Scope) (m : ℕ) (sp : Specifier) (x : Object) → IsPlace s n known scope → DeclaredListed (lists_of s.whole) sp (declared_by x) → object_faults known true sp x ≡ [] → AreNamed s.kinds s.globals (object_spots file_level known m sp x) →
         GoesOn known (after_declared known true sp (declared_by x)) (kinds_in s.kinds (object_spots file_level known m sp x)) (object_words s known sp x)
-    object_on known scope m sp (plain d) h e names =
-        let o = object_type known (has_structs s n known scope h) true sp d e in
+    object_on known scope m sp (plain d) h listed e names =
+        let o = object_type known (has_structs s n known scope h) true sp d listed e in
         let fit : AreWords Good (kinds_of_type s.kinds o.t) (object_words s known sp (plain d)) = subst (λ z. AreWords Good (kinds_of_type s.kinds o.t) (replicate (length (kinds_of_some s z)) 0)) (sym o.is) (zeros Good (kinds_of_type s.kinds o.t)) in
-        finish known scope sp d (kinds_in s.kinds (object_spots file_level known m sp (plain d))) (object_words s known sp (plain d)) h e names.0 o (first_kinds known sp d o m) fit
-    object_on known scope m sp (initialised d i at) h e names =
+        finish known scope sp d (kinds_in s.kinds (object_spots file_level known m sp (plain d))) (object_words s known sp (plain d)) h listed e names.0 o (first_kinds known sp d o m) fit
+    object_on known scope m sp (initialised d i at) h listed e names =
         let after = after_declared known true sp d in
         let a = append_nil (declared_faults known true sp d) (start_faults after true (declared_type known sp d) at i) e in
-        let o = object_type known (has_structs s n known scope h) true sp d a.0 in
+        let o = object_type known (has_structs s n known scope h) true sp d listed a.0 in
         let parted = named_parts s.kinds s.globals (declared_spots file_level known m sp d) (initial_allocations after (value_target (declared_type known sp d)) i) names in
-        let place = declared_place known scope sp d h a.0 parted.0.0 in
+        let place = declared_place known scope sp d h listed a.0 parted.0.0 in
         let scope' = with_name scope (declared_name d).text (variable (declared_type known sp d)) in
         let start : start_faults after true (Some o.t) at i ≡ [] = subst (λ z. start_faults after true z at i ≡ []) o.is a.1 in
         let one = start_good Good s after n (variables after scope' place) (struct_here after scope' place) (value_target (Some o.t)) o.t at i o.within start in
         let fit : AreWords Good (kinds_of_type s.kinds o.t) (object_words s known sp (initialised d i at)) = subst (λ z. AreWords Good (kinds_of_type s.kinds o.t) (start_words s after z i)) (sym o.is) one in
         let kinds = kinds_parts s.kinds (declared_spots file_level known m sp d) (initial_allocations after (value_target (declared_type known sp d)) i)
         ∙ ap₂ (λ x y. x ++ y) (first_kinds known sp d o m) (others_kinds s.kinds (initial_allocations after (value_target (declared_type known sp d)) i) (initial_others after (value_target (declared_type known sp d)) i)) ∙ append-nil (kinds_of_type s.kinds o.t) in
-        finish known scope sp d (kinds_in s.kinds (object_spots file_level known m sp (initialised d i at))) (object_words s known sp (initialised d i at)) h a.0 parted.0.0 o kinds fit
+        finish known scope sp d (kinds_in s.kinds (object_spots file_level known m sp (initialised d i at))) (object_words s known sp (initialised d i at)) h listed a.0 parted.0.0 o kinds fit
 
     pub no_more : (known : Known) (scope : Scope) → IsPlace s n known scope → GoesOn known known [] []
     no_more known scope h = record { scope = scope; place = h; words_are = tt; count = omega arith; few = λ le. le }
@@ -214,14 +217,14 @@ module _ (s : Source) (n : ℕ) (whole : IsWhole s n) where
         let long = length-append vs ws in
         record { scope = b.scope; place = b.place; words_are = words_parts Good ks ls vs ws a.words_are b.words_are; count = omega (arith, p, q, long); few = λ le. b.few (a.few le) }
 
-    pub objects_on : (known : Known) (scope : Scope) (m : ℕ) (sp : Specifier) (os : List Object) → IsPlace s n known scope → objects_faults known true sp os ≡ [] → AreNamed s.kinds s.globals (objects_spots file_level known m sp os) →
+    pub objects_on : (known : Known) (scope : Scope) (m : ℕ) (sp : Specifier) (os : List Object) → IsPlace s n known scope → ObjectsListed (lists_of s.whole) sp os → objects_faults known true sp os ≡ [] → AreNamed s.kinds s.globals (objects_spots file_level known m sp os) →
         GoesOn known (after_objects known true sp os) (kinds_in s.kinds (objects_spots file_level known m sp os)) (objects_words s known sp os)
-    objects_on known scope m sp [] h e names = no_more known scope h
-    objects_on known scope m sp (x ∷ os) h e names =
+    objects_on known scope m sp [] h listed e names = no_more known scope h
+    objects_on known scope m sp (x ∷ os) h listed e names =
         let next = after_declared known true sp (declared_by x) in
         let a = append_nil (object_faults known true sp x) (objects_faults next true sp os) e in
         let parted = named_parts s.kinds s.globals (object_spots file_level known m sp x) (objects_spots file_level next (m + 1) sp os) names in
-        let one = object_on known scope m sp x h a.0 parted.0 in
-        let more = objects_on next one.scope (m + 1) sp os one.place a.1 parted.1 in
+        let one = object_on known scope m sp x h listed.0 a.0 parted.0 in
+        let more = objects_on next one.scope (m + 1) sp os one.place listed.1 a.1 parted.1 in
         subst (λ ks. GoesOn known (after_objects next true sp os) ks (object_words s known sp x ++ objects_words s next sp os)) (sym (kinds_parts s.kinds (object_spots file_level known m sp x) (objects_spots file_level next (m + 1) sp os)))
         (then_on known next (after_objects next true sp os) (kinds_in s.kinds (object_spots file_level known m sp x)) (kinds_in s.kinds (objects_spots file_level next (m + 1) sp os)) (object_words s known sp x) (objects_words s next sp os) one more)

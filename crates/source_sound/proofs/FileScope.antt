@@ -1,13 +1,12 @@
 -- What is known between the definitions of a file without a fault: one scope, whose names have types and lead to globals and
 -- functions.
-use Rattle.std.proofs.Common.{◌≡◌, ℕ, Bool, true, false, not, ◌&&◌, ◌==◌, nat_lt, if◌then◌else◌, ℤ, List, [], ◌∷◌, ◌++◌, map, length, Option, Some, None, is_some, bytes_eq, refl, sym, ap, ◌∙◌, subst}
+use Rattle.std.proofs.Common.{◌≡◌, ℕ, Bool, true, false, not, ◌&&◌, ◌==◌, if◌then◌else◌, ℤ, List, [], ◌∷◌, ◌++◌, map, length, Option, Some, None, is_some, bytes_eq, refl, sym, ap, ◌∙◌, subst}
 use Rattle.std.proofs.lemmas.Bool.{or_parts}
 use Rattle.std.proofs.lemmas.Option.{same_Some, none-some}
 use Rattle.c_text.specs.Texts.{Text, entry_of}
 use Rattle.c_tree.specs.declared.name.Name.{Name}
 use Rattle.c_tree.specs.declared.ctype.Specifier.{Specifier}
-use Rattle.c_tree.specs.declared.program.Params.{Params}
-use Rattle.c_tree.specs.Tree.{Declared, Code, defined, prototype}
+use Rattle.c_tree.specs.Tree.{Formals, Declared, Code, defined, prototype}
 use Rattle.c_types.specs.declared.types.ObjectType.{ObjectType}
 use Rattle.c_types.specs.declared.names.Signature.{Signature}
 use Rattle.c_types.specs.declared.fault.FaultKind.TheVariants as fault
@@ -20,11 +19,15 @@ use Rattle.c_rules.specs.Faults.{name_place, mismatch, specifier_faults}
 use Rattle.c_names.specs.Sources.{declared_name, listed_params, global_cells_with}
 use Rattle.c_programs.specs.Declarators.{declared_type, declarator_faults, taken_faults, is_library_name, size_faults, params_faults, after_params}
 use Rattle.c_programs.specs.Statements.{declared_faults, cells_of_declared, global_name_faults, after_declared}
-use Rattle.c_programs.specs.Programs.{result_of, signature_of, cannot_give, again_faults, is_definition, function_name_faults, is_main_signature, agree, after_function, function_faults, body_faults}
+use Rattle.c_programs.specs.Programs.{again_faults, is_definition, function_name_faults, is_main_signature, agree, after_function, function_faults, body_faults}
+use Rattle.c_names.specs.Signatures.{result_of, signature_of, cannot_give}
 use Rattle.source_sound.proofs.Environment.{IsFormed}
 use Rattle.source_sound.proofs.FileLists.{append_nil, nil3, nil4, nil5, where_nil, not_nil, same_text, text_same}
 use Rattle.source_sound.proofs.DeclaredTypes.{AreDeclarable, declared_known, declared_formed}
-use Rattle.source_sound.proofs.Signatures.{kinds_wanted, params_wanted, IsSomeResult, result_known, IsKnown, SameKinds, agreeing}
+use Rattle.c_types.specs.Signatures.{type_numbered}
+use Rattle.source_sound.proofs.Listed.{lists_of, DeclaredListed, FormalsListed, IsTypeListed, function_lists, signature_same}
+use Rattle.source_sound.proofs.PointerNumbers.{PointsKnown, declared_number, declared_points, formals_number, type_number}
+use Rattle.source_sound.proofs.Signatures.{kinds_wanted, params_wanted, IsSomeResult, result_known, IsKnown, SameKinds, agreeing, is_pointer_formal}
 
 -- ---- names that are looked up
 
@@ -83,17 +86,19 @@ module _ {A : Type 0} where
 
 -- ---- the scope of a file
 
-module _ (n : ℕ) (IsGlobal : Text → Type 0) where
-  -- no name is that of a constant; a variable has a type and is a global, and a function's types are known
+module _ (whole : Known) (n : ℕ) (IsGlobal : Text → Type 0) where
+  -- no name is that of a constant; a variable has a type and is a global, and a function's types are known. To what a variable
+  -- points is known, and a function's type has a number
   abbrev pub IsEntry : Text → Meaning → Type 0
   IsEntry name (variable None) = ⊥
-  IsEntry name (variable (Some t)) = IsFormed n t × AreDeclarable t.layers × (constant_named name ≡ None) × IsGlobal name
-  IsEntry name (function_of f) = (constant_named name ≡ None) × IsKnown n f
+  IsEntry name (variable (Some t)) = IsFormed n t × AreDeclarable t.layers × (constant_named name ≡ None) × IsGlobal name × PointsKnown (lists_of whole) n t
+  IsEntry name (function_of f) = (constant_named name ≡ None) × IsKnown n f × ((k : ℕ) × (type_numbered (lists_of whole) f ≡ Some k))
 
   -- known where a definition of the file begins
   pub record IsFile (known : Known) (scope : Scope) : Type 0 where
     pub scopes : known.scopes ≡ scope ∷ []
     pub structs : length known.struct_names ≡ n
+    pub lists : lists_of known ≡ lists_of whole
     pub entries : AllOf IsEntry scope
 
   pub seen_entry : (known : Known) (scope : Scope) → IsFile known scope → (name : Text) (m : Meaning) → seen known name ≡ Some m → entry_of scope name ≡ Some m
@@ -112,13 +117,14 @@ module _ (n : ℕ) (IsGlobal : Text → Type 0) where
   pub file_variable : (known : Known) (scope : Scope) → IsFile known scope → (name : Text) (t : ObjectType) → seen known name ≡ Some (variable (Some t)) → IsEntry name (variable (Some t))
   file_variable known scope h name t e = is_entry known scope h name (variable (Some t)) e
 
-  pub file_function : (known : Known) (scope : Scope) → IsFile known scope → (name : Text) (f : Signature) → seen known name ≡ Some (function_of f) → (constant_named name ≡ None) × IsKnown n f
+  pub file_function : (known : Known) (scope : Scope) → IsFile known scope → (name : Text) (f : Signature) → seen known name ≡ Some (function_of f) → IsEntry name (function_of f)
   file_function known scope h name f e = is_entry known scope h name (function_of f) e
 
   file_declare : (known : Known) (scope : Scope) (name : Text) (m : Meaning) → IsFile known scope → IsEntry name m → IsFile (declare known name m) (with_name scope name m)
   file_declare known scope name m h g = record {
     scopes = ap (λ ss. declared_in ss name m) h.scopes;
     structs = h.structs;
+    lists = h.lists;
     entries = all_with IsEntry scope name m h.entries g;
   }
 
@@ -131,35 +137,31 @@ module _ (n : ℕ) (IsGlobal : Text → Type 0) where
       none None e = refl
       none (Some x) e = cc
 
-  declared_entry : (known : Known) (s : Specifier) (d : Declared) → length known.struct_names ≡ n → declared_faults known true s d ≡ [] → IsGlobal (declared_name d).text → IsEntry (declared_name d).text (variable (declared_type known s d))
-  declared_entry known s d size h global =
+  declared_entry : (known : Known) (s : Specifier) (d : Declared) → length known.struct_names ≡ n → lists_of known ≡ lists_of whole → DeclaredListed (lists_of whole) s d → declared_faults known true s d ≡ [] → IsGlobal (declared_name d).text → IsEntry (declared_name d).text (variable (declared_type known s d))
+  declared_entry known s d size lists listed h global =
       let a = nil4 (declarator_faults known s d) (taken_faults known (declared_name d)) (size_faults (cells_of_declared known s d) (declared_name d)) (global_name_faults true (global_cells_with true known.global_cells (cells_of_declared known s d)) (declared_name d)) h in
-      let t = declared_known known s d a.0 in
+      let t = declared_known known s d (declared_number known whole lists s d listed a.0) a.0 in
       let free = or_parts (is_library_name (declared_name d).text) (is_some (entry_of (innermost known.scopes) (declared_name d).text)) (where_nil _ _ _ a.1) in
       subst (λ o. IsEntry (declared_name d).text (variable o)) (sym t.1)
-      (subst (λ k. IsFormed k t.0) size (declared_formed known t.0 t.2), t.2.layers, no_constant (declared_name d).text free.0, global)
+      (subst (λ k. IsFormed k t.0) size (declared_formed known t.0 t.2), t.2.layers, no_constant (declared_name d).text free.0, global, subst (λ k. PointsKnown (lists_of whole) k t.0) size (declared_points known whole lists s d t.0 a.0 t.1))
 
-  pub file_declared : (known : Known) (scope : Scope) (s : Specifier) (d : Declared) → IsFile known scope → declared_faults known true s d ≡ [] → IsGlobal (declared_name d).text → IsFile (after_declared known true s d) (with_name scope (declared_name d).text (variable (declared_type known s d)))
-  file_declared known scope s d h e global =
-      let one = file_declare known scope (declared_name d).text (variable (declared_type known s d)) h (declared_entry known s d h.structs e global) in
-      record { scopes = one.scopes; structs = one.structs; entries = one.entries }
+  pub file_declared : (known : Known) (scope : Scope) (s : Specifier) (d : Declared) → IsFile known scope → DeclaredListed (lists_of whole) s d → declared_faults known true s d ≡ [] → IsGlobal (declared_name d).text → IsFile (after_declared known true s d) (with_name scope (declared_name d).text (variable (declared_type known s d)))
+  file_declared known scope s d h listed e global =
+      let one = file_declare known scope (declared_name d).text (variable (declared_type known s d)) h (declared_entry known s d h.structs h.lists listed e global) in
+      record { scopes = one.scopes; structs = one.structs; lists = one.lists; entries = one.entries }
 
   -- ---- functions
 
-  signature_known : (known inside : Known) (is_def : Bool) (s : Specifier) (stars : ℕ) (ps : Params) → inside.struct_names ≡ known.struct_names → specifier_faults known (stars == 0) s ≡ [] → cannot_give s stars ≡ false → params_faults inside is_def (listed_params ps) ≡ [] → length known.struct_names ≡ n → IsKnown n (signature_of known s stars ps)
-  signature_known known inside is_def s stars ps names h give wants size = ((params_wanted known inside is_def (listed_params ps) names wants).0, subst (λ k. IsSomeResult k (result_of known s stars)) size (result_known known s stars h give))
+  signature_known : (known inside : Known) (is_def : Bool) (s : Specifier) (stars : ℕ) (ps : Formals) → lists_of inside ≡ lists_of known → lists_of known ≡ lists_of whole → FormalsListed (lists_of whole) (listed_params ps) → specifier_faults known (stars == 0) s ≡ [] → cannot_give s stars ≡ false → params_faults inside is_def (listed_params ps) ≡ [] → length known.struct_names ≡ n → IsKnown n (signature_of known s stars ps)
+  signature_known known inside is_def s stars ps near lists listed h give wants size = ((params_wanted known inside is_def (listed_params ps) (ap (λ k. k.struct_names) near) (formals_number known inside whole near lists is_def (listed_params ps) listed wants) wants).0, subst (λ k. IsSomeResult k (result_of known s stars)) size (result_known known s stars h give))
 
   -- the function that a name leads to after its declaration takes and gives the same kinds
   abbrev pub LeadsTo : Scope → Text → Signature → Type 0
   LeadsTo scope name f = (g : Signature) × (entry_of scope name ≡ Some (function_of g)) × IsKnown n g × SameKinds g f
 
-  after_names : (known : Known) (name : Name) (f : Signature) (code : Code) → (after_function known name f code).struct_names ≡ known.struct_names
-  after_names known name f (defined ps at) = refl
-  after_names known name f prototype = refl
-
-  file_after : (known : Known) (scope : Scope) (name : Name) (f : Signature) (code : Code) → IsFile known scope → constant_named name.text ≡ None → IsKnown n f → IsFile (after_function known name f code) (with_name scope name.text (function_of f))
-  file_after known scope name f (defined ps at) h free g = let one = file_declare known scope name.text (function_of f) h (free, g) in record { scopes = one.scopes; structs = one.structs; entries = one.entries }
-  file_after known scope name f prototype h free g = file_declare known scope name.text (function_of f) h (free, g)
+  file_after : (known : Known) (scope : Scope) (name : Name) (f : Signature) (code : Code) → IsFile known scope → IsEntry name.text (function_of f) → IsFile (after_function known name f code) (with_name scope name.text (function_of f))
+  file_after known scope name f (defined ps at) h g = let one = file_declare known scope name.text (function_of f) h g in record { scopes = one.scopes; structs = one.structs; lists = one.lists; entries = one.entries }
+  file_after known scope name f prototype h g = file_declare known scope name.text (function_of f) h g
 
   leads : (known : Known) (scope : Scope) (name : Name) (f : Signature) (has_body : Bool) → IsFile known scope → IsKnown n f → again_faults (entry_of scope name.text) has_body f (name_place name) ≡ [] → LeadsTo (with_name scope name.text (function_of f)) name.text f
   leads known scope name f has_body h g e = by (entry_of scope name.text) refl e
@@ -172,9 +174,9 @@ module _ (n : ℕ) (IsGlobal : Text → Type 0) where
           let known_k = (found_entry IsEntry scope h.entries name.text (function_of k) is).1 in
           (k, entry_kept scope name.text (function_of k) name.text (function_of f) is, known_k, agreeing n k f known_k g (not_nil (agree k f) _ _ a.1))
 
-  pub record IsFunction (known : Known) (scope : Scope) (s : Specifier) (stars : ℕ) (name : Name) (ps : Params) (code : Code) : Type 0 where
+  pub record IsFunction (known : Known) (scope : Scope) (s : Specifier) (stars : ℕ) (name : Name) (ps : Formals) (code : Code) : Type 0 where
     pub signature : IsKnown n (signature_of known s stars ps)
-    pub formals : kinds_wanted (signature_of known s stars ps).params ≡ map (λ p. nat_lt 0 p.stars) (listed_params ps)
+    pub formals : kinds_wanted (signature_of known s stars ps).params ≡ map is_pointer_formal (listed_params ps)
     pub file : IsFile (after_function known name (signature_of known s stars ps) code) (with_name scope name.text (function_of (signature_of known s stars ps)))
     pub leads_to : LeadsTo (with_name scope name.text (function_of (signature_of known s stars ps))) name.text (signature_of known s stars ps)
     pub again : again_faults (entry_of scope name.text) (is_definition code && has_name known.begun name.text) (signature_of known s stars ps) (name_place name) ≡ []
@@ -182,19 +184,21 @@ module _ (n : ℕ) (IsGlobal : Text → Type 0) where
     pub params : params_faults (opened (after_function known name (signature_of known s stars ps) code)) (is_definition code) (listed_params ps) ≡ []
     pub body : body_faults (after_params (opened (after_function known name (signature_of known s stars ps) code)) (listed_params ps)) (signature_of known s stars ps).result code ≡ []
 
-  pub file_function_after : (known : Known) (scope : Scope) (s : Specifier) (stars : ℕ) (name : Name) (ps : Params) (code : Code) → IsFile known scope → function_faults known s stars name ps code ≡ [] → IsFunction known scope s stars name ps code
-  file_function_after known scope s stars name ps code h e =
+  pub file_function_after : (known : Known) (scope : Scope) (s : Specifier) (stars : ℕ) (name : Name) (ps : Formals) (code : Code) → IsFile known scope → IsTypeListed (lists_of whole) (signature_of (lists_of whole) s stars ps) → FormalsListed (lists_of whole) (listed_params ps) → function_faults known s stars name ps code ≡ [] → IsFunction known scope s stars name ps code
+  file_function_after known scope s stars name ps code h type_listed listed e =
       let f = signature_of known s stars ps in
       let inner = opened (after_function known name f code) in
       let a = nil5 (specifier_faults known (stars == 0) s) (mismatch (cannot_give s stars) (name_place name)) (function_name_faults known name f code) (params_faults inner (is_definition code) (listed_params ps)) (body_faults (after_params inner (listed_params ps)) f.result code) e in
       let b = nil3 (where_it_comes (is_library_name name.text) fault.DuplicateName (name_place name)) (again_faults (entry_of (innermost known.scopes) name.text) (is_definition code && has_name known.begun name.text) f (name_place name)) (mismatch (is_main name.text && not (is_main_signature f)) (name_place name)) a.2 in
-      let names = after_names known name f code in
-      let signed = signature_known known inner (is_definition code) s stars ps names a.0 (where_nil _ _ _ a.1) a.3 h.structs in
+      let near : lists_of inner ≡ lists_of known = function_lists known name f code in
+      let signed = signature_known known inner (is_definition code) s stars ps near h.lists listed a.0 (where_nil _ _ _ a.1) a.3 h.structs in
+      let alike : signature_of (lists_of whole) s stars ps ≡ f = sym (signature_same known (lists_of whole) (ap (λ k. k.struct_names) h.lists) (ap (λ k. k.pointers) h.lists) s stars ps) in
+      let number = type_number whole n f (subst (λ g. IsTypeListed (lists_of whole) g) alike type_listed) signed in
       let again' : again_faults (entry_of scope name.text) (is_definition code && has_name known.begun name.text) f (name_place name) ≡ [] = ap (λ ss. again_faults (entry_of (innermost ss) name.text) (is_definition code && has_name known.begun name.text) f (name_place name)) (sym h.scopes) ∙ b.1 in
       record {
         signature = signed;
-        formals = (params_wanted known inner (is_definition code) (listed_params ps) names a.3).1;
-        file = file_after known scope name f code h (no_constant name.text (where_nil _ _ _ b.0)) signed;
+        formals = (params_wanted known inner (is_definition code) (listed_params ps) (ap (λ k. k.struct_names) near) (formals_number known inner whole near h.lists (is_definition code) (listed_params ps) listed a.3) a.3).1;
+        file = file_after known scope name f code h (no_constant name.text (where_nil _ _ _ b.0), signed, number);
         leads_to = leads known scope name f (is_definition code && has_name known.begun name.text) h signed again';
         again = again';
         as_main = where_nil _ _ _ b.2;

@@ -20,6 +20,8 @@ use Rattle.source_sound.proofs.Environment.{IsFormed}
 use Rattle.source_sound.proofs.FileLists.{append_nil, nil3, where_nil}
 use Rattle.source_sound.proofs.Structs.{IsWithin, small_parts, elements_of, after_parts, after_more, kinds_before, AreSized, cells_are, cells_of_all, all_exact}
 use Rattle.source_sound.specs.Members.{HaveMembers}
+use Rattle.source_sound.proofs.Listed.{lists_of, DeclaredListed, MembersListed, FieldsListed}
+use Rattle.source_sound.proofs.PointerNumbers.{declared_number}
 use Rattle.source_sound.proofs.DeclaredTypes.{AreDeclarable, declared_known, declared_formed, declared_within}
 
 -- the cells of the structs that are known
@@ -48,25 +50,25 @@ with_one n j ms name t h g = by (is_some (entry_of ms name))
     by true = h
     by false = members_parts n j ms ((name, t) ∷ []) h (g, tt)
 
-is_member : (known : Known) (s : Specifier) (d : Declared) → declarator_faults known s d ≡ [] → IsMember (length known.struct_names) (length known.structs) (declared_type known s d)
-is_member known s d h = let t = declared_known known s d h in subst (λ o. IsMember (length known.struct_names) (length known.structs) o) (sym t.1) (declared_formed known t.0 t.2, t.2.layers, declared_within known t.0 t.2)
+is_member : (known : Known) (s : Specifier) (d : Declared) → DeclaredListed (lists_of known) s d → declarator_faults known s d ≡ [] → IsMember (length known.struct_names) (length known.structs) (declared_type known s d)
+is_member known s d listed h = let t = declared_known known s d (declared_number known known refl s d listed h) h in subst (λ o. IsMember (length known.struct_names) (length known.structs) o) (sym t.1) (declared_formed known t.0 t.2, t.2.layers, declared_within known t.0 t.2)
 
 module _ (known : Known) where
   abbrev AreOwn : Members → Type 0
   AreOwn ms = AreMembers (length known.struct_names) (length known.structs) ms
 
-  some_with : (s : Specifier) (ms : Members) (ds : List Declared) → some_members_faults known s ms ds ≡ [] → AreOwn ms → AreOwn (with_members known s ms ds)
-  some_with s ms [] h g = g
-  some_with s ms (d ∷ ds) h g =
+  some_with : (s : Specifier) (ms : Members) (ds : List Declared) → MembersListed (lists_of known) s ds → some_members_faults known s ms ds ≡ [] → AreOwn ms → AreOwn (with_members known s ms ds)
+  some_with s ms [] listed h g = g
+  some_with s ms (d ∷ ds) listed h g =
       let a = append_nil (one_member_faults known s ms d) (some_members_faults known s (with_member known s ms d) ds) h in
       let b = append_nil (declarator_faults known s d) (where_it_comes (has_member ms (declared_name d).text) fault.DuplicateName (name_place (declared_name d))) a.0 in
-      some_with s (with_member known s ms d) ds a.1 (with_one (length known.struct_names) (length known.structs) ms (declared_name d).text (declared_type known s d) g (is_member known s d b.0))
+      some_with s (with_member known s ms d) ds listed.1 a.1 (with_one (length known.struct_names) (length known.structs) ms (declared_name d).text (declared_type known s d) g (is_member known s d listed.0 b.0))
 
-  pub fields_with : (ms : Members) (fs : List Fields) → fields_faults known ms fs ≡ [] → AreOwn ms → AreOwn (with_fields known ms fs)
-  fields_with ms [] h g = g
-  fields_with ms (fields s ds at ∷ fs) h g =
+  pub fields_with : (ms : Members) (fs : List Fields) → FieldsListed (lists_of known) fs → fields_faults known ms fs ≡ [] → AreOwn ms → AreOwn (with_fields known ms fs)
+  fields_with ms [] listed h g = g
+  fields_with ms (fields s ds at ∷ fs) listed h g =
       let a = append_nil (some_members_faults known s ms ds) (fields_faults known (with_members known s ms ds) fs) h in
-      fields_with (with_members known s ms ds) fs a.1 (some_with s ms ds a.0 g)
+      fields_with (with_members known s ms ds) fs listed.1 a.1 (some_with s ms ds listed.0 a.0 g)
 
 -- ---- some cells
 
@@ -118,17 +120,17 @@ module _ (known : Known) (sized : AreSized known (kinds_known known)) where
       times (suc m) zero h g = absurd (omega (arith, g))
       times (suc m) (suc n) h g = omega arith
 
-  some_declared : (s : Specifier) (d : Declared) → declarator_faults known s d ≡ [] → 1 ≤ cells_of_some known (declared_type known s d)
-  some_declared s d h = let t = declared_known known s d h in subst (λ o. 1 ≤ cells_of_some known o) (sym t.1) (type_cells t.0 (declared_within known t.0 t.2))
+  some_declared : (s : Specifier) (d : Declared) → DeclaredListed (lists_of known) s d → declarator_faults known s d ≡ [] → 1 ≤ cells_of_some known (declared_type known s d)
+  some_declared s d listed h = let t = declared_known known s d (declared_number known known refl s d listed h) h in subst (λ o. 1 ≤ cells_of_some known o) (sym t.1) (type_cells t.0 (declared_within known t.0 t.2))
 
-  fields_sized : (fs : List Fields) → HaveMembers fs → fields_faults known [] fs ≡ [] → HasSized known (with_fields known [] fs)
-  fields_sized [] h e = absurd h
-  fields_sized (fields s [] at ∷ fs) h e = absurd h
-  fields_sized (fields s (d ∷ ds) at ∷ fs) h e =
+  fields_sized : (fs : List Fields) → HaveMembers fs → FieldsListed (lists_of known) fs → fields_faults known [] fs ≡ [] → HasSized known (with_fields known [] fs)
+  fields_sized [] h listed e = absurd h
+  fields_sized (fields s [] at ∷ fs) h listed e = absurd h
+  fields_sized (fields s (d ∷ ds) at ∷ fs) h listed e =
       let a = append_nil (some_members_faults known s [] (d ∷ ds)) (fields_faults known (with_members known s [] (d ∷ ds)) fs) e in
       let b = append_nil (one_member_faults known s [] d) (some_members_faults known s (with_member known s [] d) ds) a.0 in
       let c = append_nil (declarator_faults known s d) (where_it_comes (has_member [] (declared_name d).text) fault.DuplicateName (name_place (declared_name d))) b.0 in
-      fields_kept known (with_members known s [] (d ∷ ds)) fs (some_kept known s (with_member known s [] d) ds (begins known s d (some_declared s d c.0)))
+      fields_kept known (with_members known s [] (d ∷ ds)) fs (some_kept known s (with_member known s [] d) ds (begins known s d (some_declared s d listed.0.0 c.0)))
 
 -- ---- the cells of all that is declared are those of the members, where no name is declared twice
 
@@ -209,18 +211,18 @@ struct_defined known name fs h =
     let is = where_nil _ _ _ a.0 in
     (is, ap (λ b. if b then known else with_struct known (with_fields known [] fs) (struct_cells known fs)) is)
 
-pub struct_known : (known : Known) (name : Name) (fs : List Fields) → HaveMembers fs → struct_faults known name fs ≡ [] → AreStructs known → AreStructs (after_struct known name fs)
-struct_known known name fs some h g =
+pub struct_known : (known : Known) (name : Name) (fs : List Fields) → HaveMembers fs → FieldsListed (lists_of known) fs → struct_faults known name fs ≡ [] → AreStructs known → AreStructs (after_struct known name fs)
+struct_known known name fs some listed h g =
     let a = nil3 (where_it_comes (is_struct_defined known name.text) fault.DuplicateName (name_place name)) (fields_faults known [] fs) (size_faults (struct_cells known fs) name) h in
     let few = small_enough (struct_cells known fs) (where_nil _ _ _ a.2) in
     let ms = with_fields known [] fs in
     let count = exact_count (fields_cells known fs) few in
     let all : fields_cells known fs ≡ cells_in known ms = (let it = fields_counted known [] fs a.1 in omega (arith, it)) in
     let exact = all_exact known (kinds_known known) g.sized (members_of (Some ms)) (omega (arith, count, all, few)) in
-    let any = some_cells known ms (fields_sized known g.sized fs some a.1) in
+    let any = some_cells known ms (fields_sized known g.sized fs some listed a.1) in
     let made : AreStructs (with_struct known ms (struct_cells known fs)) = record {
       sized = struct_sized known ms (struct_cells known fs) g.sized (count ∙ all ∙ exact) (omega (arith, any, count, all)) few;
-      members = let e : 0 + length known.structs ≡ length known.structs = omega arith in one_more (length known.struct_names) 0 known.structs ms g.members (subst (λ i. AreMembers (length known.struct_names) i ms) (sym e) (fields_with known [] fs a.1 tt));
+      members = let e : 0 + length known.structs ≡ length known.structs = omega arith in one_more (length known.struct_names) 0 known.structs ms g.members (subst (λ i. AreMembers (length known.struct_names) i ms) (sym e) (fields_with known [] fs listed a.1 tt));
     } in
     subst (λ k. AreStructs k) (sym (struct_defined known name fs h).1) made
 

@@ -16,13 +16,14 @@ use Rattle.c_types.specs.Types.{int_type}
 use Rattle.c_types.specs.Numbers.{Computed, is_zero}
 use Rattle.c_types.specs.Constants.{constant_named, is_int_specifier, is_int, is_of_numbers, is_constant}
 use Rattle.c_types.specs.Scopes.{Known, Meaning, seen, base_of, starred, type_named, is_complete}
-use Rattle.c_types.specs.Operands.{Standing, no_type, zero_literal, Operand, any_operand, whole, zero_operand, null_operand, pointing, no_operand, operand_of, is_typed, is_whole, is_scalar, are_whole, takes, settled, int_value, result_of, binary_standing, can_choose, chosen}
-use Rattle.c_types.specs.Standing.{Target, no_target, cast_target, made_int, prefix_standing, conditional_standing, is_sized, sizeof_standing, sizeof_type_standing, casts_to, cast_standing, constant_standing, named_standing, number_standing, standing}
+use Rattle.c_types.specs.Operands.{Standing, no_type, zero_literal, Operand, any_operand, whole, zero_operand, null_operand, pointing, function_operand, no_operand, operand_of, is_typed, is_whole, is_scalar, takes, settled, int_value, result_of, binary_standing, can_choose, chosen}
+use Rattle.c_types.specs.Standing.{Target, no_target, cast_target, made_int, prefix_standing, conditional_standing, is_sized, sizeof_standing, sizeof_type_standing, casts_to, can_cast, cast_standing, constant_standing, named_standing, number_standing, standing}
 use Rattle.rr_base.specs.declared.position.Position.{Position}
 use Rattle.c_core.specs.Core as core
 use Rattle.c_core.specs.Core.{Function, Program}
 use Rattle.c_operators.specs.Denoted.{Denoted, denoted_value}
 use Rattle.c_values.specs.Expressions.{constant_by}
+use Rattle.source_sound.proofs.Operators.{chosen_number}
 use Rattle.source_sound.proofs.Apart.{never, both}
 use Rattle.source_sound.proofs.Standings.{Stands}
 
@@ -56,28 +57,32 @@ conditional_int a b c t wb wc =
     let yes = chose first s t in
     let is = as_chosen first s no_type yes in
     let more = settled_typed (can_choose b c) b c (chosen b c) (subst IsTyped is t) in
-    is ∙ more.2 ∙ as_chosen (are_whole b c) int_value _ (and_from (is_whole b) (is_whole c) (wb more.0) (wc more.1))
+    is ∙ more.2 ∙ chosen_number b c (and_from (is_whole b) (is_whole c) (wb more.0) (wc more.1))
 
 sum_int : (o : BinaryOp) (a b : Operand) → is_typed a ≡ true → is_typed b ≡ true → is_whole a ≡ true → is_whole b ≡ true → result_of o a b ≡ int_value
 sum_int op.Add any_operand b ta tb wa wb = never ta
 sum_int op.Add null_operand b ta tb wa wb = never wa
 sum_int op.Add (pointing t) b ta tb wa wb = never wa
+sum_int op.Add (function_operand k) b ta tb wa wb = never wa
 sum_int op.Add no_operand b ta tb wa wb = never wa
 sum_int op.Add whole any_operand ta tb wa wb = never tb
 sum_int op.Add whole null_operand ta tb wa wb = never wb
 sum_int op.Add whole (pointing t) ta tb wa wb = never wb
+sum_int op.Add whole (function_operand k) ta tb wa wb = never wb
 sum_int op.Add whole no_operand ta tb wa wb = never wb
 sum_int op.Add whole whole ta tb wa wb = refl
 sum_int op.Add whole zero_operand ta tb wa wb = refl
 sum_int op.Add zero_operand any_operand ta tb wa wb = never tb
 sum_int op.Add zero_operand null_operand ta tb wa wb = never wb
 sum_int op.Add zero_operand (pointing t) ta tb wa wb = never wb
+sum_int op.Add zero_operand (function_operand k) ta tb wa wb = never wb
 sum_int op.Add zero_operand no_operand ta tb wa wb = never wb
 sum_int op.Add zero_operand whole ta tb wa wb = refl
 sum_int op.Add zero_operand zero_operand ta tb wa wb = refl
 sum_int op.Subtract any_operand b ta tb wa wb = never ta
 sum_int op.Subtract null_operand b ta tb wa wb = never wa
 sum_int op.Subtract (pointing t) b ta tb wa wb = never wa
+sum_int op.Subtract (function_operand k) b ta tb wa wb = never wa
 sum_int op.Subtract no_operand b ta tb wa wb = never wa
 sum_int op.Subtract whole b ta tb wa wb = refl
 sum_int op.Subtract zero_operand b ta tb wa wb = refl
@@ -124,7 +129,7 @@ int_named known t h =
 cast_int : (known : Known) (t : CType) (a : Operand) → IsTyped (cast_standing (type_named known t) t.stars a) → is_int t ≡ true → cast_standing (type_named known t) t.stars a ≡ int_value
 cast_int known t a typed h =
     let is = ap (λ z. cast_standing z t.stars a) (int_named known t h) in
-    is ∙ as_chosen (casts_to (Some int_type) t.stars && is_scalar a && is_typed a) int_value no_type (chose (casts_to (Some int_type) t.stars && is_scalar a && is_typed a) int_value (subst IsTyped is typed))
+    is ∙ as_chosen (casts_to (Some int_type) t.stars && can_cast a && is_typed a) int_value no_type (chose (casts_to (Some int_type) t.stars && can_cast a && is_typed a) int_value (subst IsTyped is typed))
 
 constant_int : (c : Option ℤ) → is_some c ≡ true → constant_standing c ≡ int_value
 constant_int None h = never h
@@ -138,7 +143,7 @@ number_whole n = by (is_zero n)
     by false = refl
 
 module _ (known : Known) (own : (name : Text) (m : Meaning) → seen known name ≡ Some m → constant_named name ≡ None) where
-  pub named_int : (name : Text) (m : Option Meaning) → seen known name ≡ m → is_some (constant_named name) ≡ true → named_standing m (constant_named name) ≡ int_value
+  pub named_int : (name : Text) (m : Option Meaning) → seen known name ≡ m → is_some (constant_named name) ≡ true → named_standing known name m (constant_named name) ≡ int_value
   named_int name None e h = constant_int (constant_named name) h
   named_int name (Some m) e h = never (ap is_some (sym (own name m e)) ∙ h)
 

@@ -2,15 +2,16 @@
 use Rattle.std.proofs.Common.{◌≡◌, ℕ, ◌+◌, ◌-◌, ◌<◌, ◌≤◌, ◌==◌, nat_le, Bool, true, false, ◌&&◌, if◌then◌else◌, List, [], ◌∷◌, ◌++◌, length, map, Option, Some, None, is_none, slice_get, refl, sym, ap, ◌∙◌, subst, arith, leb-true, append_assoc, length-append}
 use Rattle.std.proofs.lemmas.List.{length-map}
 use Rattle.rr_base.specs.declared.layout.Site.{Site}
+use Rattle.c_names.specs.Sources.{param_name}
 use Rattle.c_text.specs.Texts.{Text}
 use Rattle.c_tree.specs.declared.name.Name.{Name}
-use Rattle.c_tree.specs.declared.program.Param.{Param}
-use Rattle.c_tree.specs.Tree.{Parts}
+use Rattle.c_tree.specs.Tree.{Formal, formal, formal_pointer, Parts}
 use Rattle.c_types.specs.declared.types.ObjectType.{ObjectType}
 use Rattle.c_types.specs.declared.library.StarredType.{StarredType}
 use Rattle.c_types.specs.Scopes.{Known, member_of, cells_of_type, opened}
 use Rattle.c_rules.specs.Faults.{mismatch, specifier_faults}
-use Rattle.c_programs.specs.Declarators.{cannot_pass, param_place, param_name_faults, param_faults, params_faults, after_param, after_params}
+use Rattle.c_programs.specs.Declarators.{place_by, param_name_faults, param_faults, params_faults, after_param, after_params}
+use Rattle.c_names.specs.Signatures.{cannot_pass}
 use Rattle.c_programs.specs.Statements.{parts_faults}
 use Rattle.c_numbers.specs.Numbered.{Numbered}
 use Rattle.c_locals.specs.Addresses.{is_among, numbered_from, parts_addressed}
@@ -27,6 +28,9 @@ use Rattle.source_sound.proofs.Among.{AreAmong}
 use Rattle.source_sound.proofs.Environment.{IsFormed, IsKept}
 use Rattle.source_sound.proofs.NoFaults.{append_nil, four_nil, matches}
 use Rattle.source_sound.proofs.Premises.{HaveSpots, spots_parts, AreAllKept, AreValuesSound, AreWantedSound}
+use Rattle.source_sound.proofs.Listed.{lists_of, FormalsListed, PartsListed}
+use Rattle.source_sound.proofs.PointerNumbers.{HavePointerTypes}
+use Rattle.source_sound.proofs.Results.{IsPlainResult}
 use Rattle.source_sound.proofs.Inside.{FileFits, Inside}
 use Rattle.source_sound.proofs.Locals.{HomesFit, AreHome, home_left, home_right, unmarked, marked_append, marked_length, marked_kept, kept_append, sites_count, homes_fit, all_home}
 use Rattle.source_sound.proofs.Declarations.{next_after_formals, formals_inside}
@@ -80,14 +84,15 @@ module _ (pointers : List Bool) (many : ℕ) (ns : List ℕ) (ls : List Local) (
 
 -- ---- formals
 
-nameless : (known : Known) (q : Param) → param_faults known true q ≡ [] → q.name ≡ None → ⊥
-nameless known q none is =
-    let parts = four_nil (specifier_faults known (q.stars == 0) q.specifier) (mismatch (cannot_pass q.specifier q.stars) (param_place q)) (mismatch (true && is_none q.name) (param_place q)) (param_name_faults known q.name) none in
-    let e : is_none q.name ≡ false = matches (true && is_none q.name) (param_place q) parts.2 in
-    let t : is_none q.name ≡ true = ap is_none is in
+nameless : (known : Known) (q : Formal) → param_faults known true q ≡ [] → (param_name q) ≡ None → ⊥
+nameless known (formal s stars name at) none is =
+    let parts = four_nil (specifier_faults known (stars == 0) s) (mismatch (cannot_pass s stars) (place_by name at)) (mismatch (true && is_none name) (place_by name at)) (param_name_faults known name) none in
+    let e : is_none name ≡ false = matches (true && is_none name) (place_by name at) parts.2 in
+    let t : is_none name ≡ true = ap is_none is in
     cc
+nameless known (formal_pointer s stars name ps at) none is = cc
 
-all_named : (p : Program) (sites : List Site) (ns : List ℕ) (f : Text) (known : Known) (qs : List Param) → params_faults known true qs ≡ [] → AreNamed p sites ns f qs
+all_named : (p : Program) (sites : List Site) (ns : List ℕ) (f : Text) (known : Known) (qs : List Formal) → params_faults known true qs ≡ [] → AreNamed p sites ns f qs
 all_named p sites ns f known [] none = tt
 all_named p sites ns f known (q ∷ qs) none =
     let parts = append_nil (param_faults known true q) (params_faults (after_param known q) true qs) none in
@@ -99,10 +104,12 @@ all_named p sites ns f known (q ∷ qs) none =
 pub record FileSuits (p : Program) (home : ℕ → Option ℕ) (f : Function) (structs : ℕ) (s : Source) (known : Known) : Type 0 where
   pub sizes : (t : ObjectType) → IsFormed structs t → 1 ≤ cells_of_type s.whole t
   pub members : (k : ℕ) (name : Text) (m : Option ObjectType) → member_of known k name ≡ Some m → (t : ObjectType) × (m ≡ Some t) × IsFormed structs t
-  pub struct_names : length known.struct_names ≤ structs
+  pub struct_names : length known.struct_names ≡ structs
   pub names : FileFits p home f structs s known.defined known.scopes
+  pub lists : lists_of known ≡ lists_of s.whole
+  pub pointer_types : HavePointerTypes p structs (lists_of s.whole)
 
-module _ (p : Program) (home : ℕ → Option ℕ) (structs : ℕ) (s : Source) (ns : List ℕ) (known : Known) (n : ℕ) (name : Name) (result : StarredType) (qs : List Param) (body : Parts) where
+module _ (p : Program) (home : ℕ → Option ℕ) (structs : ℕ) (s : Source) (ns : List ℕ) (known : Known) (n : ℕ) (name : Name) (result : StarredType) (qs : List Formal) (body : Parts) where
   abbrev pub function_here : Function
   function_here = definition s ns (opened known) n name (Some result) qs body
 
@@ -147,14 +154,14 @@ module _ (p : Program) (home : ℕ → Option ℕ) (structs : ℕ) (s : Source) 
       (parts_addressed (numbered_from n qs) body) are
 
   body_here : AreValuesSound p home function_here → AreWantedSound p home function_here → FileSuits p home function_here structs s known
-      → params_faults (opened known) true qs ≡ [] → parts_faults (after_params (opened known) qs) (Some result) false body ≡ []
+      → IsPlainResult (Some result) → FormalsListed (lists_of s.whole) qs → PartsListed (lists_of s.whole) body → params_faults (opened known) true qs ≡ [] → parts_faults (after_params (opened known) qs) (Some result) false body ≡ []
       → AreAmong ns (parts_addressed (numbered_from n qs) body) → HaveSpots p s.sites (parts_spots (in_function name.text ns) (after_params (opened known) qs) (n + length qs) body)
       → IsSoundStatement p home function_here function_here.body
-  body_here values wanted file no_params none among spots =
+  body_here values wanted file plain formals locals no_params none among spots =
       let start : Inside p home function_here structs (context_in s frame_here (opened known) numbers_here) =
-      record { sizes = file.sizes; members = file.members; struct_names = file.struct_names; scopes = (tt, file.names); is_open = tt; gives = refl } in
-      let inside = formals_inside p home function_here structs (context_in s frame_here (opened known) numbers_here) qs start formals_home no_params in
-      parts_sound p home function_here structs values wanted result refl name.text ns (context_in s frame_here (after_params (opened known) qs) (numbered_from n qs)) false body inside locals_home (n + length qs) (kept_here among, spots) none
+      record { sizes = file.sizes; members = file.members; struct_names = file.struct_names; lists = file.lists; pointer_types = file.pointer_types; scopes = (tt, file.names); is_open = tt; gives = refl } in
+      let inside = formals_inside p home function_here structs (context_in s frame_here (opened known) numbers_here) qs start formals_home formals no_params in
+      parts_sound p home function_here structs values wanted result refl plain name.text ns (context_in s frame_here (after_params (opened known) qs) (numbered_from n qs)) false body inside locals locals_home (n + length qs) (kept_here among, spots) none
 
   objects_here : params_faults (opened known) true qs ≡ [] → HaveSpots p s.sites (formals_spots (in_function name.text ns) (opened known) n qs)
       → HaveSpots p s.sites (parts_spots (in_function name.text ns) (after_params (opened known) qs) (n + length qs) body) → Each (HasSite p) (sites_of s.sites (formals_here ++ locals_here))
@@ -178,14 +185,14 @@ module _ (p : Program) (home : ℕ → Option ℕ) (structs : ℕ) (s : Source) 
       all_arrive (length function_here.pointers) (length function_here.objects) 0 0 formals_here (omega (arith, few)) (omega (arith, count, sum))
 
   pub definition_sound : AreValuesSound p home function_here → AreWantedSound p home function_here → FileSuits p home function_here structs s known
-      → params_faults (opened known) true qs ≡ [] → parts_faults (after_params (opened known) qs) (Some result) false body ≡ []
+      → IsPlainResult (Some result) → FormalsListed (lists_of s.whole) qs → PartsListed (lists_of s.whole) body → params_faults (opened known) true qs ≡ [] → parts_faults (after_params (opened known) qs) (Some result) false body ≡ []
       → AreAmong ns (parts_addressed (numbered_from n qs) body) → HaveSpots p s.sites (definition_spots (in_function name.text ns) (opened known) n qs body)
       → IsSoundFunction p home function_here
-  definition_sound values wanted file no_params none among spots =
+  definition_sound values wanted file plain formals locals no_params none among spots =
       let two = spots_parts p s.sites (formals_spots (in_function name.text ns) (opened known) n qs) (parts_spots (in_function name.text ns) (after_params (opened known) qs) (n + length qs) body) spots in
       record {
         formals = formals_few formals_here locals_here;
         objects = λ k site e. each_at (HasSite p) (sites_of s.sites (formals_here ++ locals_here)) k site (objects_here no_params two.0 two.1) e;
         arrivals = λ k a e. arrival_sound p home function_here a (each_at (ArrivesBelow (length function_here.pointers) (length function_here.objects)) function_here.arrivals k a arrivals_here e);
-        body = body_here values wanted file no_params none among two.1;
+        body = body_here values wanted file plain formals locals no_params none among two.1;
       }

@@ -9,7 +9,8 @@ use Rattle.c_types.specs.Scopes.{Known, Scope, Members, Meaning, variable, funct
 use Rattle.c_names.specs.Sources.{declared_name, declared_by}
 use Rattle.c_programs.specs.Declarators.{with_fields, struct_cells, is_struct_defined, after_struct, declared_type}
 use Rattle.c_programs.specs.Statements.{after_declared, after_objects}
-use Rattle.c_programs.specs.Programs.{signature_of, after_function, after_outer}
+use Rattle.c_programs.specs.Programs.{after_function, after_outer}
+use Rattle.c_names.specs.Signatures.{signature_of}
 use Rattle.c_spots.specs.Spots.{known_after}
 use Rattle.source_sound.proofs.FileScope.{entry_kept}
 

@@ -1,5 +1,5 @@
 -- The core tree of a source without a fault is sound.
-use Rattle.std.proofs.Common.{◌≡◌, ℕ, ◌^◌, ◌≤◌, false, position, bytes_eq, List, [], ◌∷◌, length, Option, Some, None, sym, ap, ◌∙◌, subst, arith}
+use Rattle.std.proofs.Common.{◌≡◌, ℕ, ◌+◌, ◌^◌, ◌≤◌, false, position, bytes_eq, List, [], ◌∷◌, length, Option, Some, None, sym, ap, ◌∙◌, subst}
 use Rattle.c_text.specs.Texts.{Text, entry_of}
 use Rattle.c_tree.specs.Tree.{Outer}
 use Rattle.c_types.specs.declared.library.StarredType.{StarredType}
@@ -12,13 +12,14 @@ use Rattle.c_operators.specs.Context.{Source, function_counted}
 use Rattle.c_values.specs.Calls.{gives_pointer}
 use Rattle.c_elaborate.specs.Functions.{definition}
 use Rattle.c_elaborate.specs.Whole.{core_of_source}
-use Rattle.c_core.specs.Sound.{IsSound, IsCallable, IsSoundFunction}
+use Rattle.c_core.specs.Sound.{IsSound, IsFunction, IsSoundFunction}
 use Rattle.source_sound.proofs.Environment.{IsFormedResult}
 use Rattle.source_sound.proofs.Bodies.{IsGiven, IsFileName, Begins, DefinitionsAreSound}
 use Rattle.source_sound.proofs.Definitions.{defined_sound}
 use Rattle.source_sound.specs.Members.{StructsHaveMembers}
 use Rattle.source_sound.proofs.Functions.{FileSuits}
 use Rattle.source_sound.proofs.Inside.{FileEntry}
+use Rattle.source_sound.proofs.Results.{IsPlainResult}
 use Rattle.source_sound.proofs.Signatures.{same_wanted}
 use Rattle.source_sound.proofs.Whole as whole
 
@@ -33,7 +34,8 @@ module _ (p : Program) (home : ℕ → Option ℕ) (n : ℕ) (s : Source) where
   as_entry f names name (function_of g) h = (
     h.0,
     result_formed g.result h.1,
-    λ there other. let c = h.2 there other in let w = same_wanted p home f g.params c.0 in (w.0, subst (λ ks. IsCallable p (function_counted (position (λ x. bytes_eq name x) names)) ks (gives_pointer g.result)) (sym w.1) c.1),
+    λ there other. let c = h.2 there other in let w = same_wanted p home f g.params c.0 in (w.0, subst (λ ks. IsFunction p (function_counted (position (λ x. bytes_eq name x) names)) ks (gives_pointer g.result)) (sym w.1) c.1),
+    h.3,
   )
 
   seen_entry : (ss : List Scope) (scope : Scope) (name : Text) (m : Meaning) → ss ≡ scope ∷ [] → seen_in ss name ≡ Some m → entry_of scope name ≡ Some m
@@ -47,17 +49,19 @@ module _ (p : Program) (home : ℕ → Option ℕ) (n : ℕ) (s : Source) where
   suits f known scope h = record {
     sizes = h.sizes;
     members = h.members;
-    struct_names = let e = h.struct_names in omega (arith, e);
+    struct_names = h.struct_names;
+    lists = h.lists;
+    pointer_types = h.pointer_types;
     names = λ name m e. as_entry f known.defined name m (h.names name m (seen_entry known.scopes scope name m h.scopes e));
   }
 
   definitions : DefinitionsAreSound p home n s
-  definitions ns known scope m name result ps parts h given params body among spots =
+  definitions ns known scope m name result ps parts h given plain formals locals params body among spots =
       let r = given.0 in
       let same : result ≡ Some r = given.1 in
-      let sound = defined_sound p home n s ns known m name r ps parts (suits (definition s ns (opened known) m name (Some r) ps parts) known scope h) params
+      let sound = defined_sound p home n s ns known m name r ps parts (suits (definition s ns (opened known) m name (Some r) ps parts) known scope h) (subst IsPlainResult same plain) formals locals params
       (subst (λ z. parts_faults (after_params (opened known) ps) z false parts ≡ []) same body) among spots in
       subst (λ z. IsSoundFunction p home (definition s ns (opened known) m name z ps parts)) (sym same) sound
 
-pub law_sound : (os : List Outer) → StructsHaveMembers os → first_fault os ≡ None → length (core_of_source os).functions ≤ 2 ^ 20 → IsSound (core_of_source os)
+pub law_sound : (os : List Outer) → StructsHaveMembers os → first_fault os ≡ None → length (core_of_source os).functions + length (core_of_source os).pointers ≤ 2 ^ 20 → IsSound (core_of_source os)
 law_sound os members none few = whole.law_sound (λ p home n s. definitions p home n s) os members none few

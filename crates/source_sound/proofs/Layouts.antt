@@ -18,9 +18,9 @@ use Rattle.c_types.specs.declared.fault.Found.{Found}
 use Rattle.c_types.specs.Found.{where_it_comes}
 use Rattle.c_types.specs.Types.{layered_kinds}
 use Rattle.c_types.specs.Scopes.{Known, Meaning, seen, type_named}
-use Rattle.c_types.specs.Operands.{operand_of, takes, is_scalar}
+use Rattle.c_types.specs.Operands.{operand_of, takes}
 use Rattle.c_types.specs.Library.{library_named}
-use Rattle.c_types.specs.Standing.{Target, no_target, some_target, target_of, assigned_target, cast_target, is_sized, casts_to, can_index, struct_of, pointed_struct, format_of, is_text, standing}
+use Rattle.c_types.specs.Standing.{Target, no_target, some_target, target_of, assigned_target, cast_target, is_sized, casts_to, can_cast, can_index, struct_of, pointed_struct, format_of, is_text, standing}
 use Rattle.c_rules.specs.Faults.{mismatch, specifier_faults, member_faults, count_of, count_faults, begins_with_text, wants_of, has_no_target, unseen_call_faults, callee_faults, format_faults, argument_faults, is_judged, is_named, where_judged, one_argument_faults, condition_takes, go_faults, step_faults, place_of_first, cast_faults, assign_faults, prefix_faults, call_faults, faults, rest_faults, arguments_faults, expression_faults}
 use Rattle.c_rules.specs.Sizes.{constant_faults, length_faults, is_short_length}
 use Rattle.c_programs.specs.Declarators.{lengths_faults}
@@ -180,7 +180,7 @@ module _ (ks : List (List CellKind)) (n : ℕ) (small : AreSmall ks) (size : len
       exp_laid w target (cast t a at) h =
           let to = cast_target (type_named known t) t.stars in
           let p = append_nil (faults known to a) (cast_faults known t (operand_of (standing known to a)) at) h in
-          let q = append_nil (mismatch (not (casts_to (type_named known t) t.stars && is_scalar (operand_of (standing known to a)))) at) (specifier_faults known false t.specifier) p.1 in
+          let q = append_nil (mismatch (not (casts_to (type_named known t) t.stars && can_cast (operand_of (standing known to a)))) at) (specifier_faults known false t.specifier) p.1 in
           exp_laid to (cast_target_good n known t typed.structs q.1) a p.0
       exp_laid w target (index a b at) h =
           let p = nil3 (faults known no_target a) (faults known no_target b) (mismatch (not (can_index (operand_of (standing known no_target a)) (operand_of (standing known no_target b)))) at) h in
@@ -191,7 +191,7 @@ module _ (ks : List (List CellKind)) (n : ℕ) (small : AreSmall ks) (size : len
       exp_laid w target (post_decrement a at) h = exp_laid no_target tt a (append_nil (faults known no_target a) (step_faults known a (standing known no_target a) at) h).0
       exp_laid w target (named name at) h = tt
       exp_laid w target (call name es at) h =
-          let ws = wants_of name (format_of es) (seen known name) in
+          let ws = wants_of known name (format_of es) (seen known name) in
           let p = append_nil (call_faults known w name es at) (arguments_faults known ws at es) h in
           let q = append_nil (callee_faults known name w (begins_with_text es) (format_of es) (count_of es) at (seen known name)) (format_faults (begins_with_text es) (library_named name) (seen known name) (format_of es) (place_of_first es)) p.0 in
           laid (where_malloc (is_malloc known name) w at) (all_allocations known es) (malloc_laid known name w (begins_with_text es) (format_of es) (count_of es) at (seen known name) target q.0) (arguments_laid ws at es p.1)

@@ -24,6 +24,7 @@ pub mod FileStructs
 pub mod FirstValues
 pub mod Folding
 pub mod Formats
+pub mod FunctionWords
 pub mod Functions
 pub mod Grown
 pub mod Denoted
@@ -31,13 +32,18 @@ pub mod Homes
 pub mod Inside
 pub mod Law
 pub mod Layouts
+pub mod Listed
 pub mod Locals
 pub mod Names
 pub mod NoFaults
 pub mod Nodes
 pub mod Operators
 pub mod Places
+pub mod PointerNumbers
+pub mod Pointers
+pub mod PointerTargets
 pub mod Premises
+pub mod Results
 pub mod Signatures
 pub mod Sited
 pub mod Sites

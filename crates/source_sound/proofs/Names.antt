@@ -1,5 +1,5 @@
 -- Names, types by name, and which expressions are places: what is known of them where they have no fault.
-use Rattle.std.proofs.Common.{◌≡◌, ℕ, zero, suc, ◌<◌, ◌==◌, nat_lt, Bool, true, false, not, ◌&&◌, if◌then◌else◌, ℤ, [], ◌∷◌, length, replicate, option_map, Option, Some, None, is_some, Ok, refl, ap}
+use Rattle.std.proofs.Common.{◌≡◌, ℕ, zero, suc, ◌<◌, ◌==◌, nat_lt, Bool, true, false, not, ◌&&◌, if◌then◌else◌, ℤ, pos, [], ◌∷◌, length, replicate, option_map, Option, Some, None, is_some, Ok, refl, ap}
 use Rattle.c_text.specs.Texts.{Text}
 use Rattle.c_tree.specs.declared.ctype.Specifier.{Specifier}
 use Rattle.c_tree.specs.declared.ctype.Specifier.TheVariants as specifier
@@ -15,19 +15,18 @@ use Rattle.c_types.specs.declared.types.ObjectType.{ObjectType}
 use Rattle.c_types.specs.declared.fault.FaultKind.TheVariants as fault
 use Rattle.c_types.specs.Constants.{constant_named}
 use Rattle.c_types.specs.Library.{library_named}
-use Rattle.c_types.specs.Scopes.{Known, Meaning, variable, function_of, seen, struct_numbered, base_of, starred, type_named, member_of}
-use Rattle.c_types.specs.Operands.{Standing, no_type, zero_literal, null_literal, a_value, a_place, Operand, any_operand, whole, zero_operand, null_operand, pointing, no_operand, operand_of, is_void, is_typed, int_value}
+use Rattle.c_types.specs.Scopes.{Known, Meaning, variable, function_of, seen, function_numbered, struct_numbered, base_of, starred, type_named, member_of}
+use Rattle.c_types.specs.Operands.{Standing, no_type, zero_literal, null_literal, a_value, a_place, Operand, any_operand, whole, zero_operand, null_operand, pointing, function_operand, no_operand, operand_of, is_void, is_typed, int_value}
 use Rattle.c_types.specs.Standing.{Target, no_target, pointee, can_index, element_place, place_by, struct_of, pointed_struct, member_standing, constant_standing, named_standing, sizeof_type_standing, standing}
 use Rattle.c_rules.specs.Faults.{name_place, mismatch, lacks_struct_by, is_unknown_struct, specifier_faults, is_some_void, name_can_be_place, can_be_place, sizeof_type_faults}
 use Rattle.c_numbers.specs.Numbered.{number_seen}
 use Rattle.c_locals.specs.Addresses.{maybe_listed, number_of_operand}
-use Rattle.rr_base.specs.declared.position.Position.{Position}
 use Rattle.c_core.specs.Core as core
 use Rattle.c_core.specs.Core.{Function, Program}
 use Rattle.c_operators.specs.declared.home.Home.{Home}
 use Rattle.c_operators.specs.declared.home.Home.TheVariants as kept
-use Rattle.c_operators.specs.Denoted.{Denoted, denoted_register, denoted_cells, denoted_zero, denoted_value, position_of}
-use Rattle.c_operators.specs.Context.{Context, home_of, home_numbered}
+use Rattle.c_operators.specs.Denoted.{Denoted, denoted_register, denoted_cells, denoted_zero, denoted_null, denoted_value, position_of}
+use Rattle.c_operators.specs.Context.{Context, home_of, home_numbered, function_word}
 use Rattle.c_operators.specs.Operators.{member_in}
 use Rattle.c_values.specs.Expressions.{constant_by, variable_denoted, named_denoted, denoted}
 use Rattle.source_sound.proofs.Environment.{IsFormedPointee, IsFormedLayered, IsFormedOrVoid, IsKept, AreKept}
@@ -129,6 +128,7 @@ module _ (p : Program) (home : ℕ → Option ℕ) (f : Function) (structs : ℕ
   some_pointee whole = tt
   some_pointee zero_operand = tt
   some_pointee null_operand = tt
+  some_pointee (function_operand k) = tt
   some_pointee no_operand = tt
 
   some_element : (a b : Operand) → IsPlaceOrNone (element_place a b)
@@ -149,11 +149,11 @@ module _ (p : Program) (home : ℕ → Option ℕ) (f : Function) (structs : ℕ
   some_unseen None h = tt
   some_unseen (Some n) h = never' h
 
-  some_named : (name : Text) (m : Option Meaning) → name_can_be_place m name ≡ true → IsPlaceOrNone (named_standing m (constant_named name))
-  some_named name (Some (variable None)) h = tt
-  some_named name (Some (variable (Some t))) h = tt
-  some_named name (Some (function_of g)) h = never h
-  some_named name None h = some_unseen (constant_named name) (not_true (is_some (constant_named name)) (both (not (is_some (constant_named name))) (not (is_some (library_named name))) h).0)
+  some_named : (known : Known) (name : Text) (m : Option Meaning) → name_can_be_place m name ≡ true → IsPlaceOrNone (named_standing known name m (constant_named name))
+  some_named known name (Some (variable None)) h = tt
+  some_named known name (Some (variable (Some t))) h = tt
+  some_named known name (Some (function_of g)) h = never h
+  some_named known name None h = some_unseen (constant_named name) (not_true (is_some (constant_named name)) (both (not (is_some (constant_named name))) (not (is_some (library_named name))) h).0)
 
   some_prefix : (known : Known) (w : Target) (o : PrefixOp) (a : Exp) (at : Position) → can_be_place known (prefix o a at) ≡ true → IsPlaceOrNone (standing known w (prefix o a at))
   some_prefix known w prefix_op.Indirect a at h = some_pointee (operand_of (standing known no_target a))
@@ -173,7 +173,7 @@ module _ (p : Program) (home : ℕ → Option ℕ) (f : Function) (structs : ℕ
       some_place (can_index i j && is_typed i && is_typed j) (element_place i j) (some_element i j)
   some_of known w (member a name at) h = some_member_of known (struct_of (standing known no_target a)) name.text
   some_of known w (arrow a name at) h = some_member_of known (pointed_struct (operand_of (standing known no_target a))) name.text
-  some_of known w (named name at) h = some_named name (seen known name) h
+  some_of known w (named name at) h = some_named known name (seen known name) h
   some_of known w (paren a at) h = some_of known w a h
   some_of known w (comma e es at) h = never h
   some_of known w (assign a o b at) h = never h
@@ -215,6 +215,7 @@ module _ (p : Program) (home : ℕ → Option ℕ) (f : Function) (structs : ℕ
   member_in_cells s (denoted_cells e o) by at h k = tt
   member_in_cells s (denoted_register n o) by at h k = no_zero s at h k
   member_in_cells s (denoted_zero o) by at h k = no_zero s at h k
+  member_in_cells s (denoted_null o) by at h k = no_zero s at h k
   member_in_cells s (denoted_value e) by at h k = no_value s e h k
 
   kept_name : (h : Context) (o : Option ℕ) → AreKept h (maybe_listed o) → IsKept (home_numbered h.frame o)
@@ -229,7 +230,7 @@ module _ (p : Program) (home : ℕ → Option ℕ) (f : Function) (structs : ℕ
   named_in_cells : (h : Context) (s : Standing) (name : Text) (m : Option Meaning) (b : Bool) (n : ℤ) (at : Position) → IsPlace s → AreKept h (maybe_listed (number_seen h.numbers.scopes name)) → Stands p home f structs s (constant_by b (Ok n) at (named_denoted h name m at)) → IsInCells (constant_by b (Ok n) at (named_denoted h name m at))
   named_in_cells h s name m true n at place k e = no_value s (core.number n at) place e
   named_in_cells h s name None false n at place k e = no_zero s at place e
-  named_in_cells h s name (Some (function_of g)) false n at place k e = no_zero s at place e
+  named_in_cells h s name (Some (function_of g)) false n at place k e = no_value s (core.number (pos (function_word (function_numbered h.known name))) at) place e
   named_in_cells h s name (Some (variable t)) false n at place k e = variable_in_cells h name (home_of h name) at (kept_name h (number_seen h.numbers.scopes name) k)
 
   prefix_in_cells : (h : Context) (w : Target) (o : PrefixOp) (a : Exp) (at : Position) → can_be_place h.known (prefix o a at) ≡ true → IsInCells (denoted h w (prefix o a at))

@@ -13,33 +13,37 @@ use Rattle.c_types.specs.declared.fault.FaultKind.TheVariants as fault
 use Rattle.c_types.specs.Numbers.{is_zero}
 use Rattle.c_types.specs.Constants.{constant_named, is_constant, is_address}
 use Rattle.c_types.specs.Library.{library_named}
-use Rattle.c_types.specs.Scopes.{Meaning, variable, function_of, seen, has_name}
-use Rattle.c_types.specs.Operands.{Standing, no_type, zero_literal, null_literal, a_value, a_place, operand_of, as_value, int_value, is_scalar}
+use Rattle.c_types.specs.Scopes.{Meaning, variable, function_of, seen, has_name, function_numbered}
+use Rattle.c_types.specs.Signatures.{type_numbered}
+use Rattle.c_types.specs.Operands.{Standing, no_type, zero_literal, null_literal, a_value, a_place, operand_of, as_value, int_value}
 use Rattle.c_constants.specs.Values.{value_here, size_here}
-use Rattle.c_types.specs.Standing.{Target, no_target, stepped, prefix_standing, assign_standing, casts_to, cast_standing, named_standing, can_go, let_go, following, is_sized, standing}
+use Rattle.c_types.specs.Standing.{Target, no_target, stepped, prefix_standing, assign_standing, casts_to, can_cast, cast_standing, is_main, can_be_used, function_value, named_standing, can_go, let_go, following, is_sized, standing}
 use Rattle.c_types.specs.Found.{where_it_comes, found_at}
 use Rattle.c_rules.specs.Faults.{mismatch, own_place, place_faults, can_be_place, go_faults, steps, standing_type, assigns_to, needs_place, prefix_takes, step_faults, assign_faults, prefix_faults, named_faults}
 use Rattle.c_locals.specs.Addresses.{where_address, number_of_operand}
-use Rattle.rr_base.specs.declared.position.Position.{Position}
 use Rattle.c_core.specs.Core as core
 use Rattle.c_core.specs.Core.{Function, Program}
 use Rattle.c_core.specs.Meaning.{is_pointer}
 use Rattle.c_operators.specs.declared.home.Home.{Home}
 use Rattle.c_operators.specs.declared.home.Home.TheVariants as kept
 use Rattle.c_operators.specs.Denoted.{Denoted, denoted_zero, denoted_value, Part, part_by, operand_in, position_of}
-use Rattle.c_operators.specs.Context.{Context, home_of}
+use Rattle.c_operators.specs.Context.{Context, home_of, function_word}
 use Rattle.c_operators.specs.Operators.{assigned_in, stepped_in, prefix_in, cast_in, is_some_address}
 use Rattle.c_values.specs.Expressions.{constant_by, folded, variable_denoted, named_denoted, is_pointer_type, denoted}
 use Rattle.c_core.specs.Sound.{IsSoundExp}
 use Rattle.source_sound.proofs.Environment.{IsFormed, AreKept, DenotedFits, Suits}
-use Rattle.source_sound.proofs.Apart.{not_nothing, append_nil, keeps, never, never'}
+use Rattle.source_sound.proofs.Apart.{not_nothing, append_nil, comes_not, keeps, never, never'}
 use Rattle.source_sound.proofs.Standings.{Stands, PartGives, stands_gives}
+use Rattle.source_sound.proofs.FunctionWords.{PartGivesAll}
 use Rattle.source_sound.proofs.Choices.{as_value_stands}
 use Rattle.source_sound.proofs.Changes.{stepped_stands, assigned_stands}
 use Rattle.source_sound.proofs.Places.{SuitsPrefix, prefix_stands, cast_stands}
 use Rattle.source_sound.proofs.Folding.{named_int, IsFolded, constant_is_int, value_stands, folded_stands}
 use Rattle.source_sound.proofs.Names.{is_place, in_cells}
 use Rattle.source_sound.proofs.Targets.{IsKnownType}
+
+none_not_some : (j : ℕ) → None ≡ Some j → ⊥
+none_not_some j e = cc
 
 module _ (p : Program) (home : ℕ → Option ℕ) (f : Function) (h : Context) (suits : Suits p home f h) where
   abbrev stands : Standing → Denoted → Type 0
@@ -76,21 +80,31 @@ module _ (p : Program) (home : ℕ → Option ℕ) (f : Function) (h : Context) 
   not_constant None x s at e k = k
   not_constant (Some n) x s at e k = never' (ap is_some e)
 
+  -- a function's name is a number, one more than that of the function
+  function_word_stands : (n : ℕ) (o : Position) (used : Bool) (k : Option ℕ) → used ≡ true → ((j : ℕ) × (k ≡ Some j)) → stands (function_value used k) (denoted_value (core.number (pos n) o))
+  function_word_stands n o true None used some = let no : ⊥ = none_not_some some.0 some.1 in absurd no
+  function_word_stands n o true (Some j) used some = (tt, refl, tt)
+  function_word_stands n o false k used some = never used
+
   undeclared_constant : (b c : Bool) (at : Position) → (if b then [] else (if c then found_at fault.TypeMismatch at ∷ [] else found_at fault.UnknownName at ∷ [])) ≡ [] → b ≡ true
   undeclared_constant true c at e = refl
   undeclared_constant false true at e = not_nothing _ _ e
   undeclared_constant false false at e = not_nothing _ _ e
 
   named_by : (name : Text) (at : Position) (o : Position) (m : Option Meaning) → seen h.known name ≡ m → named_faults h.known m name at ≡ [] →
-      stands (named_standing m (constant_named name)) (constant_by (is_some (constant_named name)) (Ok (unwrap_or (constant_named name) (pos 0))) o (named_denoted h name m o))
+      stands (named_standing h.known name m (constant_named name)) (constant_by (is_some (constant_named name)) (Ok (unwrap_or (constant_named name) (pos 0))) o (named_denoted h name m o))
   named_by name at o (Some (variable None)) e none = absurd (suits.typed name e)
   named_by name at o (Some (variable (Some t))) e none =
       not_constant (constant_named name) (variable_denoted h name (home_of h name) o) (a_place t) o (suits.own name (variable (Some t)) e)
       (variable_stands t name o (home_of h name) refl (suits.formed name t e) e (suits.variables name t o e))
-  named_by name at o (Some (function_of g)) e none = not_nothing _ [] (append_nil (where_it_comes (not (has_name h.known.defined name)) fault.UnknownName at) (mismatch true at) none).1
+  named_by name at o (Some (function_of g)) e none =
+      let apart = append_nil (where_it_comes (is_main name) fault.BadCall at) (where_it_comes (not (has_name h.known.defined name)) fault.UnknownName at) none in
+      let used = and_from _ _ (ap not (comes_not (is_main name) fault.BadCall at apart.0)) (keeps (has_name h.known.defined name) fault.UnknownName at apart.1) in
+      not_constant (constant_named name) (named_denoted h name (Some (function_of g)) o) (function_value (can_be_used h.known name) (type_numbered h.known g)) o (suits.own name (function_of g) e)
+      (function_word_stands (function_word (function_numbered h.known name)) o (can_be_used h.known name) (type_numbered h.known g) used (suits.numbered name g e))
   named_by name at o None e none =
       let is = undeclared_constant (is_some (constant_named name)) (is_some (library_named name)) at none in
-      value_stands p home f suits.structs (is_some (constant_named name)) (unwrap_or (constant_named name) (pos 0)) (named_standing None (constant_named name)) (denoted_zero o) o is (named_int h.known suits.own name None e is)
+      value_stands p home f suits.structs (is_some (constant_named name)) (unwrap_or (constant_named name) (pos 0)) (named_standing h.known name None (constant_named name)) (denoted_zero o) o is (named_int h.known suits.own name None e is)
 
   pub named_stands : (name : Text) (at : Position) (w : Target) → named_faults h.known (seen h.known name) name at ≡ [] → stands (standing h.known w (named name at)) (denoted h w (named name at))
   named_stands name at w none = named_by name at (position_of at) (seen h.known name) refl none
@@ -105,7 +119,7 @@ module _ (p : Program) (home : ℕ → Option ℕ) (f : Function) (h : Context) 
       (is_place p home f suits.structs h.known no_target a (denoted h no_target a) (keeps (can_be_place h.known a) fault.NotPlace at apart.0) s)
       (keeps (steps (standing_type (standing h.known no_target a))) fault.TypeMismatch at apart.1)
 
-  pub assigns_stands : (a : Exp) (o : AssignOp) (b : Part) (at : Position) (q : Position) → stands (standing h.known no_target a) (denoted h no_target a) → PartGives p home f suits.structs b →
+  pub assigns_stands : (a : Exp) (o : AssignOp) (b : Part) (at : Position) (q : Position) → stands (standing h.known no_target a) (denoted h no_target a) → PartGivesAll p home f suits.structs b →
       assign_faults h.known o a (standing h.known no_target a) (operand_in b) at ≡ [] →
       stands (assign_standing o (standing h.known no_target a) (operand_in b)) (denoted_value (assigned_in h.source o (part_by (standing h.known no_target a) (denoted h no_target a)) b q))
   assigns_stands a o b at q s g none =
@@ -136,7 +150,7 @@ module _ (p : Program) (home : ℕ → Option ℕ) (f : Function) (h : Context) 
 
   -- ---- casts
 
-  pub casts_stand : (o : Option ObjectType) (stars : ℕ) (a : Part) (q : Position) → IsKnownType suits.structs o → PartGives p home f suits.structs a → (casts_to o stars && is_scalar (operand_in a)) ≡ true →
+  pub casts_stand : (o : Option ObjectType) (stars : ℕ) (a : Part) (q : Position) → IsKnownType suits.structs o → PartGives p home f suits.structs a → (casts_to o stars && can_cast (operand_in a)) ≡ true →
       stands (cast_standing o stars (operand_in a)) (denoted_value (cast_in (is_pointer_type o) a q))
   casts_stand None stars a q known g e = absurd known
   casts_stand (Some t) stars a q known g e = cast_stands p home f suits.structs t stars a q known g e
@@ -146,7 +160,7 @@ module _ (p : Program) (home : ℕ → Option ℕ) (f : Function) (h : Context) 
   pub comma_stands : (s : Standing) (before e : core.Exp) (o : Position) → IsSoundExp p home f before → stands s (denoted_value e) → stands s (denoted_value (core.comma before e o))
   comma_stands no_type before e o b s = absurd s
   comma_stands zero_literal before e o b s = absurd s
-  comma_stands null_literal before e o b s = (s.0, (b, s.1))
+  comma_stands null_literal before e o b s = absurd s
   comma_stands (a_value t) before e o b s = (s.0, s.1, (b, s.2))
   comma_stands (a_place t) before e o b s = absurd s
 

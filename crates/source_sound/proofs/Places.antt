@@ -12,16 +12,16 @@ use Rattle.c_types.specs.declared.types.BaseType.TheVariants as base
 use Rattle.c_types.specs.declared.types.Layer.{Layer}
 use Rattle.c_types.specs.declared.types.ObjectType.{ObjectType}
 use Rattle.c_types.specs.declared.fault.FaultKind.TheVariants as fault
+use Rattle.c_types.specs.Types.{pointer_to}
 use Rattle.c_types.specs.Scopes.{Known, member_of, cells_of_type}
-use Rattle.c_types.specs.Operands.{Standing, no_type, zero_literal, null_literal, a_value, a_place, Operand, any_operand, whole, zero_operand, null_operand, pointing, no_operand, operand_of, type_operand, layered_operand, type_value, is_void, is_typed, is_whole, is_scalar}
-use Rattle.c_types.specs.Standing.{pointee, address, prefix_standing, layered_struct, struct_of, pointed_struct, place_by, member_standing, casts_to, cast_standing}
-use Rattle.c_rules.specs.Faults.{can_follow, prefix_takes, lacks_struct, lacks_member, member_faults, name_place, mismatch}
+use Rattle.c_types.specs.Operands.{Standing, no_type, zero_literal, null_literal, a_value, a_place, Operand, any_operand, whole, zero_operand, null_operand, pointing, function_operand, no_operand, operand_of, type_operand, layered_operand, type_value, is_void, is_typed, is_whole, is_scalar}
+use Rattle.c_types.specs.Standing.{pointee, points_to_functions, address, prefix_standing, layered_struct, struct_of, pointed_struct, place_by, member_standing, casts_to, can_cast, cast_standing}
+use Rattle.c_rules.specs.Faults.{can_follow, can_be_pointed_to, prefix_takes, lacks_struct, lacks_member, member_faults, name_place, mismatch}
 use Rattle.c_types.specs.Found.{where_it_comes}
-use Rattle.rr_base.specs.declared.position.Position.{Position}
 use Rattle.c_core.specs.Core as core
 use Rattle.c_core.specs.Core.{Function, Program}
 use Rattle.c_core.specs.Meaning.{is_pointer}
-use Rattle.c_operators.specs.Denoted.{Denoted, denoted_register, denoted_cells, denoted_zero, denoted_value, Part, part_by, operand_in, is_pointing, value_by, value_in}
+use Rattle.c_operators.specs.Denoted.{Denoted, denoted_register, denoted_cells, denoted_zero, denoted_null, denoted_value, Part, part_by, operand_in, is_pointing, value_by, value_in}
 use Rattle.c_operators.specs.Context.{Source}
 use Rattle.c_operators.specs.Operators.{address_in, prefix_in, is_some_address, cast_in, member_in, arrow_in}
 use Rattle.c_core.specs.Sound.{IsSoundExp}
@@ -46,6 +46,7 @@ SuitsPrefix _ sa x = Unit {0}
 -- a value is no struct
 no_struct_given : (n : ℕ) (ls : List Layer) (b : BaseType) → IsFormedGiven n ls b → layered_struct ls b ≡ None
 no_struct_given n [] base.Int h = refl
+no_struct_given n [] (base.Function fn) h = refl
 no_struct_given n [] base.Void h = refl
 no_struct_given n [] (base.Struct k) h = absurd h
 no_struct_given n [] base.Mutex h = refl
@@ -56,6 +57,7 @@ no_struct_given n (l ∷ ls) b h = refl
 
 scalar_struct : (ls : List Layer) (b : BaseType) → is_scalar (layered_operand ls b) ≡ true → layered_struct ls b ≡ None
 scalar_struct [] base.Int h = refl
+scalar_struct [] (base.Function fn) h = refl
 scalar_struct [] base.Void h = refl
 scalar_struct [] (base.Struct k) h = never h
 scalar_struct [] base.Mutex h = refl
@@ -70,35 +72,41 @@ lacks_none whole k t h = h
 lacks_none zero_operand k t h = h
 lacks_none null_operand k t h = h
 lacks_none (pointing s) k t h = h
+lacks_none (function_operand j) k t h = h
 lacks_none no_operand k t h = h
 
 module _ (p : Program) (home : ℕ → Option ℕ) (f : Function) (structs : ℕ) where
   -- ---- addresses, and what they lead to
 
-  pub address_stands : (sa : Standing) (x : Denoted) → Stands p home f structs sa x → IsInCells x → Stands p home f structs (address sa) (address_in x)
-  address_stands no_type x h c = absurd h
-  address_stands zero_literal (denoted_zero at) h c = absurd c
-  address_stands zero_literal (denoted_register n at) h c = absurd c
-  address_stands zero_literal (denoted_cells e at) h c = absurd h
-  address_stands zero_literal (denoted_value e) h c = absurd c
-  address_stands null_literal (denoted_zero at) h c = absurd c
-  address_stands null_literal (denoted_register n at) h c = absurd c
-  address_stands null_literal (denoted_cells e at) h c = absurd h
-  address_stands null_literal (denoted_value e) h c = absurd c
-  address_stands (a_value t) (denoted_zero at) h c = absurd c
-  address_stands (a_value t) (denoted_register n at) h c = absurd c
-  address_stands (a_value t) (denoted_cells e at) h c = absurd h
-  address_stands (a_value t) (denoted_value e) h c = absurd c
-  address_stands (a_place t) (denoted_zero at) h c = absurd c
-  address_stands (a_place t) (denoted_register n at) h c = absurd c
-  address_stands (a_place t) (denoted_cells e at) h c = (formed_or_void structs t.layers t.base h.0, h.1, h.2)
-  address_stands (a_place t) (denoted_value e) h c = absurd c
+  pub address_stands : (sa : Standing) (x : Denoted) → Stands p home f structs sa x → IsInCells x → can_be_pointed_to sa ≡ true → Stands p home f structs (address sa) (address_in x)
+  address_stands no_type x h c q = absurd h
+  address_stands zero_literal (denoted_zero at) h c q = absurd c
+  address_stands zero_literal (denoted_null at) h c q = absurd c
+  address_stands zero_literal (denoted_register n at) h c q = absurd c
+  address_stands zero_literal (denoted_cells e at) h c q = absurd h
+  address_stands zero_literal (denoted_value e) h c q = absurd c
+  address_stands null_literal (denoted_zero at) h c q = absurd c
+  address_stands null_literal (denoted_register n at) h c q = absurd c
+  address_stands null_literal (denoted_cells e at) h c q = absurd h
+  address_stands null_literal (denoted_null at) h c q = absurd c
+  address_stands null_literal (denoted_value e) h c q = absurd h
+  address_stands (a_value t) (denoted_zero at) h c q = absurd c
+  address_stands (a_value t) (denoted_null at) h c q = absurd c
+  address_stands (a_value t) (denoted_register n at) h c q = absurd c
+  address_stands (a_value t) (denoted_cells e at) h c q = absurd h
+  address_stands (a_value t) (denoted_value e) h c q = absurd c
+  address_stands (a_place t) (denoted_zero at) h c q = absurd c
+  address_stands (a_place t) (denoted_null at) h c q = absurd c
+  address_stands (a_place t) (denoted_register n at) h c q = absurd c
+  address_stands (a_place t) (denoted_cells e at) h c q = where_false p home f structs (points_to_functions t) no_type (a_value (pointer_to t)) _ (not_true (points_to_functions t) q) (formed_or_void structs t.layers t.base h.0, h.1, h.2)
+  address_stands (a_place t) (denoted_value e) h c q = absurd c
 
   followed_stands : (a : Operand) (v q : core.Exp) (at : Position) → Gives p home f structs a v q → can_follow a ≡ true → Stands p home f structs (pointee a) (denoted_cells v at)
   followed_stands any_operand v q at g h = never g.typed
   followed_stands whole v q at g h = never h
   followed_stands zero_operand v q at g h = never h
   followed_stands null_operand v q at g h = never h
+  followed_stands (function_operand k) v q at g h = never h
   followed_stands no_operand v q at g h = never h
   followed_stands (pointing t) v q at g h =
       let some = not_true (is_void t) h in
@@ -107,7 +115,7 @@ module _ (p : Program) (home : ℕ → Option ℕ) (f : Function) (structs : ℕ
   module _ (s : Source) (sizes : (t : ObjectType) → IsFormed structs t → 1 ≤ cells_of_type s.whole t) where
     pub prefix_stands : (o : PrefixOp) (sa : Standing) (x : Denoted) (at : Position) → Stands p home f structs sa x → SuitsPrefix o sa x → prefix_takes o sa ≡ true →
         Stands p home f structs (prefix_standing o sa) (prefix_in s o (part_by sa x) at)
-    prefix_stands prefix_op.Address sa x at h w e = address_stands sa x h w
+    prefix_stands prefix_op.Address sa x at h w e = address_stands sa x h w e
     prefix_stands prefix_op.Indirect sa x at h w e = followed_stands (operand_of sa) _ _ at (stands_gives p home f structs sa x h) e
     prefix_stands prefix_op.Plus sa x at h w e =
         let g = stands_gives p home f structs sa x h in
@@ -134,11 +142,11 @@ module _ (p : Program) (home : ℕ → Option ℕ) (f : Function) (structs : ℕ
   cast_word false true v at k h = (refl, (k, h))
   cast_word false false v at k h = (k, h)
 
-  pub cast_stands : (t : ObjectType) (stars : ℕ) (a : Part) (at : Position) → IsFormedOrVoid structs t → PartGives p home f structs a → (casts_to (Some t) stars && is_scalar (operand_in a)) ≡ true →
+  pub cast_stands : (t : ObjectType) (stars : ℕ) (a : Part) (at : Position) → IsFormedOrVoid structs t → PartGives p home f structs a → (casts_to (Some t) stars && can_cast (operand_in a)) ≡ true →
       Stands p home f structs (cast_standing (Some t) stars (operand_in a)) (denoted_value (cast_in (is_pointing (type_operand t)) a at))
   cast_stands t stars a at formed g e =
       let word = cast_word (is_pointing (type_operand t)) (is_some_address (operand_in a)) (value_in a) at g.kind g.sound in
-      where_true p home f structs (casts_to (Some t) stars && is_scalar (operand_in a) && is_typed (operand_in a)) (type_value t) no_type _ (and_from _ _ e g.typed)
+      where_true p home f structs (casts_to (Some t) stars && can_cast (operand_in a) && is_typed (operand_in a)) (type_value t) no_type _ (and_from _ _ e g.typed)
       (type_value_stands p home f structs t.layers t.base _ formed (scalar_struct t.layers t.base (first _ _ e)) (word.0 ∙ address_layers t.layers t.base) word.1)
     where
       first : (x y : Bool) → (x && y) ≡ true → x ≡ true
@@ -154,11 +162,13 @@ module _ (p : Program) (home : ℕ → Option ℕ) (f : Function) (structs : ℕ
   struct_in_cells null_literal x k by at t h e r = some_not_none _ _ e refl
   struct_in_cells (a_value u) (denoted_value v) k by at t h e r = some_not_none _ _ e (no_struct_given structs u.layers u.base h.0)
   struct_in_cells (a_value u) (denoted_zero o) k by at t h e r = absurd h
+  struct_in_cells (a_value u) (denoted_null o) k by at t h e r = absurd h
   struct_in_cells (a_value u) (denoted_register n o) k by at t h e r = absurd h
   struct_in_cells (a_value u) (denoted_cells v o) k by at t h e r = absurd h
   struct_in_cells (a_place u) (denoted_register n o) k by at t h e r = some_not_none _ _ e h.1
   struct_in_cells (a_place u) (denoted_cells v o) k by at t h e r = (r, refl, (h.1, h.2))
   struct_in_cells (a_place u) (denoted_zero o) k by at t h e r = absurd h
+  struct_in_cells (a_place u) (denoted_null o) k by at t h e r = absurd h
   struct_in_cells (a_place u) (denoted_value v) k by at t h e r = absurd h
 
   pointed_in_cells : (a : Operand) (v q : core.Exp) (k : ℕ) (by : ℕ) (at : Position) (t : ObjectType) → Gives p home f structs a v q → pointed_struct a ≡ Some k → IsFormed structs t → Stands p home f structs (a_place t) (denoted_cells (core.member v by at) at)
@@ -166,6 +176,7 @@ module _ (p : Program) (home : ℕ → Option ℕ) (f : Function) (structs : ℕ
   pointed_in_cells whole v q k by at t g e r = some_not_none _ _ e refl
   pointed_in_cells zero_operand v q k by at t g e r = some_not_none _ _ e refl
   pointed_in_cells null_operand v q k by at t g e r = some_not_none _ _ e refl
+  pointed_in_cells (function_operand j) v q k by at t g e r = some_not_none _ _ e refl
   pointed_in_cells no_operand v q k by at t g e r = some_not_none _ _ e refl
   pointed_in_cells (pointing u) v q k by at t g e r = (r, refl, (g.kind, g.sound))
 

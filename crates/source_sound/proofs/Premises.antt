@@ -10,7 +10,7 @@ use Rattle.c_spots.specs.Spots.{Spot, allocations}
 use Rattle.c_locals.specs.Addresses.{addressed}
 use Rattle.c_core.specs.Core.{Function, Program}
 use Rattle.c_core.specs.Meaning.{is_pointer}
-use Rattle.c_operators.specs.Denoted.{is_pointing}
+use Rattle.c_operators.specs.Denoted.{is_pointing, kind_of}
 use Rattle.c_operators.specs.Context.{Frame, Context, home_numbered, site_at}
 use Rattle.c_values.specs.Expressions.{value_of, wanted_of}
 use Rattle.c_core.specs.Sound.{HasSite, IsSoundExp}
@@ -50,11 +50,11 @@ module _ (p : Program) (home : ℕ → Option ℕ) (f : Function) where
   AreValuesSound = (h : Context) (e : Exp) → Suits p home f h → AreKept h (addressed h.numbers e) → HaveSites p home f h (places_of (allocations h.known no_target e))
       → expression_faults h.known e ≡ [] → IsSoundExp p home f (value_of h e)
 
-  -- the word of an expression that an object of the type accepts, where the type tells whether a pointer is wanted
+  -- the word of an expression that an object of the type accepts, where the type tells which word is wanted
   abbrev pub AreWantedSound : Type 0
   AreWantedSound = (h : Context) (w : Target) (t : ObjectType) (e : Exp) (s : Suits p home f h) → IsFormedTarget s.structs w → AreKept h (addressed h.numbers e) → HaveSites p home f h (places_of (allocations h.known w e))
       → faults h.known w e ≡ [] → accepts t (operand_of (standing h.known w e)) ≡ true
-      → (is_pointer (wanted_of h (is_pointing (type_operand t)) w e) ≡ is_pointing (type_operand t)) × IsSoundExp p home f (wanted_of h (is_pointing (type_operand t)) w e)
+      → (is_pointer (wanted_of h (kind_of (type_operand t)) w e) ≡ is_pointing (type_operand t)) × IsSoundExp p home f (wanted_of h (kind_of (type_operand t)) w e)
 
   -- as the environment of an expression names them
   have_sites : (h : Context) (spots : List Spot) → HaveSpots p h.source.sites spots → HaveSites p home f h (places_of spots)
@@ -72,5 +72,5 @@ module _ (p : Program) (home : ℕ → Option ℕ) (f : Function) where
 
   pub wanted_by_parts : AreWantedSound → (h : Context) (w : Target) (t : ObjectType) (e : Exp) (s : Suits p home f h) → IsFormedTarget s.structs w
       → Have p h.frame h.source.sites (addressed h.numbers e) (allocations h.known w e) → faults h.known w e ≡ [] → accepts t (operand_of (standing h.known w e)) ≡ true
-      → (is_pointer (wanted_of h (is_pointing (type_operand t)) w e) ≡ is_pointing (type_operand t)) × IsSoundExp p home f (wanted_of h (is_pointing (type_operand t)) w e)
+      → (is_pointer (wanted_of h (kind_of (type_operand t)) w e) ≡ is_pointing (type_operand t)) × IsSoundExp p home f (wanted_of h (kind_of (type_operand t)) w e)
   wanted_by_parts wanted h w t e s formed have none fit = wanted h w t e s formed (are_kept h (addressed h.numbers e) have.0) (have_sites h (allocations h.known w e) have.1) none fit

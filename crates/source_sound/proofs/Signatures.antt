@@ -4,9 +4,9 @@ use Rattle.std.specs.Option.{option_map}
 use Rattle.std.proofs.lemmas.Bool.{and_parts}
 use Rattle.std.proofs.lemmas.Option.{same_Some}
 use Rattle.std.proofs.lemmas.Bool.Decides.{nat_tests}
+use Rattle.c_tree.specs.Tree.{Formal, formal, formal_pointer}
 use Rattle.c_tree.specs.declared.ctype.Specifier.{Specifier}
 use Rattle.c_tree.specs.declared.ctype.Specifier.TheVariants as specifier
-use Rattle.c_tree.specs.declared.program.Param.{Param}
 use Rattle.c_types.specs.declared.types.BaseType.{BaseType}
 use Rattle.c_types.specs.declared.types.BaseType.TheVariants as base
 use Rattle.c_types.specs.declared.types.Layer.TheVariants as layer
@@ -18,8 +18,10 @@ use Rattle.c_types.specs.Scopes.{Known, base_of, starred}
 use Rattle.c_types.specs.Library.{fitting_type, starred_type}
 use Rattle.c_rules.specs.Faults.{mismatch, specifier_faults}
 use Rattle.c_types.specs.Operands.{same_base}
-use Rattle.c_programs.specs.Declarators.{is_struct_specifier, cannot_pass, wanted_for, wanted_of, param_place, param_name_faults, param_faults, after_param, params_faults}
-use Rattle.c_programs.specs.Programs.{result_by, cannot_give, result_of, same_starred, agree_on_result, agree_on_params, agree}
+use Rattle.c_programs.specs.Declarators.{place_by, param_name_faults, param_faults, after_param, params_faults}
+use Rattle.c_names.specs.Signatures.{is_struct_specifier, cannot_pass, wanted_for, wanted_pointer, pointer_of, wanted_of, result_by, cannot_give, result_of}
+use Rattle.c_programs.specs.Programs.{agree_on_result, agree_on_params, agree}
+use Rattle.c_types.specs.Signatures.{same_starred}
 use Rattle.c_values.specs.Calls.{is_pointer_wanted, gives_pointer}
 use Rattle.c_core.specs.Core.{Function, Program}
 use Rattle.source_sound.proofs.Environment.{IsFormedValue, wanted_kinds, AreFitting}
@@ -64,26 +66,48 @@ base_same k m e (specifier.PthreadCondT at) = refl
 base_same k m e (specifier.PthreadBarrierT at) = refl
 base_same k m e (specifier.PthreadRwlockT at) = refl
 
-pub param_names : (known : Known) (p : Param) → (after_param known p).struct_names ≡ known.struct_names
-param_names known p = elim p.name as (λ o. (after_param known (record p { name = o })).struct_names ≡ known.struct_names) [ None ↦ refl | Some name ↦ refl ]
+pub param_names : (known : Known) (p : Formal) → (after_param known p).struct_names ≡ known.struct_names
+param_names known (formal s stars None at) = refl
+param_names known (formal s stars (Some name) at) = refl
+param_names known (formal_pointer s stars name ps at) = refl
 
 -- ---- parameters
 
-one_wanted : (cannot : Bool) (b : Option BaseType) (stars : ℕ) (c : BaseType) → cannot ≡ false → b ≡ Some c → wanted_for cannot b stars ≡ fitting_type stars c
+pub one_wanted : (cannot : Bool) (b : Option BaseType) (stars : ℕ) (c : BaseType) → cannot ≡ false → b ≡ Some c → wanted_for cannot b stars ≡ fitting_type stars c
 one_wanted cannot b stars c p q = ap (λ x. wanted_for x b stars) p ∙ ap (λ x. wanted_for false x stars) q
 
+-- a pointer to functions is a number
+abbrev pub is_pointer_formal : Formal → Bool
+is_pointer_formal (formal s stars name at) = nat_lt 0 stars
+is_pointer_formal (formal_pointer s stars name ps at) = false
+
+-- the type of a pointer to functions has a number
+abbrev pub IsNumbered : Known → Formal → Type 0
+IsNumbered known (formal s stars name at) = Unit {0}
+IsNumbered known (formal_pointer s stars name ps at) = (k : ℕ) × (pointer_of known s stars ps ≡ Some k)
+
+abbrev pub AreNumbered : Known → List Formal → Type 0
+AreNumbered known [] = Unit {0}
+AreNumbered known (p ∷ ps) = IsNumbered known p × AreNumbered known ps
+
+param_wanted : (known inside : Known) (is_def : Bool) (p : Formal) → inside.struct_names ≡ known.struct_names → IsNumbered known p → param_faults inside is_def p ≡ [] →
+    (t : StarredType) × (wanted_of known p ≡ wants.Fits t) × (is_pointer_wanted t ≡ is_pointer_formal p)
+param_wanted known inside is_def (formal s stars name at) names numbered h =
+    let b = nil4 (specifier_faults inside (stars == 0) s) (mismatch (cannot_pass s stars) (place_by name at)) (mismatch (is_def && is_none name) (place_by name at)) (param_name_faults inside name) h in
+    let bk = base_known inside (stars == 0) s b.0 in
+    (record { stars = stars; base = bk.0 }, one_wanted (cannot_pass s stars) (base_of known s) stars bk.0 (where_nil _ _ _ b.1) (sym (base_same inside known names s) ∙ bk.1), refl)
+param_wanted known inside is_def (formal_pointer s stars name ps at) names numbered h = (record { stars = 0; base = base.Function numbered.0 }, ap wanted_pointer numbered.1, refl)
+
 -- each parameter wants what fits its type
-pub params_wanted : (known inside : Known) (is_def : Bool) (ps : List Param) → inside.struct_names ≡ known.struct_names → params_faults inside is_def ps ≡ [] →
-    AreFits (map (wanted_of known) ps) × (kinds_wanted (map (wanted_of known) ps) ≡ map (λ p. nat_lt 0 p.stars) ps)
-params_wanted known inside is_def [] names h = (tt, refl)
-params_wanted known inside is_def (p ∷ ps) names h =
+pub params_wanted : (known inside : Known) (is_def : Bool) (ps : List Formal) → inside.struct_names ≡ known.struct_names → AreNumbered known ps → params_faults inside is_def ps ≡ [] →
+    AreFits (map (wanted_of known) ps) × (kinds_wanted (map (wanted_of known) ps) ≡ map is_pointer_formal ps)
+params_wanted known inside is_def [] names numbered h = (tt, refl)
+params_wanted known inside is_def (p ∷ ps) names numbered h =
     let a = append_nil (param_faults inside is_def p) (params_faults (after_param inside p) is_def ps) h in
-    let b = nil4 (specifier_faults inside (p.stars == 0) p.specifier) (mismatch (cannot_pass p.specifier p.stars) (param_place p)) (mismatch (is_def && is_none p.name) (param_place p)) (param_name_faults inside p.name) a.0 in
-    let bk = base_known inside (p.stars == 0) p.specifier b.0 in
-    let is : wanted_of known p ≡ fitting_type p.stars bk.0 = one_wanted (cannot_pass p.specifier p.stars) (base_of known p.specifier) p.stars bk.0 (where_nil _ _ _ b.1) (sym (base_same inside known names p.specifier) ∙ bk.1) in
-    let more = params_wanted known (after_param inside p) is_def ps (param_names inside p ∙ names) a.1 in (
-      subst (λ w. AreFits (w ∷ map (wanted_of known) ps)) (sym is) more.0,
-      ap (λ w. kinds_wanted (w ∷ map (wanted_of known) ps)) is ∙ ap (λ ks. nat_lt 0 p.stars ∷ ks) more.1,
+    let one = param_wanted known inside is_def p names numbered.0 a.0 in
+    let more = params_wanted known (after_param inside p) is_def ps (param_names inside p ∙ names) numbered.1 a.1 in (
+      subst (λ w. AreFits (w ∷ map (wanted_of known) ps)) (sym one.1) more.0,
+      ap (λ w. kinds_wanted (w ∷ map (wanted_of known) ps)) one.1 ∙ ap₂ (λ k ks. k ∷ ks) one.2 more.1,
     )
 
 -- ---- results
@@ -96,6 +120,7 @@ IsSomeResult n (Some t) = IsFormedValue n (starred_type t)
 starred_formed : (n stars : ℕ) (b : BaseType) → IsFileBase n b → (stars ≡ 0 → is_struct_base b ≡ false) → IsFormedValue n (starred stars b)
 starred_formed n zero (base.Struct k) h plain = absurd (true≢false (plain refl))
 starred_formed n zero base.Int h plain = tt
+starred_formed n zero (base.Function fn) h plain = tt
 starred_formed n zero base.Void h plain = tt
 starred_formed n zero base.Mutex h plain = tt
 starred_formed n zero base.Cond h plain = tt
@@ -125,7 +150,7 @@ result_known known s stars h give =
 
 -- ---- declarations that agree
 
-same_stars : (s t : StarredType) → same_starred s t ≡ true → is_pointer_wanted s ≡ is_pointer_wanted t
+pub same_stars : (s t : StarredType) → same_starred s t ≡ true → is_pointer_wanted s ≡ is_pointer_wanted t
 same_stars s t h = let e = (and_parts (s.stars == t.stars) (same_base s.base t.base) h).0 in let is : s.stars ≡ t.stars = grind (arith, nat_tests) in ap (λ n. nat_lt 0 n) is
 
 results_agree : (n : ℕ) (a b : Option StarredType) → IsSomeResult n a → IsSomeResult n b → agree_on_result a b ≡ true → gives_pointer a ≡ gives_pointer b

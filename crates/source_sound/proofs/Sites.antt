@@ -3,13 +3,12 @@ use Rattle.std.proofs.Common.{◌≡◌, ℕ, zero, suc, ◌+◌, Bool, true, fa
 use Rattle.rr_base.specs.declared.layout.Site.{Site}
 use Rattle.c_text.specs.Texts.{Text}
 use Rattle.c_tree.specs.declared.ctype.Specifier.{Specifier}
-use Rattle.c_tree.specs.declared.program.Param.{Param}
-use Rattle.c_tree.specs.Tree.{Declared, declared, Object, plain, initialised, Declares, declares, Start, start_declares, start_computes, Statement, block, compute, break_at, continue_at, gives, branch, branch_else, while_loop, do_loop, for_loop, Parts, no_part, and_declares, and_does}
+use Rattle.c_tree.specs.Tree.{Formal, formal, formal_pointer, Declared, declared, declared_pointer, Object, plain, initialised, Declares, declares, Start, start_declares, start_computes, Statement, block, compute, break_at, continue_at, gives, branch, branch_else, while_loop, do_loop, for_loop, Parts, no_part, and_declares, and_does}
 use Rattle.c_types.specs.Scopes.{Known, opened}
 use Rattle.c_types.specs.Standing.{no_target}
 use Rattle.c_programs.specs.Declarators.{declared_type, param_type, after_param}
 use Rattle.c_programs.specs.Initials.{value_target}
-use Rattle.c_names.specs.Sources.{declared_by}
+use Rattle.c_names.specs.Sources.{declared_by, param_name}
 use Rattle.c_programs.specs.Statements.{after_declared, after_declares, after_start}
 use Rattle.c_locals.specs.Addresses.{is_among, count_of_declares, count_of_start, count_of_locals}
 use Rattle.c_locals.specs.Kept.{is_kept}
@@ -67,6 +66,9 @@ module _ (p : Program) (sites : List Site) (ns : List ℕ) where
         let d = declared stars name lengths in
         let two = spots_parts p sites (where_kept (is_kept s stars lengths || is_among ns n) (spot_named (holder_in (in_function f ns) name.text) name (declared_type known s d))) (lengths_allocations known lengths) have in
         (kept_spot (is_kept s stars lengths || is_among ns n) (spot_named (holder_in (in_function f ns) name.text) name (declared_type known s d)) two.0, tt)
+    declared_sited known n s (declared_pointer stars name ps) have =
+        let two = spots_parts p sites (where_kept (false || is_among ns n) (spot_named (holder_in (in_function f ns) name.text) name (declared_type known s (declared_pointer stars name ps)))) [] have in
+        (kept_spot (false || is_among ns n) (spot_named (holder_in (in_function f ns) name.text) name (declared_type known s (declared_pointer stars name ps))) two.0, tt)
 
     object_sited : (known : Known) (n : ℕ) (s : Specifier) (o : Object) → HaveSpots p sites (object_spots (in_function f ns) known n s o) → AreSited n (local_of s o ∷ [])
     object_sited known n s (plain d) have = declared_sited known n s d have
@@ -120,23 +122,23 @@ module _ (p : Program) (sites : List Site) (ns : List ℕ) where
           sited_both n (n + count_of_locals s) (statement_locals s) (parts_locals ps) (omega (arith, count)) (statement_sited known n s two.0) (parts_sited known (n + count_of_locals s) ps two.1)
 
     -- formals: in a definition without a fault each has a name
-    abbrev FormalSited : Known → ℕ → Param → Type 0
-    FormalSited known n q = HaveSpots p sites (formal_spot (in_function f ns) known n q q.name) → (q.name ≡ None → ⊥) → AreSited n (formal_of q ∷ [])
+    abbrev FormalSited : Known → ℕ → Formal → Type 0
+    FormalSited known n q = HaveSpots p sites (formal_spot (in_function f ns) known n q (param_name q)) → ((param_name q) ≡ None → ⊥) → AreSited n (formal_of q ∷ [])
 
-    formal_sited : (known : Known) (n : ℕ) (q : Param) → FormalSited known n q
-    formal_sited known n q =
-        elim q.name as (λ o. FormalSited known n (record q { name = o })) [
-          | None ↦ λ have named. absurd (named refl)
-          | Some name ↦ λ have named. (kept_spot (is_kept q.specifier q.stars [] || is_among ns n) (spot_named (holder_in (in_function f ns) name.text) name (param_type known q)) have, tt)
-        ]
+    formal_sited : (known : Known) (n : ℕ) (q : Formal) → FormalSited known n q
+    formal_sited known n (formal s stars None at) have named = absurd (named refl)
+    formal_sited known n (formal s stars (Some name) at) have named =
+        (kept_spot (is_kept s stars [] || is_among ns n) (spot_named (holder_in (in_function f ns) name.text) name (param_type known (formal s stars (Some name) at))) have, tt)
+    formal_sited known n (formal_pointer s stars name ps at) have named =
+        (kept_spot (false || is_among ns n) (spot_named (holder_in (in_function f ns) name.text) name (param_type known (formal_pointer s stars name ps at))) have, tt)
 
     -- each has a name
-    abbrev pub AreNamed : List Param → Type 0
+    abbrev pub AreNamed : List Formal → Type 0
     AreNamed [] = Unit {0}
-    AreNamed (q ∷ qs) = (q.name ≡ None → ⊥) × AreNamed qs
+    AreNamed (q ∷ qs) = ((param_name q) ≡ None → ⊥) × AreNamed qs
 
-    pub formals_sited : (known : Known) (n : ℕ) (qs : List Param) → AreNamed qs → HaveSpots p sites (formals_spots (in_function f ns) known n qs) → AreSited n (map formal_of qs)
+    pub formals_sited : (known : Known) (n : ℕ) (qs : List Formal) → AreNamed qs → HaveSpots p sites (formals_spots (in_function f ns) known n qs) → AreSited n (map formal_of qs)
     formals_sited known n [] named have = tt
     formals_sited known n (q ∷ qs) named have =
-        let two = spots_parts p sites (formal_spot (in_function f ns) known n q q.name) (formals_spots (in_function f ns) (after_param known q) (n + 1) qs) have in
+        let two = spots_parts p sites (formal_spot (in_function f ns) known n q (param_name q)) (formals_spots (in_function f ns) (after_param known q) (n + 1) qs) have in
         ((formal_sited known n q two.0 named.0).0, formals_sited (after_param known q) (n + 1) qs named.1 two.1)

@@ -12,7 +12,8 @@ use Rattle.rr_base.specs.declared.position.Position.{Position}
 use Rattle.c_core.specs.Core as core
 use Rattle.c_core.specs.Core.{Function, Program}
 use Rattle.c_core.specs.Meaning.{is_pointer}
-use Rattle.c_operators.specs.Denoted.{Denoted, denoted_register, denoted_cells, denoted_zero, denoted_value, Part, operand_in, is_pointing, value_by, pointer_by, value_in, wanted_in}
+use Rattle.c_operators.specs.declared.denoted.WordKind.TheVariants as kind
+use Rattle.c_operators.specs.Denoted.{Denoted, denoted_register, denoted_cells, denoted_zero, denoted_null, denoted_value, Part, operand_in, is_pointing, value_by, pointer_by, value_in, wanted_in}
 use Rattle.c_operators.specs.Operators.{is_some_address}
 use Rattle.c_core.specs.Sound.{IsPointer, HasRegister, IsSoundExp}
 use Rattle.source_sound.proofs.Environment.{IsFormedBase, IsFormedPointee, IsFormedLayered, IsFormed, IsFormedOrVoid, IsFormedGiven, IsFormedValue, DenotedFits}
@@ -22,6 +23,7 @@ use Rattle.source_sound.proofs.Apart.{never'}
 
 pub typed_layers : (ls : List Layer) (b : BaseType) → is_typed (layered_operand ls b) ≡ true
 typed_layers [] base.Int = refl
+typed_layers [] (base.Function fn) = refl
 typed_layers [] base.Void = refl
 typed_layers [] (base.Struct k) = refl
 typed_layers [] base.Mutex = refl
@@ -34,6 +36,7 @@ typed_layers (layer.Array n ∷ ls) b = refl
 -- what is some pointer by its type is one
 pub pointer_layers : (ls : List Layer) (b : BaseType) → is_some_pointer (layered_operand ls b) ≡ is_some_address (layered_operand ls b)
 pointer_layers [] base.Int = refl
+pointer_layers [] (base.Function fn) = refl
 pointer_layers [] base.Void = refl
 pointer_layers [] (base.Struct k) = refl
 pointer_layers [] base.Mutex = refl
@@ -45,6 +48,7 @@ pointer_layers (layer.Array n ∷ ls) b = refl
 
 pub address_layers : (ls : List Layer) (b : BaseType) → is_pointing (layered_operand ls b) ≡ is_some_address (layered_operand ls b)
 address_layers [] base.Int = refl
+address_layers [] (base.Function fn) = refl
 address_layers [] base.Void = refl
 address_layers [] (base.Struct k) = refl
 address_layers [] base.Mutex = refl
@@ -58,6 +62,7 @@ address_layers (layer.Array n ∷ ls) b = refl
 
 formed_base_pointee : (n : ℕ) (b : BaseType) → IsFormedBase n b → IsFormedPointee n b
 formed_base_pointee n base.Int h = h
+formed_base_pointee n (base.Function fn) h = h
 formed_base_pointee n base.Void h = tt
 formed_base_pointee n (base.Struct k) h = h
 formed_base_pointee n base.Mutex h = h
@@ -73,6 +78,7 @@ formed_or_void n (layer.Array m ∷ ls) b h = h
 -- what is formed or Void, and isn't Void
 pub formed_pointee : (n : ℕ) (ls : List Layer) (b : BaseType) → IsFormedLayered n (layer.Pointer ∷ ls) b → layered_is_void ls b ≡ false → IsFormedLayered n ls b
 formed_pointee n [] base.Int h v = h
+formed_pointee n [] (base.Function fn) h v = h
 formed_pointee n [] base.Void h v = never' v
 formed_pointee n [] (base.Struct k) h v = h
 formed_pointee n [] base.Mutex h v = h
@@ -91,6 +97,7 @@ IsFormedOperand n _ = Unit {0}
 
 pub formed_place_operand : (n : ℕ) (ls : List Layer) (b : BaseType) → IsFormedLayered n ls b → IsFormedOperand n (layered_operand ls b)
 formed_place_operand n [] base.Int h = tt
+formed_place_operand n [] (base.Function fn) h = tt
 formed_place_operand n [] base.Void h = tt
 formed_place_operand n [] (base.Struct k) h = tt
 formed_place_operand n [] base.Mutex h = tt
@@ -102,6 +109,7 @@ formed_place_operand n (layer.Array m ∷ ls) b h = formed_or_void n ls b h.1
 
 pub formed_value_operand : (n : ℕ) (ls : List Layer) (b : BaseType) → IsFormedGiven n ls b → IsFormedOperand n (layered_operand ls b)
 formed_value_operand n [] base.Int h = tt
+formed_value_operand n [] (base.Function fn) h = tt
 formed_value_operand n [] base.Void h = tt
 formed_value_operand n [] (base.Struct k) h = tt
 formed_value_operand n [] base.Mutex h = tt
@@ -126,7 +134,7 @@ module _ (p : Program) (home : ℕ → Option ℕ) (f : Function) (structs : ℕ
   Stands no_type x = ⊥
   Stands zero_literal (denoted_zero at) = Unit {0}
   Stands zero_literal _ = ⊥
-  Stands null_literal (denoted_value e) = IsPointer e × IsSoundExp p home f e
+  Stands null_literal (denoted_null at) = Unit {0}
   Stands null_literal _ = ⊥
   Stands (a_value t) (denoted_value e) = IsFormedValue structs t × (is_pointer e ≡ is_some_address (type_operand t)) × IsSoundExp p home f e
   Stands (a_value t) _ = ⊥
@@ -137,20 +145,24 @@ module _ (p : Program) (home : ℕ → Option ℕ) (f : Function) (structs : ℕ
   pub stands_denoted : (s : Standing) (x : Denoted) → Stands s x → DenotedFits p home f s x
   stands_denoted no_type x h = absurd h
   stands_denoted zero_literal (denoted_zero at) h = refl
+  stands_denoted zero_literal (denoted_null at) h = absurd h
   stands_denoted zero_literal (denoted_register n at) h = absurd h
   stands_denoted zero_literal (denoted_cells e at) h = absurd h
   stands_denoted zero_literal (denoted_value e) h = absurd h
-  stands_denoted null_literal (denoted_value e) h = (h.0, h.1)
+  stands_denoted null_literal (denoted_null at) h = refl
+  stands_denoted null_literal (denoted_value e) h = absurd h
   stands_denoted null_literal (denoted_zero at) h = absurd h
   stands_denoted null_literal (denoted_register n at) h = absurd h
   stands_denoted null_literal (denoted_cells e at) h = absurd h
   stands_denoted (a_value t) (denoted_value e) h = (h.1, h.2)
   stands_denoted (a_value t) (denoted_zero at) h = absurd h
+  stands_denoted (a_value t) (denoted_null at) h = absurd h
   stands_denoted (a_value t) (denoted_register n at) h = absurd h
   stands_denoted (a_value t) (denoted_cells e at) h = absurd h
   stands_denoted (a_place t) (denoted_register n at) h = (tt, h.2)
   stands_denoted (a_place t) (denoted_cells e at) h = (tt, h.1, h.2)
   stands_denoted (a_place t) (denoted_zero at) h = absurd h
+  stands_denoted (a_place t) (denoted_null at) h = absurd h
   stands_denoted (a_place t) (denoted_value e) h = absurd h
 
   -- ---- words
@@ -204,22 +216,26 @@ module _ (p : Program) (home : ℕ → Option ℕ) (f : Function) (structs : ℕ
   pub stands_gives : (s : Standing) (x : Denoted) → Stands s x → Gives (operand_of s) (value_by s x) (pointer_by s x)
   stands_gives no_type x h = absurd h
   stands_gives zero_literal (denoted_zero at) h = record { typed = refl; formed = tt; kind = refl; sound = tt; pointer = λ w. refl; pointer_sound = tt }
+  stands_gives zero_literal (denoted_null at) h = absurd h
   stands_gives zero_literal (denoted_register n at) h = absurd h
   stands_gives zero_literal (denoted_cells e at) h = absurd h
   stands_gives zero_literal (denoted_value e) h = absurd h
-  stands_gives null_literal (denoted_value e) h = record { typed = refl; formed = tt; kind = h.0; sound = h.1; pointer = λ w. h.0; pointer_sound = h.1 }
+  stands_gives null_literal (denoted_null at) h = record { typed = refl; formed = tt; kind = refl; sound = tt; pointer = λ w. refl; pointer_sound = tt }
+  stands_gives null_literal (denoted_value e) h = absurd h
   stands_gives null_literal (denoted_zero at) h = absurd h
   stands_gives null_literal (denoted_register n at) h = absurd h
   stands_gives null_literal (denoted_cells e at) h = absurd h
   stands_gives (a_value t) (denoted_value e) h = value_gives t e h.0 h.1 h.2
   stands_gives (a_value t) (denoted_zero at) h = absurd h
+  stands_gives (a_value t) (denoted_null at) h = absurd h
   stands_gives (a_value t) (denoted_register n at) h = absurd h
   stands_gives (a_value t) (denoted_cells e at) h = absurd h
   stands_gives (a_place t) (denoted_register n at) h = register_gives t n at h.0 h.2
   stands_gives (a_place t) (denoted_cells e at) h = cells_give t.layers t.base e at h.0 h.1 h.2
   stands_gives (a_place t) (denoted_zero at) h = absurd h
+  stands_gives (a_place t) (denoted_null at) h = absurd h
   stands_gives (a_place t) (denoted_value e) h = absurd h
 
   -- the words of a part
   abbrev pub PartGives : Part → Type 0
-  PartGives a = Gives (operand_in a) (value_in a) (wanted_in true a)
+  PartGives a = Gives (operand_in a) (value_in a) (wanted_in kind.Pointer a)

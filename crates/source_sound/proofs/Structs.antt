@@ -32,6 +32,7 @@ within_base : (m n : ℕ) → m ≤ n → (b : BaseType) → IsFormedBase m b �
 within_base m n le base.Void h = absurd h
 within_base m n le (base.Struct k) h = omega (arith, le, h)
 within_base m n le base.Int h = tt
+within_base m n le (base.Function fn) h = tt
 within_base m n le base.Mutex h = tt
 within_base m n le base.Cond h = tt
 within_base m n le base.Barrier h = tt
@@ -55,6 +56,7 @@ size_got (x ∷ ks) (suc k) = size_got ks k
 
 base_sized : (ks : List (List CellKind)) (b : BaseType) → base_size (map (λ x. length x) ks) b ≡ length (base_kinds ks b)
 base_sized ks base.Int = refl
+base_sized ks (base.Function fn) = refl
 base_sized ks base.Void = refl
 base_sized ks (base.Struct k) = size_got ks k
 base_sized ks base.Mutex = refl
@@ -76,6 +78,7 @@ got_before (x ∷ ks) more (suc k) lt = got_before ks more k (omega (arith, lt))
 
 base_before : (ks more : List (List CellKind)) (b : BaseType) → IsFormedBase (length ks) b → base_kinds (ks ++ more) b ≡ base_kinds ks b
 base_before ks more base.Int h = refl
+base_before ks more (base.Function fn) h = refl
 base_before ks more base.Void h = refl
 base_before ks more (base.Struct k) h = ap (λ o. unwrap_or o []) (got_before ks more k h)
 base_before ks more base.Mutex h = refl
@@ -108,6 +111,7 @@ pub small_base : (ks : List (List CellKind)) (b : BaseType) → AreSmall ks → 
 small_base ks base.Void small h = absurd h
 small_base ks (base.Struct k) small h = small_got ks k small h
 small_base ks base.Int small h = (omega arith, omega arith)
+small_base ks (base.Function fn) small h = (omega arith, omega arith)
 small_base ks base.Mutex small h = (omega arith, omega arith)
 small_base ks base.Cond small h = (omega arith, omega arith)
 small_base ks base.Barrier small h = (omega arith, omega arith)

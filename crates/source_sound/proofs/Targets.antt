@@ -17,7 +17,7 @@ use Rattle.c_types.specs.Standing.{Target, no_target, target_of, layered_target,
 use Rattle.c_programs.specs.Initials.{value_target}
 use Rattle.c_spots.specs.Spots.{Spot, is_malloc_call, is_malloc, where_malloc}
 use Rattle.c_core.specs.Core.{Function, Program}
-use Rattle.c_operators.specs.Denoted.{Denoted, denoted_register, denoted_cells, denoted_zero, denoted_value}
+use Rattle.c_operators.specs.Denoted.{Denoted, denoted_register, denoted_cells, denoted_zero, denoted_null, denoted_value}
 use Rattle.c_operators.specs.Context.{Context, site_at}
 use Rattle.c_core.specs.Sound.{HasSite}
 use Rattle.source_sound.proofs.Environment.{IsFormed, IsFormedLayered, IsFormedOrVoid, IsFormedTarget, AreKept, places_of, HaveSites}
@@ -60,6 +60,7 @@ module _ (p : Program) (home : ℕ → Option ℕ) (f : Function) where
   formed_assigned_target n assign_op.Assign (a_place t) (denoted_register r at) h = formed_target n t h.0
   formed_assigned_target n assign_op.Assign (a_place t) (denoted_cells e at) h = formed_target n t h.0
   formed_assigned_target n assign_op.Assign (a_place t) (denoted_zero at) h = absurd h
+  formed_assigned_target n assign_op.Assign (a_place t) (denoted_null at) h = absurd h
   formed_assigned_target n assign_op.Assign (a_place t) (denoted_value e) h = absurd h
   formed_assigned_target n _ s x h = tt
 

@@ -3,12 +3,12 @@
 use Rattle.std.proofs.Common.{◌≡◌, ℕ, zero, suc, ◌<◌, ◌≤◌, ◌==◌, nat_lt, Bool, true, false, not, ◌&&◌, ◌||◌, if◌then◌else◌, ℤ, pos, negsuc, List, [], ◌∷◌, ◌++◌, length, map, replicate, Option, Some, None, Ok, Err, is_none, bytes_eq, refl, sym, ap, ◌∙◌, subst, arith, ltb-true, lt-ltb}
 use Rattle.std.specs.Option.{option_map}
 use Rattle.std.specs.List.{position_or_len}
+use Rattle.c_types.specs.Types.{bare}
 use Rattle.c_text.specs.Texts.{Text}
 use Rattle.c_tree.specs.declared.name.Name.{Name}
 use Rattle.c_tree.specs.declared.ctype.Specifier.{Specifier}
 use Rattle.c_tree.specs.declared.ctype.Specifier.TheVariants as specifier
-use Rattle.c_tree.specs.declared.program.Param.{Param}
-use Rattle.c_tree.specs.Tree.{Exp, Declared, declared}
+use Rattle.c_tree.specs.Tree.{formal, Exp, Declared, declared, declared_pointer}
 use Rattle.rr_base.specs.declared.position.Position.{Position}
 use Rattle.c_types.specs.declared.types.BaseType.{BaseType}
 use Rattle.c_types.specs.declared.types.BaseType.TheVariants as base
@@ -25,9 +25,11 @@ use Rattle.c_types.specs.Standing.{layered_target, type_target, layered_struct, 
 use Rattle.c_rules.specs.Faults.{first_place, name_place, mismatch, specifier_faults, lacks_struct_by, is_unknown_struct, expression_faults}
 use Rattle.c_constants.specs.Values.{value_here}
 use Rattle.c_rules.specs.Sizes.{is_trap, is_sound, constant_faults, is_short, is_short_length, length_faults, positive, positive_value, length_of}
-use Rattle.c_programs.specs.Declarators.{with_arrays, type_by, arrays_of, complete_by, declared_type, is_void_specifier, cannot_pass, passed_by, param_type, declarator_faults, lengths_faults}
+use Rattle.c_programs.specs.Declarators.{pointer_type, with_arrays, type_by, arrays_of, complete_by, declared_type, passed_by, param_type, declarator_faults, lengths_faults}
+use Rattle.c_names.specs.Signatures.{is_void_specifier, cannot_pass, pointer_of}
 use Rattle.c_locals.specs.Kept.{is_kept_specifier, is_kept}
 use Rattle.c_operators.specs.Denoted.{is_pointing}
+use Rattle.source_sound.proofs.DeclaredTypes.{IsNumberedDeclared}
 use Rattle.source_sound.proofs.Environment.{IsFormedBase, IsFormedPointee, IsFormedLayered, IsFormed, IsFormedTarget}
 use Rattle.source_sound.proofs.NoFaults.{append_nil, three_nil, never, matches, not_false}
 
@@ -116,6 +118,7 @@ pointed_formed n (suc k) b ok = pointed_formed n k b ok
 
 complete_formed : (known : Known) (n : ℕ) (b : BaseType) → IsFormedPointee n b → is_complete_base known b ≡ true → IsFormedBase n b
 complete_formed known n base.Int ok e = tt
+complete_formed known n (base.Function fn) ok e = tt
 complete_formed known n base.Void ok e = let no : ⊥ = cc in absurd no
 complete_formed known n (base.Struct k) ok e = ok
 complete_formed known n base.Mutex ok e = tt
@@ -144,10 +147,16 @@ typed_by known n (Some b) stars None t ok long e = let no : ⊥ = cc in absurd n
 typed_by known n (Some b) stars (Some arrays) t ok long e =
     kept_type (λ u. IsFormed n u) (is_complete known (array_type b stars arrays)) (array_type b stars arrays) t (λ c. layers_formed known n arrays stars b (long arrays refl) (ok b refl) c) e
 
+-- a pointer to functions has a formed type
+pub pointer_formed : (n : ℕ) (k : Option ℕ) (t : ObjectType) → pointer_type k ≡ Some t → IsFormed n t
+pointer_formed n None t e = let no : ⊥ = cc in absurd no
+pointer_formed n (Some k) t e = let is : bare (base.Function k) ≡ t = cc in subst (λ u. IsFormed n u) is tt
+
 pub declared_formed : (known : Known) (n : ℕ) → length known.struct_names ≤ n → (s : Specifier) (d : Declared) (t : ObjectType) → declared_type known s d ≡ Some t → IsFormed n t
 declared_formed known n le s (declared stars name lengths) t e =
     typed_by known n (base_of known s) stars (arrays_of known lengths) t (λ b is. base_pointee known n le s b is)
     (λ ls is. arrays_long [] (map (length_of known) lengths) ls tt (all_long known lengths) is) e
+declared_formed known n le s (declared_pointer stars name ps) t e = pointer_formed n (pointer_of known s stars ps) t e
 
 -- ---- where nothing is wrong a type is known
 
@@ -206,8 +215,8 @@ layers_complete known [] (suc k) b long ok = refl
 layers_complete known (layer.Array m ∷ ls) stars b long ok = layers_complete known ls stars b long.1 ok
 layers_complete known (layer.Pointer ∷ ls) stars b long ok = absurd long
 
-pub declared_known : (known : Known) (s : Specifier) (d : Declared) → declarator_faults known s d ≡ [] → (t : ObjectType) × (declared_type known s d ≡ Some t)
-declared_known known s (declared stars name lengths) none =
+pub declared_known : (known : Known) (s : Specifier) (d : Declared) → IsNumberedDeclared known s d → declarator_faults known s d ≡ [] → (t : ObjectType) × (declared_type known s d ≡ Some t)
+declared_known known s (declared stars name lengths) numbered none =
     let parts = three_nil (specifier_faults known (stars == 0) s) (mismatch (is_void_specifier s && (stars == 0)) (name_place name)) (lengths_faults known (name_place name) lengths) none in
     let some = based known (stars == 0) s parts.0 (matches (is_void_specifier s && (stars == 0)) (name_place name) parts.1) in
     let arrays = lengths_known known (name_place name) lengths [] parts.2 in
@@ -217,12 +226,14 @@ declared_known known s (declared stars name lengths) none =
           ∙ ap (λ a. complete_by known (type_by (Some some.0) stars a)) arrays.1
           ∙ ap (λ c. if c then Some (array_type some.0 stars arrays.0) else None) (layers_complete known arrays.0 stars some.0 long some.2),
     )
+declared_known known s (declared_pointer stars name ps) numbered none = (bare (base.Function numbered.0), ap pointer_type numbered.1)
 
 -- ---- what is not kept in cells
 
 -- a whole number or a pointer
 abbrev pub IsScalarLayered : List Layer → BaseType → Type 0
 IsScalarLayered [] base.Int = Unit {0}
+IsScalarLayered [] (base.Function k) = Unit {0}
 IsScalarLayered [] _ = ⊥
 IsScalarLayered (layer.Pointer ∷ ls) b = Unit {0}
 IsScalarLayered (layer.Array n ∷ ls) b = ⊥
@@ -232,6 +243,7 @@ IsScalar t = IsScalarLayered t.layers t.base
 
 scalar_layered : (ls : List Layer) (b : BaseType) → IsScalarLayered ls b → layered_struct ls b ≡ None
 scalar_layered [] base.Int is = refl
+scalar_layered [] (base.Function fn) is = refl
 scalar_layered [] base.Void is = absurd is
 scalar_layered [] (base.Struct k) is = absurd is
 scalar_layered [] base.Mutex is = absurd is
@@ -279,6 +291,7 @@ declared_tells known s stars name (x ∷ xs) t k e = let no : ⊥ = cc in absurd
 -- but Void
 target_base : (n : ℕ) (b : BaseType) → IsFormedPointee n b → IsFormedTarget n (layered_target (layer.Pointer ∷ []) b)
 target_base n base.Int ok = tt
+target_base n (base.Function fn) ok = tt
 target_base n base.Void ok = tt
 target_base n (base.Struct k) ok = ok
 target_base n base.Mutex ok = tt
@@ -312,6 +325,7 @@ passed_formed known n le (specifier.PthreadRwlockT at) zero b can e = let is : b
 
 base_tells : (b : BaseType) → false ≡ is_pointing (type_operand (starred 0 b))
 base_tells base.Int = refl
+base_tells (base.Function fn) = refl
 base_tells base.Void = refl
 base_tells (base.Struct k) = refl
 base_tells base.Mutex = refl
@@ -323,16 +337,16 @@ pub starred_tells : (stars : ℕ) (b : BaseType) → nat_lt 0 stars ≡ is_point
 starred_tells zero b = base_tells b
 starred_tells (suc k) b = some_star k
 
--- a parameter's type where nothing is wrong
-pub param_known : (known : Known) (n : ℕ) → length known.struct_names ≤ n → (q : Param) → specifier_faults known (q.stars == 0) q.specifier ≡ [] → cannot_pass q.specifier q.stars ≡ false
-    → (t : ObjectType) × (param_type known q ≡ Some t) × IsFormed n t × (nat_lt 0 q.stars ≡ is_pointing (type_operand t)) × (type_struct t ≡ None)
-param_known known n le q none can =
-    let some = param_based q.specifier q.stars none can in (
-      starred q.stars some.0,
-      ap (λ c. passed_by c (base_of known q.specifier) q.stars) can ∙ ap (λ o. passed_by false o q.stars) some.1,
-      passed_formed known n le q.specifier q.stars some.0 can some.1,
-      starred_tells q.stars some.0,
-      passed_no_struct q.specifier q.stars some.0 can some.1,
+-- the type of a parameter that is no pointer to functions, where nothing is wrong
+pub param_known : (known : Known) (n : ℕ) → length known.struct_names ≤ n → (s : Specifier) (stars : ℕ) (name : Option Name) (at : Position) → specifier_faults known (stars == 0) s ≡ [] → cannot_pass s stars ≡ false
+    → (t : ObjectType) × (param_type known (formal s stars name at) ≡ Some t) × IsFormed n t × (nat_lt 0 stars ≡ is_pointing (type_operand t)) × (type_struct t ≡ None)
+param_known known n le s stars name at none can =
+    let some = param_based s stars none can in (
+      starred stars some.0,
+      ap (λ c. passed_by c (base_of known s) stars) can ∙ ap (λ o. passed_by false o stars) some.1,
+      passed_formed known n le s stars some.0 can some.1,
+      starred_tells stars some.0,
+      passed_no_struct s stars some.0 can some.1,
     )
   where
     passed_no_struct : (s : Specifier) (stars : ℕ) (b : BaseType) → cannot_pass s stars ≡ false → base_of known s ≡ Some b → type_struct (starred stars b) ≡ None

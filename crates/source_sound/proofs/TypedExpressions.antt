@@ -31,45 +31,49 @@ use Rattle.c_types.specs.Found.{where_it_comes, found_at}
 use Rattle.c_types.specs.Numbers.{is_zero}
 use Rattle.c_types.specs.Types.{bare}
 use Rattle.c_types.specs.Constants.{constant_named}
+use Rattle.c_types.specs.Signatures.{type_numbered}
 use Rattle.c_types.specs.Scopes.{Known, Scope, Members, Meaning, variable, function_of, seen, seen_in, or_else, has_name, base_of, starred, type_named, member_among, member_of, is_complete}
-use Rattle.c_types.specs.Operands.{Standing, no_type, zero_literal, null_literal, a_value, a_place, Operand, any_operand, whole, zero_operand, null_operand, pointing, no_operand, operand_of, type_value, is_void, layered_is_void, is_typed, is_scalar, accepts, int_value, takes}
+use Rattle.c_types.specs.Operands.{Standing, no_type, zero_literal, null_literal, a_value, a_place, Operand, any_operand, whole, zero_operand, null_operand, pointing, function_operand, no_operand, operand_of, type_value, is_void, layered_is_void, is_typed, accepts, int_value, takes}
 use Rattle.c_types.specs.Library.{starred_type, an_int, wanted_by, given_by, library_named}
-use Rattle.c_types.specs.Standing.{Target, no_target, type_target, assigned_target, cast_target, malloc_standing, pointee, is_sized, sizeof_type_standing, casts_to, cast_standing, can_index, struct_of, pointed_struct, place_by, member_standing, named_standing, is_main, callee, callee_wants, call_standing, given_type, format_of, number_standing, index_standing, prefix_standing, assign_standing, stepped, element_place, some_library_callee, library_callee, function_callee, callee_of, is_root, is_text, is_null, fits_wanted, can_go, let_go, following, standing, last_standing, fit_wanted}
-use Rattle.c_rules.specs.Faults.{name_place, mismatch, specifier_faults, is_some_void, name_can_be_place, is_indirect, can_be_place, standing_type, assigns_to, steps, prefix_takes, needs_place, place_faults, lacks_struct, lacks_member, member_faults, named_faults, count_of, count_faults, begins_with_text, printf_wants, some_library_wants, library_wants, wants_of, has_no_target, printf_count_faults, library_call_faults, unseen_call_faults, callee_faults, format_faults, is_named, where_judged, one_argument_faults, condition_takes, go_faults, step_faults, place_of_first, sizeof_type_faults, cast_faults, assign_faults, prefix_faults, call_faults, faults, rest_faults, arguments_faults, root_faults, first_place}
-use Rattle.c_programs.specs.Declarators.{is_void_specifier}
+use Rattle.c_types.specs.Standing.{Target, no_target, type_target, assigned_target, cast_target, malloc_standing, pointee, is_sized, sizeof_type_standing, casts_to, can_cast, cast_standing, can_index, struct_of, pointed_struct, place_by, member_standing, type_function, signature_by, pointed_signature, pointer_callee, function_value, named_standing, is_main, can_be_used, callee, callee_wants, call_standing, given_type, format_of, number_standing, index_standing, prefix_standing, assign_standing, stepped, element_place, some_library_callee, library_callee, function_callee, callee_of, is_root, is_text, is_null, fits_wanted, can_go, let_go, following, standing, last_standing, fit_wanted}
+use Rattle.c_rules.specs.Faults.{name_place, mismatch, specifier_faults, is_some_void, name_can_be_place, is_indirect, can_be_place, standing_type, assigns_to, steps, prefix_takes, needs_place, place_faults, lacks_struct, lacks_member, member_faults, named_faults, count_of, count_faults, begins_with_text, printf_wants, some_library_wants, library_wants, pointer_wants, pointer_call_faults, wants_of, has_no_target, printf_count_faults, library_call_faults, unseen_call_faults, callee_faults, format_faults, is_named, where_judged, one_argument_faults, condition_takes, go_faults, step_faults, place_of_first, sizeof_type_faults, cast_faults, assign_faults, prefix_faults, call_faults, faults, rest_faults, arguments_faults, root_faults, first_place}
+use Rattle.c_names.specs.Signatures.{is_void_specifier}
 use Rattle.source_sound.proofs.Environment.{IsFormed}
 use Rattle.source_sound.proofs.FileLists.{append_nil, nil3, nil4, where_nil, not_nil}
 use Rattle.source_sound.proofs.DeclaredTypes.{IsFileBase, base_known, complete_specifier, AreDeclarable, only_pointers, pointers_formed}
 use Rattle.source_sound.proofs.FileStructs.{IsMember, AreMembers, AllMembers}
 use Rattle.source_sound.proofs.Signatures.{IsKnown, IsSomeResult}
+use Rattle.source_sound.proofs.Listed.{lists_of}
+use Rattle.source_sound.proofs.PointerNumbers.{PointsKnown}
 use Rattle.source_sound.proofs.FileScope.{AllOf, found_entry}
 use Rattle.source_sound.proofs.Typing.{pointers_declarable, IsGood, IsGoodOperand, IsGoodTarget, IsObjectStanding, NeedsObject, good_operand, good_typed, as_value_good, given_good, place_target, malloc_good, where_good, made_good, binary_good, conditional_good, index_good, stepped_good, assign_good, prefix_good, let_go_good, after_good}
 
 -- ---- the names in reach
 
 module _ (n : ℕ) where
-  abbrev pub IsTypedName : Text → Meaning → Type 0
-  IsTypedName name (variable None) = ⊥
-  IsTypedName name (variable (Some t)) = IsFormed n t × AreDeclarable t.layers
-  IsTypedName name (function_of g) = IsKnown n g
+  -- what its type points to is known, and a function's type has a number
+  abbrev pub IsTypedName : Known → Text → Meaning → Type 0
+  IsTypedName lists name (variable None) = ⊥
+  IsTypedName lists name (variable (Some t)) = IsFormed n t × AreDeclarable t.layers × PointsKnown lists n t
+  IsTypedName lists name (function_of g) = IsKnown n g × ((k : ℕ) × (type_numbered lists g ≡ Some k))
 
-  abbrev pub AreTypedScopes : List Scope → Type 0
-  AreTypedScopes [] = Unit {0}
-  AreTypedScopes (s ∷ ss) = AllOf IsTypedName s × AreTypedScopes ss
+  abbrev pub AreTypedScopes : Known → List Scope → Type 0
+  AreTypedScopes lists [] = Unit {0}
+  AreTypedScopes lists (s ∷ ss) = AllOf (IsTypedName lists) s × AreTypedScopes lists ss
 
   -- each name and each member has a type
   pub record AreTyped (known : Known) : Type 0 where
-    pub names : AreTypedScopes known.scopes
+    pub names : AreTypedScopes (lists_of known) known.scopes
     pub members : AllMembers n 0 known.structs
     pub structs : length known.struct_names ≡ n
 
-  seen_typed : (ss : List Scope) (name : Text) (m : Meaning) → AreTypedScopes ss → seen_in ss name ≡ Some m → IsTypedName name m
-  seen_typed [] name m h e = absurd (none-some m e)
-  seen_typed (s ∷ ss) name m h e = by (entry_of s name) refl e (λ k. seen_typed ss name m h.1 k)
+  seen_typed : (lists : Known) (ss : List Scope) (name : Text) (m : Meaning) → AreTypedScopes lists ss → seen_in ss name ≡ Some m → IsTypedName lists name m
+  seen_typed lists [] name m h e = absurd (none-some m e)
+  seen_typed lists (s ∷ ss) name m h e = by (entry_of s name) refl e (λ k. seen_typed lists ss name m h.1 k)
     where
-      by : (o : Option Meaning) → entry_of s name ≡ o → or_else o (seen_in ss name) ≡ Some m → (seen_in ss name ≡ Some m → IsTypedName name m) → IsTypedName name m
+      by : (o : Option Meaning) → entry_of s name ≡ o → or_else o (seen_in ss name) ≡ Some m → (seen_in ss name ≡ Some m → IsTypedName lists name m) → IsTypedName lists name m
       by None is e rec = rec e
-      by (Some x) is e rec = subst (λ z. IsTypedName name z) (same_Some x m e) (found_entry IsTypedName s h.0 name x is)
+      by (Some x) is e rec = subst (λ z. IsTypedName lists name z) (same_Some x m e) (found_entry (IsTypedName lists) s h.0 name x is)
 
   named_member : (j : ℕ) (ms : Members) → AreMembers n j ms → AllOf (λ name t. IsMember n j t) ms
   named_member j [] h = tt
@@ -123,11 +127,11 @@ module _ (n : ℕ) where
 
   cast_good : (known : Known) (t : CType) (a : Operand) (at : Position) → length known.struct_names ≡ n → IsGoodOperand n a → cast_faults known t a at ≡ [] → IsGood n (cast_standing (type_named known t) t.stars a)
   cast_good known t a at size g h =
-      let p = append_nil (mismatch (not (casts_to (type_named known t) t.stars && is_scalar a)) at) (specifier_faults known false t.specifier) h in
+      let p = append_nil (mismatch (not (casts_to (type_named known t) t.stars && can_cast a)) at) (specifier_faults known false t.specifier) h in
       let is = type_known known false t size p.1 in
       let u = starred t.stars is.0 in
-      let ok : (casts_to (Some u) t.stars && is_scalar a) ≡ true = ap (λ o. casts_to o t.stars && is_scalar a) (sym is.2) ∙ not_nil _ _ _ p.0 in
-      subst (λ o. IsGood n (cast_standing o t.stars a)) (sym is.2) (where_good n (casts_to (Some u) t.stars && is_scalar a && is_typed a) (type_value u) (and_from (casts_to (Some u) t.stars && is_scalar a) (is_typed a) ok (good_typed n a g)) (starred_value t.stars is.0 is.3))
+      let ok : (casts_to (Some u) t.stars && can_cast a) ≡ true = ap (λ o. casts_to o t.stars && can_cast a) (sym is.2) ∙ not_nil _ _ _ p.0 in
+      subst (λ o. IsGood n (cast_standing o t.stars a)) (sym is.2) (where_good n (casts_to (Some u) t.stars && can_cast a && is_typed a) (type_value u) (and_from (casts_to (Some u) t.stars && can_cast a) (is_typed a) ok (good_typed n a g)) (starred_value t.stars is.0 is.3))
 
   pub cast_target_good : (known : Known) (t : CType) → length known.struct_names ≡ n → specifier_faults known false t.specifier ≡ [] → IsGoodTarget n (cast_target (type_named known t) t.stars)
   cast_target_good known t size h = let is = type_known known false t size h in subst (λ o. IsGoodTarget n (cast_target o t.stars)) (sym is.2) (starred_target t.stars is.0 is.3)
@@ -171,6 +175,7 @@ module _ (n : ℕ) where
   pointee_object whole h = absurd h
   pointee_object zero_operand h = absurd h
   pointee_object null_operand h = absurd h
+  pointee_object (function_operand k) h = absurd h
   pointee_object no_operand h = absurd h
 
   element_object : (a b : Operand) → IsGood n (element_place a b) → IsObjectStanding n (element_place a b)
@@ -180,30 +185,42 @@ module _ (n : ℕ) where
   element_object any_operand whole h = absurd h
   element_object any_operand zero_operand h = absurd h
   element_object any_operand null_operand h = absurd h
+  element_object any_operand (function_operand k) h = absurd h
   element_object any_operand no_operand h = absurd h
   element_object whole (pointing t) h = tt
   element_object whole any_operand h = absurd h
   element_object whole whole h = absurd h
   element_object whole zero_operand h = absurd h
   element_object whole null_operand h = absurd h
+  element_object whole (function_operand k) h = absurd h
   element_object whole no_operand h = absurd h
   element_object zero_operand (pointing t) h = tt
   element_object zero_operand any_operand h = absurd h
   element_object zero_operand whole h = absurd h
   element_object zero_operand zero_operand h = absurd h
   element_object zero_operand null_operand h = absurd h
+  element_object zero_operand (function_operand k) h = absurd h
   element_object zero_operand no_operand h = absurd h
   element_object null_operand (pointing t) h = tt
   element_object null_operand any_operand h = absurd h
   element_object null_operand whole h = absurd h
   element_object null_operand zero_operand h = absurd h
   element_object null_operand null_operand h = absurd h
+  element_object null_operand (function_operand k) h = absurd h
   element_object null_operand no_operand h = absurd h
+  element_object (function_operand k) (pointing t) h = tt
   element_object no_operand (pointing t) h = tt
+  element_object (function_operand k) any_operand h = absurd h
   element_object no_operand any_operand h = absurd h
+  element_object (function_operand k) whole h = absurd h
   element_object no_operand whole h = absurd h
+  element_object (function_operand k) zero_operand h = absurd h
   element_object no_operand zero_operand h = absurd h
+  element_object (function_operand k) null_operand h = absurd h
   element_object no_operand null_operand h = absurd h
+  element_object (function_operand k) (function_operand j) h = absurd h
+  element_object no_operand (function_operand k) h = absurd h
+  element_object (function_operand k) no_operand h = absurd h
   element_object no_operand no_operand h = absurd h
 
   index_object : (a b : Operand) → IsGood n (index_standing a b) → IsObjectStanding n (index_standing a b)
@@ -213,13 +230,13 @@ module _ (n : ℕ) where
       by true h = element_object a b h
       by false h = absurd h
 
-  named_object : (m : Option Meaning) (name : Text) → name_can_be_place m name ≡ true → IsGood n (named_standing m (constant_named name)) → IsObjectStanding n (named_standing m (constant_named name))
-  named_object (Some (variable None)) name e h = absurd h
-  named_object (Some (variable (Some t))) name e h = tt
-  named_object (Some (function_of f)) name e h = absurd h
-  named_object None name e h = by (constant_named name) (and_parts (not (is_some (constant_named name))) (not (is_some (library_named name))) e).0 h
+  named_object : (known : Known) (m : Option Meaning) (name : Text) → name_can_be_place m name ≡ true → IsGood n (named_standing known name m (constant_named name)) → IsObjectStanding n (named_standing known name m (constant_named name))
+  named_object known (Some (variable None)) name e h = absurd h
+  named_object known (Some (variable (Some t))) name e h = tt
+  named_object known (Some (function_of f)) name e h = absurd (true≢false (sym e))
+  named_object known None name e h = by (constant_named name) (and_parts (not (is_some (constant_named name))) (not (is_some (library_named name))) e).0 h
     where
-      by : (o : Option ℤ) → not (is_some o) ≡ true → IsGood n (named_standing None o) → IsObjectStanding n (named_standing None o)
+      by : (o : Option ℤ) → not (is_some o) ≡ true → IsGood n (named_standing known name None o) → IsObjectStanding n (named_standing known name None o)
       by None e h = absurd h
       by (Some z) e h = absurd (true≢false (sym e))
 
@@ -239,7 +256,7 @@ module _ (n : ℕ) where
   is_object known w (index a b at) e h = index_object (operand_of (standing known no_target a)) (operand_of (standing known no_target b)) h
   is_object known w (member a name at) e h = member_object known (struct_of (standing known no_target a)) name.text h
   is_object known w (arrow a name at) e h = member_object known (pointed_struct (operand_of (standing known no_target a))) name.text h
-  is_object known w (named name at) e h = named_object (seen known name) name e h
+  is_object known w (named name at) e h = named_object known (seen known name) name e h
   is_object known w (paren a at) e h = is_object known w a e h
   is_object known w (comma a es at) e h = absurd (true≢false (sym e))
   is_object known w (assign a op b at) e h = absurd (true≢false (sym e))
@@ -294,6 +311,7 @@ module _ (n : ℕ) where
   lacking zero_operand k g e = e
   lacking null_operand k g e = e
   lacking (pointing t) k g e = e
+  lacking (function_operand n0) k g e = e
   lacking no_operand k g e = e
 
   member_good : (known : Known) (a : Operand) (k : Option ℕ) (name : Name) (at : Position) → AreTyped known → IsGoodOperand n a → member_faults known a k name at ≡ [] → IsGood n (member_standing known k name.text)
@@ -311,13 +329,20 @@ module _ (n : ℕ) where
 
   -- ---- names
 
-  named_good : (known : Known) (name : Text) (at : Position) (m : Option Meaning) → seen known name ≡ m → AreTyped known → named_faults known m name at ≡ [] → IsGood n (named_standing m (constant_named name))
-  named_good known name at (Some (variable None)) is typed h = seen_typed known.scopes name (variable None) typed.names is
-  named_good known name at (Some (variable (Some t))) is typed h = seen_typed known.scopes name (variable (Some t)) typed.names is
-  named_good known name at (Some (function_of f)) is typed h = let p = append_nil (where_it_comes (not (has_name known.defined name)) fault.UnknownName at) (mismatch true at) h in absurd (true≢false (where_nil true _ _ p.1))
+  function_value_good : (used : Bool) (k : Option ℕ) → used ≡ true → ((j : ℕ) × (k ≡ Some j)) → IsGood n (function_value used k)
+  function_value_good true None e some = absurd (none-some some.0 some.1)
+  function_value_good true (Some j) e some = tt
+  function_value_good false k e some = absurd (true≢false (sym e))
+
+  named_good : (known : Known) (name : Text) (at : Position) (m : Option Meaning) → seen known name ≡ m → AreTyped known → named_faults known m name at ≡ [] → IsGood n (named_standing known name m (constant_named name))
+  named_good known name at (Some (variable None)) is typed h = seen_typed (lists_of known) known.scopes name (variable None) typed.names is
+  named_good known name at (Some (variable (Some t))) is typed h = let own = seen_typed (lists_of known) known.scopes name (variable (Some t)) typed.names is in (own.0, own.1)
+  named_good known name at (Some (function_of f)) is typed h =
+      let p = append_nil (where_it_comes (is_main name) fault.BadCall at) (where_it_comes (not (has_name known.defined name)) fault.UnknownName at) h in
+      function_value_good (can_be_used known name) (type_numbered known f) (and_from (not (is_main name)) (has_name known.defined name) (ap not (where_nil _ _ _ p.0)) (not_nil (has_name known.defined name) _ _ p.1)) (seen_typed (lists_of known) known.scopes name (function_of f) typed.names is).1
   named_good known name at None is typed h = by (constant_named name) (is_some (library_named name)) h
     where
-      by : (o : Option ℤ) (l : Bool) → (if is_some o then [] else (if l then found_at fault.TypeMismatch at ∷ [] else found_at fault.UnknownName at ∷ [])) ≡ [] → IsGood n (named_standing None o)
+      by : (o : Option ℤ) (l : Bool) → (if is_some o then [] else (if l then found_at fault.TypeMismatch at ∷ [] else found_at fault.UnknownName at ∷ [])) ≡ [] → IsGood n (named_standing known name None o)
       by (Some z) l h = tt
       by None true h = cc
       by None false h = cc
@@ -344,14 +369,14 @@ module _ (n : ℕ) where
       not_nil (is_root known e) _ _ q.0
   one_fits known wants.Text e at rec h = let p = append_nil (where_judged (not (is_text e)) (faults known no_target e)) (where_it_comes (not (is_text e)) fault.OutOfProfile (first_place e)) h in not_nil (is_text e) _ _ p.1
 
+  given_result : (r : Option StarredType) → IsSomeResult n r → IsGood n (given_type r)
+  given_result None h = absurd h
+  given_result (Some t) h = given_good n t h
+
   function_good : (known : Known) (name : Text) (f : Signature) (es : Exps) → (not (is_main name) && has_name known.defined name) ≡ true → IsSomeResult n f.result → Fit known f.params es →
-      IsGood n (call_standing (function_callee (not (is_main name) && has_name known.defined name) f) (fit_wanted known (callee_wants (function_callee (not (is_main name) && has_name known.defined name) f)) es))
+      IsGood n (call_standing (function_callee (can_be_used known name) f) (fit_wanted known (callee_wants (function_callee (can_be_used known name) f)) es))
   function_good known name f es is result fit =
-      subst (λ b. IsGood n (call_standing (function_callee b f) (fit_wanted known (callee_wants (function_callee b f)) es))) (sym is) (where_good n (fit_wanted known f.params es) (given_type f.result) fit (given f.result result))
-    where
-      given : (r : Option StarredType) → IsSomeResult n r → IsGood n (given_type r)
-      given None h = absurd h
-      given (Some t) h = given_good n t h
+      subst (λ b. IsGood n (call_standing (function_callee b f) (fit_wanted known (callee_wants (function_callee b f)) es))) (sym is) (where_good n (fit_wanted known f.params es) (given_type f.result) fit (given_result f.result result))
 
   some_target_is : (w : Target) → has_no_target w ≡ false → w ≡ no_target → ⊥
   some_target_is w e is = true≢false (sym (ap has_no_target is) ∙ e)
@@ -476,14 +501,24 @@ module _ (n : ℕ) where
       by false h = cc
   unseen_good known w name (Some c) format es at here' target is fit f g args = library_good known w c format es at here' target is fit f g args
 
+  -- a call through a variable gives what the functions give
+  pointer_good : (known : Known) (name : Text) (t : ObjectType) (es : Exps) (at : Position) → seen known name ≡ Some (variable (Some t)) → AreTyped known → (k : Option ℕ) → type_function t ≡ k → (g : Option Signature) → signature_by known k ≡ g →
+      (count_of es ≡ length (pointer_wants g) → Fit known (pointer_wants g) es) → pointer_call_faults g (count_of es) at ≡ [] → IsGood n (call_standing (pointer_callee g) (fit_wanted known (callee_wants (pointer_callee g)) es))
+  pointer_good known name t es at is typed k e None q fit c = absurd (true≢false (where_nil true _ _ c))
+  pointer_good known name t es at is typed None e (Some g) q fit c = absurd (none-some g q)
+  pointer_good known name t es at is typed (Some k) e (Some g) q fit c =
+      let own = (seen_typed (lists_of known) known.scopes name (variable (Some t)) typed.names is).2 k g e q in
+      where_good n (fit_wanted known g.params es) (given_type g.result) (fit (same_count (count_of es) (length g.params) at c)) (given_result g.result own.1)
+
   called_good : (known : Known) (w : Target) (name : Text) (es : Exps) (at : Position) (m : Option Meaning) → seen known name ≡ m → AreTyped known → IsGoodTarget n w →
-      (count_of es ≡ length (wants_of name (format_of es) m) → Fit known (wants_of name (format_of es) m) es) →
-      callee_faults known name w (begins_with_text es) (format_of es) (count_of es) at m ≡ [] → format_faults (begins_with_text es) (library_named name) m (format_of es) (place_of_first es) ≡ [] → arguments_faults known (wants_of name (format_of es) m) at es ≡ [] →
+      (count_of es ≡ length (wants_of known name (format_of es) m) → Fit known (wants_of known name (format_of es) m) es) →
+      callee_faults known name w (begins_with_text es) (format_of es) (count_of es) at m ≡ [] → format_faults (begins_with_text es) (library_named name) m (format_of es) (place_of_first es) ≡ [] → arguments_faults known (wants_of known name (format_of es) m) at es ≡ [] →
       IsGood n (call_standing (callee_of known w name (format_of es) m) (fit_wanted known (callee_wants (callee_of known w name (format_of es) m)) es))
-  called_good known w name es at (Some (variable t)) is typed target fit c f args = absurd (true≢false (where_nil true _ _ c))
+  called_good known w name es at (Some (variable None)) is typed target fit c f args = absurd (true≢false (where_nil true _ _ c))
+  called_good known w name es at (Some (variable (Some t))) is typed target fit c f args = pointer_good known name t es at is typed (type_function t) refl (pointed_signature known (Some t)) refl fit c
   called_good known w name es at (Some (function_of g)) is typed target fit c f args =
       let p = nil3 (where_it_comes (is_main name) fault.BadCall at) (where_it_comes (not (has_name known.defined name)) fault.UnknownName at) (count_faults (count_of es) (length g.params) at) c in
-      let own = seen_typed known.scopes name (function_of g) typed.names is in
+      let own = (seen_typed (lists_of known) known.scopes name (function_of g) typed.names is).0 in
       let main : not (is_main name) ≡ true = ap not (where_nil _ _ _ p.0) in
       function_good known name g es (and_from (not (is_main name)) (has_name known.defined name) main (not_nil (has_name known.defined name) _ _ p.1)) own.1 (fit (same_count (count_of es) (length g.params) at p.2))
   called_good known w name es at None is typed target fit c f args = unseen_good known w name (library_named name) (format_of es) es at (place_of_first es) target refl fit c f args
@@ -532,7 +567,7 @@ module _ (n : ℕ) where
       exp_good w target (cast t a at) h =
           let to = cast_target (type_named known t) t.stars in
           let p = append_nil (faults known to a) (cast_faults known t (operand_of (standing known to a)) at) h in
-          let q = append_nil (mismatch (not (casts_to (type_named known t) t.stars && is_scalar (operand_of (standing known to a)))) at) (specifier_faults known false t.specifier) p.1 in
+          let q = append_nil (mismatch (not (casts_to (type_named known t) t.stars && can_cast (operand_of (standing known to a)))) at) (specifier_faults known false t.specifier) p.1 in
           cast_good known t (operand_of (standing known to a)) at typed.structs (good_operand n (standing known to a) (exp_good to (cast_target_good known t typed.structs q.1) a p.0)) p.1
       exp_good w target (index a b at) h =
           let x = operand_of (standing known no_target a) in
@@ -551,7 +586,7 @@ module _ (n : ℕ) where
       exp_good w target (post_decrement a at) h = let p = append_nil (faults known no_target a) (step_faults known a (standing known no_target a) at) h in step_typed known a at (exp_good no_target tt a p.0) p.1
       exp_good w target (named name at) h = named_good known name at (seen known name) refl typed h
       exp_good w target (call name es at) h =
-          let ws = wants_of name (format_of es) (seen known name) in
+          let ws = wants_of known name (format_of es) (seen known name) in
           let p = append_nil (call_faults known w name es at) (arguments_faults known ws at es) h in
           let q = append_nil (callee_faults known name w (begins_with_text es) (format_of es) (count_of es) at (seen known name)) (format_faults (begins_with_text es) (library_named name) (seen known name) (format_of es) (place_of_first es)) p.0 in
           called_good known w name es at (seen known name) refl typed target (λ many. all_fit ws at es many p.1) q.0 q.1 p.1

@@ -13,10 +13,10 @@ use Rattle.c_types.specs.declared.types.Layer.TheVariants as layer
 use Rattle.c_types.specs.declared.types.ObjectType.{ObjectType}
 use Rattle.c_types.specs.declared.library.StarredType.{StarredType}
 use Rattle.c_types.specs.Types.{pointer_to}
-use Rattle.c_types.specs.Operands.{Standing, no_type, zero_literal, null_literal, a_value, a_place, Operand, any_operand, whole, zero_operand, null_operand, pointing, no_operand, base_operand, layered_operand, operand_of, layered_value, type_value, as_value, layered_is_void, is_void, is_typed, is_whole, is_scalar, are_whole, settled, int_value, sum_of, difference_of, result_of, takes, binary_standing, can_choose, voider, chosen_target, chosen, moves, assigns}
+use Rattle.c_types.specs.Operands.{Standing, no_type, zero_literal, null_literal, a_value, a_place, Operand, any_operand, whole, zero_operand, null_operand, pointing, function_operand, no_operand, base_operand, layered_operand, operand_of, layered_value, type_value, as_value, layered_is_void, is_void, is_typed, is_whole, is_scalar, are_whole, settled, int_value, sum_of, difference_of, result_of, takes, binary_standing, can_choose, voider, chosen_target, chosen, moves, assigns}
 use Rattle.c_types.specs.Library.{starred_type}
-use Rattle.c_types.specs.Standing.{Target, no_target, some_target, target_of, layered_target, malloc_standing, pointee, address, stepped, made_int, prefix_standing, conditional_standing, assign_standing, element_place, can_index, index_standing, let_go, can_go, following, given_type}
-use Rattle.c_rules.specs.Faults.{standing_type, assigns_to, steps, can_follow, prefix_takes}
+use Rattle.c_types.specs.Standing.{Target, no_target, some_target, target_of, layered_target, malloc_standing, pointee, points_to_functions, address, stepped, made_int, prefix_standing, conditional_standing, assign_standing, element_place, can_index, index_standing, let_go, can_go, following, given_type}
+use Rattle.c_rules.specs.Faults.{standing_type, assigns_to, steps, can_follow, can_be_pointed_to, prefix_takes}
 use Rattle.source_sound.proofs.Environment.{IsFormedBase, IsFormedPointee, IsFormedLayered, IsFormed, IsFormedGiven, IsFormedValue}
 use Rattle.source_sound.proofs.DeclaredTypes.{ArePointers, AreDeclarable, only_pointers}
 
@@ -24,6 +24,7 @@ use Rattle.source_sound.proofs.DeclaredTypes.{ArePointers, AreDeclarable, only_p
 
 base_pointee : (n : ℕ) (b : BaseType) → IsFormedBase n b → IsFormedPointee n b
 base_pointee n base.Int h = h
+base_pointee n (base.Function fn) h = h
 base_pointee n base.Void h = tt
 base_pointee n (base.Struct k) h = h
 base_pointee n base.Mutex h = h
@@ -38,6 +39,7 @@ to_pointee n (layer.Array m ∷ ls) b h = h
 
 from_pointee : (n : ℕ) (ls : List Layer) (b : BaseType) → IsFormedLayered n (layer.Pointer ∷ ls) b → layered_is_void ls b ≡ false → IsFormedLayered n ls b
 from_pointee n [] base.Int h v = h
+from_pointee n [] (base.Function fn) h v = h
 from_pointee n [] base.Void h v = absurd (true≢false v)
 from_pointee n [] (base.Struct k) h v = h
 from_pointee n [] base.Mutex h v = h
@@ -78,6 +80,7 @@ module _ (n : ℕ) where
   IsGoodOperand zero_operand = Unit {0}
   IsGoodOperand null_operand = Unit {0}
   IsGoodOperand (pointing t) = IsPointeeType t.layers t.base
+  IsGoodOperand (function_operand k) = Unit {0}
   IsGoodOperand no_operand = Unit {0}
 
   -- what a `malloc` is to make an object of
@@ -88,6 +91,7 @@ module _ (n : ℕ) where
 
   base_good : (b : BaseType) → IsGoodOperand (base_operand b)
   base_good base.Int = tt
+  base_good (base.Function fn) = tt
   base_good base.Void = tt
   base_good (base.Struct k) = tt
   base_good base.Mutex = tt
@@ -118,6 +122,7 @@ module _ (n : ℕ) where
   good_typed zero_operand h = refl
   good_typed null_operand h = refl
   good_typed (pointing t) h = refl
+  good_typed (function_operand k) h = refl
   good_typed no_operand h = refl
 
   layers_value : (ls : List Layer) (b : BaseType) → IsPlaceType ls b → IsGood (layered_value ls b)
@@ -183,24 +188,35 @@ module _ (n : ℕ) where
   sum_good whole zero_operand h g = tt
   sum_good whole null_operand h g = tt
   sum_good whole (pointing t) h g = g
+  sum_good whole (function_operand k) h g = tt
   sum_good whole no_operand h g = tt
   sum_good zero_operand any_operand h g = absurd g
   sum_good zero_operand whole h g = tt
   sum_good zero_operand zero_operand h g = tt
   sum_good zero_operand null_operand h g = tt
   sum_good zero_operand (pointing t) h g = g
+  sum_good zero_operand (function_operand k) h g = tt
   sum_good zero_operand no_operand h g = tt
   sum_good null_operand any_operand h g = absurd g
   sum_good null_operand whole h g = tt
   sum_good null_operand zero_operand h g = tt
   sum_good null_operand null_operand h g = tt
   sum_good null_operand (pointing t) h g = g
+  sum_good null_operand (function_operand k) h g = tt
   sum_good null_operand no_operand h g = tt
+  sum_good (function_operand k) any_operand h g = absurd g
   sum_good no_operand any_operand h g = absurd g
+  sum_good (function_operand k) whole h g = tt
   sum_good no_operand whole h g = tt
+  sum_good (function_operand k) zero_operand h g = tt
   sum_good no_operand zero_operand h g = tt
+  sum_good (function_operand k) null_operand h g = tt
   sum_good no_operand null_operand h g = tt
+  sum_good (function_operand k) (pointing t) h g = g
   sum_good no_operand (pointing t) h g = g
+  sum_good (function_operand k) (function_operand j) h g = tt
+  sum_good no_operand (function_operand k) h g = tt
+  sum_good (function_operand k) no_operand h g = tt
   sum_good no_operand no_operand h g = tt
 
   difference_good : (a b : Operand) → IsGoodOperand a → IsGood (difference_of a b)
@@ -213,6 +229,7 @@ module _ (n : ℕ) where
   difference_good whole b h = tt
   difference_good zero_operand b h = tt
   difference_good null_operand b h = tt
+  difference_good (function_operand k) b h = tt
   difference_good no_operand b h = tt
 
   result_good : (o : BinaryOp) (a b : Operand) → IsGoodOperand a → IsGoodOperand b → IsGood (result_of o a b)
@@ -253,44 +270,64 @@ module _ (n : ℕ) where
   target_good any_operand zero_operand h g = absurd h
   target_good any_operand null_operand h g = absurd h
   target_good any_operand (pointing t) h g = absurd h
+  target_good any_operand (function_operand k) h g = absurd h
   target_good any_operand no_operand h g = absurd h
   target_good whole any_operand h g = absurd g
   target_good whole whole h g = (tt, tt)
   target_good whole zero_operand h g = (tt, tt)
   target_good whole null_operand h g = (tt, tt)
   target_good whole (pointing t) h g = g
+  target_good whole (function_operand k) h g = (tt, tt)
   target_good whole no_operand h g = (tt, tt)
   target_good zero_operand any_operand h g = absurd g
   target_good zero_operand whole h g = (tt, tt)
   target_good zero_operand zero_operand h g = (tt, tt)
   target_good zero_operand null_operand h g = (tt, tt)
   target_good zero_operand (pointing t) h g = g
+  target_good zero_operand (function_operand k) h g = (tt, tt)
   target_good zero_operand no_operand h g = (tt, tt)
   target_good null_operand any_operand h g = absurd g
   target_good null_operand whole h g = (tt, tt)
   target_good null_operand zero_operand h g = (tt, tt)
   target_good null_operand null_operand h g = (tt, tt)
   target_good null_operand (pointing t) h g = g
+  target_good null_operand (function_operand k) h g = (tt, tt)
   target_good null_operand no_operand h g = (tt, tt)
   target_good (pointing t) any_operand h g = absurd g
   target_good (pointing t) whole h g = h
   target_good (pointing t) zero_operand h g = h
   target_good (pointing t) null_operand h g = h
   target_good (pointing s) (pointing t) h g = voider_good s t h g
+  target_good (pointing t) (function_operand k) h g = h
   target_good (pointing t) no_operand h g = h
+  target_good (function_operand k) any_operand h g = absurd g
   target_good no_operand any_operand h g = absurd g
+  target_good (function_operand k) whole h g = (tt, tt)
   target_good no_operand whole h g = (tt, tt)
+  target_good (function_operand k) zero_operand h g = (tt, tt)
   target_good no_operand zero_operand h g = (tt, tt)
+  target_good (function_operand k) null_operand h g = (tt, tt)
   target_good no_operand null_operand h g = (tt, tt)
+  target_good (function_operand k) (pointing t) h g = g
   target_good no_operand (pointing t) h g = g
+  target_good (function_operand k) (function_operand j) h g = (tt, tt)
+  target_good no_operand (function_operand k) h g = (tt, tt)
+  target_good (function_operand k) no_operand h g = (tt, tt)
   target_good no_operand no_operand h g = (tt, tt)
 
+  objects_good : (a b : Operand) (c : Bool) → IsGoodOperand a → IsGoodOperand b → IsGood (if c then int_value else a_value (pointer_to (chosen_target a b)))
+  objects_good a b true h g = tt
+  objects_good a b false h g = target_good a b h g
+
   chosen_good : (a b : Operand) → IsGoodOperand a → IsGoodOperand b → IsGood (chosen a b)
-  chosen_good a b h g = by (are_whole a b)
-    where
-      by : (c : Bool) → IsGood (if c then int_value else a_value (pointer_to (chosen_target a b)))
-      by true = tt
-      by false = target_good a b h g
+  chosen_good (function_operand k) b h g = tt
+  chosen_good any_operand (function_operand k) h g = tt
+  chosen_good whole (function_operand k) h g = tt
+  chosen_good zero_operand (function_operand k) h g = tt
+  chosen_good null_operand (function_operand k) h g = tt
+  chosen_good (pointing s) (function_operand k) h g = tt
+  chosen_good no_operand (function_operand k) h g = tt
+  chosen_good a b h g = objects_good a b (are_whole a b) h g
 
   pub conditional_good : (a b c : Operand) → IsGoodOperand a → IsGoodOperand b → IsGoodOperand c → (is_scalar a && can_choose b c) ≡ true → IsGood (conditional_standing a b c)
   conditional_good a b c h g k e =
@@ -316,36 +353,49 @@ module _ (n : ℕ) where
   element_good any_operand zero_operand h g e = absurd h
   element_good any_operand null_operand h g e = absurd h
   element_good any_operand (pointing t) h g e = absurd h
+  element_good any_operand (function_operand k) h g e = absurd h
   element_good any_operand no_operand h g e = absurd h
   element_good whole any_operand h g e = absurd g
   element_good whole whole h g e = absurd (true≢false (sym e))
   element_good whole zero_operand h g e = absurd (true≢false (sym e))
   element_good whole null_operand h g e = absurd (true≢false (sym e))
   element_good whole (pointing t) h g e = not_void t g e
+  element_good whole (function_operand k) h g e = absurd (true≢false (sym e))
   element_good whole no_operand h g e = absurd (true≢false (sym e))
   element_good zero_operand any_operand h g e = absurd g
   element_good zero_operand whole h g e = absurd (true≢false (sym e))
   element_good zero_operand zero_operand h g e = absurd (true≢false (sym e))
   element_good zero_operand null_operand h g e = absurd (true≢false (sym e))
   element_good zero_operand (pointing t) h g e = not_void t g e
+  element_good zero_operand (function_operand k) h g e = absurd (true≢false (sym e))
   element_good zero_operand no_operand h g e = absurd (true≢false (sym e))
   element_good null_operand any_operand h g e = absurd g
   element_good null_operand whole h g e = absurd (true≢false (sym e))
   element_good null_operand zero_operand h g e = absurd (true≢false (sym e))
   element_good null_operand null_operand h g e = absurd (true≢false (sym e))
   element_good null_operand (pointing t) h g e = absurd (true≢false (sym e))
+  element_good null_operand (function_operand k) h g e = absurd (true≢false (sym e))
   element_good null_operand no_operand h g e = absurd (true≢false (sym e))
   element_good (pointing t) any_operand h g e = absurd g
   element_good (pointing t) whole h g e = not_void t h (moved_first (not (is_void t)) (is_whole whole) e)
   element_good (pointing t) zero_operand h g e = not_void t h (moved_first (not (is_void t)) (is_whole zero_operand) e)
   element_good (pointing t) null_operand h g e = not_void t h (moved_first (not (is_void t)) (is_whole null_operand) e)
   element_good (pointing s) (pointing t) h g e = not_void s h (moved_first (not (is_void s)) (is_whole (pointing t)) e)
+  element_good (pointing t) (function_operand k) h g e = not_void t h (moved_first (not (is_void t)) (is_whole no_operand) e)
   element_good (pointing t) no_operand h g e = not_void t h (moved_first (not (is_void t)) (is_whole no_operand) e)
+  element_good (function_operand k) any_operand h g e = absurd g
   element_good no_operand any_operand h g e = absurd g
+  element_good (function_operand k) whole h g e = absurd (true≢false (sym e))
   element_good no_operand whole h g e = absurd (true≢false (sym e))
+  element_good (function_operand k) zero_operand h g e = absurd (true≢false (sym e))
   element_good no_operand zero_operand h g e = absurd (true≢false (sym e))
+  element_good (function_operand k) null_operand h g e = absurd (true≢false (sym e))
   element_good no_operand null_operand h g e = absurd (true≢false (sym e))
+  element_good (function_operand k) (pointing t) h g e = absurd (true≢false (sym e))
   element_good no_operand (pointing t) h g e = absurd (true≢false (sym e))
+  element_good (function_operand k) (function_operand j) h g e = absurd (true≢false (sym e))
+  element_good no_operand (function_operand k) h g e = absurd (true≢false (sym e))
+  element_good (function_operand k) no_operand h g e = absurd (true≢false (sym e))
   element_good no_operand no_operand h g e = absurd (true≢false (sym e))
 
   pub index_good : (a b : Operand) → IsGoodOperand a → IsGoodOperand b → can_index a b ≡ true → IsGood (index_standing a b)
@@ -357,12 +407,16 @@ module _ (n : ℕ) where
   IsObjectStanding (a_place t) = Unit {0}
   IsObjectStanding _ = ⊥
 
-  address_good : (s : Standing) → IsGood s → IsObjectStanding s → IsGood (address s)
-  address_good (a_place t) h p = (to_pointee n t.layers t.base h.0, h.1)
-  address_good no_type h p = absurd p
-  address_good zero_literal h p = absurd p
-  address_good null_literal h p = absurd p
-  address_good (a_value t) h p = absurd p
+  address_good : (s : Standing) → IsGood s → IsObjectStanding s → can_be_pointed_to s ≡ true → IsGood (address s)
+  address_good (a_place t) h p e = by (points_to_functions t) e
+    where
+      by : (b : Bool) → not b ≡ true → IsGood (if b then no_type else a_value (pointer_to t))
+      by true e = absurd (true≢false (sym e))
+      by false e = (to_pointee n t.layers t.base h.0, h.1)
+  address_good no_type h p e = absurd p
+  address_good zero_literal h p e = absurd p
+  address_good null_literal h p e = absurd p
+  address_good (a_value t) h p e = absurd p
 
   pub stepped_good : (s : Standing) → IsGood s → IsObjectStanding s → steps (standing_type s) ≡ true → IsGood (stepped s)
   stepped_good (a_place t) h p e = where_good (moves t whole) (type_value t) e (layers_value t.layers t.base h)
@@ -388,6 +442,7 @@ module _ (n : ℕ) where
   pointee_good whole h e = absurd (true≢false (sym e))
   pointee_good zero_operand h e = absurd (true≢false (sym e))
   pointee_good null_operand h e = absurd (true≢false (sym e))
+  pointee_good (function_operand k) h e = absurd (true≢false (sym e))
   pointee_good no_operand h e = absurd (true≢false (sym e))
 
   -- the operand is an object where one is needed
@@ -398,7 +453,7 @@ module _ (n : ℕ) where
   NeedsObject _ s = Unit {0}
 
   pub prefix_good : (o : PrefixOp) (s : Standing) → IsGood s → NeedsObject o s → prefix_takes o s ≡ true → IsGood (prefix_standing o s)
-  prefix_good prefix_op.Address s h p e = address_good s h p
+  prefix_good prefix_op.Address s h p e = address_good s h p e
   prefix_good prefix_op.Indirect s h p e = pointee_good (operand_of s) (good_operand s h) e
   prefix_good prefix_op.Plus s h p e = made_good (is_whole (operand_of s)) (operand_of s) e (good_operand s h)
   prefix_good prefix_op.Minus s h p e = made_good (is_whole (operand_of s)) (operand_of s) e (good_operand s h)

@@ -1,32 +1,29 @@
 -- The word of an expression without a fault: it is sound, and a pointer or a number as it is wanted.
-use Rattle.std.proofs.Common.{◌≡◌, ℕ, Bool, true, if◌then◌else◌, List, [], ◌∷◌, Option, refl, sym, ap, subst}
+use Rattle.std.proofs.Common.{◌≡◌, ℕ, true, [], Option}
 use Rattle.c_tree.specs.Tree.{Exp}
-use Rattle.c_types.specs.declared.types.BaseType.{BaseType}
-use Rattle.c_types.specs.declared.types.Layer.{Layer}
-use Rattle.c_types.specs.declared.types.Layer.TheVariants as layer
 use Rattle.c_types.specs.declared.types.ObjectType.{ObjectType}
 use Rattle.c_types.specs.declared.library.StarredType.{StarredType}
 use Rattle.c_types.specs.Library.{starred_type}
-use Rattle.c_types.specs.Operands.{Standing, no_type, zero_literal, null_literal, a_value, a_place, operand_of, type_operand, layered_operand, is_typed, is_whole, is_some_pointer, accepts}
-use Rattle.c_types.specs.Types.{layered_is_array}
+use Rattle.c_types.specs.Operands.{Standing, no_type, zero_literal, null_literal, a_value, a_place, operand_of, type_operand, is_typed, is_whole, is_some_pointer, accepts}
 use Rattle.c_types.specs.Standing.{Target, no_target, standing}
 use Rattle.c_rules.specs.Faults.{faults}
 use Rattle.c_locals.specs.Addresses.{addressed}
 use Rattle.c_spots.specs.Spots.{allocations}
-use Rattle.rr_base.specs.declared.position.Position.{Position}
-use Rattle.c_core.specs.Core as core
 use Rattle.c_core.specs.Core.{Function, Program}
 use Rattle.c_core.specs.Meaning.{is_pointer}
-use Rattle.c_operators.specs.Denoted.{Denoted, denoted_register, denoted_cells, denoted_zero, denoted_value, is_pointing, value_by}
+use Rattle.c_operators.specs.declared.denoted.WordKind.{WordKind}
+use Rattle.c_operators.specs.declared.denoted.WordKind.TheVariants as kind
+use Rattle.c_operators.specs.Denoted.{Denoted, denoted_register, denoted_cells, denoted_zero, denoted_null, denoted_value, is_pointing, kind_of}
 use Rattle.c_operators.specs.Context.{Context}
 use Rattle.c_operators.specs.Operators.{is_some_address}
-use Rattle.c_values.specs.Calls.{is_pointer_wanted}
+use Rattle.c_values.specs.Calls.{is_pointer_wanted, kind_wanted}
 use Rattle.c_values.specs.Expressions.{denoted, part, value_of, wanted_of}
 use Rattle.c_core.specs.Sound.{IsPointer, IsWhole, IsSoundExp}
 use Rattle.source_sound.proofs.Environment.{IsFormed, IsFormedValue, IsFormedTarget, AreKept, places_of, DenotedFits, HaveSites, Suits}
-use Rattle.source_sound.proofs.Standings.{address_layers, Stands, PartGives, stands_denoted, stands_gives}
+use Rattle.source_sound.proofs.Standings.{Stands, PartGives, stands_denoted, stands_gives}
+use Rattle.source_sound.proofs.FunctionWords.{any_sound, PartGivesAll, stands_all}
 use Rattle.source_sound.proofs.Choices.{gives_whole}
-use Rattle.source_sound.proofs.Changes.{accepted, either_sound}
+use Rattle.source_sound.proofs.Changes.{accepted}
 use Rattle.source_sound.proofs.Calls.{fitting_word}
 use Rattle.source_sound.proofs.Expressions.{exp_stands}
 
@@ -43,35 +40,14 @@ module _ (p : Program) (home : ℕ → Option ℕ) (f : Function) where
   formed_standing n null_literal x h = tt
   formed_standing n (a_value t) (denoted_value e) h = h.0
   formed_standing n (a_value t) (denoted_zero at) h = absurd h
+  formed_standing n (a_value t) (denoted_null at) h = absurd h
   formed_standing n (a_value t) (denoted_register r at) h = absurd h
   formed_standing n (a_value t) (denoted_cells e at) h = absurd h
   formed_standing n (a_place t) (denoted_register r at) h = h.0
   formed_standing n (a_place t) (denoted_cells e at) h = h.0
   formed_standing n (a_place t) (denoted_zero at) h = absurd h
+  formed_standing n (a_place t) (denoted_null at) h = absurd h
   formed_standing n (a_place t) (denoted_value e) h = absurd h
-
-  -- ---- what fits gives a sound word
-
-  cells_word : (ls : List Layer) (b : BaseType) (e : core.Exp) (at : Position) → IsPointer e → IsSoundExp p home f e →
-      (is_pointer (if layered_is_array ls then e else core.load e (is_pointing (layered_operand ls b)) at) ≡ is_some_address (layered_operand ls b))
-      × IsSoundExp p home f (if layered_is_array ls then e else core.load e (is_pointing (layered_operand ls b)) at)
-  cells_word [] b e at k s = (address_layers [] b, (k, s))
-  cells_word (layer.Pointer ∷ ls) b e at k s = (refl, (k, s))
-  cells_word (layer.Array m ∷ ls) b e at k s = (k, s)
-
-  pub value_fits : (s : Standing) (x : Denoted) → DenotedFits p home f s x → (is_pointer (value_by s x) ≡ is_some_address (operand_of s)) × IsSoundExp p home f (value_by s x)
-  value_fits no_type (denoted_register n at) h = absurd h.0
-  value_fits zero_literal (denoted_register n at) h = absurd h.0
-  value_fits null_literal (denoted_register n at) h = absurd h.0
-  value_fits (a_value t) (denoted_register n at) h = absurd h.0
-  value_fits (a_place t) (denoted_register n at) h = (address_layers t.layers t.base, h.1)
-  value_fits no_type (denoted_cells e at) h = absurd h.0
-  value_fits zero_literal (denoted_cells e at) h = absurd h.0
-  value_fits null_literal (denoted_cells e at) h = absurd h.0
-  value_fits (a_value t) (denoted_cells e at) h = absurd h.0
-  value_fits (a_place t) (denoted_cells e at) h = cells_word t.layers t.base e at h.1 h.2
-  value_fits s (denoted_zero at) h = (ap (λ z. is_some_address (operand_of z)) (sym h), tt)
-  value_fits s (denoted_value e) h = (h.0, h.1)
 
   module _ (h : Context) (suits : Suits p home f h) where
     -- an expression without a fault, whose allocations have sites, and which takes the address of no register
@@ -108,20 +84,21 @@ module _ (p : Program) (home : ℕ → Option ℕ) (f : Function) where
     pub value_whole : (e : Exp) → IsApt no_target e → is_whole (operand_of (standing h.known no_target e)) ≡ true → IsWhole (value_of h e)
     value_whole e a w = gives_whole p home f suits.structs (operand_of (standing h.known no_target e)) _ _ (expression_gives no_target e a) w
 
+    pub expression_words : (w : Target) (e : Exp) → IsApt w e → PartGivesAll p home f suits.structs (part h w e)
+    expression_words w e a = stands_all p home f suits.structs (part h w e) (stands_here w e a)
+
     -- whichever is wanted
-    pub wanted_sound : (pointer : Bool) (w : Target) (e : Exp) → IsApt w e → IsSoundExp p home f (wanted_of h pointer w e)
-    wanted_sound pointer w e a = either_sound p home f suits.structs pointer (operand_of (standing h.known w e)) _ _ (expression_gives w e a)
+    pub wanted_sound : (k : WordKind) (w : Target) (e : Exp) → IsApt w e → IsSoundExp p home f (wanted_of h k w e)
+    wanted_sound k w e a = any_sound p home f suits.structs k (operand_of (standing h.known w e)) (λ q. wanted_of h q w e) (expression_words w e a)
 
     -- a pointer is wanted, and it is one or the literal `0`
-    pub wanted_pointer : (w : Target) (e : Exp) → IsApt w e → is_some_pointer (operand_of (standing h.known w e)) ≡ true → IsPointer (wanted_of h true w e)
+    pub wanted_pointer : (w : Target) (e : Exp) → IsApt w e → is_some_pointer (operand_of (standing h.known w e)) ≡ true → IsPointer (wanted_of h kind.Pointer w e)
     wanted_pointer w e a k = (expression_gives w e a).pointer k
 
     -- an object of the type gets the word, as a first value or by an assignment
-    pub wanted_kind : (t : ObjectType) (pointer : Bool) (w : Target) (e : Exp) → IsApt w e → pointer ≡ is_pointing (type_operand t) → accepts t (operand_of (standing h.known w e)) ≡ true → is_pointer (wanted_of h pointer w e) ≡ pointer
-    wanted_kind t pointer w e a is k =
-        subst (λ b. is_pointer (wanted_of h b w e) ≡ b) (sym is) (accepted p home f suits.structs t (operand_of (standing h.known w e)) _ _ (expression_gives w e a) k)
+    pub wanted_kind : (t : ObjectType) (w : Target) (e : Exp) → IsApt w e → accepts t (operand_of (standing h.known w e)) ≡ true → is_pointer (wanted_of h (kind_of (type_operand t)) w e) ≡ is_pointing (type_operand t)
+    wanted_kind t w e a k = accepted p home f suits.structs t (operand_of (standing h.known w e)) (λ q. wanted_of h q w e) (expression_words w e a) k
 
     -- a function gives the word, or gets it
-    pub wanted_kind_starred : (t : StarredType) (pointer : Bool) (w : Target) (e : Exp) → IsApt w e → pointer ≡ is_pointer_wanted t → accepts (starred_type t) (operand_of (standing h.known w e)) ≡ true → is_pointer (wanted_of h pointer w e) ≡ pointer
-    wanted_kind_starred t pointer w e a is k =
-        subst (λ b. is_pointer (wanted_of h b w e) ≡ b) (sym is) (fitting_word p home f suits.structs t (operand_of (standing h.known w e)) _ _ (expression_gives w e a) k)
+    pub wanted_kind_starred : (t : StarredType) (w : Target) (e : Exp) → IsApt w e → accepts (starred_type t) (operand_of (standing h.known w e)) ≡ true → is_pointer (wanted_of h (kind_wanted t) w e) ≡ is_pointer_wanted t
+    wanted_kind_starred t w e a k = fitting_word p home f suits.structs t (operand_of (standing h.known w e)) (λ q. wanted_of h q w e) (expression_words w e a) k

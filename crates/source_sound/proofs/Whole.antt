@@ -11,19 +11,24 @@ use Rattle.abstract_machine.specs.Layouts.{sites_fit}
 use Rattle.c_text.specs.Texts.{Text, entry_of}
 use Rattle.c_tree.specs.Tree.{Outer}
 use Rattle.c_types.specs.Scopes.{Known}
-use Rattle.c_names.specs.Sources.{known_at_start}
+use Rattle.c_names.specs.Known.{known_at_start}
 use Rattle.c_locals.specs.Addresses.{program_addressed}
+use Rattle.c_locals.specs.Taken.{program_taken}
 use Rattle.c_spots.specs.Spots.{Spot, known_after, program_spots}
 use Rattle.c_sites.specs.Sites.{site_of, kinds_of_structs, program_sites}
 use Rattle.c_sites.specs.Whole.{first_fault}
 use Rattle.c_core.specs.Core.{Program}
 use Rattle.c_operators.specs.Context.{Source, global_named}
 use Rattle.c_globals.specs.Globals.{global_kinds, global_bases}
+use Rattle.c_elaborate.specs.Pointers.{source_pointers}
 use Rattle.c_elaborate.specs.Whole.{outers_functions, outers_words, source_of, core_of_source}
 use Rattle.c_core.specs.Sound.{IsAddress, IsSoundFunction, LiesAt, AreAtHome, IsSound}
 use Rattle.source_sound.proofs.Faultless.{IsFaultless, faultless}
 use Rattle.source_sound.proofs.Sited.{AreSited, all_sited, counted}
 use Rattle.source_sound.proofs.FileStructs.{AreStructs}
+use Rattle.source_sound.proofs.Listed.{lists_of, OutersListed, after_lists, file_listed}
+use Rattle.source_sound.proofs.PointerNumbers.{HavePointerTypes}
+use Rattle.source_sound.proofs.PointerTargets.{types_there, all_targets}
 use Rattle.source_sound.proofs.Homes.{IsHome, Apart, home_from, size_from, kinds_in, home_found, bases_length, base_is, homes_apart, globals_good, named_good, all_named, site_there, size_there}
 use Rattle.source_sound.proofs.Words.{words_length, word_got}
 use Rattle.source_sound.proofs.FileObjects.{IsWhole, GoesOn}
@@ -48,6 +53,7 @@ all_fit ks (x ∷ xs) h = and_from _ _ h.0 (all_fit ks xs h.1)
 abbrev pub program_of : List Outer → Program
 program_of os = record {
   functions = outers_functions (source_of os) (program_addressed os) (known_at_start os) 0 os;
+  pointers = source_pointers (known_after (known_at_start os) os) (program_taken os);
   sites = program_sites os;
   globals = outers_words (source_of os) (known_at_start os) os;
   global_kinds = global_kinds (program_spots os) (program_sites os);
@@ -93,7 +99,7 @@ module _ (os : List Outer) (h : IsFaultless os) (members : StructsHaveMembers os
 
   pub whole : IsWhole (source_of os) structs
   whole = record {
-    structs = all_structs start os members h.faults first_structs;
+    structs = all_structs start os members (file_listed os) h.faults first_structs;
     many = ap (λ xs. length xs) (outers_grow start os).struct_names;
     kinds = refl;
   }
@@ -111,8 +117,9 @@ module _ (os : List Outer) (h : IsFaultless os) (members : StructsHaveMembers os
 
   from_start : AreSoundFrom (source_of os) structs whole (IsAddress p home) good (program_addressed os) start [] 0 os
   from_start = record {
-    place = record { file = record { scopes = refl; structs = refl; entries = tt }; structs = first_structs; more = (source_of os).whole.structs; later = refl };
+    place = record { file = record { scopes = refl; structs = refl; lists = sym (after_lists start os); entries = tt }; structs = first_structs; more = (source_of os).whole.structs; later = refl };
     members = members;
+    listed = subst (λ lists. OutersListed lists os) (sym (after_lists start os)) (file_listed os);
     faults = h.faults;
     names = all_named kinds 1 0 [] spots;
     following = refl;
@@ -155,20 +162,28 @@ module _ (os : List Outer) (h : IsFaultless os) (members : StructsHaveMembers os
   names : start.defined ≡ names_of p.functions
   names = names_on (source_of os) structs whole (IsAddress p home) good (program_addressed os) start [] 0 os from_start tt
 
+  all_names : (known_after start os).defined ≡ names_of p.functions
+  all_names = (outers_grow start os).defined ∙ names
+
+  -- calls through pointers are there
+  pointer_types : HavePointerTypes p structs (lists_of (known_after start os))
+  pointer_types = types_there p structs (known_after start os) words.scope (program_taken os) words.place.file.scopes all_names refl
+
   laid_out : AllLaidOut kinds spots
   laid_out = all_laid (source_of os) structs whole whole.structs.sized.small (whole.structs.sized.many ∙ many) (IsAddress p home) good (program_addressed os) start [] 0 os from_start
 
   -- where definitions are sound
-  module _ (definitions : DefinitionsAreSound p home structs (source_of os)) (few : length p.functions ≤ 2 ^ 20) where
+  module _ (definitions : DefinitionsAreSound p home structs (source_of os)) (few : length p.functions + length p.pointers ≤ 2 ^ 20) where
     all_functions : AllAre (λ f. IsSoundFunction p home f) p.functions
     all_functions =
-        all_sound p home (source_of os) structs whole many good (program_addressed os) (known_after start os) ((outers_grow start os).defined ∙ names) of_file refl definitions start [] 0 os from_start refl
+        all_sound p home (source_of os) structs whole many good (program_addressed os) (known_after start os) all_names of_file refl definitions pointer_types start [] 0 os from_start refl
         (among_all (program_addressed os)) (have_spots p p.sites spots refl (all_sited kinds spots))
 
     pub program_sound : IsSound p
     program_sound = record {
       homes = at_home;
       functions = λ k f e. one_is (λ z. IsSoundFunction p home z) p.functions all_functions k f e;
+      targets = all_targets p structs (known_after start os) words.scope (program_taken os) words.place.file.scopes all_names refl of_file;
       one_main = one_main os p.functions names h.main;
       main_alone = λ k f e is. (one_is (λ z. IsOfFile structs (known_after start os) z) p.functions of_file k f e).alone is;
       cell_kinds = cells;
@@ -180,7 +195,7 @@ module _ (os : List Outer) (h : IsFaultless os) (members : StructsHaveMembers os
     }
 
 -- where each definition without a fault is sound, the core tree of a source without one is
-pub law_sound : ((p : Program) (home : ℕ → Option ℕ) (n : ℕ) (s : Source) → DefinitionsAreSound p home n s) → (os : List Outer) → StructsHaveMembers os → first_fault os ≡ None → length (core_of_source os).functions ≤ 2 ^ 20 → IsSound (core_of_source os)
+pub law_sound : ((p : Program) (home : ℕ → Option ℕ) (n : ℕ) (s : Source) → DefinitionsAreSound p home n s) → (os : List Outer) → StructsHaveMembers os → first_fault os ≡ None → length (core_of_source os).functions + length (core_of_source os).pointers ≤ 2 ^ 20 → IsSound (core_of_source os)
 law_sound definitions os members none few =
     let h = faultless os none in
-    subst (λ p. IsSound p) (sym (program_is os)) (program_sound os h members (definitions (program_of os) (home os h members) (length (known_at_start os).struct_names) (source_of os)) (subst (λ p. length p.functions ≤ 2 ^ 20) (program_is os) few))
+    subst (λ p. IsSound p) (sym (program_is os)) (program_sound os h members (definitions (program_of os) (home os h members) (length (known_at_start os).struct_names) (source_of os)) (subst (λ p. length p.functions + length p.pointers ≤ 2 ^ 20) (program_is os) few))

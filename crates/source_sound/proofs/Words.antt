@@ -5,7 +5,7 @@ use Rattle.std.proofs.lemmas.Bool.Decides.{nat_tests}
 use Rattle.std.proofs.lemmas.Option.{same_Some, none-some}
 use Rattle.rr_base.specs.declared.layout.CellKind.{CellKind}
 use Rattle.rr_base.specs.declared.layout.CellKind.TheVariants as kind
-use Rattle.c_text.specs.Texts.{Text}
+use Rattle.c_text.specs.Texts.{Text, entry_of}
 use Rattle.c_tree.specs.declared.expr.PrefixOp.{PrefixOp}
 use Rattle.c_tree.specs.declared.expr.PrefixOp.TheVariants as prefix_op
 use Rattle.c_tree.specs.Tree.{Exp, comma, assign, conditional, binary, prefix, sizeof_exp, sizeof_type, cast, index, member, arrow, post_increment, post_decrement, named, call, number, letter, text, null, paren, Init, value, braces, mutex_start, cond_start, rwlock_start, Inits, no_init, and_init}
@@ -23,13 +23,13 @@ use Rattle.c_types.specs.Found.{where_it_comes}
 use Rattle.c_rules.specs.Faults.{mismatch, faults, first_place}
 use Rattle.c_constants.specs.Values.{value_here}
 use Rattle.c_rules.specs.Sizes.{constant_faults}
-use Rattle.c_types.specs.Scopes.{Known, Meaning, variable, function_of, seen, Members, members_of}
+use Rattle.c_types.specs.Scopes.{Known, Meaning, variable, function_of, seen, function_numbered, Members, members_of}
 use Rattle.c_types.specs.Operands.{Operand, operand_of, accepts, layered_accepts, same_base}
-use Rattle.c_types.specs.Standing.{Target, no_target, standing}
-use Rattle.c_programs.specs.Initials.{alike_part, part_at, part_type, is_array_meaning, is_variable, is_variable_name, is_constant_address, layered_is_pointer, global_value_faults, starts_as, layered_is_base, may_be_base, where_global, value_faults, initial_faults, inits_faults}
+use Rattle.c_types.specs.Standing.{Target, no_target, points_to_functions, standing}
+use Rattle.c_programs.specs.Initials.{alike_part, part_at, part_type, is_array_meaning, is_variable, is_variable_name, is_constant_address, is_constant_function, layered_is_pointer, global_value_faults, starts_as, layered_is_base, may_be_base, where_global, value_faults, initial_faults, inits_faults}
 use Rattle.c_sites.specs.Sites.{types_of_members}
-use Rattle.c_operators.specs.Context.{Source, global_named}
-use Rattle.c_globals.specs.Globals.{address_word, computed_word, constant_word, start_words, parts_words}
+use Rattle.c_operators.specs.Context.{Source, pointer_or_null, global_named}
+use Rattle.c_globals.specs.Globals.{named_word, address_word, computed_word, constant_word, start_words, parts_words}
 use Rattle.source_sound.proofs.FileLists.{nil3, where_nil, not_nil}
 use Rattle.source_sound.proofs.Structs.{IsWithin, within_more}
 use Rattle.source_sound.proofs.FileStructs.{AreMembers, IsStruct}
@@ -105,7 +105,7 @@ module _ (Good : ℕ → Type 0) where
   padded_are (k ∷ ks) (w ∷ ws) h = let e : suc (length ks) - suc (length ws) ≡ length ks - length ws = omega arith in (h.0, subst (λ n. AreWords ks (ws ++ replicate n 0)) (sym e) (padded_are ks ws h.1))
 
   module _ (s : Source) (known : Known) (n : ℕ)
-      (globals : (name : Text) (t : Option ObjectType) → seen known name ≡ Some (variable t) → (constant_named name ≡ None) × Good (global_named s name))
+      (globals : (name : Text) (t : Option ObjectType) → seen known name ≡ Some (variable t) → (constant_named name ≡ None) × Good (global_named s name) × (is_some (entry_of s.globals name) ≡ true))
       (structs : (k : ℕ) → k < length known.structs → IsStruct n known.structs s.kinds k) where
     -- ---- addresses
 
@@ -116,7 +116,7 @@ module _ (Good : ℕ → Type 0) where
     zero_computed (pos m) e = let is : m ≡ 0 = grind (arith, nat_tests) in ap pos is
     zero_computed (negsuc m) e = absurd (true≢false (sym e))
 
-    by_meaning : (name : Text) (m : Option Meaning) → seen known name ≡ m → is_variable m ≡ true → (constant_named name ≡ None) × Good (global_named s name)
+    by_meaning : (name : Text) (m : Option Meaning) → seen known name ≡ m → is_variable m ≡ true → (constant_named name ≡ None) × Good (global_named s name) × (is_some (entry_of s.globals name) ≡ true)
     by_meaning name None is e = absurd (true≢false (sym e))
     by_meaning name (Some (variable t)) is e = globals name t is
     by_meaning name (Some (function_of f)) is e = absurd (true≢false (sym e))
@@ -126,9 +126,14 @@ module _ (Good : ℕ → Type 0) where
     array_variable (Some (variable t)) e = refl
     array_variable (Some (function_of f)) e = absurd (true≢false (sym e))
 
+    -- a global goes before the functions
+    found_global : (o f : Option ℕ) → is_some o ≡ true → named_word o f ≡ pointer_or_null o
+    found_global None f e = absurd (true≢false (sym e))
+    found_global (Some w) f e = refl
+
     -- what `&` is applied to
     operand_word : (e : Exp) → is_variable_name known e ≡ true → Good (address_word s e)
-    operand_word (named name at) h = (by_meaning name (seen known name) refl h).1
+    operand_word (named name at) h = let g = by_meaning name (seen known name) refl h in subst Good (sym (found_global (entry_of s.globals name) (function_numbered s.whole name) g.2)) g.1
     operand_word (paren e at) h = operand_word e h
     operand_word (comma e es at) h = absurd (true≢false (sym h))
     operand_word (assign a op b at) h = absurd (true≢false (sym h))
@@ -165,7 +170,7 @@ module _ (Good : ℕ → Type 0) where
     address_good (number z at) h = inl (ap (λ y. computed_word (Ok y)) (zero_computed z h))
     address_good (named name at) h =
         let g = by_meaning name (seen known name) refl (array_variable (seen known name) h) in
-        subst (λ b. IsNullOr (if b then computed_word (value_here known (named name at)) else address_word s (named name at))) (sym (ap is_some g.0)) (inr g.1)
+        subst (λ b. IsNullOr (if b then computed_word (value_here known (named name at)) else address_word s (named name at))) (sym (ap is_some g.0)) (inr (subst Good (sym (found_global (entry_of s.globals name) (function_numbered s.whole name) g.2)) g.1))
     address_good (prefix op e at) h = prefix_word op e at h
     address_good (paren e at) h = address_good e h
     address_good (comma e es at) h = absurd (true≢false (sym h))
@@ -188,6 +193,7 @@ module _ (Good : ℕ → Type 0) where
 
     layers_value : (ls : List Layer) (b : BaseType) (a : Operand) (e : Exp) (own : List _) → layered_accepts ls b a ≡ true → (if layered_is_pointer ls then where_it_comes (not (is_constant_address known e)) fault.NotConstant (first_place e) else own) ≡ [] → AreWords (layered_kinds s.kinds ls b) (constant_word s known e ∷ [])
     layers_value [] base.Int a e own h g = (tt, tt)
+    layers_value [] (base.Function fn) a e own h g = (tt, tt)
     layers_value [] base.Void a e own h g = absurd (true≢false (sym h))
     layers_value [] (base.Struct k) a e own h g = absurd (true≢false (sym h))
     layers_value [] base.Mutex a e own h g = absurd (true≢false (sym h))
@@ -200,7 +206,7 @@ module _ (Good : ℕ → Type 0) where
     value_good : (w : Target) (t : ObjectType) (at : Position) (e : Exp) → value_faults known true w (Some t) at e ≡ [] → AreWords (kinds_of_type s.kinds t) (constant_word s known e ∷ [])
     value_good w t at e h =
         let a = nil3 (faults known w e) (mismatch (not (starts_as (Some t) (operand_of (standing known w e)))) at) (where_global true (global_value_faults known (Some t) e)) h in
-        layers_value t.layers t.base (operand_of (standing known w e)) e (constant_faults known e) (not_nil (accepts t (operand_of (standing known w e))) _ _ a.1) a.2
+        layers_value t.layers t.base (operand_of (standing known w e)) e (if points_to_functions t then where_it_comes (not (is_constant_function known e)) fault.NotConstant (first_place e) else constant_faults known e) (not_nil (accepts t (operand_of (standing known w e))) _ _ a.1) a.2
 
     -- ---- a lock or a condition variable
 
@@ -216,6 +222,8 @@ module _ (Good : ℕ → Type 0) where
         same_bases base.Barrier base.Barrier h = refl
         same_bases base.RwLock base.RwLock h = refl
         same_bases base.Int _ h = absurd (true≢false (sym h))
+        same_bases (base.Function j) (base.Function k) h = let is : j ≡ k = grind (arith, nat_tests) in ap base.Function is
+        same_bases (base.Function j) _ h = absurd (true≢false (sym h))
         same_bases base.Void _ h = absurd (true≢false (sym h))
         same_bases (base.Struct j) _ h = absurd (true≢false (sym h))
         same_bases base.Mutex _ h = absurd (true≢false (sym h))
@@ -293,6 +301,7 @@ module _ (Good : ℕ → Type 0) where
     has_parts : (ls : List Layer) (b : BaseType) → IsWithin (length known.structs) ls b → HasParts (typed_by ls b)
     has_parts [] base.Void h = absurd h
     has_parts [] base.Int h = single (typed_by [] base.Int) tt (λ j. refl)
+    has_parts [] (base.Function k) h = single (typed_by [] (base.Function k)) tt (λ j. refl)
     has_parts [] base.Mutex h = no_part (typed_by [] base.Mutex) (λ j. refl)
     has_parts [] base.Cond h = no_part (typed_by [] base.Cond) (λ j. refl)
     has_parts [] base.Barrier h = no_part (typed_by [] base.Barrier) (λ j. refl)

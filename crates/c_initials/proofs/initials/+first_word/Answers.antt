@@ -10,10 +10,10 @@ pub returns-in-empty : goal.returns-in-empty
 returns-in-empty t c =
     rw (c.in-Braces.is, inits_of_row-list)
     (subst (λ (x : core.Exp). IfOk c.zero_word.result (λ v. exp_of v.value ≡ x))
-    (sym (word_of_none (context_of c.args.context) c.args.pointer c.args.at _ _ c.as_slice.ensures c.in-empty.len_below))
+    (sym (word_of_none (context_of c.args.context) c.args.kind c.args.at _ _ c.as_slice.ensures c.in-empty.len_below))
     c.zero_word.ensures)
 
 pub returns-in-len1-up : goal.returns-in-len1-up
 returns-in-len1-up t c =
     rw (c.in-Braces.is, inits_of_row-list)
-    (word_within c.first_word.result (context_of c.args.context) c.args.pointer c.args.at _ _ c.first-item.result _ c.as_slice.ensures c.in-len1-up.len_at_least c.first-item.is c.first_word.ensures)
+    (word_within c.first_word.result (context_of c.args.context) c.args.kind c.args.at _ _ c.first-item.result _ c.as_slice.ensures c.in-len1-up.len_at_least c.first-item.is c.first_word.ensures)

@@ -1,5 +1,5 @@
 use Rattle.std.proofs.Common.{ap, ◌∙◌}
-use Rattle.c_tree.specs.View.{code_of}
+use Rattle.c_tree.specs.View.{formals_of, code_of}
 use Rattle.c_types.specs.Scopes.{closed}
 use Rattle.c_names.specs.Sources.{listed_params}
 use Rattle.c_programs.specs.Declarators.{after_params}
@@ -11,7 +11,7 @@ use Rattle.c_programs.proofs.functions.note_inside.Goals as goal
 -- what stands in the scope is forgotten
 pub returns-clause-known : goal.returns-clause-known
 returns-clause-known c =
-    let ps = listed_params c.args.params.now in
+    let ps = listed_params (formals_of c.args.params.now) in
     let code = code_of c.args.body.now in
     c.close.ensures
     ∙ ap closed c.in_ok-note_body.ensures.known

@@ -1,7 +1,7 @@
 use Rattle.std.proofs.Common.{map, ap, ◌∙◌}
 use Rattle.c_tree.specs.Tree.{listed_parts, defined}
 use Rattle.rr_base.specs.Positions.{position_at}
-use Rattle.c_tree.specs.View.{part_of}
+use Rattle.c_tree.specs.View.{formal_of, part_of}
 use Rattle.c_types.specs.Scopes.{closed}
 use Rattle.c_programs.specs.Declarators.{after_params}
 use Rattle.c_programs.specs.Statements.{after_parts}
@@ -15,5 +15,5 @@ returns-clause-known c =
     c.close.ensures
     ∙ ap closed c.in_ok-push_parts.ensures.known
     ∙ ap (λ k. closed (after_parts k parts)) c.in_ok-push_formals.ensures.known
-    ∙ ap (λ k. closed (after_parts (after_params k c.args.params.now) parts)) c.in_ok-open.ensures
-    ∙ closed_body (known_of c.args.table.now) c.args.params.now (defined parts (position_at 0 0))
+    ∙ ap (λ k. closed (after_parts (after_params k (map formal_of c.args.params.now)) parts)) c.in_ok-open.ensures
+    ∙ closed_body (known_of c.args.table.now) (map formal_of c.args.params.now) (defined parts (position_at 0 0))
