@@ -111,6 +111,11 @@ fn replaying(alloc: Global, source: &[u8], log: &[u8]) -> Result<Answer, AllocEr
     }
 }
 
+/// The text that the bytes are.
+pub fn text_in(bytes: &Bytes) -> &str {
+    str::from_utf8(bytes.as_slice()).unwrap_or("no text")
+}
+
 /// The content of a file of the shelf.
 pub fn content<S: Shelf>(alloc: Global, shelf: &mut S, name: &str) -> Result<Bytes, ShelfEnd>
     ensures { IfOk result (λ bytes. length bytes ≤ 2 ^ 20) }
@@ -133,6 +138,21 @@ fn source_named<S: Shelf>(alloc: Global, shelf: &mut S, name: &str) -> Result<By
 pub fn read_source<S: Shelf>(alloc: Global, shelf: &mut S, name: &str) -> Result<Bytes, ShelfEnd> {
     let source = source_named(alloc, shelf, name)?;
     Ok(text_of(alloc, reading(alloc, source.as_slice())?)?)
+}
+
+/// The text that tells whether the source of that name is accepted with one line more.
+pub fn read_longer<S: Shelf>(
+    alloc: Global,
+    shelf: &mut S,
+    name: &str,
+    line: &str,
+) -> Result<Bytes, ShelfEnd> {
+    let source = source_named(alloc, shelf, name)?;
+    let longer = format!(in alloc; "{}{line}\n", text_in(&source))?;
+    if longer.len() > MOST_BYTES as usize {
+        return Err(ShelfEnd::Failed);
+    }
+    Ok(text_of(alloc, reading(alloc, longer.as_bytes())?)?)
 }
 
 /// The race listing of the source of that name.

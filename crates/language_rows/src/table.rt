@@ -1,8 +1,11 @@
-// The table of the rows. A line is `reads SOURCE ANSWER`, `races SOURCE ANSWER`, `weakens SOURCE ANSWER` or `replays SOURCE LOG
-// ANSWER`, where the lines of an answer stand following each other with `; ` between.
+// The table of the rows. A line is `reads SOURCE ANSWER`, `races SOURCE ANSWER`, `weakens SOURCE ANSWER`, `replays SOURCE LOG
+// ANSWER` or `adds SOURCE ANSWER | LINE`, where the lines of an answer stand following each other with `; ` between. The last
+// reads the source with that line behind it.
 
-use crate::answered::{content, list_races, list_weak_locks, read_source, replay_log};
-use rr_base::{Bytes, Shelf, ShelfEnd};
+use crate::answered::{
+    content, list_races, list_weak_locks, read_longer, read_source, replay_log, text_in,
+};
+use rr_base::{Shelf, ShelfEnd};
 use std::alloc::{AllocError, Global};
 
 /// What going over the table comes to.
@@ -11,10 +14,6 @@ pub enum Checked {
     AllHold,
     /// The lines of the rows that don't hold, each with the answer that was found.
     Differ(String),
-}
-
-fn text_in(bytes: &Bytes) -> &str {
-    str::from_utf8(bytes.as_slice()).unwrap_or("no text")
 }
 
 // The lines of an answer on one.
@@ -38,18 +37,20 @@ fn right_line<S: Shelf>(alloc: Global, shelf: &mut S, line: &str) -> Result<Stri
     let (word, rest) = first_word(line);
     let (name, rest) = first_word(rest);
     let (log, _) = first_word(rest);
+    let (_, added) = rest.split_once(" | ").unwrap_or((rest, ""));
     let answer = match word {
         "reads" => read_source(alloc, shelf, name)?,
+        "adds" => read_longer(alloc, shelf, name, added)?,
         "races" => list_races(alloc, shelf, name)?,
         "weakens" => list_weak_locks(alloc, shelf, name)?,
         "replays" => replay_log(alloc, shelf, name, log)?,
         _ => return Ok(format!(in alloc; "no such word: {word}")?),
     };
     let answer = one_line(alloc, text_in(&answer))?;
-    if word == "replays" {
-        Ok(format!(in alloc; "{word} {name} {log} {answer}")?)
-    } else {
-        Ok(format!(in alloc; "{word} {name} {answer}")?)
+    match word {
+        "adds" => Ok(format!(in alloc; "{word} {name} {answer} | {added}")?),
+        "replays" => Ok(format!(in alloc; "{word} {name} {log} {answer}")?),
+        _ => Ok(format!(in alloc; "{word} {name} {answer}")?),
     }
 }
 

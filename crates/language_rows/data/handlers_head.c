@@ -1,0 +1,4 @@
+#include <stdio.h>
+#include <pthread.h>
+int twice(int a) { return a + a; }
+void go(void) {}

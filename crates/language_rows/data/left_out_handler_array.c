@@ -1,0 +1,1 @@
+int (*a[3])(int); int main(void) { return 0; }

@@ -1,0 +1,1 @@
+int main(void) { int (*f)(int) = NULL; return f(1); }
