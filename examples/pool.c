@@ -1,18 +1,18 @@
 /* A pool of threads: main gives tasks of four kinds to three workers, waits for all of them, and ends the pool.
-   Each task has a place of its own for its result, so the results don't depend on who does what. */
+   A task names its work by a pointer to a function, from a table of kinds that main alone uses. Each task has a place of its own
+   for its result, so the results don't depend on who does what. */
 #include <pthread.h>
 #include <stdio.h>
 #include <stdlib.h>
 
 #define WORKERS 3
 #define TASKS 12
-#define SQUARE 0
-#define FACTORIAL 1
-#define GCD 2
+#define KINDS 4
 #define PRIMES 3
 
 struct task {
   int kind;
+  int (*work)(int, int);
   int a;
   int b;
   int result;
@@ -29,7 +29,16 @@ struct pool {
   int ending;
 };
 
+struct kind {
+  int (*work)(int, int);
+};
+
 struct pool pool;
+struct kind kinds[KINDS];
+
+int square(int a, int b) {
+  return a * a;
+}
 
 int gcd(int a, int b) {
   while (b != 0) {
@@ -40,7 +49,7 @@ int gcd(int a, int b) {
   return a;
 }
 
-int primes_to(int n) {
+int primes_to(int n, int b) {
   int count = 0;
   for (int i = 2; i <= n; i++) {
     int is_prime = 1;
@@ -55,22 +64,8 @@ int primes_to(int n) {
   return count;
 }
 
-int factorial(int n) {
-  return n < 2 ? 1 : n * factorial(n - 1);
-}
-
-/* What a task comes to. The language has no pointers to functions, so its kind is a number. */
-int result_of(struct task *t) {
-  if (t->kind == SQUARE) {
-    return t->a * t->a;
-  } else if (t->kind == FACTORIAL) {
-    return factorial(t->a);
-  } else if (t->kind == GCD) {
-    return gcd(t->a, t->b);
-  } else if (t->kind == PRIMES) {
-    return primes_to(t->a);
-  }
-  return -1;
+int factorial(int n, int b) {
+  return n < 2 ? 1 : n * factorial(n - 1, b);
 }
 
 void give(struct pool *p, struct task *t) {
@@ -104,7 +99,8 @@ void *work(void *argument) {
       p->last = NULL;
     }
     pthread_mutex_unlock(&p->lock);
-    t->result = result_of(t);
+    int (*do_it)(int, int) = t->work;
+    t->result = do_it(t->a, t->b);
     pthread_mutex_lock(&p->lock);
     p->open--;
     pthread_cond_signal(&p->finished);
@@ -115,13 +111,18 @@ void *work(void *argument) {
 int main(void) {
   pthread_t workers[WORKERS];
   struct task *tasks[TASKS];
+  kinds[0].work = square;
+  kinds[1].work = factorial;
+  kinds[2].work = gcd;
+  kinds[PRIMES].work = primes_to;
   for (int i = 0; i < WORKERS; i++) {
     pthread_create(&workers[i], NULL, work, &pool);
   }
   for (int i = 0; i < TASKS; i++) {
     struct task *t = malloc(sizeof(struct task));
-    t->kind = i % 4;
-    t->a = 6 * (i % 4 == PRIMES) + 4 + i % 6;
+    t->kind = i % KINDS;
+    t->work = kinds[t->kind].work;
+    t->a = 6 * (t->kind == PRIMES) + 4 + i % 6;
     t->b = 6;
     t->next = NULL;
     tasks[i] = t;
